@@ -1,0 +1,84 @@
+// Bytes in a line: two digits for each (RFC 4648, section 8, in lower case), and a dash for none.
+ghost use Rattle.std.specs.Prelude.{ℕ, ◌≡◌, ◌≢◌, ◌<◌, ◌++◌, List, [], ◌∷◌, length, slice_index, IfNone, IfOk, IfSome, OnOk};
+ghost use Rattle.std.specs.Char.{is_ascii_uppercase};
+ghost use Rattle.std.specs.List.{list_any};
+ghost use Rattle.std.specs.String.{string_bytes};
+ghost use Rattle.hex.specs.Hex.{encode_lower, lower_digits};
+ghost use Rattle.sp_text.specs.Spelling.{AreBytes, hex_word};
+
+use hex::{FromHex, FromHexError};
+use sp_base::{Bytes, Memory};
+use std::alloc::Global;
+
+/// The bytes of a word in lower-case hexadecimal, or no bytes for a dash.
+/// None exactly where the word is neither: upper case is refused, and so is the empty word.
+pub fn hex_bytes(alloc: Global, word: &[u8]) -> Result<Option<Bytes>, Memory>
+    ensures found { IfOk result (λ o. IfSome o (λ bytes. word.now ≡ hex_word bytes)) }
+    ensures bytes { IfOk result (λ o. IfSome o AreBytes) }
+    ensures none { IfOk result (λ o. IfNone o ((bytes : List ℕ) → AreBytes bytes → word.now ≢ hex_word bytes)) }
+{
+    if word == b"-".as_slice() {
+        return Ok(Some(Bytes::from_vec(Vec::new(alloc))));
+    }
+    if word.is_empty() || has_capital(word) {
+        return Ok(None);
+    }
+    match hex::decode(alloc, word) {
+        Ok(bytes) => Ok(Some(Bytes::from_vec(bytes))),
+        Err(error) => match error {
+            FromHexError::OutOfMemory => Err(Memory),
+            _ => Ok(None),
+        },
+    }
+}
+
+/// The 32 bytes of 64 lower-case digits. None exactly where the word isn't so.
+pub fn hex_array(word: &[u8]) -> Option<[u8; 32]>
+    ensures found { IfSome result (λ bytes. word.now ≡ encode_lower bytes) }
+    ensures bytes { IfSome result AreBytes }
+    ensures none { IfNone result ((bytes : List ℕ) → AreBytes bytes → length bytes ≡ 32 → word.now ≢ encode_lower bytes) }
+{
+    if has_capital(word) {
+        return None;
+    }
+    FromHex::from_hex(word).ok()
+}
+
+/// Appends the bytes in lower-case hexadecimal, or a dash for none. After an error the text is unspecified.
+pub fn push_hex(out: &mut String, bytes: &[u8]) -> Result<(), Memory>
+    ensures { OnOk result (string_bytes out.new ≡ string_bytes out.old ++ hex_word bytes.now) }
+{
+    if bytes.is_empty() {
+        return Ok(out.push('-')?);
+    }
+    'bytes: for byte in bytes {
+        push_pair(out, *byte)?;
+    }
+    Ok(())
+}
+
+/// Appends the two digits of a byte. After an error the text is unspecified.
+#[tactic(auto, unfolding(hex::specs::Hex::encode_with))]
+fn push_pair(out: &mut String, byte: u8) -> Result<(), Memory>
+    ensures { OnOk result (string_bytes out.new ≡ string_bytes out.old ++ encode_lower (byte ∷ [])) }
+{
+    out.push(digit(byte / 16))?;
+    out.push(digit(byte % 16))?;
+    Ok(())
+}
+
+/// Whether a letter of the word is a capital.
+fn has_capital(word: &[u8]) -> bool
+    ensures { result ≡ list_any is_ascii_uppercase word.now }
+{
+    word.iter().any(|byte| byte.is_ascii_uppercase())
+}
+
+/// The digit of a value below 16.
+fn digit(value: u8) -> char
+    requires { value < 16 }
+    ensures digit { result ≡ slice_index lower_digits value }
+    ensures ascii { result < 128 }
+{
+    char::from(b"0123456789abcdef"[value as usize])
+}
