@@ -1,0 +1,19 @@
+//! The outside as traits: where input comes from, where output goes, datagrams, the clock and a small file. Each object
+//! counts its faults, and a call fails only where that count rose in this very call.
+#![tactic(auto)]
+
+mod clock;
+mod failed;
+mod keeper;
+mod sink;
+mod source;
+mod streams;
+mod wire;
+
+pub use clock::{Clock, MemoryClock};
+pub use failed::Failed;
+pub use keeper::{FILE_BYTES, Keeper, MemoryKeeper};
+pub use sink::{MemorySink, PlannedSink, Sink};
+pub use source::{MemorySource, PlannedSource, Source};
+pub use streams::{Input, ReadRefused, read_up_to, write_all};
+pub use wire::{DATAGRAM_BYTES, MemoryWire, Side, Wire};
