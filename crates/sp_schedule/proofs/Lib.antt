@@ -1,0 +1,14 @@
+pub mod CountLemmas
+pub mod FieldLemmas
+pub mod EdgeLemmas
+pub mod EventLemmas
+pub mod ReadLemmas
+pub mod PlaceLemmas
+pub mod Texts
+pub mod WholeReadings
+pub mod Spelled
+pub mod Unique
+pub mod Walks
+pub mod LineTexts
+pub mod ScheduleWalks
+pub mod GoodTexts

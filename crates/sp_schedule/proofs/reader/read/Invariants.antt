@@ -1,0 +1,12 @@
+use Rattle.std.proofs.Common.{◌+◌, ◌≤◌, length}
+use Rattle.sp_schedule.proofs.ReadLemmas.{GoodSoFar}
+use Rattle.sp_schedule.proofs.reader.read.Given as goal
+
+abbrev pub invariant-lines : goal.invariant-lines
+invariant-lines l = record {
+  good : GoodSoFar l.text l.rest l.place l.count;
+  fits : l.count + length l.rest ≤ 67108864;
+}
+
+abbrev pub decreases-lines : goal.decreases-lines
+decreases-lines l = length l.rest

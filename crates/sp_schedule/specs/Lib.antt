@@ -1,0 +1,10 @@
+pub mod Ranges
+pub mod Spelling
+pub mod Reads
+pub mod Leads
+pub mod Readings
+pub mod Counts
+pub mod Finds
+pub mod Edges
+pub mod Judged
+pub mod Laws

@@ -1,0 +1,61 @@
+-- The reading of a whole text: its good lines, the first bad one, and why that is refused.
+use Rattle.std.specs.Prelude.{ℕ, ◌≡◌, ◌≢◌, ◌+◌, ◌<◌, ◌≤◌, Bool, true, false, List, [], ◌∷◌, ◌++◌, length}
+use Rattle.std.specs.List.{flat_map}
+use Rattle.sp_text.specs.Spelling.{words_of}
+use Rattle.sp_text.specs.Lines.{IsInOneLine, BeginsWithLine}
+use Rattle.sp_schedule.specs.declared.scenario.Scenario.{Scenario}
+use Rattle.sp_schedule.specs.declared.event.Event.{Event}
+use Rattle.sp_schedule.specs.declared.place.Place.{Place}
+use Rattle.sp_schedule.specs.declared.place.Place.TheVariants as places
+use Rattle.sp_schedule.specs.declared.place.Kind.{Kind}
+use Rattle.sp_schedule.specs.declared.place.Kind.TheVariants as kinds
+use Rattle.sp_schedule.specs.declared.place.Ending.{Ending}
+use Rattle.sp_schedule.specs.declared.place.Ending.TheVariants as endings
+use Rattle.sp_schedule.specs.declared.place.Reading.{Reading}
+use Rattle.sp_schedule.specs.Ranges.{IsScenario, AreInRange}
+use Rattle.sp_schedule.specs.Leads.{Leads}
+
+-- these lines are good, each in its place, and lead to this one
+pub data Begins : List (List ℕ) → Place → Type 0 where
+  None_read : Begins [] places.Start
+  One_more : {lines : List (List ℕ)} {place next : Place} (line : List ℕ) → Begins lines place → Leads place (words_of line) next → Begins (lines ++ line ∷ []) next
+
+-- the lines, each with its newline
+abbrev pub lines_text : List (List ℕ) → List ℕ
+lines_text lines = flat_map (λ line. line ++ 10 ∷ []) lines
+
+-- the line `end` was read
+pub record IsEnd (place : Place) : Type 0 where
+  pub scenario : Scenario
+  pub events : List Event
+  pub is : place ≡ places.End scenario events
+
+-- why a bad line of this place is refused
+abbrev pub bad_kind : Place → Kind
+bad_kind (places.End s es) = kinds.AfterEnd
+bad_kind _ = kinds.Unbuilt
+
+-- How the reading ends behind so many good lines that led to the place, before these bytes. A text that is cut had more bytes than
+-- may be read. Its last line counts only if it has more than 131,200 bytes: no good line is so long.
+pub data EndsAt (place : Place) (count : ℕ) : List ℕ → Bool → Ending → Type 0 where
+  All_good : IsEnd place → EndsAt place count [] false endings.Whole
+  Bad_line : {behind : List ℕ} {is_cut : Bool} (line rest : List ℕ) → BeginsWithLine behind line rest → ((next : Place) → Leads place (words_of line) next → ⊥)
+      → EndsAt place count behind is_cut (endings.Refused (count + 1) (bad_kind place))
+  No_end : (IsEnd place → ⊥) → EndsAt place count [] false (endings.Refused (count + 1) kinds.NoEnd)
+  No_newline : {behind : List ℕ} → IsInOneLine behind → behind ≢ [] → EndsAt place count behind false (endings.Refused (count + 1) (bad_kind place))
+  Long_line : {behind : List ℕ} → IsInOneLine behind → 131200 < length behind → EndsAt place count behind true (endings.Refused (count + 1) (bad_kind place))
+  Too_big : {behind : List ℕ} → IsInOneLine behind → length behind ≤ 131200 → EndsAt place count behind true (endings.Refused 0 kinds.TooBig)
+
+-- the text, of which there is more where it is cut, is read so
+pub record IsReading (text : List ℕ) (is_cut : Bool) (reading : Reading) : Type 0 where
+  pub lines : List (List ℕ)
+  pub behind : List ℕ
+  pub split : text ≡ lines_text lines ++ behind
+  pub begins : Begins lines reading.place
+  pub ends : EndsAt reading.place (length lines) behind is_cut reading.ending
+
+-- what holds of what was read: behind the header the scenario and the events are in their ranges
+abbrev pub IsInPlace : Place → Type 0
+IsInPlace (places.Events s es) = IsScenario s × AreInRange s es × (length es ≤ 16384)
+IsInPlace (places.End s es) = IsScenario s × AreInRange s es × (length es ≤ 16384)
+IsInPlace _ = Unit {0}

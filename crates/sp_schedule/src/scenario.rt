@@ -1,0 +1,34 @@
+// What a schedule's header says: who is there, how they are joined, and what each of them keeps.
+use sp_base::{Limits, Listed, NodeId};
+
+/// The height of a node's signature trees (RFC 8554, section 5.1).
+#[derive(Clone, Copy, Debug, PartialEq, Eq)]
+pub enum LmsHeight {
+    Five,
+    Ten,
+}
+
+/// A link between two nodes, the lower one first.
+#[derive(Clone, Copy, Debug, PartialEq, Eq)]
+pub struct Edge {
+    pub low: NodeId,
+    pub high: NodeId,
+    pub weight: u32,
+}
+
+/// Nodes 1 to `nodes`, and the links between them.
+#[derive(Debug, Drop)]
+pub struct Graph {
+    pub nodes: u8,
+    pub edges: Listed<Edge>,
+}
+
+/// What holds for a whole run: the seed of all keys, the height of the signature trees, the bounds of each node,
+/// and the graph.
+#[derive(Debug, Drop)]
+pub struct Scenario {
+    pub seed: [u8; 32],
+    pub height: LmsHeight,
+    pub limits: Limits,
+    pub graph: Graph,
+}
