@@ -1,0 +1,4 @@
+pub mod FlowLemmas
+pub mod PositionLemmas
+pub mod RunLemmas
+pub mod StepLemmas
