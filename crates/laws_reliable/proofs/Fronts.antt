@@ -1,0 +1,131 @@
+-- A run cut after any number of its events, and what holds there.
+use Rattle.std.proofs.Common.{◌≡◌, ◌<◌, ◌≤◌, ℕ, ◌+◌, ◌-◌, zero, suc, Bool, true, false, List, [], ◌∷◌, ◌++◌, length, map, take, get_or, Some, All, refl, sym, ap, ◌∙◌, length-append, arith, nat_le, subst}
+use Rattle.std.specs.List.{slice_get}
+use Rattle.std.proofs.lemmas.List.{take_all, take-append-le, length-map}
+use Rattle.std.proofs.lemmas.List.Elements.{All-from_get_or}
+use Rattle.std.proofs.Math.Seq.{take-append_seam}
+use Rattle.std.proofs.lemmas.Bool.Decides.{nat_tests}
+use Rattle.sp_base.proofs.RowLemmas.{find_at_first}
+use Rattle.sp_schedule.specs.declared.scenario.Scenario.{Scenario}
+use Rattle.sp_schedule.specs.declared.event.Event.{Event}
+use Rattle.sp_schedule.specs.Ranges.{IsScenario, InRange}
+use Rattle.sp_journal.specs.declared.entry.Entry.{Entry}
+use Rattle.sp_rules.specs.Node.{Node}
+use Rattle.sp_rules.specs.World.{World, Run, Begins, Goes_on, WorldStep, is_me, node_at_boot, numbers_from}
+use Rattle.sp_rules.specs.Told.{Message, IsPrefix}
+use Rattle.sp_rules.specs.Holds.{IsBounded}
+use Rattle.sp_rules.specs.Laws.{FrontClaims}
+use Rattle.sp_rules.proofs.RunLemmas.{same_length, node_place, run_ids}
+use Rattle.laws_reliable.proofs.Lists.{get_left, get_last}
+use Rattle.laws_reliable.proofs.Runs.{run_holds}
+
+-- ---- a run cut at an event
+
+-- what stands at place k of a run, with the run before it
+pub record Cut (s : Scenario) (es : List Event) (js : List Entry) (k : ℕ) : Type 0 where
+  pub event : Event
+  pub entry : Entry
+  pub before : World
+  pub after : World
+  pub run : Run s (take k es) (take k js) before
+  pub range : InRange s (take k es) event
+  pub step : WorldStep before event entry after
+  pub event_is : slice_get es k ≡ Some event
+  pub entry_is : slice_get js k ≡ Some entry
+
+front_of : {X : Type 0} (xs : List X) (x : X) (k : ℕ) → k ≤ length xs → take k (xs ++ x ∷ []) ≡ take k xs
+front_of xs x k within = take-append-le k xs (x ∷ []) within
+
+pub cut : (s : Scenario) (es : List Event) (js : List Entry) (w : World) (k : ℕ) → Run s es js w → k < length es → Cut s es js k
+cut s es js w k Begins within = absurd (omega arith)
+cut s es js w k (Goes_on {es = es'} {js = js'} {old = old} {e = e} {j = j} run range step) within = go (nat_le (length es') k) refl (λ below. cut s es' js' old k run below)
+  where
+    even : length es' ≡ length js'
+    even = same_length s es' js' old run
+
+    go : (t : Bool) → nat_le (length es') k ≡ t → (k < length es' → Cut s es' js' k) → Cut s (es' ++ e ∷ []) (js' ++ j ∷ []) k
+    go false is inner =
+        let below : k < length es' = grind (arith, nat_tests) in
+        let c = inner below in
+        let es_is = front_of es' e k (omega arith) in
+        let js_is = front_of js' j k (omega (arith, even)) in
+        record {
+          event = c.event;
+          entry = c.entry;
+          before = c.before;
+          after = c.after;
+          run = rw (es_is, js_is) c.run;
+          range = rw es_is c.range;
+          step = c.step;
+          event_is = get_left es' (e ∷ []) k c.event c.event_is;
+          entry_is = get_left js' (j ∷ []) k c.entry c.entry_is;
+        }
+    go true is inner =
+        let at : k ≡ length es' = let more = length-append es' (e ∷ []) in let above : length es' ≤ k = grind (arith, nat_tests) in omega arith in
+        let es_is : take k (es' ++ e ∷ []) ≡ es' = ap (λ (i : ℕ). take i (es' ++ e ∷ [])) at ∙ take-append_seam es' (e ∷ []) in
+        let js_is : take k (js' ++ j ∷ []) ≡ js' = ap (λ (i : ℕ). take i (js' ++ j ∷ [])) (at ∙ even) ∙ take-append_seam js' (j ∷ []) in
+        record {
+          event = e;
+          entry = j;
+          before = old;
+          after = w;
+          run = rw (es_is, js_is) run;
+          range = rw es_is range;
+          step = step;
+          event_is = ap (slice_get (es' ++ e ∷ [])) at ∙ get_last es' e;
+          entry_is = ap (slice_get (js' ++ j ∷ [])) (at ∙ even) ∙ get_last js' j;
+        }
+
+-- ---- the front of a run
+
+pub front : (s : Scenario) (es : List Event) (js : List Entry) (w : World) (k : ℕ) → Run s es js w → (v : World) × Run s (take k es) (take k js) v
+front s es js w k run = go (nat_le (length es) k) refl
+  where
+    go : (t : Bool) → nat_le (length es) k ≡ t → (v : World) × Run s (take k es) (take k js) v
+    go true is =
+        let above : length es ≤ k = grind (arith, nat_tests) in
+        let even = same_length s es js w run in
+        (w, rw (take_all k es above, take_all k js (omega arith)) run)
+    go false is =
+        let c = cut s es js w k run (grind (arith, nat_tests)) in
+        (c.before, c.run)
+
+-- ---- bounds
+
+length-numbers_from : (first count : ℕ) → length (numbers_from first count) ≡ count
+length-numbers_from first zero = refl
+length-numbers_from first (suc count) = omega (arith, length-numbers_from (first + 1) count)
+
+pub run_bounded : (s : Scenario) (es : List Event) (js : List Entry) (w : World) → IsScenario s → Run s es js w → All IsBounded w.nodes
+run_bounded s es js w scenario run = All-from_get_or IsBounded w.nodes (node_at_boot s 1) (λ i inside. at i inside)
+  where
+    count : length w.nodes ≡ s.graph.nodes
+    count = sym (length-map w.nodes (λ (n : Node). n.me)) ∙ ap length (run_ids s es js w run) ∙ length-numbers_from 1 s.graph.nodes
+
+    at : (i : ℕ) → i < length w.nodes → IsBounded (get_or w.nodes i (node_at_boot s 1))
+    at i inside =
+        let d = node_at_boot s 1 in
+        let first = node_place s es js w (i + 1) d run (omega arith) (omega (arith, count)) in
+        let found = find_at_first (is_me (i + 1)) d w.nodes (i + 1 - 1) first in
+        let place : i + 1 - 1 ≡ i = omega arith in
+        let P : ℕ → Type 0 = λ k. IsBounded (get_or w.nodes k d) in
+        subst P place ((run_holds s es js w scenario run).nodes (i + 1) (get_or w.nodes (i + 1 - 1) d) found).bounded
+
+-- ---- numbers
+
+prefix_numbered : (D rest : List Message) (first : ℕ) → map (λ (m : Message). m.0) (D ++ rest) ≡ numbers_from first (length (D ++ rest)) → map (λ (m : Message). m.0) D ≡ numbers_from first (length D)
+prefix_numbered [] rest first is = refl
+prefix_numbered (d ∷ D) rest first is =
+    let head : d.0 ≡ first = cc in
+    let tail : map (λ (m : Message). m.0) (D ++ rest) ≡ numbers_from (first + 1) (length (D ++ rest)) = cc in
+    ap (λ (k : ℕ). k ∷ map (λ (m : Message). m.0) D) head ∙ ap (λ (ks : List ℕ). first ∷ ks) (prefix_numbered D rest (first + 1) tail)
+
+numbered_too : (D S : List Message) → IsPrefix D S → map (λ (m : Message). m.0) S ≡ numbers_from 1 (length S) → map (λ (m : Message). m.0) D ≡ numbers_from 1 (length D)
+numbered_too D S (rest, is) numbered = prefix_numbered D rest 1 (rw is at numbered)
+
+-- ---- all of it
+
+pub front_claims : (s : Scenario) (es : List Event) (js : List Entry) (w : World) → IsScenario s → Run s es js w → FrontClaims s es js
+front_claims s es js w scenario run =
+    let h = run_holds s es js w scenario run in
+    record { prefix = h.prefix; numbered = numbered_too _ _ h.prefix h.numbered; state = w; run = run; bounded = run_bounded s es js w scenario run }

@@ -1,0 +1,11 @@
+pub mod Arrivals
+pub mod Causes
+pub mod Clients
+pub mod Flows
+pub mod Fronts
+pub mod Lists
+pub mod Moves
+pub mod Passes
+pub mod Runs
+pub mod Steps
+pub mod Tables
