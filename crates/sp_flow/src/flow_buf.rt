@@ -1,0 +1,136 @@
+// The messages base + 1 to have of a flow, in order. All memory is taken at the start.
+ghost use Rattle.std.specs.Prelude.{◌≡◌, ◌==◌, ◌+◌, ◌-◌, ◌^◌, ◌<◌, ◌≤◌, ◌↔◌, List, IfOk, OnOk, OnErr, IfErr, IsErr, drop, length, vec_capacity};
+ghost use Rattle.std.specs.Option.{option_copied};
+ghost use Rattle.sp_rules.specs.Position.{IsPosition, taken, acknowledged, message_of, empty_buffer};
+
+use sp_base::{Bytes, Memory};
+use std::alloc::Global;
+use std::marker::Model;
+
+/// The messages of a flow that this node has and that aren't acknowledged.
+#[derive(Debug, Drop)]
+pub struct FlowBuf {
+    bound: u16,
+    base: u64,
+    items: Vec<Bytes>,
+}
+
+/// A message was refused: the buffer holds as many as it may.
+#[derive(Debug, Drop)]
+pub struct Full {
+    /// All messages up to this number are acknowledged.
+    pub base: u64,
+    /// All messages up to this number are here or acknowledged.
+    pub have: u64,
+    /// The message that was refused.
+    pub back: Bytes,
+}
+
+impl Model for FlowBuf {
+    ghost use Rattle.std.specs.Prelude.{List, ◌+◌, length, vec_capacity};
+    ghost use Rattle.std.specs.Prelude.{ℕ};
+    ghost use Rattle.sp_rules.specs.Position.{Buffer};
+    ghost use Rattle.sp_flow.specs.Sound.{IsSound};
+
+    ghost Value = { Buffer (List ℕ) };
+
+    ghost view = { λ b. record { bound = b.bound; at = record { base = b.base; have = b.base + length b.items.items; list = b.items.items } } };
+
+    ghost invariant = { λ b. IsSound b.bound b.base (length b.items.items) (vec_capacity b.items) };
+}
+
+impl FlowBuf {
+    /// An empty buffer for at most `bound` messages.
+    pub fn new(alloc: Global, bound: u16) -> Result<FlowBuf, Memory>
+        ensures { IfOk result (λ buffer. buffer ≡ empty_buffer bound) }
+    {
+        Ok(FlowBuf {
+            bound,
+            base: 0,
+            items: Vec::with_capacity(alloc, bound as usize)?,
+        })
+    }
+
+    /// How many messages it may hold.
+    pub fn bound(&self) -> u16
+        ensures { result ≡ self.now.bound }
+    {
+        self.bound
+    }
+
+    /// The number up to which all messages are acknowledged.
+    pub fn base(&self) -> u64
+        ensures { result ≡ self.now.at.base }
+    {
+        self.base
+    }
+
+    /// The number up to which all messages are here or acknowledged.
+    pub fn have(&self) -> u64
+        ensures value { result ≡ self.now.at.have }
+        ensures position { IsPosition self.now.at }
+    {
+        self.base + self.items.len() as u64
+    }
+
+    /// Whether no further message is taken.
+    pub fn is_full(&self) -> bool
+        ensures { result ≡ (self.now.at.have - self.now.at.base == self.now.bound) }
+    {
+        self.items.len() == self.bound as usize
+    }
+
+    /// Takes message have + 1. Where the buffer is full nothing changes, and the message comes back.
+    pub fn push(&mut self, payload: Bytes) -> Result<(), Full>
+        requires { self.old.at.have < 2 ^ 63 - 1 }
+        ensures ok { OnOk result (self.new ≡ record { bound = self.old.bound; at = taken self.old.at payload }) }
+        ensures full { IsErr result ↔ (self.old.at.have - self.old.at.base ≡ self.old.bound) }
+        ensures back { IfErr result (λ full. full ≡ record { base = self.old.at.base; have = self.old.at.have; back = payload }) }
+        ensures err { OnErr result (self.new ≡ self.old) }
+    {
+        if self.is_full() {
+            return Err(Full {
+                base: self.base(),
+                have: self.have(),
+                back: payload,
+            });
+        }
+        match self.items.push(payload) {
+            Ok(()) => Ok(()),
+            Err(_) => unreachable!(),
+        }
+    }
+
+    /// All messages up to this number are acknowledged, and are dropped here.
+    pub fn ack(&mut self, seq: u64)
+        ensures { self.new ≡ record { bound = self.old.bound; at = acknowledged self.old.at seq } }
+    {
+        if seq <= self.base {
+            return;
+        }
+        let count = (seq - self.base).min(self.items.len() as u64);
+        drop_first(&mut self.items, count as usize);
+        self.base = seq;
+    }
+
+    /// The message of this number. None exactly where it isn't above `base` and at most `have`.
+    pub fn get(&self, seq: u64) -> Option<&Bytes>
+        ensures { option_copied result ≡ message_of self.now.at seq }
+    {
+        if seq <= self.base {
+            return None;
+        }
+        self.items.get((seq - self.base - 1) as usize)
+    }
+}
+
+/// Drops so many items from the front.
+fn drop_first(items: &mut Vec<Bytes>, count: usize)
+    requires { count ≤ length items.old.items }
+    ensures items { items.new.items ≡ drop count items.old.items }
+    ensures capacity { vec_capacity items.new ≡ vec_capacity items.old }
+{
+    'front: for _ in 0..count {
+        let _ = items.remove(0);
+    }
+}
