@@ -1,0 +1,45 @@
+// How a run ended.
+ghost use Rattle.std.specs.Prelude.{◌≡◌};
+ghost use Rattle.sp_top.specs.Statuses.{code_of};
+
+use sp_world::World;
+
+/// How a run ended. Each status has the number with which the program ends.
+#[derive(Clone, Copy, Debug, PartialEq, Eq)]
+pub enum Status {
+    /// 0: the command was done, and its input was read to its end.
+    Done,
+    /// 2: the words are no command. The last line written is `usage`.
+    Usage,
+    /// 3: the input has a bad line. The last line written names the first one, and why it is refused.
+    Refused,
+    /// 5: the source failed in this run.
+    Source,
+    /// 6: the sink failed in this run.
+    Sink,
+    /// 9: no memory was left.
+    Memory,
+}
+
+impl Status {
+    /// The number with which the program ends.
+    pub fn code(self) -> u8
+        ensures { result ≡ code_of self }
+    {
+        match self {
+            Status::Done => 0,
+            Status::Usage => 2,
+            Status::Refused => 3,
+            Status::Source => 5,
+            Status::Sink => 6,
+            Status::Memory => 9,
+        }
+    }
+}
+
+/// What a run leaves: how it ended, and the world that it made, if it came to that.
+#[derive(Debug, Drop)]
+pub struct Outcome {
+    pub status: Status,
+    pub world: Option<World>,
+}

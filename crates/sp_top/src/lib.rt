@@ -1,0 +1,16 @@
+//! The whole program as one call over the outside that it is handed: a schedule goes in, its proved journal comes out.
+#![tactic(auto)]
+
+mod command;
+mod ended;
+mod output;
+mod play;
+mod replay;
+mod top;
+
+pub use ended::{Outcome, Status};
+pub use sp_journal::{AnswerWord, Effect, Effects, Entry, ItemWord, LinkWord, Reply};
+pub use sp_rules::FrameValue;
+pub use sp_schedule::{Event, Kind, Scenario};
+pub use sp_world::World;
+pub use top::run;

@@ -1,0 +1,78 @@
+// The text that a replay writes.
+ghost use Rattle.std.specs.Prelude.{◌≡◌, ◌≤◌, ◌++◌, length, IfOk, OnOk};
+ghost use Rattle.std.specs.String.{string_bytes};
+ghost use Rattle.sp_journal.specs.JournalText as text;
+ghost use Rattle.sp_top.specs.Outputs.{HasWorld, IsTextOf, refused_line, kind_word};
+
+use laws_reliable::every_run;
+use sp_base::Memory;
+use sp_journal::{journal_lines, journal_text};
+use sp_schedule::{Ending, Kind};
+use sp_text::push_number;
+use sp_world::World;
+use std::alloc::Global;
+
+/// The text that tells a world and how the reading of its schedule ended.
+pub fn text_of(alloc: Global, world: &Option<World>, ending: Ending) -> Result<String, Memory>
+    requires { HasWorld world.now ending }
+    ensures { IfOk result (λ out. IsTextOf world.now ending (string_bytes out)) }
+{
+    match ending {
+        Ending::Whole => match world {
+            Some(world) => whole(alloc, world),
+            None => unreachable!(),
+        },
+        Ending::Refused { line, kind } => {
+            let mut out = match world {
+                Some(world) => before(alloc, world)?,
+                None => String::new(alloc),
+            };
+            push_refused(&mut out, line, kind)?;
+            Ok(out)
+        }
+    }
+}
+
+/// The whole journal with its summary.
+#[tactic(auto, using(crate::proofs::Worlds::journal_length))]
+fn whole(alloc: Global, world: &World) -> Result<String, Memory>
+    requires { length world.now.events ≤ 16384 }
+    ensures { IfOk result (λ out. string_bytes out ≡ text.journal_text world.now.journal) }
+{
+    every_run();
+    journal_text(alloc, world.journal())
+}
+
+/// The journal without a summary.
+#[tactic(auto, using(crate::proofs::Worlds::journal_length))]
+fn before(alloc: Global, world: &World) -> Result<String, Memory>
+    requires { length world.now.events ≤ 16384 }
+    ensures { IfOk result (λ out. string_bytes out ≡ text.journal_lines world.now.journal) }
+{
+    every_run();
+    journal_lines(alloc, world.journal())
+}
+
+#[tactic(auto, unfolding(crate::specs::Outputs::refused_line))]
+fn push_refused(out: &mut String, line: u32, kind: Kind) -> Result<(), Memory>
+    ensures { OnOk result (string_bytes out.new ≡ string_bytes out.old ++ refused_line line kind) }
+{
+    out.push_str("refused ")?;
+    push_number(out, u64::from(line))?;
+    out.push_str(" ")?;
+    out.push_str(word(kind))?;
+    out.push_str("\n")?;
+    Ok(())
+}
+
+/// The word of a kind.
+fn word(kind: Kind) -> &'static str
+    ensures { result.now ≡ kind_word kind }
+{
+    match kind {
+        Kind::NoEnd => "NoEnd",
+        Kind::AfterEnd => "AfterEnd",
+        Kind::TooBig => "TooBig",
+        Kind::Unbuilt => "Unbuilt",
+    }
+}

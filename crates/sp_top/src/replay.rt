@@ -1,0 +1,103 @@
+// The command `replay`: reads a schedule, runs it, and writes its journal.
+ghost use Rattle.std.specs.Prelude.{◌≡◌, ◌≢◌, ◌≤◌, None, IfOk, IfSome, vec_len};
+ghost use Rattle.std.specs.String.{string_bytes};
+ghost use Rattle.sp_outside.specs.Causes.{Rose};
+ghost use Rattle.sp_top.specs.Outputs as outputs;
+ghost use Rattle.sp_top.specs.Outputs.{replay_words};
+ghost use Rattle.sp_top.specs.Claims.{Wrote, WorldClaims, IsPlayed};
+
+use crate::output::text_of;
+use crate::play::play;
+use crate::{Outcome, Status, World};
+use laws_reliable::every_run;
+use sp_base::Memory;
+use sp_outside::{Input, ReadRefused, Sink, Source, read_up_to, write_all};
+use sp_schedule::{Ending, a_good_text_is_read_whole, a_whole_reading_reads, read};
+use std::alloc::Global;
+
+/// How many bytes of an input are read at most.
+const MOST_BYTES: usize = 67_108_864;
+
+/// What was read and run, and the text to be written of it.
+#[derive(Drop)]
+struct Played {
+    world: Option<World>,
+    status: Status,
+    text: String,
+}
+
+/// Reads the whole input, runs its events in the order of their lines, and writes their journal.
+pub fn replay<S: Source, K: Sink>(alloc: Global, source: &mut S, sink: &mut K) -> Outcome
+    ensures wrote { Wrote replay_words (S.left source.old) result.world result.status (K.contents sink.old) (K.contents sink.new) }
+    ensures claims { IfSome result.world WorldClaims }
+    ensures read { result.status ≡ Status.Source → Rose (S.faults source.old) (S.faults source.new) }
+    ensures write { result.status ≡ Status.Sink → Rose (K.faults sink.old) (K.faults sink.new) }
+    ensures usage { result.status ≢ Status.Usage }
+{
+    a_whole_reading_reads();
+    a_good_text_is_read_whole();
+    let input = match read_up_to(alloc, source, MOST_BYTES) {
+        Ok(input) => input,
+        Err(ReadRefused::Failed) => return ended(Status::Source),
+        Err(ReadRefused::Memory) => return ended(Status::Memory),
+    };
+    let Ok(played) = read_and_run(alloc, &input) else {
+        return ended(Status::Memory);
+    };
+    match write_all(sink, played.text.as_bytes()) {
+        Ok(()) => Outcome {
+            status: played.status,
+            world: played.world,
+        },
+        Err(_) => Outcome {
+            status: Status::Sink,
+            world: played.world,
+        },
+    }
+}
+
+/// Reads a schedule's text, runs its events, and tells them.
+fn read_and_run(alloc: Global, input: &Input) -> Result<Played, Memory>
+    requires { vec_len input.now.bytes ≤ 67108864 }
+    ensures { IfOk result (λ p. IsPlayed input.now.bytes.items input.now.is_cut p.world p.status (string_bytes p.text)) }
+{
+    let reading = read(alloc, &input.bytes, input.is_cut)?;
+    let ending = reading.ending;
+    let world = play(alloc, reading.place)?;
+    let text = text_of(alloc, &world, ending)?;
+    claim(&world);
+    Ok(Played {
+        world,
+        status: status_of(ending),
+        text,
+    })
+}
+
+/// The laws of every run hold of a world.
+fn claim(world: &Option<World>)
+    ensures { IfSome world.now WorldClaims }
+{
+    every_run();
+    if let Some(world) = world {
+        let _ = world.journal();
+    }
+}
+
+fn status_of(ending: Ending) -> Status
+    ensures { result ≡ outputs.status_of ending }
+{
+    match ending {
+        Ending::Whole => Status::Done,
+        Ending::Refused { .. } => Status::Refused,
+    }
+}
+
+/// A run that wrote nothing and made no world.
+fn ended(status: Status) -> Outcome
+    ensures { result ≡ record { status = status; world = None } }
+{
+    Outcome {
+        status,
+        world: None,
+    }
+}

@@ -1,0 +1,53 @@
+// The top call: words and the outside go in, the outcome comes out.
+ghost use Rattle.std.specs.Prelude.{◌≡◌, ◌≢◌, ◌⊎◌, IfSome, map};
+ghost use Rattle.std.specs.String.{string_bytes};
+ghost use Rattle.sp_outside.specs.Causes.{Rose};
+ghost use Rattle.sp_top.specs.Outputs.{replay_words};
+ghost use Rattle.sp_top.specs.Claims.{Wrote, WorldClaims};
+
+use crate::command::is_replay;
+use crate::replay::replay;
+use crate::{Outcome, Status};
+use sp_outside::{Clock, Keeper, Sink, Source, Wire, write_all};
+use std::alloc::Global;
+
+/// Runs the words over the outside that is handed in.
+///
+/// `replay` reads a schedule from the source, runs its events in the order of their lines, and writes their journal to the
+/// sink. All other words are refused as a usage fault. The wire, the clock and the keeper aren't called.
+pub fn run<S: Source, K: Sink, W: Wire, C: Clock, P: Keeper>(
+    alloc: Global,
+    words: &[String],
+    source: &mut S,
+    sink: &mut K,
+    _wire: &mut W,
+    _clock: &mut C,
+    _keeper: &mut P,
+) -> Outcome
+    // What the sink got is the output that the words and the input have, or on a fault of the sink a beginning of it.
+    ensures wrote { Wrote (map string_bytes words.now) (S.left source.old) result.world result.status (K.contents sink.old) (K.contents sink.new) }
+
+    // The world is a run; after each of its events deliveries are a prefix of what was sent, each message once, and no
+    // buffer is above its bound; each answer to a client has its cause.
+    ensures claims { IfSome result.world WorldClaims }
+
+    ensures usage { result.status ≡ Status.Usage → map string_bytes words.now ≢ replay_words }
+    ensures only_usage { map string_bytes words.now ≢ replay_words → (result.status ≡ Status.Usage) ⊎ (result.status ≡ Status.Sink) }
+    ensures read { result.status ≡ Status.Source → Rose (S.faults source.old) (S.faults source.new) }
+    ensures write { result.status ≡ Status.Sink → Rose (K.faults sink.old) (K.faults sink.new) }
+    ensures untouched { (_wire.new ≡ _wire.old) × (_clock.new ≡ _clock.old) × (_keeper.new ≡ _keeper.old) }
+{
+    if is_replay(words) {
+        return replay(alloc, source, sink);
+    }
+    match write_all(sink, b"usage\n") {
+        Ok(()) => Outcome {
+            status: Status::Usage,
+            world: None,
+        },
+        Err(_) => Outcome {
+            status: Status::Sink,
+            world: None,
+        },
+    }
+}

@@ -1,0 +1,59 @@
+// Input of more than 67,108,864 bytes. No good lines fill so many, so its first bad line is what is told.
+ghost use Rattle.std.specs.Prelude.{None};
+
+use crate::over_memory::{run_over, with_header};
+use sp_outside::{Failed, MemorySink, Source};
+use std::alloc::Global;
+use std::process::Abort;
+use std::str;
+use std::test::Fail;
+
+/// A text with zeros behind it that never end.
+#[derive(Drop)]
+struct EndlessSource<'a> {
+    text: &'a [u8],
+}
+
+impl Source for EndlessSource<'_> {
+    ghost left = { λ _. None };
+
+    ghost faults = { λ _. 0 };
+
+    fn read(&mut self, buf: &mut [u8]) -> Result<usize, Failed> {
+        if self.text.is_empty() {
+            buf.fill(b'0');
+            return Ok(buf.len());
+        }
+        let count = self.text.len().min(buf.len());
+        let (piece, rest) = self.text.split_at(count);
+        buf[..count].copy_from_slice(piece);
+        self.text = rest;
+        Ok(count)
+    }
+}
+
+/// Replays the header with these lines and more zeros behind it than are read.
+fn assert_refused(rt: &impl Abort, alloc: Global, lines: &[u8], output: &str) -> Result<(), Fail> {
+    let text = with_header(alloc, lines)?;
+    let mut source = EndlessSource { text: &text };
+    let mut sink = MemorySink::new(alloc);
+    let outcome = run_over(alloc, &["replay"], &mut source, &mut sink)?;
+    assert_eq!(rt; str::from_utf8(sink.bytes())?, output);
+    assert_eq!(rt; outcome.status.code(), 3);
+    Ok(())
+}
+
+#[test]
+fn an_event_without_an_end_is_refused(rt: HostRuntime) -> Result<(), Fail> {
+    assert_refused(&rt, rt.alloc(), b"", "journal 1\nrefused 9 Unbuilt\n")
+}
+
+#[test]
+fn bytes_without_an_end_behind_end_are_refused(rt: HostRuntime) -> Result<(), Fail> {
+    assert_refused(
+        &rt,
+        rt.alloc(),
+        b"end\n",
+        "journal 1\nrefused 10 AfterEnd\n",
+    )
+}
