@@ -1,0 +1,7 @@
+pub mod Parameters
+pub mod Strings
+pub mod Digits
+pub mod Chains
+pub mod Keys
+pub mod Signature
+pub mod Candidate

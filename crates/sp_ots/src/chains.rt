@@ -1,0 +1,39 @@
+// Chains of elements, each the hash of the one before (RFC 8554, section 4.3): nearly all the work of a
+// signature.
+ghost use Rattle.std.specs.Prelude.{◌≡◌, ◌<◌, ◌≤◌, ◌^◌, length};
+ghost use Rattle.sp_ots.specs.Chains.{chain_end, chain_ends};
+
+use crate::hashes::element_message;
+use sha2::{Digest, Sha256};
+
+/// Runs each chain from its own step to its own step, in place: element i belongs to chain i.
+///
+/// A chain whose first step is not below its last one stays. Every signature and key is made by this
+/// one call, so all the chains are known before the first step is made.
+pub(crate) fn run_chains(id: &[u8; 16], q: u32, from: &[u8], to: &[u8], elements: &mut [[u8; 32]])
+    requires numbers { length elements.old ≤ 2 ^ 16 }
+    requires from { length from.now ≡ length elements.old }
+    requires to { length to.now ≡ length elements.old }
+    ensures { elements.new ≡ chain_ends id.now q from.now to.now elements.old }
+{
+    'chains: for i in 0..elements.len() {
+        elements[i] = run_chain(id, q, i as u16, from[i], to[i], &elements[i]);
+    }
+}
+
+/// The element of chain i at step `to`, from the one at step `from`.
+///
+/// The message of 55 bytes is laid out once: a step changes its number and its element.
+fn run_chain(id: &[u8; 16], q: u32, i: u16, from: u8, to: u8, element: &[u8; 32]) -> [u8; 32]
+    ensures { result ≡ chain_end id.now q i from to element.now }
+{
+    let mut message = element_message(id, q, i, from, element);
+    'steps: for j in from..to {
+        message[22] = j;
+        let next = Sha256::digest(&message);
+        message[23..].copy_from_slice(&next);
+    }
+    let mut end = [0u8; 32];
+    end.copy_from_slice(&message[23..]);
+    end
+}

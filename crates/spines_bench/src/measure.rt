@@ -1,0 +1,95 @@
+// The times of all works, each beside the compressions that it is made of, in one run.
+use crate::count::compressions;
+use crate::work::{ROOM, WORKS, Work, prepare, run};
+use std::io;
+use std::num::nearest_u64_to_f64;
+use std::rt::Clock;
+use std::time::Instant;
+
+/// How often each work is done in a round.
+#[derive(Clone, Copy)]
+pub struct Counts {
+    pub compressions: u32,
+    pub tags: u32,
+    pub signatures: u32,
+}
+
+/// Each work is timed so often, and its least time counts: the machine may have other work.
+const ROUNDS: u32 = 5;
+
+/// What the rounds of a work gave: the seconds of one bare compression and of the whole work, the least of
+/// all rounds, and the first byte of the result, so that no work can be left out.
+struct Timing {
+    bare: f64,
+    whole: f64,
+    result: u8,
+}
+
+/// Prints how often a second each work is done, its compressions, how much longer it takes than these
+/// alone, and the first byte of its result.
+pub fn measure(rt: &(impl Print + Clock), counts: Counts) -> io::Result<()> {
+    println!(rt;
+        "{:<20} {:>9} {:>10} {:>12} {:>7} {:>6}",
+        "work", "count", "a second", "compressions", "ratio", "result"
+    )?;
+    for (name, work) in WORKS {
+        let count = match work {
+            Work::Compression => counts.compressions,
+            Work::ShortTag | Work::LongTag => counts.tags,
+            Work::Sign(_) | Work::Verify(_) => counts.signatures,
+        };
+        let mut room = [0u8; ROOM];
+        prepare(work, &mut room);
+        let blocks = nearest_u64_to_f64(compressions(work, count, &room[4..36]));
+        let Timing {
+            bare,
+            whole,
+            result,
+        } = time(rt, work, counts.compressions, count, &mut room)?;
+        let all = nearest_u64_to_f64(count as u64);
+        println!(rt;
+            "{name:<20} {count:>9} {:>10.0} {:>12.1} {:>7.3} {result:>6x}",
+            all / whole,
+            blocks / all,
+            whole / (blocks * bare)
+        )?;
+    }
+    Ok(())
+}
+
+/// Times the bare compressions and the work by turns.
+fn time(
+    rt: &impl Clock,
+    work: Work,
+    bare_count: u32,
+    count: u32,
+    room: &mut [u8; 8516],
+) -> io::Result<Timing> {
+    let mut bare = f64::INFINITY;
+    let mut whole = f64::INFINITY;
+    let mut result = 0;
+    for _ in 0..ROUNDS {
+        let (compressions, [first, ..]) = seconds(rt, Work::Compression, bare_count, room)?;
+        let (once, [last, ..]) = seconds(rt, work, count, room)?;
+        bare = bare.min(compressions);
+        whole = whole.min(once);
+        result = first ^ last;
+    }
+    Ok(Timing {
+        bare: bare / nearest_u64_to_f64(bare_count as u64),
+        whole,
+        result,
+    })
+}
+
+/// The seconds that a work takes, and its result.
+fn seconds(
+    rt: &impl Clock,
+    work: Work,
+    count: u32,
+    room: &mut [u8; 8516],
+) -> io::Result<(f64, [u8; 32])> {
+    let start = Instant::now(rt)?;
+    let result = run(work, count, room);
+    Ok((start.elapsed(rt)?.as_secs_f64(), result))
+}

@@ -1,0 +1,209 @@
+// One-time signatures against RFC 8554 and Bouncy Castle 1.72, and what becomes of a signature that is changed.
+use crate::rfc_8554;
+use hex::FromHex;
+use sha2::{Digest, Sha256};
+use sp_ots::{OtsParam, OtsRefused, candidate, public, sig_len, sign};
+use std::test::Fail;
+
+/// The tree, the seed, the leaf and the message of the values that Bouncy Castle 1.72 made.
+const ID: [u8; 16] = [0, 1, 2, 3, 4, 5, 6, 7, 8, 9, 10, 11, 12, 13, 14, 15];
+
+const SEED: [u8; 32] = [
+    0, 1, 2, 3, 4, 5, 6, 7, 8, 9, 10, 11, 12, 13, 14, 15, 16, 17, 18, 19, 20, 21, 22, 23, 24, 25,
+    26, 27, 28, 29, 30, 31,
+];
+
+const LEAF: u32 = 3;
+
+const MESSAGE: [u8; 15] = [2, 1, 3, 0, 0, 0, 0, 0, 0, 0, 1, 0, 2, b'h', b'i'];
+
+/// The parameter set, the bytes of a signature, the public key K and the SHA-256 of the signature.
+const MADE_BY_BOUNCY_CASTLE: [(OtsParam, usize, &str, &str); 4] = [
+    (
+        OtsParam::W1,
+        8516,
+        "2b649c7df2a9eb9cff00225403d69aff53e461f033f293e3fc66ffdbb7e3e492",
+        "e904066c351beab9e7c4b1e00b2f3bada873970b53b4c017f09ea1954b7ae7eb",
+    ),
+    (
+        OtsParam::W2,
+        4292,
+        "f74163f46b74d0281a99540f957a20956bba5262e9efd6cd724a314b8a04a5e3",
+        "243ceb05cf61169ae588f762eb1775af10b98561782b04961c1a0282c113004a",
+    ),
+    (
+        OtsParam::W4,
+        2180,
+        "5f60a7b746239a7d03d9599999a80c039e6fa411459b02b5313d102803199885",
+        "bb2355462c51790c62a88ecb0bcd00bcc7d88bd81dbb6f6008ec9333a651c1a8",
+    ),
+    (
+        OtsParam::W8,
+        1124,
+        "80d71898185123e68887c0e1c1ca104e7ed5d1a241da088c28e413201c4d9a4b",
+        "90f7e65dc0ce6eebbf984240c67079f1ad9fcd05ec864e0e8b61f87f3bbbcd8e",
+    ),
+];
+
+/// The signature of the message under a parameter set.
+fn signed(rt: &HostRuntime, param: OtsParam) -> Result<Vec<u8>, Fail> {
+    let mut signature = vec![in rt.alloc(); 0; sig_len(param)]?;
+    sign(param, &ID, LEAF, &SEED, &MESSAGE, &mut signature);
+    Ok(signature)
+}
+
+#[test]
+fn keys_and_signatures_are_those_of_bouncy_castle(rt: HostRuntime) -> Result<(), Fail> {
+    for (param, len, key, digest) in MADE_BY_BOUNCY_CASTLE {
+        let key = <[u8; 32] as FromHex>::from_hex(key)?;
+        assert_eq!(rt; public(param, &ID, LEAF, &SEED), key);
+        let signature = signed(&rt, param)?;
+        assert_eq!(rt; signature.len(), len);
+        assert_eq!(rt;
+            Sha256::digest(&signature),
+            <[u8; 32] as FromHex>::from_hex(digest)?
+        );
+        assert_eq!(rt; candidate(param, &ID, LEAF, &MESSAGE, &signature), Ok(key));
+    }
+    Ok(())
+}
+
+/// Test case 2 of RFC 8554, appendix F, its lower level: the tree's id, the seed and the signature.
+fn test_case_2(rt: &HostRuntime) -> Result<([u8; 16], [u8; 32], Vec<u8>), Fail> {
+    Ok((
+        <[u8; 16] as FromHex>::from_hex(rfc_8554::ID)?,
+        <[u8; 32] as FromHex>::from_hex(rfc_8554::SEED)?,
+        hex::decode(rt.alloc(), rfc_8554::SIGNATURE)?,
+    ))
+}
+
+#[test]
+fn the_signature_of_rfc_8554_comes_out_byte_for_byte(rt: HostRuntime) -> Result<(), Fail> {
+    let (id, seed, expected) = test_case_2(&rt)?;
+    let mut signature = vec![in rt.alloc(); 0; sig_len(OtsParam::W8)]?;
+    let message = rfc_8554::MESSAGE.as_bytes();
+    sign(
+        OtsParam::W8,
+        &id,
+        rfc_8554::LEAF,
+        &seed,
+        message,
+        &mut signature,
+    );
+    assert_eq!(rt; signature, expected);
+    Ok(())
+}
+
+/// The hash of two nodes that stand in their tree below node r (RFC 8554, section 5.3).
+fn node(id: &[u8; 16], r: u32, left: &[u8], right: &[u8]) -> [u8; 32] {
+    Sha256::new_with_prefix(id)
+        .chain_update(r.to_be_bytes())
+        .chain_update([0x83, 0x83])
+        .chain_update(left)
+        .chain_update(right)
+        .finalize()
+}
+
+/// The root that a leaf's key and a path of 5 hashes give (RFC 8554, section 5.4.2).
+fn root(id: &[u8; 16], leaf: u32, key: &[u8; 32], path: &[u8]) -> [u8; 32] {
+    let mut r = 32 + leaf % 32;
+    let mut value = Sha256::new_with_prefix(id)
+        .chain_update(r.to_be_bytes())
+        .chain_update([0x82, 0x82])
+        .chain_update(key)
+        .finalize();
+    for sibling in path.chunks(32) {
+        value = if r % 2 == 0 {
+            node(id, r / 2, &value, sibling)
+        } else {
+            node(id, r / 2, sibling, &value)
+        };
+        r /= 2;
+    }
+    value
+}
+
+#[test]
+fn the_key_of_rfc_8554_leads_to_its_root(rt: HostRuntime) -> Result<(), Fail> {
+    let (id, seed, signature) = test_case_2(&rt)?;
+    let message = rfc_8554::MESSAGE.as_bytes();
+    let key = candidate(OtsParam::W8, &id, rfc_8554::LEAF, message, &signature)?;
+    assert_eq!(rt; public(OtsParam::W8, &id, rfc_8554::LEAF, &seed), key);
+    let path = hex::decode(rt.alloc(), rfc_8554::PATH)?;
+    let expected = <[u8; 32] as FromHex>::from_hex(rfc_8554::ROOT)?;
+    assert_eq!(rt; root(&id, rfc_8554::LEAF, &key, &path), expected);
+    Ok(())
+}
+
+#[test]
+fn a_signature_with_one_byte_changed_gives_another_key_or_is_refused(
+    rt: HostRuntime,
+) -> Result<(), Fail> {
+    for (param, _, key, _) in MADE_BY_BOUNCY_CASTLE {
+        let key = <[u8; 32] as FromHex>::from_hex(key)?;
+        let signature = signed(&rt, param)?;
+        for place in 0..signature.len() {
+            let mut changed = signature.clone()?;
+            changed[place] ^= 1;
+            let outcome = candidate(param, &ID, LEAF, &MESSAGE, &changed);
+            if place < 4 {
+                assert_eq!(rt; outcome, Err(OtsRefused::Typecode), "byte {place}");
+            } else {
+                assert!(rt; outcome.is_ok(), "byte {place}");
+                assert_ne!(rt; outcome, Ok(key), "byte {place}");
+            }
+        }
+    }
+    Ok(())
+}
+
+#[test]
+fn a_signature_that_is_cut_or_lengthened_by_one_is_refused(rt: HostRuntime) -> Result<(), Fail> {
+    for (param, _, _, _) in MADE_BY_BOUNCY_CASTLE {
+        let mut signature = signed(&rt, param)?;
+        signature.push(0)?;
+        let longer = candidate(param, &ID, LEAF, &MESSAGE, &signature);
+        assert_eq!(rt; longer, Err(OtsRefused::Length));
+        signature.pop();
+        signature.pop();
+        let shorter = candidate(param, &ID, LEAF, &MESSAGE, &signature);
+        assert_eq!(rt; shorter, Err(OtsRefused::Length));
+        assert_eq!(rt;
+            candidate(param, &ID, LEAF, &MESSAGE, &[]),
+            Err(OtsRefused::Length)
+        );
+    }
+    Ok(())
+}
+
+#[test]
+fn another_message_leaf_or_tree_gives_another_key(rt: HostRuntime) -> Result<(), Fail> {
+    let mut other_id = ID;
+    other_id[15] ^= 1;
+    for (param, _, key, _) in MADE_BY_BOUNCY_CASTLE {
+        let key = <[u8; 32] as FromHex>::from_hex(key)?;
+        let signature = signed(&rt, param)?;
+        assert_ne!(rt;
+            candidate(param, &ID, LEAF, &MESSAGE[..14], &signature),
+            Ok(key)
+        );
+        assert_ne!(rt;
+            candidate(param, &ID, LEAF + 1, &MESSAGE, &signature),
+            Ok(key)
+        );
+        assert_ne!(rt;
+            candidate(param, &other_id, LEAF, &MESSAGE, &signature),
+            Ok(key)
+        );
+    }
+    Ok(())
+}
+
+#[test]
+fn a_refusal_says_why(rt: HostRuntime) -> Result<(), Fail> {
+    let length = format!(in rt.alloc(); "{}", OtsRefused::Length)?;
+    assert_eq!(rt; length.as_str(), "the signature has another length");
+    let typecode = format!(in rt.alloc(); "{}", OtsRefused::Typecode)?;
+    assert_eq!(rt; typecode.as_str(), "the signature has another typecode");
+    Ok(())
+}
