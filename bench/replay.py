@@ -6,13 +6,14 @@ is read from a file and run several times, with its journal thrown away, and the
 no events, which is that of starting the process, is told first.
 """
 
+import contextlib
 import subprocess
 import sys
 import tempfile
 import time
 
-SIZES = (1000, 4000, 16384)
-RUNS = 50
+SIZES = (0, 1000, 4000, 16384)
+ROUNDS = 200
 ROOM = 64
 HEADER = f"""schedule 1
 seed {'00' * 32}
@@ -53,39 +54,45 @@ def summary(count):
     return f"summary events {count} sent {messages} delivered {messages} priority 0 frames {frames}"
 
 
-def seconds(program, count):
-    """The least time of several runs, with the bytes that the program reads."""
-    with tempfile.TemporaryFile() as file:
-        file.write(schedule(count))
-        file.seek(0)
-        run = subprocess.run([program, "replay"], stdin=file, capture_output=True, check=False)
-        if run.returncode != 0:
-            sys.exit(f"{count} events: status {run.returncode}")
-        last = run.stdout.decode().splitlines()[-1]
-        if last != summary(count):
-            sys.exit(f"{count} events: {last!r} in place of {summary(count)!r}")
-        least = float("inf")
-        for _ in range(RUNS):
-            file.seek(0)
+def replay(program, file, **output):
+    file.seek(0)
+    return subprocess.run([program, "replay"], stdin=file, check=True, **output)
+
+
+def check_summary(program, file, count):
+    last = replay(program, file, capture_output=True).stdout.decode().splitlines()[-1]
+    if last != summary(count):
+        sys.exit(f"{count} events: {last!r} in place of {summary(count)!r}")
+
+
+def least_seconds(program, files):
+    """The least time of all rounds for each file. A round times one after the other, so that a slow moment meets all."""
+    least = [float("inf")] * len(files)
+    for _ in range(ROUNDS):
+        for place, file in enumerate(files):
             before = time.perf_counter()
-            subprocess.run([program, "replay"], stdin=file, stdout=subprocess.DEVNULL, check=True)
-            least = min(least, time.perf_counter() - before)
-        return least, file.seek(0, 2)
+            replay(program, file, stdout=subprocess.DEVNULL)
+            least[place] = min(least[place], time.perf_counter() - before)
+    return least
 
 
 def main():
     if len(sys.argv) != 2:
         sys.exit("usage: python3 bench/replay.py PATH/TO/spinesd")
     program = sys.argv[1]
-    start, size = seconds(program, 0)
-    print(f"{'events':>8} {'bytes in':>10} {'ms':>9} {'us an event':>12} {'ratio':>6}")
-    print(f"{0:>8} {size:>10} {start * 1e3:>9.2f} {'':>12} {'':>6}")
-    first = None
-    for count in SIZES:
-        took, size = seconds(program, count)
-        each = (took - start) / count * 1e6
-        first = first or each
-        print(f"{count:>8} {size:>10} {took * 1e3:>9.2f} {each:>12.2f} {each / first:>6.2f}")
+    with contextlib.ExitStack() as stack:
+        files = [stack.enter_context(tempfile.TemporaryFile()) for _ in SIZES]
+        for count, file in zip(SIZES, files):
+            file.write(schedule(count))
+            check_summary(program, file, count)
+        start, first, *_ = times = least_seconds(program, files)
+        print(f"{'events':>8} {'bytes in':>10} {'ms':>9} {'us an event':>12} {'ratio':>6}")
+        for count, file, took in zip(SIZES, files, times):
+            row = f"{count:>8} {file.seek(0, 2):>10} {took * 1e3:>9.2f}"
+            if count:
+                each = (took - start) / count
+                row += f" {each * 1e6:>12.3f} {each / (first - start) * SIZES[1]:>6.2f}"
+            print(row)
 
 
 if __name__ == "__main__":

@@ -79,6 +79,7 @@ impl<'a> PlannedSink<'a> {
     /// At most `piece` bytes are taken in a call, and at least one while there are any.
     pub fn new(alloc: Global, piece: usize, failing: &'a [u64]) -> Self
         ensures empty { result.bytes.items ≡ [] }
+        ensures piece { result.piece ≡ piece }
         ensures failing { result.failing.now ≡ failing.now }
         ensures begins { (result.calls ≡ 0) × (result.faults ≡ 0) }
     {

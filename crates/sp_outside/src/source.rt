@@ -64,6 +64,7 @@ impl<'a> PlannedSource<'a> {
     /// At most `piece` bytes come in a call, and at least one while there are any.
     pub fn new(bytes: &'a [u8], piece: usize, failing: &'a [u64]) -> Self
         ensures bytes { result.bytes.now ≡ bytes.now }
+        ensures piece { result.piece ≡ piece }
         ensures failing { result.failing.now ≡ failing.now }
         ensures begins { (result.calls ≡ 0) × (result.faults ≡ 0) }
     {

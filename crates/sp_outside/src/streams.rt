@@ -8,7 +8,7 @@ use crate::{Failed, Sink, Source};
 use std::alloc::{AllocError, Global};
 
 /// How many bytes a call of `read` is asked for, at most.
-const PIECE_BYTES: usize = 65_536;
+const PIECE_BYTES: usize = 8_192;
 
 /// What a source gave: its bytes up to a bound, and whether there were more.
 #[derive(Drop)]
