@@ -5,4 +5,5 @@ pub mod Messages
 pub mod Parameters
 pub mod Places
 pub mod Steps
+pub mod UnderWay
 pub mod Validity

@@ -1,6 +1,6 @@
 -- One step of a chain: the message of 55 bytes with a new number, and then with a new element.
 use Rattle.std.proofs.Common.{◌≡◌, ℕ, suc, ◌+◌, ◌-◌, ◌≤◌, List, [], ◌∷◌, ◌++◌, length, take, drop, set, refl, sym, ◌∙◌, ap, arith}
-use Rattle.std.proofs.lemmas.List.{append-nil, append_assoc, drop-drop, drop_at, drop_all, length-append, length-take-le, set_split, take_at}
+use Rattle.std.proofs.lemmas.List.{append-nil, append_assoc, drop-drop, drop_at, drop_all, length-append, length-set, length-take-le, set_split, take_at}
 use Rattle.std.proofs.lemmas.Slice.{take-put_mid_below}
 use borrow.Rule.Slice.PartMut.{put_mid}
 use Rattle.sp_ots.specs.Strings.{u8str, u16str, u32str}
@@ -59,3 +59,14 @@ begun id q i from element message long e =
       ap (take 22) (e ∙ append_assoc front (u8str from) element) ∙ take_at front (u8str from ++ element) 22 long_front,
       ap (drop 23) e ∙ drop_at (front ++ u8str from) element 23 long_more,
     )
+
+-- the same message with another step's number and element
+pub renewed : (message : List ℕ) (step : ℕ) (element : List ℕ) → length message ≡ 55 → length element ≡ 32
+    → put_mid 23 32 (set message 22 step) element ≡ take 22 message ++ u8str step ++ element
+renewed message step element long long_element =
+    let front = take 22 message in
+    let split : set message 22 step ≡ (front ++ u8str step) ++ drop 23 message = numbered message front (drop 23 message) step long refl refl in
+    let long_front : length (front ++ u8str step) ≡ 23 = length-append front (u8str step) ∙ omega (arith, length-take-le 22 message (omega arith)) in
+    let kept : take 23 (set message 22 step) ≡ front ++ u8str step = ap (take 23) split ∙ take_at (front ++ u8str step) (drop 23 message) 23 long_front in
+    let none : drop 32 (drop 23 (set message 22 step)) ≡ [] = drop-drop 32 23 (set message 22 step) ∙ drop_all 55 (set message 22 step) (omega (arith, length-set message 22 step)) in
+    rw (kept, none) (ap (λ (xs : List ℕ). (front ++ u8str step) ++ xs) (append-nil element))

@@ -46,7 +46,7 @@ length-randomizer : (id : List ℕ) (q : ℕ) (seed : List ℕ) → length (rand
 unfolding randomizer
 length-randomizer id q seed = length-sha256 (id ++ u32str q ++ u16str 65533 ++ 255 ∷ [] ++ seed)
 
-length-u32str : (x : ℕ) → length (u32str x) ≡ 4
+pub length-u32str : (x : ℕ) → length (u32str x) ≡ 4
 unfolding u32str
 length-u32str x = refl
 
@@ -56,13 +56,13 @@ unfolding digit
 digit-le param hash i = and_le_l (2 ^ width param - 1) _
 
 -- pieces of 32 bytes, one behind the other: their length, and each of them
-length-pieces : (f : ℕ → List ℕ) (a n : ℕ) → ((i : ℕ) → length (f i) ≡ 32) → length (concat (map f (range_with_len a n))) ≡ 32 * n
+pub length-pieces : (f : ℕ → List ℕ) (a n : ℕ) → ((i : ℕ) → length (f i) ≡ 32) → length (concat (map f (range_with_len a n))) ≡ 32 * n
 length-pieces f a zero long = refl
 length-pieces f a (suc n) long =
     let rest = concat (map f (range_with_len (a + 1) n)) in
     omega (arith, length-append (f a) rest, long a, length-pieces f (a + 1) n long)
 
-piece_at : (f : ℕ → List ℕ) (a n i : ℕ) → ((i : ℕ) → length (f i) ≡ 32) → i < n → take 32 (drop (32 * i) (concat (map f (range_with_len a n)))) ≡ f (a + i)
+pub piece_at : (f : ℕ → List ℕ) (a n i : ℕ) → ((i : ℕ) → length (f i) ≡ 32) → i < n → take 32 (drop (32 * i) (concat (map f (range_with_len a n)))) ≡ f (a + i)
 piece_at f a zero i long within = absurd (omega arith)
 piece_at f a (suc n) zero long within =
     let place : a + 0 ≡ a = omega arith in

@@ -4,13 +4,35 @@ ghost use Rattle.std.specs.Prelude.{◌≡◌, ◌<◌, ◌≤◌, ◌^◌, leng
 ghost use Rattle.sp_ots.specs.Chains.{chain_end, chain_ends};
 
 use crate::hashes::element_message;
+use crate::lanes::Lanes;
 use sha2::{Digest, Sha256};
 
 /// Runs each chain from its own step to its own step, in place: element i belongs to chain i.
 ///
 /// A chain whose first step is not below its last one stays. Every signature and key is made by this
-/// one call, so all the chains are known before the first step is made.
-pub(crate) fn run_chains(id: &[u8; 16], q: u32, from: &[u8], to: &[u8], elements: &mut [[u8; 32]])
+/// one call, so all the chains are known before the first step is made, and four are hashed at once.
+pub fn run_chains(id: &[u8; 16], q: u32, from: &[u8], to: &[u8], elements: &mut [[u8; 32]])
+    requires numbers { length elements.old ≤ 2 ^ 16 }
+    requires from { length from.now ≡ length elements.old }
+    requires to { length to.now ≡ length elements.old }
+    ensures { elements.new ≡ chain_ends id.now q from.now to.now elements.old }
+{
+    let mut lanes = Lanes::idle();
+    lanes.fill(id, q, from, to, elements);
+    'rounds: while !lanes.are_idle() {
+        lanes.step(to, elements);
+        lanes.fill(id, q, from, to, elements);
+    }
+}
+
+/// The same as `run_chains`, one chain after another: the plain form, which tests and measures run beside it.
+pub fn run_chains_one_by_one(
+    id: &[u8; 16],
+    q: u32,
+    from: &[u8],
+    to: &[u8],
+    elements: &mut [[u8; 32]],
+)
     requires numbers { length elements.old ≤ 2 ^ 16 }
     requires from { length from.now ≡ length elements.old }
     requires to { length to.now ≡ length elements.old }

@@ -59,9 +59,10 @@ pub(crate) fn message_hash(id: &[u8; 16], q: u32, randomizer: &[u8], message: &[
     hasher.finalize()
 }
 
-/// A hasher that holds the front of a message.
+/// A hasher that holds the front of a message: the tree's id, a number of a leaf or a node, and the number that
+/// says what the message is for.
 #[tactic(auto, unfolding(crate::specs::Strings::u16str, crate::specs::Strings::u32str))]
-fn begun(id: &[u8; 16], q: u32, number: u16) -> Sha256
+pub fn begun(id: &[u8; 16], q: u32, number: u16) -> Sha256
     ensures { Holds256 result (id.now ++ u32str q ++ u16str number) }
 {
     let mut hasher = Sha256::new();

@@ -8,12 +8,15 @@ mod check;
 mod digits;
 mod hashes;
 mod keys;
+mod lanes;
 mod param;
 mod refused;
 mod signing;
 
+pub use chains::{run_chains, run_chains_one_by_one};
 pub use check::candidate;
-pub use keys::public;
+pub use hashes::begun;
+pub use keys::{private_starts, private_starts_one_by_one, public};
 pub use param::{OtsParam, sig_len};
 pub use refused::OtsRefused;
 pub use signing::sign;

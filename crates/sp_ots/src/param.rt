@@ -1,5 +1,5 @@
 // The parameter sets: how many bits a digit has, and what follows from that.
-ghost use Rattle.std.specs.Prelude.{◌≡◌};
+ghost use Rattle.std.specs.Prelude.{◌≡◌, ◌≢◌, MatchOption};
 ghost use Rattle.sp_ots.specs.Parameters.{width, chain_count, checksum_shift, typecode, last_step, signature_len};
 
 /// A parameter set of LM-OTS with SHA-256 (RFC 8554, section 4.1), named by w, the bits of a digit.
@@ -33,6 +33,19 @@ impl OtsParam {
             OtsParam::W2 => 2,
             OtsParam::W4 => 3,
             OtsParam::W8 => 4,
+        }
+    }
+
+    /// The parameter set that a number stands for. None exactly where it stands for none.
+    pub fn from_typecode(code: u32) -> Option<Self>
+        ensures { MatchOption result ((param : OtsParam) → typecode param ≢ code) (λ param. typecode param ≡ code) }
+    {
+        match code {
+            1 => Some(OtsParam::W1),
+            2 => Some(OtsParam::W2),
+            3 => Some(OtsParam::W4),
+            4 => Some(OtsParam::W8),
+            _ => None,
         }
     }
 

@@ -1,9 +1,12 @@
-//! Tags and one-time signatures held against values that others made: RFC 4231, RFC 8554 and Bouncy Castle.
+//! Hashes, tags and one-time signatures held against values that others made: FIPS 180-4, RFC 4231, RFC 8554 and
+//! Bouncy Castle.
 #![tactic(auto)]
 
 #[cfg(test)]
-mod one_time;
+mod chains;
 #[cfg(test)]
-mod rfc_8554;
+mod lanes;
+#[cfg(test)]
+mod one_time;
 #[cfg(test)]
 mod tags;

@@ -1,25 +1,35 @@
-use Rattle.std.proofs.Common.{ℕ, List, [], length, ◌∙◌, ap, arith, slice_index, slice_index_or}
-use Rattle.std.proofs.lemmas.List.{length-set}
-use Rattle.sp_ots.specs.Chains.{chain_end, chain_ends}
-use Rattle.sp_ots.proofs.Places.{filled_more, filled_all, rest_more, rest_first}
+use Rattle.std.proofs.Common.{rules, ◌≡◌, ◌≢◌, ℕ, IsTrue, List, length, sum, replicate, slice_index, ap, ◌∙◌, arith}
+use Rattle.sp_lanes.specs.Lanes.{lanes}
+use Rattle.sp_ots.proofs.UnderWay.{all_ended, fewer_left_if_busy}
 use Rattle.sp_ots.proofs.chains.run_chains.Goals as goal
 
-pub chains-preserved : goal.chains-preserved
-chains-preserved c =
-    let f : ℕ → List ℕ = λ i. chain_end c.args.id.now c.args.q i (slice_index c.args.from.now i) (slice_index c.args.to.now i) (slice_index_or c.args.elements.now i []) in
-    let i = c.chains.i in
-    let was = c.args.elements.now in
-    let now = c.chains.elements in
+pub rounds-init : goal.rounds-init
+rounds-init c =
+    let elements = c.args.elements.now in
     record {
-      long = omega (arith, length-set now i c.run_chain.result);
-      run = filled_more f now i c.run_chain.result (omega arith) c.chains.invariant.run
-          (c.run_chain.ensures ∙ ap (λ (x : List ℕ). chain_end c.args.id.now c.args.q i (slice_index c.args.from.now i) (slice_index c.args.to.now i) x)
-          (rest_first was now i [] c.chains.invariant.rest));
-      rest = rest_more was now i c.run_chain.result c.chains.invariant.rest;
+      under_way = c.fill.ensures.under_way elements (c.idle-lanes.ensures c.args.id.now c.args.q c.args.from.now c.args.to.now elements);
+      full = c.fill.ensures.full;
     }
 
+pub rounds-preserved : goal.rounds-preserved
+rounds-preserved c =
+    let stepped = c.step.ensures.under_way c.args.id.now c.args.q c.args.from.now c.args.elements.now c.told-id c.rounds.invariant.under_way in
+    record {
+      under_way = c.fill-in-rounds.ensures.under_way c.args.elements.now stepped;
+      full = c.fill-in-rounds.ensures.full;
+    }
+
+pub rounds-smaller : goal.rounds-smaller
+rounds-smaller c =
+    let left = c.rounds.lanes.left in
+    let none : ℕ → List ℕ = λ n. replicate n 0 in
+    let all : none (length left) ≡ none lanes = ap none c.rounds.invariant.under_way.left in
+    let busy : left ≢ none (length left) = λ e. let idle : IsTrue c.are_idle.result = c.are_idle.ensures.1 (e ∙ all) in search rules in
+    omega (arith, c.fill-in-rounds.ensures.work, c.step.ensures.next, ap sum c.step.ensures.left, fewer_left_if_busy left busy)
+
 pub returns : goal.returns
-unfolding chain_ends
 returns c =
-    let f : ℕ → List ℕ = λ i. chain_end c.args.id.now c.args.q i (slice_index c.args.from.now i) (slice_index c.args.to.now i) (slice_index_or c.args.elements.now i []) in
-    filled_all f c.chains.elements c.chains.i (length c.args.elements.now) (omega arith) (omega arith) (omega arith) c.chains.invariant.run
+    let idle : IsTrue c.are_idle.result = search rules in
+    let left : c.rounds.lanes.left ≡ replicate lanes 0 = c.are_idle.ensures.0 idle in
+    all_ended c.args.id.now c.args.q c.args.from.now c.args.to.now c.args.elements.now c.rounds.elements c.rounds.lanes c.rounds.invariant.under_way
+    (omega (arith, c.rounds.invariant.full 0 (omega arith) (ap (λ (xs : List ℕ). slice_index xs 0) left))) left

@@ -1,27 +1,33 @@
 // Test case 2 of RFC 8554, appendix F, its lower level: a tree of height 5 whose leaf 4 signs with w = 8.
 
 /// The seed of the tree.
-pub(crate) const SEED: &str = "\
+pub const SEED: &str = "\
     a1c4696e2608035a886100d05cd99945eb3370731884a8235e2fb3d4d71f2547";
 
 /// The id of the tree, I.
-pub(crate) const ID: &str = "\
+pub const ID: &str = "\
     215f83b7ccb9acbcd08db97b0d04dc2b";
 
 /// The root of the tree, the last 32 bytes of its public key.
-pub(crate) const ROOT: &str = "\
+pub const ROOT: &str = "\
+    a1cd035833e0e90059603f26e07ad2aad152338e7a5e5984bcd5f7bb4eba40b7";
+
+/// The public key: the typecodes 5 and 4, the id and the root.
+pub const PUBLIC: &str = "\
+    0000000500000004\
+    215f83b7ccb9acbcd08db97b0d04dc2b\
     a1cd035833e0e90059603f26e07ad2aad152338e7a5e5984bcd5f7bb4eba40b7";
 
 /// The number of the leaf that signs.
-pub(crate) const LEAF: u32 = 4;
+pub const LEAF: u32 = 4;
 
 /// The message, which ends in a newline.
-pub(crate) const MESSAGE: &str = "\
+pub const MESSAGE: &str = "\
     The enumeration in the Constitution, of certain rights, shall not be construed \
     to deny or disparage others retained by the people.\n";
 
 /// The one-time signature of the message: its typecode, the randomizer and 34 elements.
-pub(crate) const SIGNATURE: &str = "\
+pub const SIGNATURE: &str = "\
     000000040eb1ed54a2460d512388cad533138d240534e97b1e82d33bd927d201dfc24ebb11b3649023696f85150b189e\
     50c00e98850ac343a77b3638319c347d7310269d3b7714fa406b8c35b021d54d4fdada7b9ce5d4ba5b06719e72aaf58c\
     5aae7aca057aa0e2e74e7dcfd17a0823429db62965b7d563c57b4cec942cc865e29c1dad83cac8b4d61aacc457f336e6\
@@ -48,7 +54,7 @@ pub(crate) const SIGNATURE: &str = "\
     4e2a17ee70a5e187075d03ae3c853cff60729ba4";
 
 /// The path from the leaf to the root, 5 hashes.
-pub(crate) const PATH: &str = "\
+pub const PATH: &str = "\
     4de1f6965bdabc676c5a4dc7c35f97f82cb0e31c68d04f1dad96314ff09e6b3de96aeee300d1f68bf1bca9fc58e40323\
     36cd819aaf578744e50d1357a0e4286704d341aa0a337b19fe4bc43c2e79964d4f351089f2e0e41c7c43ae0d49e7f404\
     b0f75be80ea3af098c9752420a8ac0ea2bbb1f4eeba05238aef0d8ce63f0c6e5e4041d95398a6f7f3e0ee97cc1591849\

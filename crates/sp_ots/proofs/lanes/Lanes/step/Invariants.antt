@@ -1,0 +1,14 @@
+use Rattle.std.proofs.Common.{◌≡◌, ℕ, ◌-◌, List, ◌++◌, length, map, take, drop}
+use Rattle.sp_ots.specs.UnderWay.{AreUnderWay, IsSound}
+use Rattle.sp_ots.proofs.lanes.Lanes.step.Given as goal
+
+abbrev pub invariant-lanes : goal.invariant-lanes
+invariant-lanes l = record {
+  under_way : (id : List ℕ) (q : ℕ) (from : List ℕ) (old : List (List ℕ)) → length id ≡ 16
+      → AreUnderWay id q from l.to old l.fn.elements l.fn.self → AreUnderWay id q from l.to old l.elements l.self;
+  whole : length l.elements ≡ length l.fn.elements;
+  sound : IsSound l.to l.self;
+  next : l.self.next ≡ l.fn.self.next;
+  left : l.self.left ≡ map (λ n. n - 1) (take l.k l.fn.self.left) ++ drop l.k l.fn.self.left;
+  messages : drop l.k l.self.messages ≡ drop l.k l.fn.self.messages;
+}
