@@ -1,0 +1,3 @@
+pub mod Cuts
+pub mod Lengths
+pub mod Validity

@@ -1,0 +1,16 @@
+//! Keys that sign up to 2^(2h) messages, each index once: two levels of hash trees with w = 4 (RFC 8554, section 6).
+#![tactic(auto)]
+
+mod check;
+mod front;
+mod laws;
+mod refused;
+mod signer;
+mod tree;
+
+pub use check::verify;
+pub use laws::what_a_seed_signs_is_valid;
+pub use refused::HssRefused;
+pub use signer::Signer;
+pub use sp_lms::LmsParam;
+pub use tree::Tree;

@@ -1,0 +1,10 @@
+pub mod Parameters
+pub mod Numbers
+pub mod Trees
+pub mod Keys
+pub mod Validity
+pub mod PublicKey
+pub mod Key
+pub mod Nodes
+pub mod Kept
+pub mod Laws

@@ -1,0 +1,19 @@
+//! Trees of one-time keys that rest on SHA-256 alone: LMS (RFC 8554, section 5). A key of height h signs 2^h messages.
+#![tactic(auto)]
+
+mod bytes;
+mod fill;
+mod hashes;
+mod key;
+mod laws;
+mod param;
+mod path;
+mod public_key;
+mod refused;
+
+pub use bytes::u32_at;
+pub use key::LmsKey;
+pub use laws::what_a_seed_signs_is_valid;
+pub use param::{LmsParam, sig_len};
+pub use public_key::{PublicKey, verify};
+pub use refused::LmsRefused;
