@@ -1,25 +1,39 @@
 // How many compressions of SHA-256 a work takes, counted from the hashes that it makes.
 ghost use Rattle.std.specs.Prelude.{◌<◌};
 
+use crate::levels::Levels;
 use crate::tree::{ID, LEAF, message};
-use crate::work::Work;
+use crate::work::{Bench, Work};
 use sha2::{Digest, Sha256};
+use sp_hss::LmsParam;
 use sp_ots::OtsParam;
 
-/// The compressions that the work takes for the messages below `count`, under the randomizer of their
-/// signatures.
-pub fn compressions(work: Work, count: u32, randomizer: &[u8]) -> u64 {
+/// The compressions that the work takes for the messages below `count`, with what was prepared for it.
+pub fn compressions(work: Work, count: u32, bench: &mut Bench) -> u64 {
+    let all = count as u64;
     match work {
-        Work::Compression => count as u64,
+        Work::Compression => all,
+        Work::FourAtOnce => all / 4 * 4,
         // The key's blocks are hashed once for all, and the outer hash is of one digest.
-        Work::ShortTag => blocks(64).saturating_add(1).saturating_mul(count as u64),
-        Work::LongTag => blocks(5120).saturating_add(1).saturating_mul(count as u64),
-        Work::Sign(param) => (0..count).fold(0u64, |sum, i| {
-            sum.saturating_add(signing(param, steps_left(param, &hash(i, randomizer))))
+        Work::ShortTag => blocks(64).saturating_add(1).saturating_mul(all),
+        Work::LongTag => blocks(5120).saturating_add(1).saturating_mul(all),
+        Work::Chains | Work::ChainsOneByOne => 67u64.saturating_mul(15).saturating_mul(all),
+        Work::Sign(param) => sum(count, |i| {
+            signing(
+                param,
+                left(param, &ID, LEAF, &bench.randomizer(), &message(i)),
+            )
         }),
-        Work::Verify(param) => (0..count).fold(0u64, |sum, i| {
-            sum.saturating_add(checking(param, steps_left(param, &hash(i, randomizer))))
+        Work::Verify(param) => sum(count, |i| {
+            checking(
+                param,
+                32,
+                left(param, &ID, LEAF, &bench.randomizer(), &message(i)),
+            )
         }),
+        Work::Key(height) => key(height).saturating_mul(all),
+        Work::SignBelow(_) => signing_below(&mut bench.levels, count),
+        Work::VerifyBelow(height) => checking_below(&bench.levels, height, count),
     }
 }
 
@@ -38,10 +52,10 @@ fn signing(param: OtsParam, left: u64) -> u64 {
         .saturating_add(all_steps.saturating_sub(left))
 }
 
-/// Those of a check: the message's hash, the steps that are left, and the key.
-fn checking(param: OtsParam, left: u64) -> u64 {
+/// Those of a check: the hash of a message of so many bytes, the steps that are left, and the key.
+fn checking(param: OtsParam, len: u64, left: u64) -> u64 {
     let ends = chains(param).saturating_mul(32);
-    blocks(22 + 32 + 32)
+    blocks(len.saturating_add(22 + 32))
         .saturating_add(left)
         .saturating_add(blocks(ends.saturating_add(22)))
 }
@@ -68,14 +82,89 @@ fn base(param: OtsParam) -> u64
     }
 }
 
-/// The hash of message i behind its randomizer, whose digits the chains stop at.
-fn hash(i: u32, randomizer: &[u8]) -> [u8; 32] {
-    Sha256::new_with_prefix(&ID)
-        .chain_update(LEAF.to_be_bytes())
+/// Those of both trees of a key of two levels. Its few tags and its one signature are left out: one in 3,000.
+fn key(height: LmsParam) -> u64 {
+    let leaves = u64::from(height.leaf_count());
+    // The chains with their private starts, the key of their ends, and the leaf's hash.
+    let leaf = blocks(22 + 67 * 32).saturating_add(67 * 16 + 1);
+    let inner = blocks(22 + 64).saturating_mul(leaves.saturating_sub(1));
+    leaves
+        .saturating_mul(leaf)
+        .saturating_add(inner)
+        .saturating_mul(2)
+}
+
+/// Those of signatures by the first lower tree, which is kept.
+fn signing_below(levels: &mut Option<Levels>, count: u32) -> u64 {
+    let Some(levels) = levels else {
+        return 0;
+    };
+    let mut all = 0u64;
+    for i in 0..count {
+        let message = message(i);
+        levels.sign(&message);
+        let left = left(
+            OtsParam::W4,
+            &levels.lower_id(),
+            i,
+            &levels.lower_randomizer(),
+            &message,
+        );
+        all = all.saturating_add(signing(OtsParam::W4, left));
+    }
+    all
+}
+
+/// Those of checks of the first signature for each message: both levels, each with its path.
+fn checking_below(levels: &Option<Levels>, height: LmsParam, count: u32) -> u64 {
+    let Some(levels) = levels else {
+        return 0;
+    };
+    let path = blocks(22 + 64)
+        .saturating_mul(height.height() as u64)
+        .saturating_add(1);
+    let upper = left(
+        OtsParam::W4,
+        &levels.upper_id(),
+        0,
+        &levels.upper_randomizer(),
+        &levels.lower_key(),
+    );
+    let above = checking(OtsParam::W4, 56, upper).saturating_add(path);
+    sum(count, |i| {
+        let lower = left(
+            OtsParam::W4,
+            &levels.lower_id(),
+            0,
+            &levels.lower_randomizer(),
+            &message(i),
+        );
+        checking(OtsParam::W4, 32, lower)
+            .saturating_add(path)
+            .saturating_add(above)
+    })
+}
+
+/// The sum over the numbers below `count`.
+fn sum<F: Fn(u32) -> u64 + Drop>(count: u32, f: F) -> u64
+    requires { F.IsAlwaysCallable f }
+{
+    let mut all = 0u64;
+    for i in 0..count {
+        all = all.saturating_add(f(i));
+    }
+    all
+}
+
+/// How many steps the chains of a signature are from their ends: those of the message's hash behind its randomizer.
+fn left(param: OtsParam, id: &[u8; 16], leaf: u32, randomizer: &[u8; 32], message: &[u8]) -> u64 {
+    let hash = Sha256::new_with_prefix(id)
+        .chain_update(leaf.to_be_bytes())
         .chain_update([0x81, 0x81])
         .chain_update(randomizer)
-        .chain_update(message(i))
-        .finalize()
+        .chain_update(message)
+        .finalize();
+    steps_left(param, &hash)
 }
 
 /// How far the digits of a hash and of its checksum are from the greatest, all together.

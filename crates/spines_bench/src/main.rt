@@ -1,10 +1,11 @@
-//! Measures tags and one-time signatures beside the compressions of SHA-256 that they are made of.
+//! Measures hashes, tags and signatures beside the compressions of SHA-256 that they are made of.
 //!
 //! Without words each work is done once, and the first bytes of its result are printed. With the words
 //! COMPRESSIONS TAGS SIGNATURES each work is done that many times a round, and its speed is printed.
 #![tactic(auto)]
 
 mod count;
+mod levels;
 mod measure;
 mod tree;
 mod work;
@@ -12,7 +13,7 @@ mod work;
 use measure::{Counts, measure};
 use std::env::Env;
 use std::{env, io};
-use work::{ROOM, WORKS, prepare, run};
+use work::{WORKS, Work, prepare, run};
 
 /// The counts that the words say, or None where there are no words.
 fn counts(rt: &(impl Env + Alloc)) -> io::Result<Option<Counts>> {
@@ -35,11 +36,13 @@ fn counts(rt: &(impl Env + Alloc)) -> io::Result<Option<Counts>> {
 }
 
 /// Does each work once.
-fn show(rt: &impl Print) -> io::Result<()> {
+fn show(rt: &(impl Print + AllocGlobal)) -> io::Result<()> {
     for (name, work) in WORKS {
-        let mut room = [0u8; ROOM];
-        prepare(work, &mut room);
-        let [a, b, c, d, ..] = run(work, 1, &mut room);
+        let Ok(mut bench) = prepare(rt.alloc(), work) else {
+            return Err(io::ErrorKind::OutOfMemory.into());
+        };
+        let count = if let Work::FourAtOnce = work { 4 } else { 1 };
+        let [a, b, c, d, ..] = run(work, count, &mut bench);
         println!(rt; "{name:<20} {a:02x}{b:02x}{c:02x}{d:02x}")?;
     }
     Ok(())

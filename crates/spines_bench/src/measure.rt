@@ -1,6 +1,8 @@
 // The times of all works, each beside the compressions that it is made of, in one run.
 use crate::count::compressions;
-use crate::work::{ROOM, WORKS, Work, prepare, run};
+use crate::work::{Bench, WORKS, Work, prepare, run};
+use sp_hss::LmsParam;
+use std::alloc::Global;
 use std::io;
 use std::num::nearest_u64_to_f64;
 use std::rt::Clock;
@@ -27,28 +29,26 @@ struct Timing {
 
 /// Prints how often a second each work is done, its compressions, how much longer it takes than these
 /// alone, and the first byte of its result.
-pub fn measure(rt: &(impl Print + Clock), counts: Counts) -> io::Result<()> {
+pub fn measure(rt: &(impl Print + Clock + AllocGlobal), counts: Counts) -> io::Result<()> {
     println!(rt;
         "{:<20} {:>9} {:>10} {:>12} {:>7} {:>6}",
         "work", "count", "a second", "compressions", "ratio", "result"
     )?;
     for (name, work) in WORKS {
-        let count = match work {
-            Work::Compression => counts.compressions,
-            Work::ShortTag | Work::LongTag => counts.tags,
-            Work::Sign(_) | Work::Verify(_) => counts.signatures,
-        };
-        let mut room = [0u8; ROOM];
-        prepare(work, &mut room);
-        let blocks = nearest_u64_to_f64(compressions(work, count, &room[4..36]));
+        let count = counts.of(work);
+        let blocks = nearest_u64_to_f64(compressions(
+            work,
+            count,
+            &mut prepared(rt.alloc(), work)?,
+        ));
         let Timing {
             bare,
             whole,
             result,
-        } = time(rt, work, counts.compressions, count, &mut room)?;
+        } = time(rt, work, counts.compressions, count)?;
         let all = nearest_u64_to_f64(count as u64);
         println!(rt;
-            "{name:<20} {count:>9} {:>10.0} {:>12.1} {:>7.3} {result:>6x}",
+            "{name:<20} {count:>9} {:>10.1} {:>12.1} {:>7.3} {result:>6x}",
             all / whole,
             blocks / all,
             whole / (blocks * bare)
@@ -57,20 +57,38 @@ pub fn measure(rt: &(impl Print + Clock), counts: Counts) -> io::Result<()> {
     Ok(())
 }
 
+impl Counts {
+    /// How often a work is done. A lower tree of height 5 makes 32 signatures, and one of height 10 1,024.
+    fn of(self, work: Work) -> u32 {
+        match work {
+            Work::Compression | Work::FourAtOnce => self.compressions,
+            Work::ShortTag | Work::LongTag => self.tags,
+            Work::Key(_) => 1,
+            Work::SignBelow(LmsParam::H5) => self.signatures.min(32),
+            Work::SignBelow(_) => self.signatures.min(1024),
+            _ => self.signatures,
+        }
+    }
+}
+
+fn prepared(alloc: Global, work: Work) -> io::Result<Bench> {
+    prepare(alloc, work).map_err(|_| io::ErrorKind::OutOfMemory.into())
+}
+
 /// Times the bare compressions and the work by turns.
 fn time(
-    rt: &impl Clock,
+    rt: &(impl Clock + AllocGlobal),
     work: Work,
     bare_count: u32,
     count: u32,
-    room: &mut [u8; 8516],
 ) -> io::Result<Timing> {
     let mut bare = f64::INFINITY;
     let mut whole = f64::INFINITY;
     let mut result = 0;
     for _ in 0..ROUNDS {
-        let (compressions, [first, ..]) = seconds(rt, Work::Compression, bare_count, room)?;
-        let (once, [last, ..]) = seconds(rt, work, count, room)?;
+        let mut bench = prepared(rt.alloc(), work)?;
+        let (compressions, [first, ..]) = seconds(rt, Work::Compression, bare_count, &mut bench)?;
+        let (once, [last, ..]) = seconds(rt, work, count, &mut bench)?;
         bare = bare.min(compressions);
         whole = whole.min(once);
         result = first ^ last;
@@ -87,9 +105,9 @@ fn seconds(
     rt: &impl Clock,
     work: Work,
     count: u32,
-    room: &mut [u8; 8516],
+    bench: &mut Bench,
 ) -> io::Result<(f64, [u8; 32])> {
     let start = Instant::now(rt)?;
-    let result = run(work, count, room);
+    let result = run(work, count, bench);
     Ok((start.elapsed(rt)?.as_secs_f64(), result))
 }
