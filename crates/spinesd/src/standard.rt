@@ -1,5 +1,5 @@
-// The real objects: any reader as a source, any writer as a sink. What they hold isn't told.
-ghost use Rattle.std.specs.Prelude.{◌≡◌, None};
+// The real objects: any reader as a source, any writer as a sink. They tell what the reader and the writer tell of their bytes.
+ghost use Rattle.std.specs.Prelude.{◌≡◌};
 
 use sp_outside::{Failed, Sink, Source};
 use std::io::{Read, Write};
@@ -12,13 +12,15 @@ pub struct StandardSource<R: Read> {
 }
 
 impl<R: Read> StandardSource<R> {
-    pub fn new(reader: R) -> Self {
+    pub fn new(reader: R) -> Self
+        ensures { result ≡ record { reader = reader; faults = 0 } }
+    {
         StandardSource { reader, faults: 0 }
     }
 }
 
 impl<R: Read> Source for StandardSource<R> {
-    ghost left = { λ _. None };
+    ghost left = { λ s. R.remaining s.reader };
 
     ghost faults = { λ s. s.faults };
 
@@ -41,13 +43,15 @@ pub struct StandardSink<W: Write> {
 }
 
 impl<W: Write> StandardSink<W> {
-    pub fn new(writer: W) -> Self {
+    pub fn new(writer: W) -> Self
+        ensures { result ≡ record { writer = writer; faults = 0 } }
+    {
         StandardSink { writer, faults: 0 }
     }
 }
 
 impl<W: Write> Sink for StandardSink<W> {
-    ghost contents = { λ _. None };
+    ghost contents = { λ s. W.contents s.writer };
 
     ghost faults = { λ s. s.faults };
 
