@@ -17,33 +17,48 @@ const LEAF: u32 = 3;
 
 const MESSAGE: [u8; 15] = [2, 1, 3, 0, 0, 0, 0, 0, 0, 0, 1, 0, 2, b'h', b'i'];
 
-/// The parameter set, the bytes of a signature, the public key K and the SHA-256 of the signature.
-const MADE_BY_BOUNCY_CASTLE: [(OtsParam, usize, &str, &str); 4] = [
-    (
-        OtsParam::W1,
-        8516,
-        "2b649c7df2a9eb9cff00225403d69aff53e461f033f293e3fc66ffdbb7e3e492",
-        "e904066c351beab9e7c4b1e00b2f3bada873970b53b4c017f09ea1954b7ae7eb",
-    ),
-    (
-        OtsParam::W2,
-        4292,
-        "f74163f46b74d0281a99540f957a20956bba5262e9efd6cd724a314b8a04a5e3",
-        "243ceb05cf61169ae588f762eb1775af10b98561782b04961c1a0282c113004a",
-    ),
-    (
-        OtsParam::W4,
-        2180,
-        "5f60a7b746239a7d03d9599999a80c039e6fa411459b02b5313d102803199885",
-        "bb2355462c51790c62a88ecb0bcd00bcc7d88bd81dbb6f6008ec9333a651c1a8",
-    ),
-    (
-        OtsParam::W8,
-        1124,
-        "80d71898185123e68887c0e1c1ca104e7ed5d1a241da088c28e413201c4d9a4b",
-        "90f7e65dc0ce6eebbf984240c67079f1ad9fcd05ec864e0e8b61f87f3bbbcd8e",
-    ),
-];
+/// What Bouncy Castle 1.72 made.
+#[derive(Clone, Copy)]
+struct Made {
+    /// The bytes of a signature.
+    len: usize,
+    /// The public key K.
+    key: &'static str,
+    /// The SHA-256 of the signature.
+    digest: &'static str,
+}
+
+fn values_of(param: OtsParam) -> Made {
+    match param {
+        OtsParam::W1 => Made {
+            len: 8516,
+            key: "2b649c7df2a9eb9cff00225403d69aff53e461f033f293e3fc66ffdbb7e3e492",
+            digest: "e904066c351beab9e7c4b1e00b2f3bada873970b53b4c017f09ea1954b7ae7eb",
+        },
+        OtsParam::W2 => Made {
+            len: 4292,
+            key: "f74163f46b74d0281a99540f957a20956bba5262e9efd6cd724a314b8a04a5e3",
+            digest: "243ceb05cf61169ae588f762eb1775af10b98561782b04961c1a0282c113004a",
+        },
+        OtsParam::W4 => Made {
+            len: 2180,
+            key: "5f60a7b746239a7d03d9599999a80c039e6fa411459b02b5313d102803199885",
+            digest: "bb2355462c51790c62a88ecb0bcd00bcc7d88bd81dbb6f6008ec9333a651c1a8",
+        },
+        OtsParam::W8 => Made {
+            len: 1124,
+            key: "80d71898185123e68887c0e1c1ca104e7ed5d1a241da088c28e413201c4d9a4b",
+            digest: "90f7e65dc0ce6eebbf984240c67079f1ad9fcd05ec864e0e8b61f87f3bbbcd8e",
+        },
+    }
+}
+
+/// The public key that Bouncy Castle made under a parameter set.
+fn key_of(param: OtsParam) -> Result<[u8; 32], Fail> {
+    Ok(<[u8; 32] as FromHex>::from_hex(values_of(param).key)?)
+}
+
+const PARAMS: [OtsParam; 4] = [OtsParam::W1, OtsParam::W2, OtsParam::W4, OtsParam::W8];
 
 /// The signature of the message under a parameter set.
 fn signed(rt: &HostRuntime, param: OtsParam) -> Result<Vec<u8>, Fail> {
@@ -54,8 +69,9 @@ fn signed(rt: &HostRuntime, param: OtsParam) -> Result<Vec<u8>, Fail> {
 
 #[test]
 fn keys_and_signatures_are_those_of_bouncy_castle(rt: HostRuntime) -> Result<(), Fail> {
-    for (param, len, key, digest) in MADE_BY_BOUNCY_CASTLE {
-        let key = <[u8; 32] as FromHex>::from_hex(key)?;
+    for param in PARAMS {
+        let Made { len, digest, .. } = values_of(param);
+        let key = key_of(param)?;
         assert_eq!(rt; public(param, &ID, LEAF, &SEED), key);
         let signature = signed(&rt, param)?;
         assert_eq!(rt; signature.len(), len);
@@ -107,8 +123,8 @@ fn the_signature_of_rfc_8554_gives_the_key_of_its_seed(rt: HostRuntime) -> Resul
 fn a_signature_with_one_byte_changed_gives_another_key_or_is_refused(
     rt: HostRuntime,
 ) -> Result<(), Fail> {
-    for (param, _, key, _) in MADE_BY_BOUNCY_CASTLE {
-        let key = <[u8; 32] as FromHex>::from_hex(key)?;
+    for param in PARAMS {
+        let key = key_of(param)?;
         let signature = signed(&rt, param)?;
         for place in 0..signature.len() {
             let mut changed = signature.clone()?;
@@ -127,7 +143,7 @@ fn a_signature_with_one_byte_changed_gives_another_key_or_is_refused(
 
 #[test]
 fn a_signature_that_is_cut_or_lengthened_by_one_is_refused(rt: HostRuntime) -> Result<(), Fail> {
-    for (param, _, _, _) in MADE_BY_BOUNCY_CASTLE {
+    for param in PARAMS {
         let mut signature = signed(&rt, param)?;
         signature.push(0)?;
         let longer = candidate(param, &ID, LEAF, &MESSAGE, &signature);
@@ -148,8 +164,8 @@ fn a_signature_that_is_cut_or_lengthened_by_one_is_refused(rt: HostRuntime) -> R
 fn another_message_leaf_or_tree_gives_another_key(rt: HostRuntime) -> Result<(), Fail> {
     let mut other_id = ID;
     other_id[15] ^= 1;
-    for (param, _, key, _) in MADE_BY_BOUNCY_CASTLE {
-        let key = <[u8; 32] as FromHex>::from_hex(key)?;
+    for param in PARAMS {
+        let key = key_of(param)?;
         let signature = signed(&rt, param)?;
         assert_ne!(rt;
             candidate(param, &ID, LEAF, &MESSAGE[..14], &signature),
