@@ -7,3 +7,4 @@ pub mod Places
 pub mod Steps
 pub mod UnderWay
 pub mod Validity
+pub mod Written

@@ -1,7 +1,7 @@
 -- What a message holds whose parts are written one behind the other.
-use Rattle.std.proofs.Common.{◌≡◌, ℕ, ◌+◌, ◌-◌, List, [], ◌∷◌, ◌++◌, length, take, drop, replicate, refl, sym, ◌∙◌, ap, arith}
+use Rattle.std.proofs.Common.{◌≡◌, ℕ, ◌+◌, List, [], ◌∷◌, ◌++◌, length, take, drop, replicate, refl, sym, ◌∙◌, ap, arith}
 use borrow.Rule.Slice.PartMut.{put_mid}
-use Rattle.std.proofs.lemmas.List.{append-nil, append_assoc, take_at, drop-drop, drop_at, drop_all, length-append, length-drop}
+use Rattle.std.proofs.lemmas.List.{append-nil, take_at, drop-drop, drop_at, length-append}
 
 -- one more part, of n bytes, behind those that stand
 put_behind : (was front rest part now : List ℕ) (place n : ℕ) → was ≡ front ++ rest → length front ≡ place → length part ≡ n
@@ -42,16 +42,3 @@ checksum_behind hash checksum long =
     let front : take 32 (hash ++ 0 ∷ 0 ∷ []) ≡ hash = take_at hash (0 ∷ 0 ∷ []) 32 long in
     let zeros : drop 32 (hash ++ 0 ∷ 0 ∷ []) ≡ 0 ∷ 0 ∷ [] = drop_at hash (0 ∷ 0 ∷ []) 32 long in
     rw (front, zeros) (ap (λ (xs : List ℕ). hash ++ xs) (append-nil checksum))
-
--- a signature whose three parts are written over what stood there
-pub joined : (code randomizer elements out : List ℕ) → length code ≡ 4 → length randomizer ≡ 32
-    → put_mid 36 (length (put_mid 4 32 (code ++ drop 4 out) randomizer) - 36) (put_mid 4 32 (code ++ drop 4 out) randomizer) elements ≡ code ++ randomizer ++ elements
-joined code randomizer elements out long_code long_randomizer =
-    let was = code ++ drop 4 out in
-    let front : take 4 was ≡ code = take_at code (drop 4 out) 4 long_code in
-    let written : put_mid 4 32 was randomizer ≡ (code ++ randomizer) ++ drop 32 (drop 4 was) = rw front (sym (append_assoc code randomizer (drop 32 (drop 4 was)))) in
-    let long : length (code ++ randomizer) ≡ 36 = length-append code randomizer ∙ omega arith in
-    let all = put_mid 4 32 was randomizer in
-    let kept : take 36 all ≡ code ++ randomizer = ap (take 36) written ∙ take_at (code ++ randomizer) (drop 32 (drop 4 was)) 36 long in
-    let none : drop (length all - 36) (drop 36 all) ≡ [] = drop_all (length all - 36) (drop 36 all) (omega (arith, length-drop 36 all)) in
-    rw (kept, none) (ap (λ (xs : List ℕ). (code ++ randomizer) ++ xs) (append-nil elements))

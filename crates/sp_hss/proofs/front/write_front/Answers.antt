@@ -1,7 +1,7 @@
 use Rattle.std.proofs.Common.{◌≡◌, ◌+◌, ◌-◌, ◌∙◌, length, ap, refl, arith}
 use Rattle.sp_ots.specs.Strings.{u32str}
 use Rattle.sp_lms.proofs.Validity.{length-signature}
-use Rattle.sp_lms.proofs.Written.{three_written_to_end}
+use Rattle.sp_ots.proofs.Written.{three_written_to_end}
 use Rattle.sp_hss.proofs.front.write_front.Goals as goal
 
 pub returns-clause-front : goal.returns-clause-front

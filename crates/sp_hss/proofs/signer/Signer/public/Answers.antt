@@ -2,7 +2,7 @@ use Rattle.std.proofs.Common.{◌≡◌, ◌∙◌, length, replicate, ap, refl,
 use Rattle.sp_ots.specs.Strings.{u32str}
 use Rattle.sp_lms.specs.Key.{Key}
 use Rattle.sp_lms.specs.Keys as keys
-use Rattle.sp_lms.proofs.Written.{last_written}
+use Rattle.sp_ots.proofs.Written.{last_written}
 use Rattle.sp_hss.specs.KeyTree.{public_key, tree_key}
 use Rattle.sp_hss.specs.declared.tree.Tree.TheVariants.{Upper}
 use Rattle.sp_hss.proofs.signer.Signer.public.Goals as goal
