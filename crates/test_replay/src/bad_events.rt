@@ -1,6 +1,6 @@
 // Lines behind `begin` that are bad. The events before the first one are run, and their journal stands before the refusal.
 use crate::first_message;
-use crate::over_memory::{assert_replays, spelled, with_header};
+use crate::over_memory::{assert_ends, assert_plays, spelled, with_header};
 use std::str;
 use std::test::Fail;
 
@@ -99,7 +99,7 @@ fn a_schedule_with_a_bad_line_is_refused_behind_its_good_ones(rt: HostRuntime) -
         let (events, output) = row.split_once('|').ok_or("no output")?;
         let text = with_header(alloc, &spelled(alloc, events)?)?;
         let output = spelled(alloc, output)?;
-        let outcome = assert_replays(&rt, alloc, &text, 3, str::from_utf8(&output)?)?;
+        let outcome = assert_ends(&rt, alloc, &text, 3, str::from_utf8(&output)?)?;
         assert!(rt; outcome.world.is_some());
     }
     Ok(())
@@ -113,8 +113,7 @@ fn the_whole_journal_of_the_events_before_a_bad_line_is_written(
     let good = first_message::SCHEDULE
         .strip_suffix("end\n")
         .ok_or("no end")?;
-    let mut text = String::from_str(alloc, good)?;
-    text.push_str("take 1 3\nend\n")?;
+    let text = format!(in alloc; "{good}take 1 3\nend\n")?;
     let output = "journal 1
 1 accepted 1
 2 frame 1
@@ -130,8 +129,7 @@ fn the_whole_journal_of_the_events_before_a_bad_line_is_written(
 11 payload 6869
 refused 20 Unbuilt
 ";
-    let outcome = assert_replays(&rt, alloc, text.as_bytes(), 3, output)?;
-    let world = outcome.world.ok_or("no world")?;
+    let world = assert_plays(&rt, alloc, text.as_bytes(), 3, output)?;
     assert_eq!(rt; world.events().len(), 11);
     Ok(())
 }

@@ -1,20 +1,19 @@
 // Headers with a bad line. Nothing is run, and the one line that is written names the bad one.
-use crate::over_memory::{HEADER, assert_replays, spelled};
-use std::alloc::Global;
+use crate::over_memory::{HEADER, assert_ends, assert_replays, spelled};
+use std::alloc::{AllocError, Global};
+use std::process::Abort;
 use std::str;
 use std::test::Fail;
 
-/// Whole texts, each with the line that is written.
-const TEXTS: [(&[u8], &str); 8] = [
-    (b"", "refused 1 NoEnd\n"),
-    (b"\n", "refused 1 Unbuilt\n"),
-    (b"sched", "refused 1 Unbuilt\n"),
-    (b"schedule 1", "refused 1 Unbuilt\n"),
-    (b"schedule 1\n", "refused 2 NoEnd\n"),
-    (b"schedule 1\n\n", "refused 2 Unbuilt\n"),
-    (b"schedule 1\nseed 00", "refused 2 Unbuilt\n"),
-    (b"end\n", "refused 1 Unbuilt\n"),
-];
+/// Rows of a whole text and what is written.
+const TEXTS: &str = "|refused 1 NoEnd/
+/|refused 1 Unbuilt/
+sched|refused 1 Unbuilt/
+schedule 1|refused 1 Unbuilt/
+schedule 1/|refused 2 NoEnd/
+schedule 1//|refused 2 Unbuilt/
+schedule 1/seed 00|refused 2 Unbuilt/
+end/|refused 1 Unbuilt/";
 
 /// Rows of a number, the line that stands in place of the line of this number in a good header, and what is written.
 const REPLACED: &str = "1||refused 1 Unbuilt/
@@ -112,37 +111,41 @@ const REPLACED: &str = "1||refused 1 Unbuilt/
 8|nodes 3|refused 8 Unbuilt/
 8|end|refused 8 Unbuilt/";
 
-/// The numbers of lines that are missing in a good header, each with the line that is written.
-const MISSING: [(usize, &str); 8] = [
-    (1, "refused 1 Unbuilt\n"),
-    (2, "refused 2 Unbuilt\n"),
-    (3, "refused 3 Unbuilt\n"),
-    (4, "refused 4 Unbuilt\n"),
-    (5, "refused 5 Unbuilt\n"),
-    (6, "refused 7 Unbuilt\n"),
-    (7, "refused 7 Unbuilt\n"),
-    (8, "refused 8 Unbuilt\n"),
-];
+/// Rows of the number of a line that is missing in a good header, and what is written.
+const MISSING: &str = "1|refused 1 Unbuilt/
+2|refused 2 Unbuilt/
+3|refused 3 Unbuilt/
+4|refused 4 Unbuilt/
+5|refused 5 Unbuilt/
+6|refused 7 Unbuilt/
+7|refused 7 Unbuilt/
+8|refused 8 Unbuilt/";
 
 /// A schedule of no events, with these bytes in place of the line of this number.
-fn with_line(alloc: Global, number: usize, instead: &[u8]) -> Result<Vec<u8>, Fail> {
+fn with_line(alloc: Global, number: usize, instead: &[u8]) -> Result<Vec<u8>, AllocError> {
     let mut text = Vec::new(alloc);
-    for (before, line) in HEADER
-        .as_bytes()
-        .split_inclusive(|byte| *byte == b'\n')
-        .enumerate()
-    {
+    for (before, line) in HEADER.split_inclusive('\n').enumerate() {
+        let line = line.as_bytes();
         text.extend_from_slice(if before + 1 == number { instead } else { line })?;
     }
     text.extend_from_slice(b"end\n")?;
     Ok(text)
 }
 
+/// Replays a text in which nothing is run. It must be refused with this output, which is spelled as in a row.
+fn assert_unbegun(rt: &impl Abort, alloc: Global, text: &[u8], output: &str) -> Result<(), Fail> {
+    let output = spelled(alloc, output)?;
+    let outcome = assert_ends(rt, alloc, text, 3, str::from_utf8(&output)?)?;
+    assert!(rt; outcome.world.is_none());
+    Ok(())
+}
+
 #[test]
 fn a_text_that_stops_in_its_header_is_refused(rt: HostRuntime) -> Result<(), Fail> {
-    for (text, output) in TEXTS {
-        let outcome = assert_replays(&rt, rt.alloc(), text, 3, output)?;
-        assert!(rt; outcome.world.is_none());
+    let alloc = rt.alloc();
+    for row in TEXTS.lines() {
+        let (text, output) = row.split_once('|').ok_or("no output")?;
+        assert_unbegun(&rt, alloc, &spelled(alloc, text)?, output)?;
     }
     Ok(())
 }
@@ -156,19 +159,18 @@ fn a_header_with_a_bad_line_is_refused(rt: HostRuntime) -> Result<(), Fail> {
         let mut line = spelled(alloc, line)?;
         line.push(b'\n')?;
         let text = with_line(alloc, number.parse()?, &line)?;
-        let output = spelled(alloc, output)?;
-        let outcome = assert_replays(&rt, alloc, &text, 3, str::from_utf8(&output)?)?;
-        assert!(rt; outcome.world.is_none());
+        assert_unbegun(&rt, alloc, &text, output)?;
     }
     Ok(())
 }
 
 #[test]
 fn a_header_with_a_missing_line_is_refused(rt: HostRuntime) -> Result<(), Fail> {
-    for (number, output) in MISSING {
-        let text = with_line(rt.alloc(), number, b"")?;
-        let outcome = assert_replays(&rt, rt.alloc(), &text, 3, output)?;
-        assert!(rt; outcome.world.is_none());
+    let alloc = rt.alloc();
+    for row in MISSING.lines() {
+        let (number, output) = row.split_once('|').ok_or("no output")?;
+        let text = with_line(alloc, number.parse()?, b"")?;
+        assert_unbegun(&rt, alloc, &text, output)?;
     }
     Ok(())
 }
@@ -185,6 +187,5 @@ edge 1 2 10
 begin
 end
 ";
-    assert_replays(&rt, rt.alloc(), text.as_bytes(), 3, "refused 7 Unbuilt\n")?;
-    Ok(())
+    assert_replays(&rt, rt.alloc(), text.as_bytes(), 3, "refused 7 Unbuilt\n")
 }

@@ -1,7 +1,10 @@
 // The first message: it goes from one end of three nodes to the other, and its report comes back.
-use crate::over_memory::{assert_replays, run_over};
+use crate::over_memory::{assert_plays, assert_reads, assert_sends};
 use sp_base::NodeId;
-use sp_outside::{MemorySink, MemorySource, PlannedSink, PlannedSource};
+use sp_outside::{MemorySource, PlannedSink, PlannedSource};
+use sp_world::World;
+use std::alloc::Global;
+use std::process::Abort;
 use std::test::Fail;
 
 pub const SCHEDULE: &str = "schedule 1
@@ -45,51 +48,75 @@ summary events 11 sent 1 delivered 1 priority 0 frames 4
 #[test]
 fn the_first_message_arrives_and_is_taken(rt: HostRuntime) -> Result<(), Fail> {
     let alloc = rt.alloc();
-    let outcome = assert_replays(&rt, alloc, SCHEDULE.as_bytes(), 0, JOURNAL)?;
-    let world = outcome.world.ok_or("no world")?;
+    let world = assert_plays(&rt, alloc, SCHEDULE.as_bytes(), 0, JOURNAL)?;
     assert_eq!(rt; world.events().len(), 11);
     assert_eq!(rt; world.journal().len(), 11);
     Ok(())
 }
 
-#[test]
-fn the_frame_with_the_first_message_is_kept_and_no_other(rt: HostRuntime) -> Result<(), Fail> {
-    let alloc = rt.alloc();
-    let outcome = assert_replays(&rt, alloc, SCHEDULE.as_bytes(), 0, JOURNAL)?;
-    let world = outcome.world.ok_or("no world")?;
+/// The first message must stand in the first frame from node 1 to node 2.
+fn assert_first_message(rt: &impl Abort, world: &World) -> Result<(), Fail> {
     let frame = world.value(NodeId(1), NodeId(2), 1).ok_or("no frame")?;
     let Some((number, payload)) = &frame.rel else {
         return Err("no message".into());
     };
     assert_eq!(rt; *number, 1);
     assert_eq!(rt; payload.as_slice(), b"hi".as_slice());
-    for (from, to, number) in [(1, 2, 2), (1, 2, 0), (1, 3, 1)] {
-        let other = world.value(NodeId(from), NodeId(to), number);
-        assert!(rt; other.is_none(), "at {from} {to} {number}");
-    }
+    Ok(())
+}
+
+/// There must be no frame of this number on this way.
+fn assert_no_frame(rt: &impl Abort, world: &World, from: u8, to: u8, number: u32) {
+    let other = world.value(NodeId(from), NodeId(to), number);
+    assert!(rt; other.is_none(), "at {from} {to} {number}");
+}
+
+#[test]
+fn the_frame_with_the_first_message_is_kept_and_no_other(rt: HostRuntime) -> Result<(), Fail> {
+    let alloc = rt.alloc();
+    let world = assert_plays(&rt, alloc, SCHEDULE.as_bytes(), 0, JOURNAL)?;
+    assert_first_message(&rt, &world)?;
+    assert_no_frame(&rt, &world, 1, 2, 2);
+    assert_no_frame(&rt, &world, 1, 2, 0);
+    assert_no_frame(&rt, &world, 1, 3, 1);
+    Ok(())
+}
+
+/// The first message must arrive from a source that gives at most so many bytes at once.
+fn assert_comes(rt: &impl Abort, alloc: Global, piece: usize) -> Result<(), Fail> {
+    let mut source = PlannedSource::new(SCHEDULE.as_bytes(), piece, &[]);
+    assert_reads(rt, alloc, &["replay"], &mut source, 0, JOURNAL, &piece)?;
     Ok(())
 }
 
 #[test]
 fn the_first_message_may_come_in_pieces(rt: HostRuntime) -> Result<(), Fail> {
     for piece in [1, 7, 64] {
-        let mut source = PlannedSource::new(SCHEDULE.as_bytes(), piece, &[]);
-        let mut sink = MemorySink::new(rt.alloc());
-        let outcome = run_over(rt.alloc(), &["replay"], &mut source, &mut sink)?;
-        assert_eq!(rt; sink.bytes(), JOURNAL.as_bytes(), "in pieces of {piece}");
-        assert_eq!(rt; outcome.status.code(), 0, "in pieces of {piece}");
+        assert_comes(&rt, rt.alloc(), piece)?;
     }
     Ok(())
+}
+
+/// Its journal must go whole to a sink that takes at most so many bytes at once.
+fn assert_goes(rt: &impl Abort, alloc: Global, piece: usize) -> Result<(), Fail> {
+    let mut source = MemorySource::new(SCHEDULE.as_bytes());
+    let mut sink = PlannedSink::new(alloc, piece, &[]);
+    assert_sends(
+        rt,
+        alloc,
+        &["replay"],
+        &mut source,
+        &mut sink,
+        0,
+        JOURNAL,
+        &piece,
+    )
 }
 
 #[test]
 fn its_journal_may_go_out_in_pieces(rt: HostRuntime) -> Result<(), Fail> {
     for piece in [1, 5] {
-        let mut source = MemorySource::new(SCHEDULE.as_bytes());
-        let mut sink = PlannedSink::new(rt.alloc(), piece, &[]);
-        let outcome = run_over(rt.alloc(), &["replay"], &mut source, &mut sink)?;
-        assert_eq!(rt; sink.bytes(), JOURNAL.as_bytes(), "in pieces of {piece}");
-        assert_eq!(rt; outcome.status.code(), 0, "in pieces of {piece}");
+        assert_goes(&rt, rt.alloc(), piece)?;
     }
     Ok(())
 }

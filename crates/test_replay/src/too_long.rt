@@ -1,11 +1,10 @@
 // Input of more than 67,108,864 bytes. No good lines fill so many, so its first bad line is what is told.
 ghost use Rattle.std.specs.Prelude.{None};
 
-use crate::over_memory::{run_over, with_header};
-use sp_outside::{Failed, MemorySink, Source};
+use crate::over_memory::{assert_reads, with_header};
+use sp_outside::{Failed, Source};
 use std::alloc::Global;
 use std::process::Abort;
-use std::str;
 use std::test::Fail;
 
 /// A text with zeros behind it that never end.
@@ -36,10 +35,7 @@ impl Source for EndlessSource<'_> {
 fn assert_refused(rt: &impl Abort, alloc: Global, lines: &[u8], output: &str) -> Result<(), Fail> {
     let text = with_header(alloc, lines)?;
     let mut source = EndlessSource { text: &text };
-    let mut sink = MemorySink::new(alloc);
-    let outcome = run_over(alloc, &["replay"], &mut source, &mut sink)?;
-    assert_eq!(rt; str::from_utf8(sink.bytes())?, output);
-    assert_eq!(rt; outcome.status.code(), 3);
+    assert_reads(rt, alloc, &["replay"], &mut source, 3, output, &output)?;
     Ok(())
 }
 

@@ -1,38 +1,53 @@
 // Words that are no command. The source isn't read: here its first read would fail.
-use crate::over_memory::run_over;
-use sp_outside::{MemorySink, PlannedSink, PlannedSource};
+use crate::over_memory::{assert_reads, assert_sends};
+use sp_outside::{PlannedSink, PlannedSource};
+use std::alloc::Global;
+use std::process::Abort;
 use std::test::Fail;
 
-const NO_COMMANDS: [&[&str]; 6] = [
-    &[],
-    &[""],
-    &["Replay"],
-    &["replay "],
-    &["replay", "now"],
-    &["now", "replay"],
-];
+/// How many rows `no_command` has.
+const ROWS: u32 = 6;
 
-#[test]
-fn words_that_are_no_command_are_a_usage_fault(rt: HostRuntime) -> Result<(), Fail> {
-    for words in NO_COMMANDS {
-        let mut source = PlannedSource::new(b"", 1, &[0]);
-        let mut sink = MemorySink::new(rt.alloc());
-        let outcome = run_over(rt.alloc(), words, &mut source, &mut sink)?;
-        assert_eq!(rt; outcome.status.code(), 2, "for {words:?}");
-        assert_eq!(rt; sink.bytes(), b"usage\n".as_slice(), "for {words:?}");
-        assert!(rt; outcome.world.is_none(), "for {words:?}");
+/// Words that are no command, by the number of their row.
+fn no_command(row: u32) -> Option<&'static [&'static str]> {
+    match row {
+        0 => Some(&[]),
+        1 => Some(&[""]),
+        2 => Some(&["Replay"]),
+        3 => Some(&["replay "]),
+        4 => Some(&["replay", "now"]),
+        5 => Some(&["now", "replay"]),
+        _ => None,
     }
+}
+
+/// These words must be a usage fault.
+fn assert_usage_fault(rt: &impl Abort, alloc: Global, words: &[&str]) -> Result<(), Fail> {
+    let mut source = PlannedSource::new(b"", 1, &[0]);
+    let outcome = assert_reads(rt, alloc, words, &mut source, 2, "usage\n", &words)?;
+    assert!(rt; outcome.world.is_none(), "for {words:?}");
     Ok(())
 }
 
 #[test]
+fn words_that_are_no_command_are_a_usage_fault(rt: HostRuntime) -> Result<(), Fail> {
+    for row in 0..ROWS {
+        assert_usage_fault(&rt, rt.alloc(), no_command(row).ok_or("no words")?)?;
+    }
+    Ok(())
+}
+
+/// These words must be a fault of a sink whose first write fails.
+fn assert_sink_fault(rt: &impl Abort, alloc: Global, words: &[&str]) -> Result<(), Fail> {
+    let mut source = PlannedSource::new(b"", 1, &[0]);
+    let mut sink = PlannedSink::new(alloc, 8, &[0]);
+    assert_sends(rt, alloc, words, &mut source, &mut sink, 6, "", &words)
+}
+
+#[test]
 fn a_usage_fault_that_cannot_be_told_is_a_fault_of_the_sink(rt: HostRuntime) -> Result<(), Fail> {
-    for words in NO_COMMANDS {
-        let mut source = PlannedSource::new(b"", 1, &[0]);
-        let mut sink = PlannedSink::new(rt.alloc(), 8, &[0]);
-        let outcome = run_over(rt.alloc(), words, &mut source, &mut sink)?;
-        assert_eq!(rt; outcome.status.code(), 6, "for {words:?}");
-        assert!(rt; sink.bytes().is_empty(), "for {words:?}");
+    for row in 0..ROWS {
+        assert_sink_fault(&rt, rt.alloc(), no_command(row).ok_or("no words")?)?;
     }
     Ok(())
 }

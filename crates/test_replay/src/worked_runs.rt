@@ -18,8 +18,7 @@ fn a_schedule_of_no_events_gives_a_summary_alone(rt: HostRuntime) -> Result<(), 
         "journal 1
 summary events 0 sent 0 delivered 0 priority 0 frames 0
 ",
-    )?;
-    Ok(())
+    )
 }
 
 #[test]
@@ -39,8 +38,7 @@ fn a_schedule_without_end_is_refused_behind_its_last_line(rt: HostRuntime) -> Re
 1 empty
 refused 10 NoEnd
 ",
-    )?;
-    Ok(())
+    )
 }
 
 #[test]
@@ -62,8 +60,7 @@ take 3 1
 1 empty
 refused 11 AfterEnd
 ",
-    )?;
-    Ok(())
+    )
 }
 
 #[test]
@@ -88,8 +85,7 @@ end
 3 full 0 2
 summary events 3 sent 2 delivered 0 priority 0 frames 0
 ",
-    )?;
-    Ok(())
+    )
 }
 
 #[test]
@@ -133,8 +129,7 @@ end
 12 payload 6869
 summary events 12 sent 1 delivered 1 priority 0 frames 4
 ",
-    )?;
-    Ok(())
+    )
 }
 
 #[test]
@@ -167,6 +162,5 @@ end
 7 stale 1 2
 summary events 7 sent 1 delivered 0 priority 0 frames 3
 ",
-    )?;
-    Ok(())
+    )
 }
