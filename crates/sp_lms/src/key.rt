@@ -67,6 +67,8 @@ impl LmsKey {
     }
 
     /// Becomes the key of another seed and id, none of whose leaves is used. Takes no memory.
+    ///
+    /// Where that key was made before, `skip_to` gives up what it has used, as with `make`.
     pub fn remake(&mut self, id: [u8; 16], seed: [u8; 32])
         ensures { self.new ≡ record { lms = self.old.lms; ots = self.old.ots; id = id; seed = seed; used = 0 } }
     {
@@ -152,7 +154,7 @@ impl LmsKey {
     }
 
     /// The siblings of node r, which is a leaf's, and of those above it, and zeros behind them.
-    fn path(&self, r: u32) -> [[u8; 32]; 15]
+    fn path(&self, r: u32) -> [[u8; 32]; MOST_LEVELS]
         requires low { leaf_count self.now.lms ≤ r }
         requires high { r < 2 * leaf_count self.now.lms }
         ensures { take (height self.now.lms) result ≡ path self.now.id (seed_leaf self.now.lms self.now.ots self.now.id self.now.seed) (height self.now.lms) r }

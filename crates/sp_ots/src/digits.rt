@@ -9,7 +9,7 @@ use crate::OtsParam;
 use crate::param::MOST_CHAINS;
 
 /// The digit of each chain, and zeros behind them.
-pub(crate) fn digits(param: OtsParam, hash: &[u8; 32]) -> [u8; 265]
+pub(crate) fn digits(param: OtsParam, hash: &[u8; 32]) -> [u8; MOST_CHAINS]
     ensures { take (chain_count param) result ≡ for_each_chain param (digit param hash.now) }
 {
     let string = with_checksum(param, hash);
