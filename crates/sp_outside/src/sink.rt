@@ -1,8 +1,9 @@
 // Bytes that go out, piece by piece.
-ghost use Rattle.std.specs.Prelude.{◌≡◌, ℕ, List, [], Option, Some};
+ghost use Rattle.std.specs.Prelude.{◌≡◌, ◌+◌, ◌-◌, ◌^◌, ◌≤◌, ℕ, List, [], Option, Some, IfOk, IsErr, max, min, true};
 ghost use Rattle.std.specs.Io.{WritesAtMost};
 ghost use Rattle.std.specs.Io.KnownBytes.{WriteAppends};
 ghost use Rattle.sp_outside.specs.Causes.{HasCause};
+ghost use Rattle.sp_outside.specs.Plans.{is_planned};
 ghost use Rattle.sp_outside.specs.Streams.{TakesSome};
 
 use crate::Failed;
@@ -105,7 +106,16 @@ impl Sink for PlannedSink<'_> {
 
     ghost faults = { λ s. s.faults };
 
-    fn write(&mut self, piece: &[u8]) -> Result<usize, Failed> {
+    fn write(&mut self, piece: &[u8]) -> Result<usize, Failed>
+        ensures bound { WritesAtMost result piece.now }
+        ensures some { TakesSome result piece.now }
+        ensures bytes { WriteAppends (Some self.old.bytes.items) (Some self.new.bytes.items) result piece.now }
+        ensures cause { HasCause self.old.faults self.new.faults result }
+        ensures fails { is_planned self.old.failing.now self.old.calls ≡ true → IsErr result }
+        ensures calls { self.new.calls ≡ min (self.old.calls + 1) (2 ^ 64 - 1) }
+        ensures plan { (self.new.piece ≡ self.old.piece) × (self.new.failing.now ≡ self.old.failing.now) }
+        ensures size { IfOk result (λ count. count ≤ max self.old.piece 1) }
+    {
         let fails = self.failing.contains(&self.calls);
         self.calls = self.calls.saturating_add(1);
         let count = piece.len().min(self.piece.max(1));

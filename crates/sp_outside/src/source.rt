@@ -1,8 +1,9 @@
 // Bytes that come in, piece by piece.
-ghost use Rattle.std.specs.Prelude.{◌≡◌, ℕ, List, Option, Some};
+ghost use Rattle.std.specs.Prelude.{◌≡◌, ◌+◌, ◌-◌, ◌^◌, ◌≤◌, ◌↔◌, ℕ, List, Option, Some, IfOk, IsErr, max, min, true};
 ghost use Rattle.std.specs.Io.{ReadsAtMost};
 ghost use Rattle.std.specs.Io.KnownBytes.{ReadConsumes};
 ghost use Rattle.sp_outside.specs.Causes.{HasCause};
+ghost use Rattle.sp_outside.specs.Plans.{is_planned};
 
 use crate::Failed;
 
@@ -83,7 +84,15 @@ impl Source for PlannedSource<'_> {
 
     ghost faults = { λ s. s.faults };
 
-    fn read(&mut self, buf: &mut [u8]) -> Result<usize, Failed> {
+    fn read(&mut self, buf: &mut [u8]) -> Result<usize, Failed>
+        ensures bound { ReadsAtMost result buf.new }
+        ensures bytes { ReadConsumes (Some self.old.bytes.now) (Some self.new.bytes.now) result buf.new }
+        ensures cause { HasCause self.old.faults self.new.faults result }
+        ensures fails { IsErr result ↔ (is_planned self.old.failing.now self.old.calls ≡ true) }
+        ensures calls { self.new.calls ≡ min (self.old.calls + 1) (2 ^ 64 - 1) }
+        ensures plan { (self.new.piece ≡ self.old.piece) × (self.new.failing.now ≡ self.old.failing.now) }
+        ensures size { IfOk result (λ count. count ≤ max self.old.piece 1) }
+    {
         let fails = self.failing.contains(&self.calls);
         self.calls = self.calls.saturating_add(1);
         if fails {
