@@ -3,10 +3,15 @@
 
 mod cursor;
 mod id;
+mod limits;
 mod listed;
 mod memory;
 
 pub use cursor::Cursor;
 pub use id::{Flow, Limits, NodeId};
+pub use limits::{
+    MAX_BUFFER, MAX_EDGES, MAX_EVENTS, MAX_INPUT_BYTES, MAX_LINE_BYTES, MAX_NODES,
+    MAX_PAYLOAD_BYTES, MAX_PRIORITY, MAX_SEQ, MAX_STORE, MAX_WEIGHT,
+};
 pub use listed::{Bytes, Listed};
 pub use memory::Memory;

@@ -1,0 +1,34 @@
+// The bounds of the overlay's formats, each with its name: a format says so many, and so do the clauses.
+
+/// The greatest number of nodes, which is the greatest id of a node too.
+pub const MAX_NODES: u8 = 16;
+
+/// The greatest number of edges: those of 16 nodes that are all joined.
+pub const MAX_EDGES: u16 = 120;
+
+/// The greatest weight of an edge.
+pub const MAX_WEIGHT: u32 = 1_000_000;
+
+/// The greatest number of a message. Numbers begin at 1.
+pub const MAX_SEQ: u64 = 0x7fff_ffff_ffff_ffff;
+
+/// The greatest priority of a message. Priorities begin at 1.
+pub const MAX_PRIORITY: u8 = 10;
+
+/// The longest payload of a message, in bytes.
+pub const MAX_PAYLOAD_BYTES: usize = 1_024;
+
+/// The greatest bound of a flow's buffer, in messages.
+pub const MAX_BUFFER: u16 = 64;
+
+/// The greatest bound of a priority store, in entries.
+pub const MAX_STORE: u16 = 256;
+
+/// The greatest number of events of a schedule.
+pub const MAX_EVENTS: usize = 16_384;
+
+/// The longest line of a text, in bytes without its newline.
+pub const MAX_LINE_BYTES: usize = 131_200;
+
+/// The longest input, in bytes.
+pub const MAX_INPUT_BYTES: usize = 67_108_864;
