@@ -1,6 +1,6 @@
 """Replays a schedule once for each of its allocations, which then fails: python3 bench/fail_alloc.py PATH/TO/spinesd SCHEDULE JOURNAL
 
-Each run must end with status 0 and the journal, or with status 9 and a beginning of it. A second round lets each later
+Each run must end with status 0 and the journal, or with status 9 and nothing written. A second round lets each later
 allocation fail too. It needs a C compiler, `cc`.
 """
 
@@ -36,7 +36,7 @@ def main():
             ends = {0: 0, 9: 0}
             for number in range(1, allocations + 1):
                 status, output, _ = run(program, text, {**preload, **rest, "FAIL_ALLOC": str(number)})
-                if not (status == 0 and output == wanted) and not (status == 9 and wanted.startswith(output)):
+                if not (status == 0 and output == wanted) and (status, output) != (9, b""):
                     sys.exit(f"at allocation {number}: status {status}, output {output!r}")
                 ends[status] += 1
             which = "it and all later ones fail" if rest else "it alone fails"

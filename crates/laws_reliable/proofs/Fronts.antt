@@ -1,5 +1,6 @@
 -- A run cut after any number of its events, and what holds there.
-use Rattle.std.proofs.Common.{◌≡◌, ◌<◌, ◌≤◌, ℕ, ◌+◌, ◌-◌, zero, suc, Bool, true, false, List, [], ◌∷◌, ◌++◌, length, map, take, get_or, Some, All, refl, sym, ap, ◌∙◌, length-append, arith, nat_le, subst}
+use Rattle.std.proofs.Common.{◌≡◌, ◌<◌, ◌≤◌, ℕ, ◌+◌, ◌-◌, zero, suc, Bool, true, false, List, [], ◌∷◌, ◌++◌, length, map, take, get_or, Some, All, refl, sym, ap, ◌∙◌, length-append, arith, nat_le, subst, eqb-true}
+use Rattle.std.specs.Prelude.{◌==◌}
 use Rattle.std.specs.List.{slice_get}
 use Rattle.std.proofs.lemmas.List.{take_all, take-append-le, length-map}
 use Rattle.std.proofs.lemmas.List.Elements.{All-from_get_or}
@@ -12,12 +13,14 @@ use Rattle.sp_schedule.specs.Ranges.{IsScenario, InRange}
 use Rattle.sp_journal.specs.declared.entry.Entry.{Entry}
 use Rattle.sp_rules.specs.Node.{Node}
 use Rattle.sp_rules.specs.World.{World, Run, Begins, Goes_on, WorldStep, is_me, node_at_boot, numbers_from}
-use Rattle.sp_rules.specs.Told.{Message, IsPrefix}
-use Rattle.sp_rules.specs.Holds.{IsBounded}
+use Rattle.sp_rules.specs.Told.{Message, IsPrefix, delivered, sent}
+use Rattle.sp_rules.specs.Holds.{IsBounded, IsWithin, NodeHolds}
 use Rattle.sp_rules.specs.Laws.{FrontClaims}
 use Rattle.sp_rules.proofs.RunLemmas.{same_length, node_place, run_ids}
 use Rattle.laws_reliable.proofs.Lists.{get_left, get_last}
 use Rattle.laws_reliable.proofs.Runs.{run_holds}
+use Rattle.laws_reliable.proofs.Others.{no_other}
+use Rattle.laws_reliable.proofs.OneRun.{one_run}
 
 -- ---- a run cut at an event
 
@@ -96,20 +99,20 @@ length-numbers_from : (first count : ℕ) → length (numbers_from first count) 
 length-numbers_from first zero = refl
 length-numbers_from first (suc count) = omega (arith, length-numbers_from (first + 1) count)
 
-pub run_bounded : (s : Scenario) (es : List Event) (js : List Entry) (w : World) → IsScenario s → Run s es js w → All IsBounded w.nodes
-run_bounded s es js w scenario run = All-from_get_or IsBounded w.nodes (node_at_boot s 1) (λ i inside. at i inside)
+pub run_bounded : (s : Scenario) (es : List Event) (js : List Entry) (w : World) → IsScenario s → Run s es js w → All (IsWithin s.limits.buffer) w.nodes
+run_bounded s es js w scenario run = All-from_get_or (IsWithin s.limits.buffer) w.nodes (node_at_boot s 1) (λ i inside. at i inside)
   where
     count : length w.nodes ≡ s.graph.nodes
     count = sym (length-map w.nodes (λ (n : Node). n.me)) ∙ ap length (run_ids s es js w run) ∙ length-numbers_from 1 s.graph.nodes
 
-    at : (i : ℕ) → i < length w.nodes → IsBounded (get_or w.nodes i (node_at_boot s 1))
+    at : (i : ℕ) → i < length w.nodes → IsWithin s.limits.buffer (get_or w.nodes i (node_at_boot s 1))
     at i inside =
         let d = node_at_boot s 1 in
         let first = node_place s es js w (i + 1) d run (omega arith) (omega (arith, count)) in
         let found = find_at_first (is_me (i + 1)) d w.nodes (i + 1 - 1) first in
         let place : i + 1 - 1 ≡ i = omega arith in
-        let P : ℕ → Type 0 = λ k. IsBounded (get_or w.nodes k d) in
-        subst P place ((run_holds s es js w scenario run).nodes (i + 1) (get_or w.nodes (i + 1 - 1) d) found).bounded
+        let P : ℕ → Type 0 = λ k. IsWithin s.limits.buffer (get_or w.nodes k d) in
+        subst P place (let h = (run_holds s es js w scenario run).nodes (i + 1) (get_or w.nodes (i + 1 - 1) d) found in record { list = omega (arith, h.bounded.list, h.limit); inbox = omega (arith, h.bounded.inbox, h.limit) })
 
 -- ---- numbers
 
@@ -123,9 +126,40 @@ prefix_numbered (d ∷ D) rest first is =
 numbered_too : (D S : List Message) → IsPrefix D S → map (λ (m : Message). m.0) S ≡ numbers_from 1 (length S) → map (λ (m : Message). m.0) D ≡ numbers_from 1 (length D)
 numbered_too D S (rest, is) numbered = prefix_numbered D rest 1 (rw is at numbered)
 
+-- ---- every two nodes
+
+-- what one delivered of another
+pub record PairHolds (es : List Event) (js : List Entry) (a b : ℕ) : Type 0 where
+  pub prefix : IsPrefix (delivered es js a b) (sent es js a b)
+  pub numbered : map (λ m. m.0) (delivered es js a b) ≡ numbers_from 1 (length (delivered es js a b))
+
+the_pair : (s : Scenario) (es : List Event) (js : List Entry) (w : World) → IsScenario s → Run s es js w → PairHolds es js 1 s.graph.nodes
+the_pair s es js w scenario run = let h = run_holds s es js w scenario run in record { prefix = h.prefix; numbered = numbered_too _ _ h.prefix h.numbered }
+
+other_pair : (es : List Event) (js : List Entry) (a b : ℕ) → delivered es js a b ≡ [] → PairHolds es js a b
+other_pair es js a b none = record { prefix = rw none (sent es js a b, refl); numbered = rw none refl }
+
+every_pair : (s : Scenario) (es : List Event) (js : List Entry) (w : World) → IsScenario s → Run s es js w → (a b : ℕ) → PairHolds es js a b
+every_pair s es js w scenario run a b = go (a == 1) (b == s.graph.nodes) refl refl
+  where
+    go : (t r : Bool) → (a == 1) ≡ t → (b == s.graph.nodes) ≡ r → PairHolds es js a b
+    go true true first last =
+        let P : ℕ → Type 0 = λ k. PairHolds es js k b in
+        let Q : ℕ → Type 0 = λ k. PairHolds es js 1 k in
+        subst P (sym (eqb-true a 1 first)) (subst Q (sym (eqb-true b s.graph.nodes last)) (the_pair s es js w scenario run))
+    go true false first last = other_pair es js a b (no_other s es js w scenario run a b (λ x y. grind (arith, nat_tests)))
+    go false r first last = other_pair es js a b (no_other s es js w scenario run a b (λ x y. grind (arith, nat_tests)))
+
 -- ---- all of it
 
 pub front_claims : (s : Scenario) (es : List Event) (js : List Entry) (w : World) → IsScenario s → Run s es js w → FrontClaims s es js
 front_claims s es js w scenario run =
-    let h = run_holds s es js w scenario run in
-    record { prefix = h.prefix; numbered = numbered_too _ _ h.prefix h.numbered; state = w; run = run; bounded = run_bounded s es js w scenario run }
+    let pairs = every_pair s es js w scenario run in
+    record {
+      prefix = λ a b. (pairs a b).prefix;
+      numbered = λ a b. (pairs a b).numbered;
+      state = w;
+      run = run;
+      only = λ is v other. one_run s es is js v w other run;
+      bounded = run_bounded s es js w scenario run;
+    }

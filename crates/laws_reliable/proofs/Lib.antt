@@ -5,6 +5,8 @@ pub mod Flows
 pub mod Fronts
 pub mod Lists
 pub mod Moves
+pub mod OneRun
+pub mod Others
 pub mod Passes
 pub mod Runs
 pub mod Steps

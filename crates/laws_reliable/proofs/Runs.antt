@@ -26,7 +26,7 @@ zip-push [] (b ∷ ys) x y even = absurd (omega arith)
 zip-push (a ∷ xs) [] x y even = absurd (omega arith)
 zip-push {X} {Y} (a ∷ xs) (b ∷ ys) x y even = ap (λ (rest : List (X × Y)). (a, b) ∷ rest) (zip-push xs ys x y (omega arith))
 
-told_more : (f : Event × Entry → List Message) (es : List Event) (js : List Entry) (e : Event) (j : Entry) → length es ≡ length js
+pub told_more : (f : Event × Entry → List Message) (es : List Event) (js : List Entry) (e : Event) (j : Entry) → length es ≡ length js
     → flat_map f (zip (es ++ e ∷ []) (js ++ j ∷ [])) ≡ flat_map f (zip es js) ++ f (e, j)
 told_more f es js e j even =
     ap (flat_map f) (zip-push es js e j even) ∙ flat_map-append f (zip es js) ((e, j) ∷ []) ∙ ap (λ (ms : List Message). flat_map f (zip es js) ++ ms) (append-nil (f (e, j)))

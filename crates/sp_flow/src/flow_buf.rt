@@ -69,6 +69,7 @@ impl FlowBuf {
     pub fn have(&self) -> u64
         ensures value { result ≡ self.now.at.have }
         ensures position { IsPosition self.now.at }
+        ensures bounded { self.now.at.have ≤ self.now.at.base + self.now.bound }
     {
         self.base + self.items.len() as u64
     }

@@ -34,6 +34,11 @@ pub record IsBounded (n : Node) : Type 0 where
   pub list : length n.rel.flow.at.list ≤ n.rel.bound
   pub inbox : length n.rel.flow.inbox ≤ n.rel.bound
 
+-- the same for this bound
+pub record IsWithin (bound : ℕ) (n : Node) : Type 0 where
+  pub list : length n.rel.flow.at.list ≤ bound
+  pub inbox : length n.rel.flow.inbox ≤ bound
+
 pub record NodeHolds (S D : List Message) (count last bound u : ℕ) (n : Node) : Type 0 where
   pub me : n.me ≡ u
   pub limit : n.rel.bound ≡ bound

@@ -11,7 +11,7 @@ use Rattle.sp_journal.specs.declared.entry.Entry.{Entry}
 use Rattle.sp_journal.specs.JournalText.{delivered_count}
 use Rattle.sp_rules.specs.World.{World, Run, acting, numbers_from}
 use Rattle.sp_rules.specs.Told.{Message, sent, delivered, IsPrefix}
-use Rattle.sp_rules.specs.Holds.{IsBounded, payloads}
+use Rattle.sp_rules.specs.Holds.{IsWithin, payloads}
 
 -- ---- what a client took
 
@@ -50,14 +50,16 @@ IsAnswered s es js (events.Pass u v number) reply = Unit {0}
 
 -- what holds of a run after any number of its events
 pub record FrontClaims (s : Scenario) (es : List Event) (js : List Entry) : Type 0 where
-  -- what was delivered is a prefix of what was sent
-  pub prefix : IsPrefix (delivered es js 1 s.graph.nodes) (sent es js 1 s.graph.nodes)
+  -- what one node delivered of another is a prefix of what that one sent to it
+  pub prefix : (from to : ℕ) → IsPrefix (delivered es js from to) (sent es js from to)
   -- messages have the numbers 1, 2, 3 and so on, so each is delivered once
-  pub numbered : map (λ m. m.0) (delivered es js 1 s.graph.nodes) ≡ numbers_from 1 (length (delivered es js 1 s.graph.nodes))
-  -- the events lead to a state in which no buffer is above its bound
+  pub numbered : (from to : ℕ) → map (λ m. m.0) (delivered es js from to) ≡ numbers_from 1 (length (delivered es js from to))
+  -- the events lead to one state, and have one journal
   pub state : World
   pub run : Run s es js state
-  pub bounded : All IsBounded state.nodes
+  pub only : (others : List Entry) (other : World) → Run s es others other → (others ≡ js) × (other ≡ state)
+  -- no buffer is above the scenario's bound
+  pub bounded : All (IsWithin s.limits.buffer) state.nodes
 
 -- the claims hold after every event, and every answer has its cause
 pub record RunClaims (s : Scenario) (es : List Event) (js : List Entry) : Type 0 where
@@ -70,3 +72,7 @@ RunLaw = (s : Scenario) (es : List Event) (js : List Entry) (w : World) → IsSc
 -- an event delivers at most one message
 abbrev pub DeliveriesLaw : Type 0
 DeliveriesLaw = (s : Scenario) (es : List Event) (js : List Entry) (w : World) → IsScenario s → Run s es js w → delivered_count js ≤ length es
+
+-- a scenario and its events have one journal and lead to one state
+abbrev pub RunsAreOne : Type 0
+RunsAreOne = (s : Scenario) (es : List Event) (js others : List Entry) (w other : World) → Run s es js w → Run s es others other → (js ≡ others) × (w ≡ other)

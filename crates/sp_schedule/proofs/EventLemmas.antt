@@ -2,6 +2,7 @@
 use Rattle.std.proofs.Common.{◌≡◌, ◌<◌, ◌≤◌, ℕ, ◌+◌, ◌*◌, ◌^◌, ◌⊎◌, inl, inr, List, [], ◌∷◌, length, refl, ap, arith}
 use Rattle.std.specs.Prelude.{codes, ◌≢◌, Option, Some, None, Result, Ok, Err, IfOk, IfSome, IfNone}
 use Rattle.std.specs.Fmt.{decimal}
+use Rattle.sp_base.specs.declared.limits.TheConstants.{MAX_PAYLOAD_BYTES}
 use Rattle.hex.specs.Hex.{lower_digits}
 use Rattle.hex.proofs.HexLemmas.{length-encode_with}
 use Rattle.sp_text.specs.Spelling.{AreBytes, hex_word}
@@ -48,13 +49,13 @@ no_pass s es words fields pass none (events.Rel from to payload) right = other_n
 no_pass s es words fields pass none (events.Take at from) right = other_name words (codes "pass") (codes "take") _ _ refl pass right.1
 
 -- a word of too many bytes spells none that may be sent
-pub too_long : (word : List ℕ) → 2048 < length word → (x : List ℕ) → (length x ≤ 1024) × AreBytes x × (word ≡ hex_word x) → ⊥
+pub too_long : (word : List ℕ) → 2048 < length word → (x : List ℕ) → (length x ≤ MAX_PAYLOAD_BYTES) × AreBytes x × (word ≡ hex_word x) → ⊥
 too_long word long x right =
     let same : length word ≡ length (hex_word x) = ap length right.2 in
     elim (length-hex_word x) [ inl twice ↦ omega arith | inr dash ↦ omega arith ]
 
 -- the others spell only such
-pub short_enough : (word bytes : List ℕ) → length word ≤ 2048 → word ≡ hex_word bytes → length bytes ≤ 1024
+pub short_enough : (word bytes : List ℕ) → length word ≤ 2048 → word ≡ hex_word bytes → length bytes ≤ MAX_PAYLOAD_BYTES
 short_enough word bytes short is =
     let same : length word ≡ length (hex_word bytes) = ap length is in
     elim (length-hex_word bytes) [ inl twice ↦ omega arith | inr dash ↦ omega arith ]
@@ -62,7 +63,7 @@ short_enough word bytes short is =
 -- what is read of a word that isn't too long
 pub payload_read : {E : Type 0} (word : List ℕ) (read : Result (Option (List ℕ)) E) → length word ≤ 2048 → IfOk read (λ o. IfSome o (λ bytes. word ≡ hex_word bytes))
     → IfOk read (λ o. IfSome o AreBytes) → IfOk read (λ o. IfNone o ((bytes : List ℕ) → AreBytes bytes → word ≢ hex_word bytes))
-    → IfOk read (Finds (λ bytes. (length bytes ≤ 1024) × AreBytes bytes × (word ≡ hex_word bytes)))
+    → IfOk read (Finds (λ bytes. (length bytes ≤ MAX_PAYLOAD_BYTES) × AreBytes bytes × (word ≡ hex_word bytes)))
 payload_read word (Ok (Some bytes)) short found are none = (short_enough word bytes short found, are, found)
 payload_read word (Ok None) short found are none = λ bytes right. none bytes right.1 right.2
 payload_read word (Err e) short found are none = tt

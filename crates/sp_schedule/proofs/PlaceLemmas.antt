@@ -2,6 +2,7 @@
 use Rattle.std.proofs.Common.{◌≡◌, ◌≤◌, ℕ, inl, inr, List, [], ◌∷◌, length, arith, length-append}
 use Rattle.std.specs.Prelude.{All}
 use Rattle.std.proofs.lemmas.List.Elements.{All-nil, All-push}
+use Rattle.sp_base.specs.declared.limits.TheConstants.{MAX_EVENTS, MAX_NODES}
 use Rattle.sp_text.specs.Spelling.{AreBytes, words_of}
 use Rattle.sp_schedule.specs.declared.scenario.Scenario.{Scenario}
 use Rattle.sp_schedule.specs.declared.place.Place.{Place}
@@ -18,7 +19,7 @@ IsSeed seed = (length seed ≡ 32) × AreBytes seed
 pub record IsHeader (s : Scenario) : Type 0 where
   pub seed : IsSeed s.seed
   pub limits : AreBounds s.limits
-  pub nodes : (2 ≤ s.graph.nodes) × (s.graph.nodes ≤ 16)
+  pub nodes : (2 ≤ s.graph.nodes) × (s.graph.nodes ≤ MAX_NODES)
   pub weights : All IsWeight s.graph.edges
 
 -- all that was read is in its ranges
@@ -29,8 +30,8 @@ AreGood (places.Seed seed) = IsSeed seed
 AreGood (places.Height seed height) = IsSeed seed
 AreGood (places.Bounds seed height limits) = IsSeed seed × AreBounds limits
 AreGood (places.Edges s) = IsHeader s
-AreGood (places.Events s es) = IsScenario s × AreInRange s es × (length es ≤ 16384)
-AreGood (places.End s es) = IsScenario s × AreInRange s es × (length es ≤ 16384)
+AreGood (places.Events s es) = IsScenario s × AreInRange s es × (length es ≤ MAX_EVENTS)
+AreGood (places.End s es) = IsScenario s × AreInRange s es × (length es ≤ MAX_EVENTS)
 
 -- a good line keeps it so
 pub good_on : (place : Place) (words : List Word) (next : Place) → AreGood place → Leads place words next → AreGood next

@@ -2,6 +2,7 @@
 use Rattle.std.proofs.Common.{◌≡◌, ◌≢◌, ◌<◌, ◌≤◌, ℕ, ◌+◌, ◌⊎◌, inl, inr, Bool, true, false, List, [], ◌∷◌, ◌++◌, length, refl, ap, ◌∙◌, arith, append_assoc, length-append}
 use Rattle.std.proofs.lemmas.Grind.{flat_map-append}
 use Rattle.std.proofs.lemmas.List.{nil_from_length}
+use Rattle.sp_base.specs.declared.limits.TheConstants.{MAX_INPUT_BYTES, MAX_LINE_BYTES}
 use Rattle.sp_text.specs.Lines.{BeginsWithLine, IsInOneLine}
 use Rattle.sp_text.specs.Spelling.{words_of}
 use Rattle.sp_schedule.specs.declared.place.Place.{Place}
@@ -44,10 +45,11 @@ stays place words lead back judged is = (rw is at judged).0
 -- and the reading ends with it
 pub stops_at_line : {text rest line behind : List ℕ} {place : Place} (count : ℕ) (is_cut : Bool) (lead : Lead) (back : Place) → GoodSoFar text rest place count → BeginsWithLine rest line behind
     → IsLead place (words_of line) lead → lead ≡ leads.Bad back
-    → (reading : Reading) → reading.place ≡ back → reading.ending ≡ endings.Refused (count + 1) (bad_kind back) → IsReading text is_cut reading
-stops_at_line {rest = rest} {line = line} {behind = behind} {place = place} count is_cut lead back good begins judged is reading same refused =
+    → length text ≤ MAX_INPUT_BYTES → (reading : Reading) → reading.place ≡ back → reading.ending ≡ endings.Refused (count + 1) (bad_kind back) → IsReading text is_cut reading
+stops_at_line {rest = rest} {line = line} {behind = behind} {place = place} count is_cut lead back good begins judged is size reading same refused =
     let bad = rw is at judged in
     record {
+      size = size;
       lines = good.lines;
       behind = rest;
       split = good.split;
@@ -57,8 +59,9 @@ stops_at_line {rest = rest} {line = line} {behind = behind} {place = place} coun
 
 -- the rest has no line
 pub stops_at_end : {text rest : List ℕ} {place : Place} (count : ℕ) (is_cut : Bool) (ending : Ending) → GoodSoFar text rest place count → EndsAt place count rest is_cut ending
-    → IsReading text is_cut (record { place = place; ending = ending })
-stops_at_end count is_cut ending good ends = record {
+    → length text ≤ MAX_INPUT_BYTES → IsReading text is_cut (record { place = place; ending = ending })
+stops_at_end count is_cut ending good ends size = record {
+  size = size;
   lines = good.lines;
   behind = _;
   split = good.split;
@@ -69,23 +72,23 @@ stops_at_end count is_cut ending good ends = record {
 -- ---- how it ends
 
 -- a cut text is too big
-pub too_big : (place : Place) (count : ℕ) (behind : List ℕ) (is_cut : Bool) → is_cut ≡ true → IsInOneLine behind → length behind ≤ 131200
+pub too_big : (place : Place) (count : ℕ) (behind : List ℕ) (is_cut : Bool) → is_cut ≡ true → IsInOneLine behind → length behind ≤ MAX_LINE_BYTES
     → EndsAt place count behind is_cut (endings.Refused 0 kinds.TooBig)
 too_big place count behind is_cut cut one_line short = rw cut (Too_big one_line short)
 
 -- the last bytes without a newline are a bad line, in a cut text where they are long
-pub no_newline : (place : Place) (count : ℕ) (behind : List ℕ) (is_cut : Bool) → ((is_cut ≡ true) × (131200 < length behind)) ⊎ (is_cut ≡ false) → IsInOneLine behind → length behind ≢ 0
+pub no_newline : (place : Place) (count : ℕ) (behind : List ℕ) (is_cut : Bool) → ((is_cut ≡ true) × (MAX_LINE_BYTES < length behind)) ⊎ (is_cut ≡ false) → IsInOneLine behind → length behind ≢ 0
     → EndsAt place count behind is_cut (endings.Refused (count + 1) (bad_kind place))
 no_newline place count behind is_cut (inl long) one_line some = rw long.0 (Long_line one_line long.1)
 no_newline place count behind is_cut (inr whole) one_line some = rw whole (No_newline one_line (λ none. some (ap length none)))
 
 -- the text ends behind a whole line
-pub all_good : (place : Place) (count : ℕ) (behind : List ℕ) (is_cut : Bool) → ((is_cut ≡ true) × (131200 < length behind)) ⊎ (is_cut ≡ false) → length behind ≡ 0 → IsEnd place
+pub all_good : (place : Place) (count : ℕ) (behind : List ℕ) (is_cut : Bool) → ((is_cut ≡ true) × (MAX_LINE_BYTES < length behind)) ⊎ (is_cut ≡ false) → length behind ≡ 0 → IsEnd place
     → EndsAt place count behind is_cut endings.Whole
 all_good place count behind is_cut (inl long) none end = absurd (let more = long.1 in omega arith)
 all_good place count behind is_cut (inr whole) none end = rw (whole, nil_from_length behind none) (All_good end)
 
-pub no_end : (place : Place) (count : ℕ) (behind : List ℕ) (is_cut : Bool) → ((is_cut ≡ true) × (131200 < length behind)) ⊎ (is_cut ≡ false) → length behind ≡ 0 → (IsEnd place → ⊥)
+pub no_end : (place : Place) (count : ℕ) (behind : List ℕ) (is_cut : Bool) → ((is_cut ≡ true) × (MAX_LINE_BYTES < length behind)) ⊎ (is_cut ≡ false) → length behind ≡ 0 → (IsEnd place → ⊥)
     → EndsAt place count behind is_cut (endings.Refused (count + 1) kinds.NoEnd)
 no_end place count behind is_cut (inl long) none open_end = absurd (let more = long.1 in omega arith)
 no_end place count behind is_cut (inr whole) none open_end = rw (whole, nil_from_length behind none) (No_end open_end)

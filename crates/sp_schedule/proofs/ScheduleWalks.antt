@@ -4,6 +4,7 @@ use Rattle.std.specs.Prelude.{All, IfSome, Option, Some, None}
 use Rattle.std.proofs.lemmas.List.{append-nil, get_or_at, length_push, map-append}
 use Rattle.std.proofs.lemmas.Option.{slice_get_read}
 use Rattle.std.proofs.lemmas.List.Elements.{All-head, All-tail}
+use Rattle.sp_base.specs.declared.limits.TheConstants.{MAX_EVENTS}
 use Rattle.sp_schedule.specs.declared.scenario.Edge.{Edge}
 use Rattle.sp_schedule.specs.declared.scenario.Scenario.{Scenario}
 use Rattle.sp_schedule.specs.declared.event.Event.{Event}
@@ -54,10 +55,10 @@ edges_walk s front (e ∷ back) low above ends weights line =
 -- ---- events
 
 -- each event may come after those before it
-events_walk : (s : Scenario) (es : List Event) → AreInRange s es → length es ≤ 16384 → Walk (places.Events s []) (map event_words es) (places.Events s es)
+events_walk : (s : Scenario) (es : List Event) → AreInRange s es → length es ≤ MAX_EVENTS → Walk (places.Events s []) (map event_words es) (places.Events s es)
 events_walk s es None_yet short = refl
 events_walk s es (One_more {before = before} e right right_e) short =
-    let fewer : length before < 16384 = omega (arith, length-append before (e ∷ [])) in
+    let fewer : length before < MAX_EVENTS = omega (arith, length-append before (e ∷ [])) in
     rw (map-append event_words before (e ∷ []))
     (walk_on (places.Events s []) (places.Events s before) (places.Events s (before ++ e ∷ [])) (map event_words before) (event_words e ∷ [])
     (events_walk s before right (omega arith))
@@ -84,7 +85,7 @@ header_walk s right =
     (places.Version, version, (places.Seed s.seed, seed, (places.Height s.seed s.height, height, (places.Bounds s.seed s.height s.limits, bounds, (places.Edges start, count, nodes)))))
 
 -- and the events to the end
-pub schedule_walk : (s : Scenario) (es : List Event) → IsScenario s → AreInRange s es → length es ≤ 16384 → Walk places.Start (schedule_lines s es) (places.End s es)
+pub schedule_walk : (s : Scenario) (es : List Event) → IsScenario s → AreInRange s es → length es ≤ MAX_EVENTS → Walk places.Start (schedule_lines s es) (places.End s es)
 schedule_walk s es right range short =
     let end = one_step (places.Events s es) (places.End s es) end_words (inr (refl, refl)) in
     walk_on places.Start (places.Events s []) (places.End s es) (header_lines s) (map event_words es ++ end_words ∷ []) (header_walk s right)

@@ -4,6 +4,7 @@ use Rattle.std.specs.Prelude.{All, codes, not, ◌==◌}
 use Rattle.std.specs.List.{list_all}
 use Rattle.std.specs.Fmt.{decimal}
 use Rattle.std.proofs.lemmas.List.Elements.{All-cons, All-nil, All-weaker}
+use Rattle.sp_base.specs.declared.limits.TheConstants.{MAX_EVENTS, MAX_NODES}
 use Rattle.hex.specs.Hex.{encode_lower}
 use Rattle.sp_text.specs.Lines.{IsInOneLine}
 use Rattle.sp_text.specs.Spelling.{IsOneWord, hex_word}
@@ -71,7 +72,7 @@ small_height : (height : LmsHeight) → height_of height < 2 ^ 64
 small_height Five = omega arith
 small_height Ten = omega arith
 
-event_spelled : (s : Scenario) (es : List Event) (e : Event) → s.graph.nodes ≤ 16 → length es ≤ 16384 → InRange s es e → IsSpelled (event_words e)
+event_spelled : (s : Scenario) (es : List Event) (e : Event) → s.graph.nodes ≤ MAX_NODES → length es ≤ MAX_EVENTS → InRange s es e → IsSpelled (event_words e)
 event_spelled s es (events.Rel from to payload) few short right =
     four _ _ _ _ (clean_name (codes "rel") refl refl) (clean_number from.0 (omega arith)) (clean_number to.0 (omega arith)) (clean_bytes payload)
 event_spelled s es (events.Take at from) few short right =

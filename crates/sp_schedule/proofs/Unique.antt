@@ -2,6 +2,7 @@
 use Rattle.std.proofs.Common.{◌≡◌, ◌<◌, ◌≤◌, ℕ, ◌^◌, inl, inr, List, ◌∷◌, length, refl, sym, ap, ◌∙◌, arith}
 use Rattle.std.specs.Prelude.{codes}
 use Rattle.std.specs.Fmt.{decimal}
+use Rattle.sp_base.specs.declared.limits.TheConstants.{MAX_EVENTS, MAX_NODES}
 use Rattle.sp_text.proofs.HexWordLemmas.{encode_lower_injective, hex_word_injective}
 use Rattle.sp_base.specs.declared.id.NodeId.{NodeId}
 use Rattle.sp_base.specs.declared.id.Limits.{Limits}
@@ -55,7 +56,7 @@ one_node a b small_a small_b same =
     let node : ℕ → NodeId = λ n. record { 0 = n } in
     ap node (same_number a.0 b.0 small_a small_b same)
 
-small_edge : (s : Scenario) (e : Edge) → s.graph.nodes ≤ 16 → IsNextEdge s e → IsSmall e
+small_edge : (s : Scenario) (e : Edge) → s.graph.nodes ≤ MAX_NODES → IsNextEdge s e → IsSmall e
 small_edge s e few right =
     let ends = right.ends in
     let weight = right.weight in
@@ -63,7 +64,7 @@ small_edge s e few right =
 
 -- ---- one event for each line
 
-one_event : (s : Scenario) (es : List Event) (words : List Word) (x y : Event) → s.graph.nodes ≤ 16 → length es ≤ 16384 → InRange s es x → InRange s es y
+one_event : (s : Scenario) (es : List Event) (words : List Word) (x y : Event) → s.graph.nodes ≤ MAX_NODES → length es ≤ MAX_EVENTS → InRange s es x → InRange s es y
     → words ≡ event_words x → words ≡ event_words y → x ≡ y
 one_event s es words (events.Rel a b p) (events.Rel c d q) few short right_x right_y is_x is_y =
     let from = one_node a c (omega arith) (omega arith) (second _ _ _ _ _ (sym is_x ∙ is_y)) in

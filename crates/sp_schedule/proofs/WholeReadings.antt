@@ -28,5 +28,6 @@ whole_readings_read text reading s es is_reading whole end =
       scenario = good.0;
       range = good.1;
       count = good.2;
+      size = is_reading.size;
       spelling = is_reading.split ∙ rw none (append-nil _) ∙ schedule_again is_reading.lines s es begins;
     }

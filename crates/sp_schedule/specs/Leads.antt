@@ -1,5 +1,6 @@
 -- A line in its place: what it says, and where the next line stands.
 use Rattle.std.specs.Prelude.{ℕ, ◌≡◌, ◌-◌, ◌<◌, ◌≤◌, ◌⊎◌, List, [], ◌∷◌, ◌++◌, length, slice_get, Option, IfSome}
+use Rattle.sp_base.specs.declared.limits.TheConstants.{MAX_EVENTS, MAX_NODES}
 use Rattle.sp_text.specs.Spelling.{AreBytes}
 use Rattle.sp_base.specs.declared.id.Limits.{Limits}
 use Rattle.sp_schedule.specs.declared.scenario.LmsHeight.{LmsHeight}
@@ -50,7 +51,7 @@ pub record SaysBounds (seed : List ℕ) (height : LmsHeight) (words : List Word)
 
 pub record SaysNodes (seed : List ℕ) (height : LmsHeight) (limits : Limits) (words : List Word) (next : Place) : Type 0 where
   pub nodes : ℕ
-  pub in_range : (2 ≤ nodes) × (nodes ≤ 16)
+  pub in_range : (2 ≤ nodes) × (nodes ≤ MAX_NODES)
   pub spelled : words ≡ nodes_words nodes
   pub next_place : next ≡ places.Edges (record { seed = seed; height = height; limits = limits; graph = record { nodes = nodes; edges = [] } })
 
@@ -70,7 +71,7 @@ pub record SaysBegin (s : Scenario) (words : List Word) (next : Place) : Type 0 
 pub record SaysEvent (s : Scenario) (es : List Event) (words : List Word) (next : Place) : Type 0 where
   pub event : Event
   pub in_range : InRange s es event
-  pub room : length es < 16384
+  pub room : length es < MAX_EVENTS
   pub spelled : words ≡ event_words event
   pub next_place : next ≡ places.Events s (es ++ event ∷ [])
 

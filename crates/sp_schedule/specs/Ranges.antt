@@ -1,5 +1,6 @@
 -- Which scenarios and events a schedule may have. The nodes stand in a line, and one reliable flow goes from the first to the last.
 use Rattle.std.specs.Prelude.{ℕ, ◌≡◌, ◌+◌, ◌-◌, ◌≤◌, ◌==◌, ◌&&◌, ◌⊎◌, Bool, false, List, [], ◌∷◌, ◌++◌, length, map, filter, All, zero, suc}
+use Rattle.sp_base.specs.declared.limits.TheConstants.{MAX_BUFFER, MAX_NODES, MAX_PAYLOAD_BYTES, MAX_STORE, MAX_WEIGHT}
 use Rattle.sp_text.specs.Spelling.{AreBytes}
 use Rattle.sp_base.specs.declared.id.Limits.{Limits}
 use Rattle.sp_schedule.specs.declared.scenario.Edge.{Edge}
@@ -23,16 +24,16 @@ IsLine s = ends_of s.graph.edges ≡ line_from 1 (s.graph.nodes - 1)
 
 -- at most so many messages of a reliable flow, and so many entries of a priority store
 pub record AreBounds (limits : Limits) : Type 0 where
-  pub buffer : (1 ≤ limits.buffer) × (limits.buffer ≤ 64)
-  pub store : (1 ≤ limits.store) × (limits.store ≤ 256)
+  pub buffer : (1 ≤ limits.buffer) × (limits.buffer ≤ MAX_BUFFER)
+  pub store : (1 ≤ limits.store) × (limits.store ≤ MAX_STORE)
 
 abbrev pub IsWeight : Edge → Type 0
-IsWeight e = (1 ≤ e.weight) × (e.weight ≤ 1000000)
+IsWeight e = (1 ≤ e.weight) × (e.weight ≤ MAX_WEIGHT)
 
 pub record IsScenario (s : Scenario) : Type 0 where
   pub seed : (length s.seed ≡ 32) × AreBytes s.seed
   pub limits : AreBounds s.limits
-  pub nodes : (2 ≤ s.graph.nodes) × (s.graph.nodes ≤ 16)
+  pub nodes : (2 ≤ s.graph.nodes) × (s.graph.nodes ≤ MAX_NODES)
   pub weights : All IsWeight s.graph.edges
   pub line : IsLine s
 
@@ -57,7 +58,7 @@ pub record IsHop (s : Scenario) (u v : ℕ) : Type 0 where
 
 -- the event may come after those before it
 abbrev pub InRange : Scenario → List Event → Event → Type 0
-InRange s before (events.Rel from to payload) = (from.0 ≡ 1) × (to.0 ≡ s.graph.nodes) × (length payload ≤ 1024) × AreBytes payload
+InRange s before (events.Rel from to payload) = (from.0 ≡ 1) × (to.0 ≡ s.graph.nodes) × (length payload ≤ MAX_PAYLOAD_BYTES) × AreBytes payload
 InRange s before (events.Take at from) = (at.0 ≡ s.graph.nodes) × (from.0 ≡ 1)
 InRange s before (events.Poll u v) = IsHop s u.0 v.0
 InRange s before (events.Pass u v number) = IsHop s u.0 v.0 × (1 ≤ number) × (number ≤ polls before u.0 v.0)

@@ -1,6 +1,7 @@
 -- The reading of a whole text: its good lines, the first bad one, and why that is refused.
 use Rattle.std.specs.Prelude.{ℕ, ◌≡◌, ◌≢◌, ◌+◌, ◌<◌, ◌≤◌, Bool, true, false, List, [], ◌∷◌, ◌++◌, length}
 use Rattle.std.specs.List.{flat_map}
+use Rattle.sp_base.specs.declared.limits.TheConstants.{MAX_EVENTS, MAX_INPUT_BYTES, MAX_LINE_BYTES}
 use Rattle.sp_text.specs.Spelling.{words_of}
 use Rattle.sp_text.specs.Lines.{IsInOneLine, BeginsWithLine}
 use Rattle.sp_schedule.specs.declared.scenario.Scenario.{Scenario}
@@ -43,11 +44,12 @@ pub data EndsAt (place : Place) (count : ℕ) : List ℕ → Bool → Ending →
       → EndsAt place count behind is_cut (endings.Refused (count + 1) (bad_kind place))
   No_end : (IsEnd place → ⊥) → EndsAt place count [] false (endings.Refused (count + 1) kinds.NoEnd)
   No_newline : {behind : List ℕ} → IsInOneLine behind → behind ≢ [] → EndsAt place count behind false (endings.Refused (count + 1) (bad_kind place))
-  Long_line : {behind : List ℕ} → IsInOneLine behind → 131200 < length behind → EndsAt place count behind true (endings.Refused (count + 1) (bad_kind place))
-  Too_big : {behind : List ℕ} → IsInOneLine behind → length behind ≤ 131200 → EndsAt place count behind true (endings.Refused 0 kinds.TooBig)
+  Long_line : {behind : List ℕ} → IsInOneLine behind → MAX_LINE_BYTES < length behind → EndsAt place count behind true (endings.Refused (count + 1) (bad_kind place))
+  Too_big : {behind : List ℕ} → IsInOneLine behind → length behind ≤ MAX_LINE_BYTES → EndsAt place count behind true (endings.Refused 0 kinds.TooBig)
 
 -- the text, of which there is more where it is cut, is read so
 pub record IsReading (text : List ℕ) (is_cut : Bool) (reading : Reading) : Type 0 where
+  pub size : length text ≤ MAX_INPUT_BYTES
   pub lines : List (List ℕ)
   pub behind : List ℕ
   pub split : text ≡ lines_text lines ++ behind
@@ -56,6 +58,6 @@ pub record IsReading (text : List ℕ) (is_cut : Bool) (reading : Reading) : Typ
 
 -- what holds of what was read: behind the header the scenario and the events are in their ranges
 abbrev pub IsInPlace : Place → Type 0
-IsInPlace (places.Events s es) = IsScenario s × AreInRange s es × (length es ≤ 16384)
-IsInPlace (places.End s es) = IsScenario s × AreInRange s es × (length es ≤ 16384)
+IsInPlace (places.Events s es) = IsScenario s × AreInRange s es × (length es ≤ MAX_EVENTS)
+IsInPlace (places.End s es) = IsScenario s × AreInRange s es × (length es ≤ MAX_EVENTS)
 IsInPlace _ = Unit {0}

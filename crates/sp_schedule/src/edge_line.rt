@@ -9,6 +9,7 @@ ghost use Rattle.sp_schedule.specs.Spelling.{edge_words};
 
 use crate::words::{fields, node_in, number_in};
 use crate::{Edge, Scenario};
+use sp_base::MAX_WEIGHT;
 
 /// The edge of a line `edge A B W`. None exactly where the line is no such edge that may come next.
 pub fn edge(scenario: &Scenario, words: &[&[u8]]) -> Option<Edge>
@@ -39,7 +40,7 @@ fn edge_of(nodes: u8, low: &[u8], high: &[u8], weight: &[u8]) -> Option<Edge>
     Some(Edge {
         low: node_in(low, 1, nodes)?,
         high: node_in(high, 1, nodes)?,
-        weight: number_in(weight, 1, 1_000_000)? as u32,
+        weight: number_in(weight, 1, u64::from(MAX_WEIGHT))? as u32,
     })
 }
 

@@ -1,6 +1,7 @@
 // The lines of events. Which node may do what, and how many frames were made before, decides whether a line is good.
 ghost use Rattle.std.specs.Prelude.{ℕ, ◌≡◌, ◌+◌, ◌⊎◌, ◌≤◌, ◌∷◌, [], ◌↔◌, IfOk, IsTrue, length, map};
 ghost use Rattle.std.specs.Fmt.{decimal};
+ghost use Rattle.sp_base.specs.declared.limits.TheConstants.{MAX_PAYLOAD_BYTES};
 ghost use Rattle.sp_text.specs.Spelling.{AreBytes, hex_word};
 ghost use Rattle.sp_schedule.specs.Finds.{Finds};
 ghost use Rattle.sp_schedule.specs.Ranges.{InRange, IsHop, polls};
@@ -8,7 +9,7 @@ ghost use Rattle.sp_schedule.specs.Spelling.{end_words, event_words};
 
 use crate::words::{fields, is_number, node_in, number_in};
 use crate::{Event, Scenario, Timeline};
-use sp_base::{Bytes, Memory, NodeId};
+use sp_base::{Bytes, MAX_PAYLOAD_BYTES, Memory, NodeId};
 use sp_text::hex_bytes;
 use std::alloc::Global;
 
@@ -52,7 +53,7 @@ pub fn event(
 
 /// The payload of a line `rel S D HEX`, from the first node to the last.
 fn rel(alloc: Global, last: u8, fields: &[&[u8]]) -> Result<Option<Bytes>, Memory>
-    ensures { IfOk result (Finds (λ payload. (length payload ≤ 1024) × AreBytes payload × (map (λ w. w.now) fields.now ≡ decimal 1 ∷ decimal last ∷ hex_word payload ∷ []))) }
+    ensures { IfOk result (Finds (λ payload. (length payload ≤ MAX_PAYLOAD_BYTES) × AreBytes payload × (map (λ w. w.now) fields.now ≡ decimal 1 ∷ decimal last ∷ hex_word payload ∷ []))) }
 {
     match fields {
         [s, d, payload] if is_flow(last, s, d) => payload_of(alloc, payload),
@@ -62,9 +63,9 @@ fn rel(alloc: Global, last: u8, fields: &[&[u8]]) -> Result<Option<Bytes>, Memor
 
 /// The bytes of a word. They are decoded once, and only where they aren't too many.
 fn payload_of(alloc: Global, word: &[u8]) -> Result<Option<Bytes>, Memory>
-    ensures { IfOk result (Finds (λ payload. (length payload ≤ 1024) × AreBytes payload × (word.now ≡ hex_word payload))) }
+    ensures { IfOk result (Finds (λ payload. (length payload ≤ MAX_PAYLOAD_BYTES) × AreBytes payload × (word.now ≡ hex_word payload))) }
 {
-    if word.len() > 2 * 1024 {
+    if word.len() > 2 * MAX_PAYLOAD_BYTES {
         return Ok(None);
     }
     hex_bytes(alloc, word)

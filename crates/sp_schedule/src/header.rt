@@ -1,6 +1,7 @@
 // The lines of a schedule's header, read from their words. Each function answers None exactly where the line says nothing of the kind.
 ghost use Rattle.std.specs.Prelude.{◌≡◌, ◌≤◌, ◌↔◌, IsTrue, length, map};
 ghost use Rattle.std.specs.Fmt.{decimal};
+ghost use Rattle.sp_base.specs.declared.limits.TheConstants.{MAX_NODES};
 ghost use Rattle.sp_text.specs.Spelling.{AreBytes};
 ghost use Rattle.sp_schedule.specs.Finds.{Finds};
 ghost use Rattle.sp_schedule.specs.Ranges.{AreBounds};
@@ -8,7 +9,7 @@ ghost use Rattle.sp_schedule.specs.Spelling.{version_words, seed_words, height_w
 
 use crate::LmsHeight;
 use crate::words::{fields, is_number, is_word, number_in};
-use sp_base::Limits;
+use sp_base::{Limits, MAX_BUFFER, MAX_NODES, MAX_STORE};
 use sp_text::hex_array;
 
 /// Whether the line is `schedule 1`.
@@ -57,17 +58,17 @@ fn bounds_of(buffer: &[u8], store: &[u8]) -> Option<Limits>
     ensures { Finds (λ limits. AreBounds limits × (buffer.now ≡ decimal limits.buffer) × (store.now ≡ decimal limits.store)) result }
 {
     Some(Limits {
-        buffer: number_in(buffer, 1, 64)? as u16,
-        store: number_in(store, 1, 256)? as u16,
+        buffer: number_in(buffer, 1, u64::from(MAX_BUFFER))? as u16,
+        store: number_in(store, 1, u64::from(MAX_STORE))? as u16,
     })
 }
 
 /// The number of nodes of a line `nodes N`.
 pub fn nodes(words: &[&[u8]]) -> Option<u8>
-    ensures { Finds (λ nodes. (2 ≤ nodes) × (nodes ≤ 16) × (map (λ w. w.now) words.now ≡ nodes_words nodes)) result }
+    ensures { Finds (λ nodes. (2 ≤ nodes) × (nodes ≤ MAX_NODES) × (map (λ w. w.now) words.now ≡ nodes_words nodes)) result }
 {
     match fields(b"nodes", words)? {
-        [nodes] => Some(number_in(nodes, 2, 16)? as u8),
+        [nodes] => Some(number_in(nodes, 2, u64::from(MAX_NODES))? as u8),
         _ => None,
     }
 }

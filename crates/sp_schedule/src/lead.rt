@@ -8,7 +8,7 @@ use crate::edge_line::{edge, is_line};
 use crate::event_line::{event, is_end};
 use crate::header::{bounds, height, is_begin, is_version, nodes, seed};
 use crate::{Edge, Graph, LmsHeight, Place, Scenario, Timeline};
-use sp_base::{Limits, Listed, Memory};
+use sp_base::{Limits, Listed, MAX_EVENTS, Memory};
 use sp_text::words;
 use std::alloc::Global;
 
@@ -164,7 +164,7 @@ fn after_events(
     if is_end(words) {
         return Ok(Lead::To(Place::End(scenario, events)));
     }
-    if events.len() >= 16384 {
+    if events.len() >= MAX_EVENTS {
         return Ok(Lead::Bad(Place::Events(scenario, events)));
     }
     match event(alloc, &scenario, &events, words)? {

@@ -1,21 +1,19 @@
 // The reading of a whole text, line by line, up to the first bad one.
 ghost use Rattle.std.specs.Prelude.{◌≡◌, ◌+◌, ◌<◌, ◌≤◌, ◌^◌, IfOk, length};
+ghost use Rattle.sp_base.specs.declared.limits.TheConstants.{MAX_INPUT_BYTES};
 ghost use Rattle.sp_text.specs.Lines.{IsInOneLine};
 ghost use Rattle.sp_schedule.specs.Readings.{EndsAt, IsInPlace, IsReading, bad_kind};
 
 use crate::lead::{Lead, follow};
 use crate::{Ending, Kind, Place, Reading};
-use sp_base::Memory;
+use sp_base::{MAX_LINE_BYTES, Memory};
 use sp_text::first_line;
 use std::alloc::Global;
-
-/// No good line is longer. In a text that was cut, a last line without a newline is bad only where it is longer.
-const LONGEST_LINE: usize = 131_200;
 
 /// Reads a schedule of at most 64 MiB. What its good lines say is kept, up to the first bad one. A text that `is_cut` had more bytes,
 /// and is too big where what there is of it is good.
 pub fn read(alloc: Global, text: &[u8], is_cut: bool) -> Result<Reading, Memory>
-    requires { length text.now ≤ 67108864 }
+    requires { length text.now ≤ MAX_INPUT_BYTES }
     ensures reading { IfOk result (λ reading. IsReading text.now is_cut reading) }
     ensures in_place { IfOk result (λ reading. IsInPlace reading.place) }
 {
@@ -50,7 +48,7 @@ fn ending_at(place: &Place, count: u32, behind: &[u8], is_cut: bool) -> Ending
     requires line { IsInOneLine behind.now }
     ensures { EndsAt place.now count behind.now is_cut result }
 {
-    if is_cut && behind.len() <= LONGEST_LINE {
+    if is_cut && behind.len() <= MAX_LINE_BYTES {
         return Ending::Refused {
             line: 0,
             kind: Kind::TooBig,

@@ -1,5 +1,6 @@
 // The events of a schedule in their order, with the number of polls of each direction.
 ghost use Rattle.std.specs.Prelude.{◌≡◌, ◌<◌, ◌∷◌, ◌++◌, [], length, OnOk, OnErr};
+ghost use Rattle.sp_base.specs.declared.limits.TheConstants.{MAX_EVENTS};
 ghost use Rattle.sp_schedule.specs.Ranges.{polls};
 
 use crate::Event;
@@ -62,7 +63,7 @@ impl Timeline {
 
     /// One more event at the end. After an error the events are as before.
     pub fn push(&mut self, event: Event) -> Result<(), Memory>
-        requires { length self.old < 16384 }
+        requires { length self.old < MAX_EVENTS }
         ensures ok { OnOk result (self.new ≡ self.old ++ event ∷ []) }
         ensures err { OnErr result (self.new ≡ self.old) }
     {

@@ -4,6 +4,7 @@ use Rattle.std.specs.List.{slice_get}
 use Rattle.std.proofs.lemmas.List.{take-append-le}
 use Rattle.std.proofs.lemmas.Option.{slice_get_within}
 use Rattle.std.proofs.Math.Seq.{take-append_seam}
+use Rattle.sp_base.specs.declared.limits.TheConstants.{MAX_EVENTS}
 use Rattle.sp_schedule.specs.declared.scenario.Scenario.{Scenario}
 use Rattle.sp_schedule.specs.declared.event.Event.{Event}
 use Rattle.sp_schedule.specs.Ranges.{InRange, AreInRange, None_yet, One_more}
@@ -32,5 +33,5 @@ next_in_range s all before rest e range is =
     let front : take (length before) all ≡ before = ap (take (length before)) (sym is) ∙ take-append_seam before (e ∷ rest) in
     rw front at (in_range_in s all (length before) e range at)
 
-pub next_has_room : (all before rest : List Event) (e : Event) → length all ≤ 16384 → before ++ e ∷ rest ≡ all → length before < 16384
+pub next_has_room : (all before rest : List Event) (e : Event) → length all ≤ MAX_EVENTS → before ++ e ∷ rest ≡ all → length before < MAX_EVENTS
 next_has_room all before rest e few is = omega (arith, ap length is, length-append before (e ∷ rest))

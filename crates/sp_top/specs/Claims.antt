@@ -1,5 +1,5 @@
 -- The headline: what the program promises of every run.
-use Rattle.std.specs.Prelude.{ℕ, ◌≡◌, Bool, List, Option, IfSome}
+use Rattle.std.specs.Prelude.{ℕ, ◌≡◌, Bool, List, Option, None, IfSome}
 use Rattle.std.specs.Io.KnownBytes.{Appends}
 use Rattle.sp_outside.specs.Streams.{AppendsFront}
 use Rattle.sp_rules.specs.Laws.{RunClaims}
@@ -34,8 +34,8 @@ pub record IsBegun (words : List (List ℕ)) (left : Option (List ℕ)) (past : 
 -- what the sink got, by how the run ended
 abbrev pub Wrote : List (List ℕ) → Option (List ℕ) → Option Past → Status → Option (List ℕ) → Option (List ℕ) → Type 0
 Wrote words left past statuses.Sink before after = IsBegun words left past before after
-Wrote words left past statuses.Source before after = after ≡ before
-Wrote words left past statuses.Memory before after = after ≡ before
+Wrote words left past statuses.Source before after = (past ≡ None) × (after ≡ before)
+Wrote words left past statuses.Memory before after = (past ≡ None) × (after ≡ before)
 Wrote words left past status before after = IsWritten words left past status before after
 
 -- what was read and run, and the text that tells it

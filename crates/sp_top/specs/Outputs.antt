@@ -1,6 +1,7 @@
 -- What the program writes for its words and its input.
 use Rattle.std.specs.Prelude.{ℕ, ◌≡◌, ◌≢◌, ◌≤◌, List, [], ◌∷◌, ◌++◌, length, take, nat_lt, Option, Some, None, codes}
 use Rattle.std.specs.Fmt.{decimal}
+use Rattle.sp_base.specs.declared.limits.TheConstants.{MAX_INPUT_BYTES}
 use Rattle.sp_schedule.specs.declared.place.Place.{Place}
 use Rattle.sp_schedule.specs.declared.place.Place.TheVariants as places
 use Rattle.sp_schedule.specs.declared.place.Kind.{Kind}
@@ -15,10 +16,6 @@ use Rattle.sp_journal.specs.JournalText.{journal_lines, journal_text}
 use Rattle.sp_world.specs.Past.{Past, IsShort}
 use Rattle.sp_top.specs.declared.ended.Status.{Status}
 use Rattle.sp_top.specs.declared.ended.Status.TheVariants as statuses
-
--- how many bytes of an input are read at most
-abbrev pub most_bytes : ℕ
-most_bytes = 67108864
 
 -- ---- words
 
@@ -64,10 +61,10 @@ ReadsWhole (Some text) past = Reads text past.scenario past.events
 -- the first bad line of a text, and why it is refused. The past is that of the lines before it
 pub record RefusalOf (text : List ℕ) (past : Option Past) (line : ℕ) (kind : Kind) : Type 0 where
   pub place : Place
-  pub reading : IsReading (take most_bytes text) (nat_lt most_bytes (length text)) (record { place = place; ending = endings.Refused line kind })
+  pub reading : IsReading (take MAX_INPUT_BYTES text) (nat_lt MAX_INPUT_BYTES (length text)) (record { place = place; ending = endings.Refused line kind })
   pub world : IsWorldOf place past
-  -- a text that isn't too long spells no scenario and events
-  pub bad : length text ≤ most_bytes → (s : Scenario) (es : List Event) → Reads text s es → ⊥
+  -- the text spells no scenario and events
+  pub bad : (s : Scenario) (es : List Event) → Reads text s es → ⊥
 
 abbrev pub IsRefusal : Option (List ℕ) → Option Past → ℕ → Kind → Type 0
 IsRefusal None past line kind = Unit {0}

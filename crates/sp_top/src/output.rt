@@ -1,6 +1,7 @@
 // The text that a replay writes.
 ghost use Rattle.std.specs.Prelude.{◌≡◌, ◌≤◌, ◌++◌, length, IfOk, OnOk};
 ghost use Rattle.std.specs.String.{string_bytes};
+ghost use Rattle.sp_base.specs.declared.limits.TheConstants.{MAX_EVENTS};
 ghost use Rattle.sp_journal.specs.JournalText as text;
 ghost use Rattle.sp_top.specs.Outputs.{HasWorld, IsTextOf, refused_line, kind_word};
 
@@ -36,7 +37,7 @@ pub fn text_of(alloc: Global, world: &Option<World>, ending: Ending) -> Result<S
 /// The whole journal with its summary.
 #[tactic(auto, using(crate::proofs::Worlds::journal_length))]
 fn whole(alloc: Global, world: &World) -> Result<String, Memory>
-    requires { length world.now.events ≤ 16384 }
+    requires { length world.now.events ≤ MAX_EVENTS }
     ensures { IfOk result (λ out. string_bytes out ≡ text.journal_text world.now.journal) }
 {
     every_run();
@@ -46,7 +47,7 @@ fn whole(alloc: Global, world: &World) -> Result<String, Memory>
 /// The journal without a summary.
 #[tactic(auto, using(crate::proofs::Worlds::journal_length))]
 fn before(alloc: Global, world: &World) -> Result<String, Memory>
-    requires { length world.now.events ≤ 16384 }
+    requires { length world.now.events ≤ MAX_EVENTS }
     ensures { IfOk result (λ out. string_bytes out ≡ text.journal_lines world.now.journal) }
 {
     every_run();

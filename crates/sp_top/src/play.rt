@@ -1,5 +1,6 @@
 // The world of what was read of a schedule.
 ghost use Rattle.std.specs.Prelude.{◌≡◌, ◌≤◌, length, IfOk};
+ghost use Rattle.sp_base.specs.declared.limits.TheConstants.{MAX_EVENTS};
 ghost use Rattle.sp_schedule.specs.Ranges.{IsScenario, AreInRange};
 ghost use Rattle.sp_schedule.specs.Readings.{IsInPlace};
 ghost use Rattle.sp_world.specs.Past.{IsShort};
@@ -27,7 +28,7 @@ pub fn play(alloc: Global, place: Place) -> Result<Option<World>, Memory>
 fn play_all(alloc: Global, scenario: Scenario, events: Timeline) -> Result<World, Memory>
     requires scenario { IsScenario scenario }
     requires range { AreInRange scenario events }
-    requires count { length events ≤ 16384 }
+    requires count { length events ≤ MAX_EVENTS }
     ensures scenario { IfOk result (λ world. world.scenario ≡ scenario) }
     ensures events { IfOk result (λ world. world.events ≡ events) }
 {

@@ -1,6 +1,7 @@
 // The command `replay`: reads a schedule, runs it, and writes its journal.
-ghost use Rattle.std.specs.Prelude.{◌≡◌, ◌≢◌, ◌≤◌, None, IfOk, IfSome, vec_len};
+ghost use Rattle.std.specs.Prelude.{◌≡◌, ◌≢◌, ◌≤◌, ◌⊎◌, None, IfOk, IfSome, vec_len};
 ghost use Rattle.std.specs.String.{string_bytes};
+ghost use Rattle.sp_base.specs.declared.limits.TheConstants.{MAX_INPUT_BYTES};
 ghost use Rattle.sp_outside.specs.Causes.{Rose};
 ghost use Rattle.sp_top.specs.Outputs as outputs;
 ghost use Rattle.sp_top.specs.Outputs.{replay_words};
@@ -10,13 +11,10 @@ use crate::output::text_of;
 use crate::play::play;
 use crate::{Outcome, Status, World};
 use laws_reliable::every_run;
-use sp_base::Memory;
+use sp_base::{MAX_INPUT_BYTES, Memory};
 use sp_outside::{Input, ReadRefused, Sink, Source, read_up_to, write_all};
 use sp_schedule::{Ending, a_good_text_is_read_whole, a_whole_reading_reads, read};
 use std::alloc::Global;
-
-/// How many bytes of an input are read at most.
-const MOST_BYTES: usize = 67_108_864;
 
 /// What was read and run, and the text to be written of it.
 #[derive(Drop)]
@@ -30,13 +28,16 @@ struct Played {
 pub fn replay<S: Source, K: Sink>(alloc: Global, source: &mut S, sink: &mut K) -> Outcome
     ensures wrote { Wrote replay_words (S.left source.old) result.world result.status (K.contents sink.old) (K.contents sink.new) }
     ensures claims { IfSome result.world WorldClaims }
+    ensures quiet { (result.status ≡ Status.Source) ⊎ (result.status ≡ Status.Memory) → sink.new ≡ sink.old }
+    ensures faultless { result.status ≢ Status.Source → S.faults source.new ≡ S.faults source.old }
+    ensures sunk { result.status ≢ Status.Sink → K.faults sink.new ≡ K.faults sink.old }
     ensures read { result.status ≡ Status.Source → Rose (S.faults source.old) (S.faults source.new) }
     ensures write { result.status ≡ Status.Sink → Rose (K.faults sink.old) (K.faults sink.new) }
     ensures usage { result.status ≢ Status.Usage }
 {
     a_whole_reading_reads();
     a_good_text_is_read_whole();
-    let input = match read_up_to(alloc, source, MOST_BYTES) {
+    let input = match read_up_to(alloc, source, MAX_INPUT_BYTES) {
         Ok(input) => input,
         Err(ReadRefused::Failed) => return ended(Status::Source),
         Err(ReadRefused::Memory) => return ended(Status::Memory),
@@ -58,7 +59,7 @@ pub fn replay<S: Source, K: Sink>(alloc: Global, source: &mut S, sink: &mut K) -
 
 /// Reads a schedule's text, runs its events, and tells them.
 fn read_and_run(alloc: Global, input: &Input) -> Result<Played, Memory>
-    requires { vec_len input.now.bytes ≤ 67108864 }
+    requires { vec_len input.now.bytes ≤ MAX_INPUT_BYTES }
     ensures { IfOk result (λ p. IsPlayed input.now.bytes.items input.now.is_cut p.world p.status (string_bytes p.text)) }
 {
     let reading = read(alloc, &input.bytes, input.is_cut)?;

@@ -33,6 +33,10 @@ pub fn run<S: Source, K: Sink, W: Wire, C: Clock, P: Keeper>(
 
     ensures usage { result.status ≡ Status.Usage → map string_bytes words.now ≢ replay_words }
     ensures only_usage { map string_bytes words.now ≢ replay_words → (result.status ≡ Status.Usage) ⊎ (result.status ≡ Status.Sink) }
+    ensures unread { map string_bytes words.now ≢ replay_words → source.new ≡ source.old }
+    ensures quiet { (result.status ≡ Status.Source) ⊎ (result.status ≡ Status.Memory) → sink.new ≡ sink.old }
+    ensures faultless { result.status ≢ Status.Source → S.faults source.new ≡ S.faults source.old }
+    ensures sunk { result.status ≢ Status.Sink → K.faults sink.new ≡ K.faults sink.old }
     ensures read { result.status ≡ Status.Source → Rose (S.faults source.old) (S.faults source.new) }
     ensures write { result.status ≡ Status.Sink → Rose (K.faults sink.old) (K.faults sink.new) }
     ensures untouched { (_wire.new ≡ _wire.old) × (_clock.new ≡ _clock.old) × (_keeper.new ≡ _keeper.old) }

@@ -2,6 +2,7 @@
 use Rattle.std.proofs.Common.{◌≡◌, ◌<◌, ◌≤◌, ℕ, zero, suc, List, length, Some, inl, inr, arith}
 use Rattle.std.proofs.lemmas.Option.{slice_get_cases}
 use Rattle.std.proofs.lemmas.List.Sums.{length-filter, count_by-le-length}
+use Rattle.sp_base.specs.declared.limits.TheConstants.{MAX_EVENTS}
 use Rattle.sp_schedule.specs.declared.scenario.Scenario.{Scenario}
 use Rattle.sp_schedule.specs.declared.event.Event.{Event}
 use Rattle.sp_schedule.specs.declared.event.Event.TheVariants as events
@@ -29,7 +30,7 @@ frame_there directions u v (suc before) count counted low high = elim (slice_get
   | inr past ↦ absurd (omega (arith, past.0))
 ]
 
-pub can_act : (s : Scenario) (es : List Event) (js : List Entry) (nodes : List Node) (directions : List Direction) (e : Event) → IsScenario s → Run s es js (world nodes directions) → InRange s es e → length es < 16384
+pub can_act : (s : Scenario) (es : List Event) (js : List Entry) (nodes : List Node) (directions : List Direction) (e : Event) → IsScenario s → Run s es js (world nodes directions) → InRange s es e → length es < MAX_EVENTS
     → CanAct nodes directions e
 can_act s es js nodes directions (events.Rel from to payload) scenario run range room =
     record { there = there s es js nodes directions from.0 run (omega (arith, range.0)) (omega (arith, range.0, scenario.nodes)); given = tt }

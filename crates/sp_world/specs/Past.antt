@@ -1,5 +1,6 @@
 -- What a world keeps: its scenario, the events done, their journal, and the state that they led to.
 use Rattle.std.specs.Prelude.{◌≡◌, ◌≤◌, List, [], ◌∷◌, ◌++◌, length, Option, Some, None}
+use Rattle.sp_base.specs.declared.limits.TheConstants.{MAX_EVENTS}
 use Rattle.sp_schedule.specs.declared.scenario.Scenario.{Scenario}
 use Rattle.sp_schedule.specs.declared.event.Event.{Event}
 use Rattle.sp_schedule.specs.Ranges.{IsScenario}
@@ -32,4 +33,4 @@ pub record GoesOn (old : Past) (event : Event) (new : Past) : Type 0 where
 -- as long as a schedule may be
 abbrev pub IsShort : Option Past → Type 0
 IsShort None = Unit {0}
-IsShort (Some past) = length past.events ≤ 16384
+IsShort (Some past) = length past.events ≤ MAX_EVENTS

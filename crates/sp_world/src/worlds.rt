@@ -1,6 +1,7 @@
 // All nodes of a scenario with all their frames, the events done, and their journal.
 ghost use Rattle.std.specs.Prelude.{◌≡◌, ◌<◌, ◌∷◌, ◌++◌, [], IfOk, OnOk, OnErr, length, map, vec_len, vec_capacity};
 ghost use Rattle.std.specs.Option.{option_copied};
+ghost use Rattle.sp_base.specs.declared.limits.TheConstants.{MAX_EVENTS};
 ghost use Rattle.sp_schedule.specs.Ranges.{IsScenario, InRange};
 ghost use Rattle.sp_rules.specs.World.{frame_in, node_at_boot, numbers_from};
 ghost use Rattle.sp_world.specs.Past.{IsRun, GoesOn, before_all};
@@ -55,7 +56,7 @@ impl World {
     /// Does an event. After an error the world is as before.
     pub fn step(&mut self, alloc: Global, event: Event) -> Result<(), Memory>
         requires range { InRange self.old.scenario self.old.events event }
-        requires room { length self.old.events < 16384 }
+        requires room { length self.old.events < MAX_EVENTS }
         ensures ok { OnOk result (GoesOn self.old event self.new) }
         ensures err { OnErr result (self.new ≡ self.old) }
     {

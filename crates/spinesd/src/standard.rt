@@ -17,6 +17,13 @@ impl<R: Read> StandardSource<R> {
     {
         StandardSource { reader, faults: 0 }
     }
+
+    pub fn into_reader(self) -> R
+        ensures { result ≡ self.reader }
+    {
+        let StandardSource { reader, .. } = self;
+        reader
+    }
 }
 
 impl<R: Read> Source for StandardSource<R> {
@@ -47,6 +54,13 @@ impl<W: Write> StandardSink<W> {
         ensures { result ≡ record { writer = writer; faults = 0 } }
     {
         StandardSink { writer, faults: 0 }
+    }
+
+    pub fn into_writer(self) -> W
+        ensures { result ≡ self.writer }
+    {
+        let StandardSink { writer, .. } = self;
+        writer
     }
 }
 

@@ -3,8 +3,8 @@ use Rattle.std.proofs.Common.{sym, ◌∙◌}
 use Rattle.sp_schedule.proofs.ReadLemmas.{all_good, no_end, no_newline, too_big}
 use Rattle.sp_schedule.proofs.reader.ending_at.Goals as goal
 
-pub returns-then-behind-le-LONGEST_LINE : goal.returns-then-behind-le-LONGEST_LINE
-returns-then-behind-le-LONGEST_LINE c = too_big _ _ _ _ c.if-is_cut.true c.requires.line c.if-behind-le-LONGEST_LINE.true
+pub returns-then-behind-le-MAX_LINE_BYTES : goal.returns-then-behind-le-MAX_LINE_BYTES
+returns-then-behind-le-MAX_LINE_BYTES c = too_big _ _ _ _ c.if-is_cut.true c.requires.line c.if-behind-le-MAX_LINE_BYTES.true
 
 pub returns-then-not-is_empty : goal.returns-then-not-is_empty
 returns-then-not-is_empty c =

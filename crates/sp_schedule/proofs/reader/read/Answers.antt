@@ -16,7 +16,7 @@ lines-preserved c =
 
 pub returns-in-Bad-clause-reading : goal.returns-in-Bad-clause-reading
 returns-in-Bad-clause-reading c =
-    stops_at_line _ _ _ _ c.lines.invariant.good c.in-Some.ensures.found c.in_ok-next.ensures c.in-Bad.is _ c.refused.ensures.place c.refused.ensures.ending
+    stops_at_line _ _ _ _ c.lines.invariant.good c.in-Some.ensures.found c.in_ok-next.ensures c.in-Bad.is c.requires _ c.refused.ensures.place c.refused.ensures.ending
 
 pub returns-in-Bad-clause-in_place : goal.returns-in-Bad-clause-in_place
 returns-in-Bad-clause-in_place c =

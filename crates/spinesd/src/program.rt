@@ -1,0 +1,59 @@
+// The whole program over any reader and any writer: words and input go in, output and a number come out.
+ghost use Rattle.std.specs.Prelude.{◌≡◌, ◌≢◌, ◌⊎◌, IfOk, OnErr, map};
+ghost use Rattle.std.specs.String.{string_bytes};
+ghost use Rattle.sp_top.specs.Outputs.{replay_words};
+ghost use Rattle.spinesd.specs.Ended.{Ended};
+
+use crate::standard::{StandardSink, StandardSource};
+use sp_outside::{MemoryClock, MemoryKeeper, MemoryWire};
+use sp_top::{Status, run};
+use std::alloc::{AllocError, Global};
+use std::io::{Read, Write};
+
+/// What the program leaves: the number with which it ends, and the reader and the writer.
+#[derive(Drop)]
+pub struct Finished<R: Read, W: Write> {
+    /// 0 done, 2 usage, 3 refused, 5 source, 6 sink, 9 memory.
+    pub code: u8,
+    pub reader: R,
+    pub writer: W,
+}
+
+/// Runs the words of a command line, where there was memory for them. Nothing else is read, written or called.
+pub fn program<R: Read, W: Write>(
+    alloc: Global,
+    words: Result<Vec<String>, AllocError>,
+    reader: R,
+    writer: W,
+) -> Finished<R, W>
+    ensures ended { IfOk words (λ words. Ended (map string_bytes words.items) (R.remaining reader) (W.contents writer) (W.contents result.writer) result.code) }
+
+    // no word was kept, so none is run
+    ensures wordless { OnErr words ((result.code ≡ 9) × (result.reader ≡ reader) × (result.writer ≡ writer)) }
+    ensures unread { IfOk words (λ words. map string_bytes words.items ≢ replay_words → result.reader ≡ reader) }
+    ensures quiet { (result.code ≡ 5) ⊎ (result.code ≡ 9) → result.writer ≡ writer }
+{
+    let Ok(words) = words else {
+        return Finished {
+            code: Status::Memory.code(),
+            reader,
+            writer,
+        };
+    };
+    let mut source = StandardSource::new(reader);
+    let mut sink = StandardSink::new(writer);
+    let outcome = run(
+        alloc,
+        words.as_slice(),
+        &mut source,
+        &mut sink,
+        &mut MemoryWire,
+        &mut MemoryClock::new(0),
+        &mut MemoryKeeper::new(),
+    );
+    Finished {
+        code: outcome.status.code(),
+        reader: source.into_reader(),
+        writer: sink.into_writer(),
+    }
+}
