@@ -1,2 +1,5 @@
 pub mod Cursor
 pub mod Rows
+pub mod Reading
+pub mod Refusals
+pub mod Spelling

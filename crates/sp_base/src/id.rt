@@ -1,8 +1,12 @@
-// The ids of nodes and flows, and the bounds that a node keeps.
+// The ids of nodes, edges and flows, and the bounds that a node keeps.
 
 /// The id of a node: 1 to the number of nodes.
 #[derive(Clone, Copy, Debug, PartialEq, Eq, PartialOrd, Ord, Hash)]
 pub struct NodeId(pub u8);
+
+/// The id of an edge: its place among the edges of the topology, counted from 0.
+#[derive(Clone, Copy, Debug, PartialEq, Eq, PartialOrd, Ord, Hash)]
+pub struct EdgeId(pub u16);
 
 /// A reliable flow: from its source to its destination.
 #[derive(Clone, Copy, Debug, PartialEq, Eq, PartialOrd, Ord, Hash)]

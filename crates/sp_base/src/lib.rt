@@ -1,4 +1,4 @@
-//! The small types that every part of the overlay shares: ids, byte strings, lists, bounds and a cyclic cursor.
+//! The small types that every part of the overlay shares: ids, byte strings, lists, bounds, a reader of bytes and a cyclic cursor.
 #![tactic(auto)]
 
 mod cursor;
@@ -6,12 +6,14 @@ mod id;
 mod limits;
 mod listed;
 mod memory;
+mod reader;
 
 pub use cursor::Cursor;
-pub use id::{Flow, Limits, NodeId};
+pub use id::{EdgeId, Flow, Limits, NodeId};
 pub use limits::{
     MAX_BUFFER, MAX_EDGES, MAX_EVENTS, MAX_INPUT_BYTES, MAX_LINE_BYTES, MAX_NODES,
     MAX_PAYLOAD_BYTES, MAX_PRIORITY, MAX_SEQ, MAX_STORE, MAX_WEIGHT,
 };
 pub use listed::{Bytes, Listed};
 pub use memory::Memory;
+pub use reader::{Reader, Short};

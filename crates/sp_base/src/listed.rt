@@ -43,6 +43,13 @@ impl<T> Listed<T> {
     {
         self.items.as_slice()
     }
+
+    /// The values, to be changed where they stand. Their number stays.
+    pub fn as_mut_slice(&mut self) -> &mut [T]
+        ensures { result.now ≡ self.old }
+    {
+        self.items.as_mut_slice()
+    }
 }
 
 impl Listed<u8> {
