@@ -1,11 +1,10 @@
 -- Bytes and their number: each number has one spelling of so many bytes, and is read back from it.
-use Rattle.std.proofs.Common.{◌≡◌, ℕ, zero, suc, ◌+◌, ◌*◌, ◌/◌, ◌%◌, ◌^◌, ◌<◌, ◌≤◌, nat_lt, true, false, inl, inr, List, [], ◌∷◌, ◌++◌, length, take, drop, slice_index, append_assoc, append-nil, length-append, length-take, take-append-drop, Result, Ok, Err, refl, sym, ap, ◌∙◌, subst, arith, lit<}
-use Rattle.std.specs.Prelude.{All}
+use Rattle.std.proofs.Common.{◌≡◌, ℕ, zero, suc, ◌+◌, ◌*◌, ◌/◌, ◌%◌, ◌^◌, ◌<◌, ◌≤◌, nat_lt, false, inl, inr, List, [], ◌∷◌, ◌++◌, length, take, drop, slice_index, append-nil, length-append, length-take, take-append-drop, Ok, refl, sym, ap, ◌∙◌, subst, arith, lit<}
 use Rattle.std.specs.Int.{byte_at, bytes_high_first}
 use Rattle.std.proofs.Math.Seq.{drop-append_seam, take-append_seam}
 use Rattle.std.proofs.lemmas.Bool.{cases_Bool}
 use Rattle.std.proofs.lemmas.Bool.Decides.{nat_tests}
-use Rattle.std.proofs.lemmas.List.Elements.{All-append, All-cons, All-drop, All-head, All-nil, All-tail, All-take}
+use Rattle.std.proofs.lemmas.List.Elements.{All-cons, All-drop, All-head, All-nil, All-tail, All-take}
 use Rattle.std.proofs.lemmas.Nat.{div-mul-add, mod-mul-add}
 use Rattle.byteorder.specs.Endian.{big_bytes, big_from, big_number}
 use Rattle.byteorder.specs.Numbers.{big_from-cons, big_from-lt, big_from-take, big_number-reads_back, length-bytes_high_first}
@@ -46,11 +45,11 @@ one_number (suc n) (x ∷ xs) (y ∷ ys) lx ly ax ay e =
     let small_x : big_from 0 n xs < 256 ^ n = number_fits n xs rest_x in
     let small_y : big_from 0 n ys < 256 ^ n = number_fits n ys rest_y in
     let same : x * 256 ^ n + big_from 0 n xs ≡ y * 256 ^ n + big_from 0 n ys =
-        ap (λ r. x * 256 ^ n + r) (sym (big_from-cons 0 n x xs)) ∙ e ∙ ap (λ r. y * 256 ^ n + r) (big_from-cons 0 n y ys) in
+    ap (λ r. x * 256 ^ n + r) (sym (big_from-cons 0 n x xs)) ∙ e ∙ ap (λ r. y * 256 ^ n + r) (big_from-cons 0 n y ys) in
     let first : x ≡ y =
-        sym (div-mul-add x (256 ^ n) (big_from 0 n xs) small_x) ∙ ap (λ z. z / 256 ^ n) same ∙ div-mul-add y (256 ^ n) (big_from 0 n ys) small_y in
+    sym (div-mul-add x (256 ^ n) (big_from 0 n xs) small_x) ∙ ap (λ z. z / 256 ^ n) same ∙ div-mul-add y (256 ^ n) (big_from 0 n ys) small_y in
     let others : big_from 0 n xs ≡ big_from 0 n ys =
-        sym (mod-mul-add x (256 ^ n) (big_from 0 n xs) small_x) ∙ ap (λ z. z % 256 ^ n) same ∙ mod-mul-add y (256 ^ n) (big_from 0 n ys) small_y in
+    sym (mod-mul-add x (256 ^ n) (big_from 0 n xs) small_x) ∙ ap (λ z. z % 256 ^ n) same ∙ mod-mul-add y (256 ^ n) (big_from 0 n ys) small_y in
     ap (λ z. z ∷ xs) first ∙ ap (λ zs. y ∷ zs) (one_number n xs ys (omega (arith, lx)) (omega (arith, ly)) rest_x rest_y others)
 
 -- the first n bytes are those of their number

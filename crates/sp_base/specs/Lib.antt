@@ -1,5 +1,6 @@
 pub mod Cursor
-pub mod Rows
+pub mod Lending
 pub mod Reading
 pub mod Refusals
+pub mod Rows
 pub mod Spelling

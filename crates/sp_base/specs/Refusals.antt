@@ -3,7 +3,6 @@ use Rattle.std.specs.Prelude.{◌≡◌, Result, Ok, Err}
 
 -- the next step, on what the one before it gave
 infixl 10 ◌>>=◌
-
 abbrev pub ◌>>=◌ : {A B E : Type 0} → Result A E → (A → Result B E) → Result B E
 (Ok x) >>= f = f x
 (Err e) >>= f = Err e

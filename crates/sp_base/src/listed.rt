@@ -1,5 +1,7 @@
 // Lists as fields of public types: a contract sees the list alone, and not where it lies in memory.
 ghost use Rattle.std.specs.Prelude.{◌≡◌, List, IfOk, length};
+ghost use Rattle.std.specs.Borrow.{sem};
+ghost use Rattle.sp_base.specs.Lending.{lends_values};
 
 use crate::Memory;
 use std::alloc::Global;
@@ -44,9 +46,10 @@ impl<T> Listed<T> {
         self.items.as_slice()
     }
 
-    /// The values, to be changed where they stand. Their number stays.
+    /// The values, to be changed where they stand: their number stays.
     pub fn as_mut_slice(&mut self) -> &mut [T]
-        ensures { result.now ≡ self.old }
+        ensures* writes_back { sem 𝓛 (lends_values T.row self.entry result) }
+        ensures value { result.now ≡ self.old }
     {
         self.items.as_mut_slice()
     }

@@ -16,7 +16,11 @@ pub struct Short {
 
 impl fmt::Display for Short {
     fn fmt<W: fmt::Write>(&self, f: &mut fmt::Formatter<W>) -> fmt::Result {
-        write!(f, "{} bytes are needed and {} are left", self.need, self.left)
+        write!(
+            f,
+            "{} bytes are needed and {} are left",
+            self.need, self.left
+        )
     }
 }
 
