@@ -1,7 +1,7 @@
 -- The run of the first message, step by step.
 use Rattle.std.proofs.Common.{◌<◌, [], ◌∷◌, refl, inl, inr, arith}
 use Rattle.std.proofs.lemmas.List.Elements.{All-cons, All-nil}
-use Rattle.sp_text.specs.Spelling.{AreBytes}
+use Rattle.sp_base.specs.Spelling.{AreBytes}
 use Rattle.sp_schedule.specs.Ranges.{IsHop}
 use Rattle.sp_rules.specs.World.{World, Run, Begins, at_start}
 use Rattle.laws_first_message.specs.FirstMessage.{scenario, happened, journal, id, hi}

@@ -5,7 +5,8 @@ use Rattle.std.specs.Fmt.{decimal}
 use Rattle.sp_base.specs.declared.limits.TheConstants.{MAX_PAYLOAD_BYTES}
 use Rattle.hex.specs.Hex.{lower_digits}
 use Rattle.hex.proofs.HexLemmas.{length-encode_with}
-use Rattle.sp_text.specs.Spelling.{AreBytes, hex_word}
+use Rattle.sp_base.specs.Spelling.{AreBytes}
+use Rattle.sp_text.specs.Spelling.{hex_word}
 use Rattle.sp_base.specs.declared.id.NodeId.{NodeId}
 use Rattle.sp_schedule.specs.declared.scenario.Scenario.{Scenario}
 use Rattle.sp_schedule.specs.declared.event.Event.{Event}

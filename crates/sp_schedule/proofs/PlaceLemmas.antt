@@ -3,7 +3,8 @@ use Rattle.std.proofs.Common.{◌≡◌, ◌≤◌, ℕ, inl, inr, List, [], ◌
 use Rattle.std.specs.Prelude.{All}
 use Rattle.std.proofs.lemmas.List.Elements.{All-nil, All-push}
 use Rattle.sp_base.specs.declared.limits.TheConstants.{MAX_EVENTS, MAX_NODES}
-use Rattle.sp_text.specs.Spelling.{AreBytes, words_of}
+use Rattle.sp_base.specs.Spelling.{AreBytes}
+use Rattle.sp_text.specs.Spelling.{words_of}
 use Rattle.sp_schedule.specs.declared.scenario.Scenario.{Scenario}
 use Rattle.sp_schedule.specs.declared.place.Place.{Place}
 use Rattle.sp_schedule.specs.declared.place.Place.TheVariants as places

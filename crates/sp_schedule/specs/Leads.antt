@@ -1,7 +1,7 @@
 -- A line in its place: what it says, and where the next line stands.
 use Rattle.std.specs.Prelude.{ℕ, ◌≡◌, ◌-◌, ◌<◌, ◌≤◌, ◌⊎◌, List, [], ◌∷◌, ◌++◌, length, slice_get, Option, IfSome}
 use Rattle.sp_base.specs.declared.limits.TheConstants.{MAX_EVENTS, MAX_NODES}
-use Rattle.sp_text.specs.Spelling.{AreBytes}
+use Rattle.sp_base.specs.Spelling.{AreBytes}
 use Rattle.sp_base.specs.declared.id.Limits.{Limits}
 use Rattle.sp_schedule.specs.declared.scenario.LmsHeight.{LmsHeight}
 use Rattle.sp_schedule.specs.declared.scenario.Edge.{Edge}

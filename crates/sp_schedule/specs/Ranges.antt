@@ -1,7 +1,7 @@
 -- Which scenarios and events a schedule may have. The nodes stand in a line, and one reliable flow goes from the first to the last.
 use Rattle.std.specs.Prelude.{ℕ, ◌≡◌, ◌+◌, ◌-◌, ◌≤◌, ◌==◌, ◌&&◌, ◌⊎◌, Bool, false, List, [], ◌∷◌, ◌++◌, length, map, filter, All, zero, suc}
 use Rattle.sp_base.specs.declared.limits.TheConstants.{MAX_BUFFER, MAX_NODES, MAX_PAYLOAD_BYTES, MAX_STORE, MAX_WEIGHT}
-use Rattle.sp_text.specs.Spelling.{AreBytes}
+use Rattle.sp_base.specs.Spelling.{AreBytes}
 use Rattle.sp_base.specs.declared.id.Limits.{Limits}
 use Rattle.sp_schedule.specs.declared.scenario.Edge.{Edge}
 use Rattle.sp_schedule.specs.declared.scenario.Scenario.{Scenario}

@@ -9,7 +9,8 @@ use Rattle.std.proofs.lemmas.List.{get_or_past}
 use Rattle.hex.specs.Hex.{IsBytes, decode_of, decode_sized, encode_lower, encode_with}
 use Rattle.hex.specs.declared.error.FromHexError.{FromHexError}
 use Rattle.hex.proofs.HexLemmas.{IsOk-decode_sized, decode_of-encode_lower, decode_of-same, decode_sized-encode_lower, decode_sized-ok, decode_sized-twice}
-use Rattle.sp_text.specs.Spelling.{AreBytes, hex_word}
+use Rattle.sp_base.specs.Spelling.{AreBytes}
+use Rattle.sp_text.specs.Spelling.{hex_word}
 use Rattle.sp_text.proofs.Digits.{list_any-encode_lower, read_are_bytes, text_again}
 
 -- bytes in the words of the crate that encodes

@@ -8,10 +8,6 @@ abbrev pub hex_word : List ℕ → List ℕ
 hex_word [] = codes "-"
 hex_word (b ∷ bs) = encode_lower (b ∷ bs)
 
--- each is a byte
-abbrev pub AreBytes : List ℕ → Type 0
-AreBytes bs = All (λ b. b < 256) bs
-
 -- begins with a plus, or with a zero that more follows
 abbrev pub IsPadded : List ℕ → Type 0
 IsPadded word = (slice_index word 0 ≡ 43) ⊎ ((slice_index word 0 ≡ 48) × (1 < length word))

@@ -4,7 +4,8 @@ ghost use Rattle.std.specs.Char.{is_ascii_uppercase};
 ghost use Rattle.std.specs.List.{list_any};
 ghost use Rattle.std.specs.String.{string_bytes};
 ghost use Rattle.hex.specs.Hex.{encode_lower, lower_digits};
-ghost use Rattle.sp_text.specs.Spelling.{AreBytes, hex_word};
+ghost use Rattle.sp_base.specs.Spelling.{AreBytes};
+ghost use Rattle.sp_text.specs.Spelling.{hex_word};
 
 use hex::{FromHex, FromHexError};
 use sp_base::{Bytes, Memory};
