@@ -27,7 +27,7 @@ impl fmt::Display for Short {
 impl Error for Short {}
 
 /// The bytes that are left to read. A read that is refused takes none of them.
-#[derive(Debug)]
+#[derive(Debug, Drop)]
 pub struct Reader<'a> {
     bytes: &'a [u8],
 }
