@@ -11,7 +11,7 @@ ghost use Rattle.sp_schedule.specs.Spelling.{end_words, event_words};
 use crate::words::{fields, is_number, node_in, number_in};
 use crate::{Event, Scenario, Timeline};
 use sp_base::{Bytes, MAX_PAYLOAD_BYTES, Memory, NodeId};
-use sp_text::hex_bytes;
+use sp_text::hex_word_bytes;
 use std::alloc::Global;
 
 /// The event of a line, where it may come after those before it. None exactly where the line is of no such event.
@@ -69,7 +69,7 @@ fn payload_of(alloc: Global, word: &[u8]) -> Result<Option<Bytes>, Memory>
     if word.len() > 2 * MAX_PAYLOAD_BYTES {
         return Ok(None);
     }
-    hex_bytes(alloc, word)
+    hex_word_bytes(alloc, word)
 }
 
 /// Whether the line is `take D S`, of the last node from the first.

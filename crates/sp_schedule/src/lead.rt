@@ -9,7 +9,7 @@ use crate::event_line::{event, is_end};
 use crate::header::{bounds, height, is_begin, is_version, nodes, seed};
 use crate::{Edge, Graph, LmsHeight, Place, Scenario, Timeline};
 use sp_base::{Limits, Listed, MAX_EVENTS, Memory};
-use sp_text::words;
+use sp_text::split_at_spaces;
 use std::alloc::Global;
 
 /// What comes of a line.
@@ -25,7 +25,7 @@ pub enum Lead {
 pub fn follow(alloc: Global, place: Place, line: &[u8]) -> Result<Lead, Memory>
     ensures { IfOk result (IsLead place (words_of line.now)) }
 {
-    let words = words(alloc, line)?;
+    let words = split_at_spaces(alloc, line)?;
     follow_words(alloc, place, words.as_slice())
 }
 

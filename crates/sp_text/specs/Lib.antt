@@ -1,2 +1,4 @@
 pub mod Spelling
 pub mod Lines
+pub mod Texts
+pub mod Unread

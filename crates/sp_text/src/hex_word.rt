@@ -6,14 +6,23 @@ ghost use Rattle.std.specs.String.{string_bytes};
 ghost use Rattle.hex.specs.Hex.{encode_lower, lower_digits};
 ghost use Rattle.sp_base.specs.Spelling.{AreBytes};
 ghost use Rattle.sp_text.specs.Spelling.{hex_word};
+ghost use Rattle.sp_text.specs.Texts.{ReadsHex};
 
+use crate::{At, TextRefused};
 use hex::{FromHex, FromHexError};
 use sp_base::{Bytes, Memory};
 use std::alloc::Global;
 
 /// The bytes of a word in lower-case hexadecimal, or no bytes for a dash.
-/// None exactly where the word is neither: upper case is refused, and so is the empty word.
-pub fn hex_bytes(alloc: Global, word: &[u8]) -> Result<Option<Bytes>, Memory>
+/// `BadHex` at the place given exactly where the word is neither: upper case is refused, and so is the empty word.
+pub fn hex_bytes(alloc: Global, word: &[u8], at: At) -> Result<Bytes, TextRefused>
+    ensures { ReadsHex word.now at result }
+{
+    hex_word_bytes(alloc, word)?.ok_or(TextRefused::BadHex(at))
+}
+
+/// The same without a place: none exactly where `hex_bytes` answers `BadHex`.
+pub fn hex_word_bytes(alloc: Global, word: &[u8]) -> Result<Option<Bytes>, Memory>
     ensures found { IfOk result (λ o. IfSome o (λ bytes. word.now ≡ hex_word bytes)) }
     ensures bytes { IfOk result (λ o. IfSome o AreBytes) }
     ensures none { IfOk result (λ o. IfNone o ((bytes : List ℕ) → AreBytes bytes → word.now ≢ hex_word bytes)) }

@@ -5,4 +5,4 @@ pub returns-then-word : goal.returns-then-word
 returns-then-word c = too_long _ c.if-word.true
 
 pub returns : goal.returns
-returns c = payload_read c.args.word.now _ c.if-word.false c.hex_bytes.ensures.found c.hex_bytes.ensures.bytes c.hex_bytes.ensures.none
+returns c = payload_read c.args.word.now _ c.if-word.false c.hex_word_bytes.ensures.found c.hex_word_bytes.ensures.bytes c.hex_word_bytes.ensures.none

@@ -2,7 +2,7 @@ use Rattle.std.proofs.Common.{◌==◌, rules, tests}
 use Rattle.std.proofs.lemmas.Result.{IfOk-at_ok}
 use Rattle.std.proofs.lemmas.Iterator.Consumers.{map_from_collect}
 use Rattle.std.proofs.lemmas.Iterator.Splits.{YieldsList-from_slice_split}
-use Rattle.sp_text.proofs.word_list.words.Goals as goal
+use Rattle.sp_text.proofs.word_list.split_at_spaces.Goals as goal
 
 pub returns : goal.returns
 returns c =

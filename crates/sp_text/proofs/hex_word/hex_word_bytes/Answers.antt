@@ -3,8 +3,8 @@ use Rattle.std.specs.Prelude.{codes}
 use Rattle.std.proofs.lemmas.Bool.{both_ways, eqb-false, eqb-true}
 use Rattle.sp_text.proofs.Digits.{read_are_bytes}
 use Rattle.sp_text.proofs.HexWordLemmas.{capital_spells_none, empty_spells_none, refused_spells_none, decoded_is_spelled}
-use Rattle.sp_text.proofs.hex_word.hex_bytes.Goals.{then-is_empty-via-then-is_empty, then-is_empty-via-else-is_empty+then-has_capital}
-use Rattle.sp_text.proofs.hex_word.hex_bytes.Goals as goal
+use Rattle.sp_text.proofs.hex_word.hex_word_bytes.Goals.{then-is_empty-via-then-is_empty, then-is_empty-via-else-is_empty+then-has_capital}
+use Rattle.sp_text.proofs.hex_word.hex_word_bytes.Goals as goal
 
 pub returns-then-is_empty-clause-none : goal.returns-then-is_empty-clause-none
 returns-then-is_empty-clause-none c =
