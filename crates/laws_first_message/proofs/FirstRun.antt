@@ -3,7 +3,7 @@ use Rattle.std.proofs.Common.{◌<◌, [], ◌∷◌, refl, inl, inr, arith}
 use Rattle.std.proofs.lemmas.List.Elements.{All-cons, All-nil}
 use Rattle.sp_base.specs.Spelling.{AreBytes}
 use Rattle.sp_schedule.specs.Ranges.{IsHop}
-use Rattle.sp_rules.specs.World.{World, Run, Begins, at_start}
+use Rattle.sp_first.specs.World.{State, Run, Begins, at_start}
 use Rattle.laws_first_message.specs.FirstMessage.{scenario, happened, journal, id, hi}
 use Rattle.sp_schedule.specs.declared.event.Event.TheVariants as events
 use Rattle.laws_first_message.proofs.Steps.{goes}
@@ -24,7 +24,7 @@ down_again = record { first = (omega arith, omega arith); second = (omega arith,
 hi_is_bytes : AreBytes hi
 hi_is_bytes = All-cons (λ b. b < 256) 104 (105 ∷ []) (omega arith) (All-cons (λ b. b < 256) 105 [] (omega arith) (All-nil (λ b. b < 256)))
 
-pub first_run : (w : World) × Run scenario happened journal w
+pub first_run : (w : State) × Run scenario happened journal w
 first_run =
     let begun : Run scenario [] [] (at_start scenario) = Begins in
     let sent = goes begun (events.Rel (id 1) (id 3) hi) (refl, refl, omega arith, hi_is_bytes) refl refl in

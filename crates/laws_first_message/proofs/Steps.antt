@@ -5,11 +5,11 @@ use Rattle.sp_schedule.specs.declared.scenario.Scenario.{Scenario}
 use Rattle.sp_schedule.specs.declared.event.Event.{Event}
 use Rattle.sp_schedule.specs.Ranges.{InRange}
 use Rattle.sp_journal.specs.declared.entry.Entry.{Entry}
-use Rattle.sp_rules.specs.Flow.{no_flow, send_refusal, take_reply, after_take}
-use Rattle.sp_rules.specs.Link.{link_in, link_answer}
-use Rattle.sp_rules.specs.Rel.{with_flow, frame_to, served}
-use Rattle.sp_rules.specs.Node.{Node, Input, Output, NodeStep, Send, Take, Poll, Arrive, Makes, says, send_output, after_send, with_rel, arrive_output, after_arrive}
-use Rattle.sp_rules.specs.World.{World, Run, Goes_on, WorldStep, node_of, input_of, acting, reply_to, directions_after, is_me}
+use Rattle.sp_first.specs.Flow.{no_flow, send_refusal, take_reply, after_take}
+use Rattle.sp_first.specs.Link.{link_in, link_answer}
+use Rattle.sp_first.specs.Rel.{with_flow, frame_to, served}
+use Rattle.sp_first.specs.Node.{Node, Input, Output, NodeStep, Send, Take, Poll, Arrive, Makes, says, send_output, after_send, with_rel, arrive_output, after_arrive}
+use Rattle.sp_first.specs.World.{State, Run, Goes_on, StateStep, node_of, input_of, acting, reply_to, directions_after, is_me}
 
 abbrev pub output_of : Node → Input → Output
 output_of n (Send payload) = send_output n (send_refusal n.rel.bound n.rel.flow)
@@ -29,30 +29,30 @@ steps n Take = (refl, refl)
 steps n (Poll to) = (refl, refl)
 steps n (Arrive from number frame) = (refl, refl)
 
-abbrev pub entry_of : World → Event → Node → Input → Entry
+abbrev pub entry_of : State → Event → Node → Input → Entry
 entry_of w e n i = record { reply = reply_to w (acting e) (output_of n i).answer; effects = (output_of n i).effects }
 
-abbrev pub world_after : World → Event → Node → Input → World
+abbrev pub world_after : State → Event → Node → Input → State
 world_after w e n i = record { nodes = replace_where (is_me (acting e)) (node_after n i) w.nodes; directions = directions_after w.directions (acting e) (output_of n i).answer }
 
 -- the acting node and what reaches it, where there are such
-abbrev pub acts : World → Event → Node
+abbrev pub acts : State → Event → Node
 acts w e = unwrap_or (node_of w (acting e)) (record { me = 0; links = []; rel = record { bound = 0; flow = no_flow 0 0; peers = [] } })
 
-abbrev pub input : World → Event → Input
+abbrev pub input : State → Event → Input
 input w e = unwrap_or (input_of w e) Take
 
-abbrev pub next_entry : World → Event → Entry
+abbrev pub next_entry : State → Event → Entry
 next_entry w e = entry_of w e (acts w e) (input w e)
 
-abbrev pub next_world : World → Event → World
+abbrev pub next_world : State → Event → State
 next_world w e = world_after w e (acts w e) (input w e)
 
 -- a run goes on by one event
-pub goes : {s : Scenario} {es : List Event} {js : List Entry} {w : World} → Run s es js w → (e : Event) → InRange s es e → node_of w (acting e) ≡ Some (acts w e) → input_of w e ≡ Some (input w e)
+pub goes : {s : Scenario} {es : List Event} {js : List Entry} {w : State} → Run s es js w → (e : Event) → InRange s es e → node_of w (acting e) ≡ Some (acts w e) → input_of w e ≡ Some (input w e)
     → Run s (es ++ e ∷ []) (js ++ next_entry w e ∷ []) (next_world w e)
 goes {s} {es} {js} {w} run e range there reaches =
-    let step : WorldStep w e (next_entry w e) (next_world w e) = record {
+    let step : StateStep w e (next_entry w e) (next_world w e) = record {
       node = acts w e;
       is_there = there;
       input = input w e;

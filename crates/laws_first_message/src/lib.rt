@@ -4,12 +4,12 @@
 ghost use Rattle.std.specs.Prelude.{◌≡◌};
 ghost use Rattle.sp_schedule.specs.Spelling.{schedule_text};
 ghost use Rattle.sp_journal.specs.JournalText.{journal_text};
-ghost use Rattle.sp_rules.specs.World.{World, Run};
+ghost use Rattle.sp_first.specs.World.{State, Run};
 ghost use Rattle.laws_first_message.specs.FirstMessage.{scenario, happened, journal, schedule, output};
 
 /// Three nodes in a line: a message is sent at 1, forwarded by 2, delivered at 3 and taken there.
 pub fn first_message()
     ensures text { schedule_text scenario happened ≡ schedule }
-    ensures run { (w : World) × Run scenario happened journal w }
+    ensures run { (w : State) × Run scenario happened journal w }
     ensures journal { journal_text journal ≡ output }
 {}

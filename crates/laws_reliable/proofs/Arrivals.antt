@@ -7,10 +7,11 @@ use Rattle.sp_journal.specs.declared.entry.AnswerWord.{AnswerWord}
 use Rattle.sp_journal.specs.declared.entry.AnswerWord.TheVariants as answers
 use Rattle.sp_journal.specs.declared.entry.Effect.{Effect}
 use Rattle.sp_journal.specs.declared.entry.Effect.TheVariants.{Delivered}
-use Rattle.sp_rules.specs.Flow.{FlowState, judge_rel, pushed, received, admit_rel, delivery, after_answer, effects_of}
-use Rattle.sp_rules.specs.Told.{Message, IsPrefix, delivered_by}
-use Rattle.sp_rules.specs.Holds.{IsIn, FlowHolds}
-use Rattle.sp_rules.proofs.FlowLemmas.{IsNew, judged_new, flow_after, effects_after}
+use Rattle.sp_first.specs.Flow.{FlowState, judge_rel, pushed, received, admit_rel, delivery, after_answer, effects_of}
+use Rattle.sp_base.specs.Lists.{IsPrefix}
+use Rattle.sp_first.specs.Told.{Message, delivered_by}
+use Rattle.sp_first.specs.Holds.{IsIn, FlowHolds}
+use Rattle.sp_first.proofs.FlowLemmas.{IsNew, judged_new, flow_after, effects_after}
 use Rattle.laws_reliable.proofs.Lists.{next_in_prefix}
 use Rattle.laws_reliable.proofs.Flows.{forwarded, delivered_on, delivered_number}
 use Rattle.laws_reliable.proofs.Clients.{room_for}

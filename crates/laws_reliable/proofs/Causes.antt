@@ -16,13 +16,13 @@ use Rattle.sp_journal.specs.declared.entry.Reply.TheVariants as replies
 use Rattle.sp_journal.specs.declared.entry.Effect.{Effect}
 use Rattle.sp_journal.specs.declared.entry.Entry.{Entry}
 use Rattle.sp_journal.specs.JournalText.{delivered_count}
-use Rattle.sp_rules.specs.Flow.{FlowState, take_reply, send_refusal}
-use Rattle.sp_rules.specs.Node.{Node, Output, NodeStep, Send, Take, Poll, send_output}
-use Rattle.sp_rules.specs.World.{World, Run, Begins, Goes_on, WorldStep}
-use Rattle.sp_rules.specs.Told.{Message}
-use Rattle.sp_rules.specs.Holds.{NodeHolds, Holds, payloads}
-use Rattle.sp_rules.specs.Laws.{IsSendAnswer, IsTakeAnswer, IsAnswered, RunClaims}
-use Rattle.sp_rules.proofs.RunLemmas.{about}
+use Rattle.sp_first.specs.Flow.{FlowState, take_reply, send_refusal}
+use Rattle.sp_first.specs.Node.{Node, Output, NodeStep, Send, Take, Poll, send_output}
+use Rattle.sp_first.specs.World.{State, Run, Begins, Goes_on, StateStep}
+use Rattle.sp_first.specs.Told.{Message, payloads}
+use Rattle.sp_first.specs.Holds.{NodeHolds, Holds}
+use Rattle.sp_first.specs.Laws.{IsSendAnswer, IsTakeAnswer, IsAnswered, RunClaims}
+use Rattle.sp_first.proofs.RunLemmas.{about}
 use Rattle.laws_reliable.proofs.Steps.{reply_is, effects_are, node_at}
 use Rattle.laws_reliable.proofs.Passes.{pass_goes}
 use Rattle.laws_reliable.proofs.Runs.{run_holds, RunHolds}
@@ -36,8 +36,8 @@ full_where have base bound count is none above within = let same : have - base �
 room_where : (have base bound count : ℕ) → have ≡ count → base ≡ 0 → count < bound → (have - base == bound) ≡ false
 room_where have base bound count is none below = let apart : have - base ≡ bound → ⊥ = λ e. omega arith in grind (arith, nat_tests)
 
-send_answer : (s : Scenario) (es : List Event) (S D : List Message) (count : ℕ) (old new : World) (from to : NodeId) (payload : List ℕ) (j : Entry) → IsScenario s → InRange s es (events.Rel from to payload)
-    → WorldStep old (events.Rel from to payload) j new → Holds S D count s.graph.nodes s.limits.buffer old → IsSendAnswer S s.limits.buffer j.reply
+send_answer : (s : Scenario) (es : List Event) (S D : List Message) (count : ℕ) (old new : State) (from to : NodeId) (payload : List ℕ) (j : Entry) → IsScenario s → InRange s es (events.Rel from to payload)
+    → StateStep old (events.Rel from to payload) j new → Holds S D count s.graph.nodes s.limits.buffer old → IsSendAnswer S s.limits.buffer j.reply
 send_answer s es S D count old new from to payload j scenario range step h = record {
   taken_in = λ below.
       let room = room_where f.at.have f.at.base n.rel.bound (length S) source base (omega (arith, node.limit)) in
@@ -79,7 +79,7 @@ get_dropped [] (suc count) = refl
 get_dropped (x ∷ xs) zero = refl
 get_dropped (x ∷ xs) (suc count) = get_dropped xs count
 
-take_answer : (s : Scenario) (es : List Event) (S D : List Message) (count : ℕ) (old new : World) (at from : NodeId) (j : Entry) → InRange s es (events.Take at from) → WorldStep old (events.Take at from) j new
+take_answer : (s : Scenario) (es : List Event) (S D : List Message) (count : ℕ) (old new : State) (at from : NodeId) (j : Entry) → InRange s es (events.Take at from) → StateStep old (events.Take at from) j new
     → Holds S D count s.graph.nodes s.limits.buffer old → IsTakeAnswer D count j.reply
 take_answer s es S D count old new at from j range step h = record {
   oldest = λ payload is. replied ∙ rw (opened ∙ is, take_reply) refl;
@@ -103,7 +103,7 @@ take_answer s es S D count old new at from j range step h = record {
 
 -- ---- every event
 
-no_effect : (old new : World) (e : Event) (j : Entry) (step : WorldStep old e j new) → step.output.effects ≡ [] → length j.effects ≤ 1
+no_effect : (old new : State) (e : Event) (j : Entry) (step : StateStep old e j new) → step.output.effects ≡ [] → length j.effects ≤ 1
 no_effect old new e j step none = rw (effects_are old new e j step, none) (omega arith)
 
 send_quiet : (n : Node) (payload : List ℕ) (output : Output) (after : Node) → NodeStep n (Send payload) output after → output.effects ≡ []
@@ -113,14 +113,14 @@ send_quiet n payload output after step = ap (λ (o : Output). o.effects) step.0 
     none (Some r) = refl
     none None = refl
 
-answer_of : (s : Scenario) (es : List Event) (js : List Entry) (old new : World) (e : Event) (j : Entry) → IsScenario s → InRange s es e → WorldStep old e j new → RunHolds s es js old → IsAnswered s es js e j.reply
+answer_of : (s : Scenario) (es : List Event) (js : List Entry) (old new : State) (e : Event) (j : Entry) → IsScenario s → InRange s es e → StateStep old e j new → RunHolds s es js old → IsAnswered s es js e j.reply
 answer_of s es js old new (events.Rel from to payload) j scenario range step h = send_answer s es _ _ _ old new from to payload j scenario range step h
 answer_of s es js old new (events.Take at from) j scenario range step h = take_answer s es _ _ _ old new at from j range step h
 answer_of s es js old new (events.Poll u v) j scenario range step h = tt
 answer_of s es js old new (events.Pass u v number) j scenario range step h = tt
 
 -- an event of a run has at most one effect
-one_effect : (s : Scenario) (es : List Event) (js : List Entry) (old new : World) (e : Event) (j : Entry) → WorldStep old e j new → RunHolds s es js old → length j.effects ≤ 1
+one_effect : (s : Scenario) (es : List Event) (js : List Entry) (old new : State) (e : Event) (j : Entry) → StateStep old e j new → RunHolds s es js old → length j.effects ≤ 1
 one_effect s es js old new (events.Rel from to payload) j step h = no_effect old new (events.Rel from to payload) j step (send_quiet step.node payload step.output step.after (about old new (events.Rel from to payload) j step (Send payload) refl))
 one_effect s es js old new (events.Take at from) j step h = no_effect old new (events.Take at from) j step (ap (λ (o : Output). o.effects) (about old new (events.Take at from) j step Take refl).0)
 one_effect s es js old new (events.Poll u v) j step h = no_effect old new (events.Poll u v) j step (ap (λ (o : Output). o.effects) (about old new (events.Poll u v) j step (Poll v.0) refl).0)
@@ -131,7 +131,7 @@ delivered_more js j =
     let f = λ (entry : Entry). entry.effects in
     ap length (flat_map-append f js (j ∷ [])) ∙ length-append (flat_map f js) (flat_map f (j ∷ [])) ∙ ap (λ (xs : List Effect). length (flat_map f js) + length xs) (append-nil j.effects)
 
-pub few_deliveries : (s : Scenario) (es : List Event) (js : List Entry) (w : World) → IsScenario s → Run s es js w → delivered_count js ≤ length es
+pub few_deliveries : (s : Scenario) (es : List Event) (js : List Entry) (w : State) → IsScenario s → Run s es js w → delivered_count js ≤ length es
 few_deliveries s es js w scenario Begins = omega arith
 few_deliveries s es js w scenario (Goes_on {es = es'} {js = js'} {old = old} {e = e} {j = j} run range step) =
     let one = one_effect s es' js' old w e j step (run_holds s es' js' old scenario run) in
@@ -139,7 +139,7 @@ few_deliveries s es js w scenario (Goes_on {es = es'} {js = js'} {old = old} {e 
 
 -- ---- the claims
 
-pub run_claims : (s : Scenario) (es : List Event) (js : List Entry) (w : World) → IsScenario s → Run s es js w → RunClaims s es js
+pub run_claims : (s : Scenario) (es : List Event) (js : List Entry) (w : State) → IsScenario s → Run s es js w → RunClaims s es js
 run_claims s es js w scenario run = record {
   fronts = λ k. let f = front s es js w k run in front_claims s (take k es) (take k js) f.0 scenario f.1;
   answers = λ k e j event_is entry_is.

@@ -1,40 +1,40 @@
 -- What a client's send, a client's take and a poll keep.
 use Rattle.std.proofs.Common.{◌≡◌, ◌≤◌, ℕ, ◌+◌, ◌-◌, suc, Bool, true, false, List, [], ◌∷◌, ◌++◌, length, map, drop, Some, None, Option, cond, refl, sym, ap, ◌∙◌, add-zero, add-one, append-nil, length-append, arith, option_map, max}
 use Rattle.std.specs.Prelude.{◌==◌}
-use Rattle.std.specs.List.{slice_get}
+use Rattle.std.specs.List.{slice_get, range_with_len}
 use Rattle.std.proofs.lemmas.List.{map-append, length-map, length-drop, drop-drop}
 use Rattle.std.proofs.lemmas.Option.{slice_get_within}
 use Rattle.std.proofs.lemmas.Bool.Decides.{nat_tests}
 use Rattle.sp_journal.specs.declared.entry.Reply.{Reply}
 use Rattle.sp_journal.specs.declared.entry.Reply.TheVariants as replies
-use Rattle.sp_rules.specs.Position.{message_of}
-use Rattle.sp_rules.specs.Flow.{is_full, pushed, after_take, take_reply}
-use Rattle.sp_rules.specs.Rel.{RelState, frame_at, peer_in}
-use Rattle.sp_rules.specs.Node.{Node, Says}
-use Rattle.sp_rules.specs.World.{World, numbers_from}
-use Rattle.sp_rules.specs.Told.{Message}
-use Rattle.sp_rules.specs.Laws.{gives_payload}
-use Rattle.sp_rules.specs.Holds.{NodeHolds, Holds, payloads}
-use Rattle.sp_rules.proofs.RunLemmas.{numbers_from-more}
-use Rattle.laws_reliable.proofs.Lists.{longer_prefix}
+use Rattle.sp_base.specs.Position.{message_of}
+use Rattle.sp_first.specs.Flow.{is_full, pushed, after_take, take_reply}
+use Rattle.sp_first.specs.Rel.{RelState, frame_at, peer_in}
+use Rattle.sp_first.specs.Node.{Node, Says}
+use Rattle.sp_first.specs.World.{State}
+use Rattle.sp_first.specs.Told.{Message, payloads}
+use Rattle.sp_first.specs.Laws.{gives_payload}
+use Rattle.sp_first.specs.Holds.{NodeHolds, Holds}
+use Rattle.sp_first.proofs.RunLemmas.{range_with_len-more}
+use Rattle.sp_base.proofs.ListLemmas.{longer_prefix}
 use Rattle.laws_reliable.proofs.Flows.{sent_on, taken_on}
 use Rattle.laws_reliable.proofs.Moves.{Stepped}
 
 -- ---- a client's message is taken
 
-numbered_more : (S : List Message) (number : ℕ) (payload : List ℕ) → map (λ (m : Message). m.0) S ≡ numbers_from 1 (length S) → number ≡ length S + 1
-    → map (λ (m : Message). m.0) (S ++ (number, payload) ∷ []) ≡ numbers_from 1 (length (S ++ (number, payload) ∷ []))
+numbered_more : (S : List Message) (number : ℕ) (payload : List ℕ) → map (λ (m : Message). m.0) S ≡ range_with_len 1 (length S) → number ≡ length S + 1
+    → map (λ (m : Message). m.0) (S ++ (number, payload) ∷ []) ≡ range_with_len 1 (length (S ++ (number, payload) ∷ []))
 numbered_more S number payload so_far next =
     let last : number ≡ 1 + length S = omega arith in
     let count : length (S ++ (number, payload) ∷ []) ≡ suc (length S) = length-append S ((number, payload) ∷ []) ∙ add-one (length S) in
-    map-append (λ (m : Message). m.0) S ((number, payload) ∷ []) ∙ ap (λ (ns : List ℕ). ns ++ number ∷ []) so_far ∙ ap (λ (k : ℕ). numbers_from 1 (length S) ++ k ∷ []) last
-    ∙ sym (ap (numbers_from 1) count ∙ numbers_from-more 1 (length S))
+    map-append (λ (m : Message). m.0) S ((number, payload) ∷ []) ∙ ap (λ (ns : List ℕ). ns ++ number ∷ []) so_far ∙ ap (λ (k : ℕ). range_with_len 1 (length S) ++ k ∷ []) last
+    ∙ sym (ap (range_with_len 1) count ∙ range_with_len-more 1 (length S))
 
 -- a buffer that isn't full has room for one more
 pub room_for : (have base bound count more : ℕ) → (have - base == bound) ≡ false → have ≡ count → base ≡ 0 → count ≤ bound → more ≡ count + 1 → more ≤ bound
 room_for have base bound count more not_full whole none within is = let apart : have - base ≡ bound → ⊥ = λ e. grind (arith, nat_tests) in omega (arith, apart)
 
-pub send_steps : (S D : List Message) (count last bound : ℕ) (old : World) (n : Node) (payload : List ℕ) (reply : Reply) → (1 ≡ last → ⊥) → Holds S D count last bound old → NodeHolds S D count last bound 1 n → is_full n.rel.bound n.rel.flow ≡ false
+pub send_steps : (S D : List Message) (count last bound : ℕ) (old : State) (n : Node) (payload : List ℕ) (reply : Reply) → (1 ≡ last → ⊥) → Holds S D count last bound old → NodeHolds S D count last bound 1 n → is_full n.rel.bound n.rel.flow ≡ false
     → Stepped S D ((n.rel.flow.at.have + 1, payload) ∷ []) [] count 0 last bound 1 (record { me = n.me; links = n.links; rel = record { bound = n.rel.bound; flow = pushed n.rel.flow payload; peers = n.rel.peers } }) (Says reply)
 send_steps S D count last bound old n payload reply not_last h node room =
     let f = n.rel.flow in
@@ -70,7 +70,7 @@ drop_one_more : {X : Type 0} (xs : List X) (count : ℕ) → drop 1 (drop count 
 drop_one_more xs count = drop-drop 1 count xs
 
 -- a step of the last node that takes so many payloads
-take_stepped : (S D : List Message) (count more last bound : ℕ) (old : World) (n : Node) (reply : Reply) → Holds S D count last bound old → NodeHolds S D count last bound last n
+take_stepped : (S D : List Message) (count more last bound : ℕ) (old : State) (n : Node) (reply : Reply) → Holds S D count last bound old → NodeHolds S D count last bound last n
     → drop 1 (drop count (payloads D)) ≡ drop (count + more) (payloads D) → count + more ≤ length D
     → Stepped S D [] [] count more last bound last (record { me = n.me; links = n.links; rel = record { bound = n.rel.bound; flow = after_take n.rel.flow; peers = n.rel.peers } }) (Says reply)
 take_stepped S D count more last bound old n reply h node rest within = record {
@@ -97,7 +97,7 @@ pub record TakeDone (S D : List Message) (count last bound : ℕ) (n : Node) : T
   pub steps : Stepped S D [] [] count more last bound last (record { me = n.me; links = n.links; rel = record { bound = n.rel.bound; flow = after_take n.rel.flow; peers = n.rel.peers } }) (Says reply)
   pub counted : cond (gives_payload reply) 1 0 ≡ more
 
-pub take_steps : (S D : List Message) (count last bound : ℕ) (old : World) (n : Node) → Holds S D count last bound old → NodeHolds S D count last bound last n → TakeDone S D count last bound n
+pub take_steps : (S D : List Message) (count last bound : ℕ) (old : State) (n : Node) → Holds S D count last bound old → NodeHolds S D count last bound last n → TakeDone S D count last bound n
 take_steps S D count last bound old n h node = go (slice_get n.rel.flow.inbox 0) refl
   where
     inbox : n.rel.flow.inbox ≡ drop count (payloads D)

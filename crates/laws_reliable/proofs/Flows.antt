@@ -4,15 +4,16 @@ use Rattle.std.specs.Prelude.{◌⊎◌}
 use Rattle.std.specs.List.{slice_get}
 use Rattle.std.proofs.lemmas.List.{map-append, length-map, drop-append-le}
 use Rattle.std.proofs.lemmas.Bool.Decides.{nat_tests}
-use Rattle.sp_rules.specs.Position.{Position, taken, message_of}
-use Rattle.sp_rules.specs.Flow.{FlowState, pushed, received, after_take}
-use Rattle.sp_rules.specs.Told.{Message}
-use Rattle.sp_rules.specs.Holds.{IsIn, FlowHolds, payloads}
-use Rattle.sp_rules.proofs.FlowLemmas.{IsNew}
-use Rattle.laws_reliable.proofs.Lists.{get_push, still_in, last_in}
+use Rattle.sp_base.specs.Position.{Position, kept, message_of}
+use Rattle.sp_first.specs.Flow.{FlowState, pushed, received, after_take}
+use Rattle.sp_first.specs.Told.{Message, payloads}
+use Rattle.sp_first.specs.Holds.{IsIn, FlowHolds}
+use Rattle.sp_first.proofs.FlowLemmas.{IsNew}
+use Rattle.sp_base.proofs.ListLemmas.{get_push}
+use Rattle.laws_reliable.proofs.Lists.{still_in, last_in}
 
 -- what a longer list gives is the new message or was there
-message_push : {X : Type 0} (p : Position X) (x : X) (number : ℕ) (y : X) → message_of (taken p x) number ≡ Some y → (message_of p number ≡ Some y) ⊎ ((number ≡ p.base + length p.list + 1) × (y ≡ x))
+message_push : {X : Type 0} (p : Position X) (x : X) (number : ℕ) (y : X) → message_of (kept p x) number ≡ Some y → (message_of p number ≡ Some y) ⊎ ((number ≡ p.base + length p.list + 1) × (y ≡ x))
 message_push {X} p x number y at = go (nat_le number p.base) refl at
   where
     go : (t : Bool) → nat_le number p.base ≡ t → cond t None (slice_get (p.list ++ x ∷ []) (number - p.base - 1)) ≡ Some y

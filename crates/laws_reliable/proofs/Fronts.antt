@@ -1,9 +1,10 @@
 -- A run cut after any number of its events, and what holds there.
-use Rattle.std.proofs.Common.{◌≡◌, ◌<◌, ◌≤◌, ℕ, ◌+◌, ◌-◌, zero, suc, Bool, true, false, List, [], ◌∷◌, ◌++◌, length, map, take, get_or, Some, All, refl, sym, ap, ◌∙◌, length-append, arith, nat_le, subst, eqb-true}
+use Rattle.std.proofs.Common.{◌≡◌, ◌<◌, ◌≤◌, ℕ, ◌+◌, ◌-◌, Bool, true, false, List, [], ◌∷◌, ◌++◌, length, map, take, get_or, Some, All, refl, sym, ap, ◌∙◌, length-append, arith, nat_le, subst, eqb-true}
 use Rattle.std.specs.Prelude.{◌==◌}
-use Rattle.std.specs.List.{slice_get}
+use Rattle.std.specs.List.{slice_get, range_with_len}
 use Rattle.std.proofs.lemmas.List.{take_all, take-append-le, length-map}
 use Rattle.std.proofs.lemmas.List.Elements.{All-from_get_or}
+use Rattle.std.proofs.lemmas.List.FromFn.{length-range_with_len}
 use Rattle.std.proofs.Math.Seq.{take-append_seam}
 use Rattle.std.proofs.lemmas.Bool.Decides.{nat_tests}
 use Rattle.sp_base.proofs.RowLemmas.{find_at_first}
@@ -11,13 +12,13 @@ use Rattle.sp_schedule.specs.declared.scenario.Scenario.{Scenario}
 use Rattle.sp_schedule.specs.declared.event.Event.{Event}
 use Rattle.sp_schedule.specs.Ranges.{IsScenario, InRange}
 use Rattle.sp_journal.specs.declared.entry.Entry.{Entry}
-use Rattle.sp_rules.specs.Node.{Node}
-use Rattle.sp_rules.specs.World.{World, Run, Begins, Goes_on, WorldStep, is_me, node_at_boot, numbers_from}
-use Rattle.sp_rules.specs.Told.{Message, IsPrefix, delivered, sent}
-use Rattle.sp_rules.specs.Holds.{IsBounded, IsWithin, NodeHolds}
-use Rattle.sp_rules.specs.Laws.{FrontClaims}
-use Rattle.sp_rules.proofs.RunLemmas.{same_length, node_place, run_ids}
-use Rattle.laws_reliable.proofs.Lists.{get_left, get_last}
+use Rattle.sp_first.specs.Node.{Node}
+use Rattle.sp_first.specs.World.{State, Run, Begins, Goes_on, StateStep, is_me, node_at_boot}
+use Rattle.sp_base.specs.Lists.{IsPrefix}
+use Rattle.sp_first.specs.Told.{Message, delivered, sent}
+use Rattle.sp_first.specs.Laws.{FrontClaims, IsWithin}
+use Rattle.sp_first.proofs.RunLemmas.{same_length, node_place, run_ids}
+use Rattle.sp_base.proofs.ListLemmas.{get_left, get_last}
 use Rattle.laws_reliable.proofs.Runs.{run_holds}
 use Rattle.laws_reliable.proofs.Others.{no_other}
 use Rattle.laws_reliable.proofs.OneRun.{one_run}
@@ -28,18 +29,18 @@ use Rattle.laws_reliable.proofs.OneRun.{one_run}
 pub record Cut (s : Scenario) (es : List Event) (js : List Entry) (k : ℕ) : Type 0 where
   pub event : Event
   pub entry : Entry
-  pub before : World
-  pub after : World
+  pub before : State
+  pub after : State
   pub run : Run s (take k es) (take k js) before
   pub range : InRange s (take k es) event
-  pub step : WorldStep before event entry after
+  pub step : StateStep before event entry after
   pub event_is : slice_get es k ≡ Some event
   pub entry_is : slice_get js k ≡ Some entry
 
 front_of : {X : Type 0} (xs : List X) (x : X) (k : ℕ) → k ≤ length xs → take k (xs ++ x ∷ []) ≡ take k xs
 front_of xs x k within = take-append-le k xs (x ∷ []) within
 
-pub cut : (s : Scenario) (es : List Event) (js : List Entry) (w : World) (k : ℕ) → Run s es js w → k < length es → Cut s es js k
+pub cut : (s : Scenario) (es : List Event) (js : List Entry) (w : State) (k : ℕ) → Run s es js w → k < length es → Cut s es js k
 cut s es js w k Begins within = absurd (omega arith)
 cut s es js w k (Goes_on {es = es'} {js = js'} {old = old} {e = e} {j = j} run range step) within = go (nat_le (length es') k) refl (λ below. cut s es' js' old k run below)
   where
@@ -81,10 +82,10 @@ cut s es js w k (Goes_on {es = es'} {js = js'} {old = old} {e = e} {j = j} run r
 
 -- ---- the front of a run
 
-pub front : (s : Scenario) (es : List Event) (js : List Entry) (w : World) (k : ℕ) → Run s es js w → (v : World) × Run s (take k es) (take k js) v
+pub front : (s : Scenario) (es : List Event) (js : List Entry) (w : State) (k : ℕ) → Run s es js w → (v : State) × Run s (take k es) (take k js) v
 front s es js w k run = go (nat_le (length es) k) refl
   where
-    go : (t : Bool) → nat_le (length es) k ≡ t → (v : World) × Run s (take k es) (take k js) v
+    go : (t : Bool) → nat_le (length es) k ≡ t → (v : State) × Run s (take k es) (take k js) v
     go true is =
         let above : length es ≤ k = grind (arith, nat_tests) in
         let even = same_length s es js w run in
@@ -95,15 +96,11 @@ front s es js w k run = go (nat_le (length es) k) refl
 
 -- ---- bounds
 
-length-numbers_from : (first count : ℕ) → length (numbers_from first count) ≡ count
-length-numbers_from first zero = refl
-length-numbers_from first (suc count) = omega (arith, length-numbers_from (first + 1) count)
-
-pub run_bounded : (s : Scenario) (es : List Event) (js : List Entry) (w : World) → IsScenario s → Run s es js w → All (IsWithin s.limits.buffer) w.nodes
+pub run_bounded : (s : Scenario) (es : List Event) (js : List Entry) (w : State) → IsScenario s → Run s es js w → All (IsWithin s.limits.buffer) w.nodes
 run_bounded s es js w scenario run = All-from_get_or (IsWithin s.limits.buffer) w.nodes (node_at_boot s 1) (λ i inside. at i inside)
   where
     count : length w.nodes ≡ s.graph.nodes
-    count = sym (length-map w.nodes (λ (n : Node). n.me)) ∙ ap length (run_ids s es js w run) ∙ length-numbers_from 1 s.graph.nodes
+    count = sym (length-map w.nodes (λ (n : Node). n.me)) ∙ ap length (run_ids s es js w run) ∙ length-range_with_len 1 s.graph.nodes
 
     at : (i : ℕ) → i < length w.nodes → IsWithin s.limits.buffer (get_or w.nodes i (node_at_boot s 1))
     at i inside =
@@ -116,14 +113,14 @@ run_bounded s es js w scenario run = All-from_get_or (IsWithin s.limits.buffer) 
 
 -- ---- numbers
 
-prefix_numbered : (D rest : List Message) (first : ℕ) → map (λ (m : Message). m.0) (D ++ rest) ≡ numbers_from first (length (D ++ rest)) → map (λ (m : Message). m.0) D ≡ numbers_from first (length D)
+prefix_numbered : (D rest : List Message) (first : ℕ) → map (λ (m : Message). m.0) (D ++ rest) ≡ range_with_len first (length (D ++ rest)) → map (λ (m : Message). m.0) D ≡ range_with_len first (length D)
 prefix_numbered [] rest first is = refl
 prefix_numbered (d ∷ D) rest first is =
     let head : d.0 ≡ first = cc in
-    let tail : map (λ (m : Message). m.0) (D ++ rest) ≡ numbers_from (first + 1) (length (D ++ rest)) = cc in
+    let tail : map (λ (m : Message). m.0) (D ++ rest) ≡ range_with_len (first + 1) (length (D ++ rest)) = cc in
     ap (λ (k : ℕ). k ∷ map (λ (m : Message). m.0) D) head ∙ ap (λ (ks : List ℕ). first ∷ ks) (prefix_numbered D rest (first + 1) tail)
 
-numbered_too : (D S : List Message) → IsPrefix D S → map (λ (m : Message). m.0) S ≡ numbers_from 1 (length S) → map (λ (m : Message). m.0) D ≡ numbers_from 1 (length D)
+numbered_too : (D S : List Message) → IsPrefix D S → map (λ (m : Message). m.0) S ≡ range_with_len 1 (length S) → map (λ (m : Message). m.0) D ≡ range_with_len 1 (length D)
 numbered_too D S (rest, is) numbered = prefix_numbered D rest 1 (rw is at numbered)
 
 -- ---- every two nodes
@@ -131,15 +128,15 @@ numbered_too D S (rest, is) numbered = prefix_numbered D rest 1 (rw is at number
 -- what one delivered of another
 pub record PairHolds (es : List Event) (js : List Entry) (a b : ℕ) : Type 0 where
   pub prefix : IsPrefix (delivered es js a b) (sent es js a b)
-  pub numbered : map (λ m. m.0) (delivered es js a b) ≡ numbers_from 1 (length (delivered es js a b))
+  pub numbered : map (λ m. m.0) (delivered es js a b) ≡ range_with_len 1 (length (delivered es js a b))
 
-the_pair : (s : Scenario) (es : List Event) (js : List Entry) (w : World) → IsScenario s → Run s es js w → PairHolds es js 1 s.graph.nodes
+the_pair : (s : Scenario) (es : List Event) (js : List Entry) (w : State) → IsScenario s → Run s es js w → PairHolds es js 1 s.graph.nodes
 the_pair s es js w scenario run = let h = run_holds s es js w scenario run in record { prefix = h.prefix; numbered = numbered_too _ _ h.prefix h.numbered }
 
 other_pair : (es : List Event) (js : List Entry) (a b : ℕ) → delivered es js a b ≡ [] → PairHolds es js a b
 other_pair es js a b none = record { prefix = rw none (sent es js a b, refl); numbered = rw none refl }
 
-every_pair : (s : Scenario) (es : List Event) (js : List Entry) (w : World) → IsScenario s → Run s es js w → (a b : ℕ) → PairHolds es js a b
+every_pair : (s : Scenario) (es : List Event) (js : List Entry) (w : State) → IsScenario s → Run s es js w → (a b : ℕ) → PairHolds es js a b
 every_pair s es js w scenario run a b = go (a == 1) (b == s.graph.nodes) refl refl
   where
     go : (t r : Bool) → (a == 1) ≡ t → (b == s.graph.nodes) ≡ r → PairHolds es js a b
@@ -152,7 +149,7 @@ every_pair s es js w scenario run a b = go (a == 1) (b == s.graph.nodes) refl re
 
 -- ---- all of it
 
-pub front_claims : (s : Scenario) (es : List Event) (js : List Entry) (w : World) → IsScenario s → Run s es js w → FrontClaims s es js
+pub front_claims : (s : Scenario) (es : List Event) (js : List Entry) (w : State) → IsScenario s → Run s es js w → FrontClaims s es js
 front_claims s es js w scenario run =
     let pairs = every_pair s es js w scenario run in
     record {

@@ -1,24 +1,10 @@
--- Reading a list that grows at its end.
-use Rattle.std.proofs.Common.{◌≡◌, ℕ, ◌+◌, ◌-◌, zero, suc, List, [], ◌∷◌, ◌++◌, length, Some, refl, sym, ap, ◌∙◌, inl, inr, arith, append_assoc}
-use Rattle.std.specs.Prelude.{◌⊎◌}
+-- What was sent, and what of it was delivered, as lists that grow.
+use Rattle.std.proofs.Common.{◌≡◌, ℕ, ◌+◌, ◌-◌, List, [], ◌∷◌, ◌++◌, length, Some, sym, ap, ◌∙◌, arith, append_assoc}
 use Rattle.std.specs.List.{slice_get}
-use Rattle.sp_rules.specs.Told.{Message, IsPrefix}
-use Rattle.sp_rules.specs.Holds.{IsIn}
-
-pub get_left : {X : Type 0} (xs ys : List X) (i : ℕ) (x : X) → slice_get xs i ≡ Some x → slice_get (xs ++ ys) i ≡ Some x
-get_left [] ys i x at = cc
-get_left (a ∷ xs) ys zero x at = at
-get_left (a ∷ xs) ys (suc i) x at = get_left xs ys i x at
-
-pub get_push : {X : Type 0} (xs : List X) (y : X) (i : ℕ) (x : X) → slice_get (xs ++ y ∷ []) i ≡ Some x → (slice_get xs i ≡ Some x) ⊎ ((i ≡ length xs) × (x ≡ y))
-get_push [] y zero x at = inr (refl, cc)
-get_push [] y (suc i) x at = cc
-get_push (a ∷ xs) y zero x at = inl at
-get_push (a ∷ xs) y (suc i) x at = elim (get_push xs y i x at) [ inl old ↦ inl old | inr new ↦ inr (omega (arith, new.0), new.1) ]
-
-pub get_last : {X : Type 0} (xs : List X) (y : X) → slice_get (xs ++ y ∷ []) (length xs) ≡ Some y
-get_last [] y = refl
-get_last (a ∷ xs) y = get_last xs y
+use Rattle.sp_base.specs.Lists.{IsPrefix}
+use Rattle.sp_base.proofs.ListLemmas.{get_last, get_left}
+use Rattle.sp_first.specs.Told.{Message}
+use Rattle.sp_first.specs.Holds.{IsIn}
 
 -- what was sent stays sent
 pub still_in : (S T : List Message) (number : ℕ) (payload : List ℕ) → IsIn S number payload → IsIn (S ++ T) number payload
@@ -29,10 +15,6 @@ pub last_in : (S : List Message) (number : ℕ) (payload : List ℕ) → number 
 last_in S number payload next =
     let place : length S ≡ number - 1 = omega arith in
     record { is_number = omega arith; there = ap (slice_get (S ++ (number, payload) ∷ [])) (sym place) ∙ get_last S (number, payload) }
-
--- a prefix stays one of a longer list
-pub longer_prefix : (D S T : List Message) → IsPrefix D S → IsPrefix D (S ++ T)
-longer_prefix D S T (rest, is) = (rest ++ T, ap (λ s. s ++ T) is ∙ append_assoc D rest T)
 
 -- the next message of a prefix may follow it
 pub next_in_prefix : (D S : List Message) (number : ℕ) (payload : List ℕ) → IsPrefix D S → IsIn S number payload → number ≡ length D + 1 → IsPrefix (D ++ (number, payload) ∷ []) S

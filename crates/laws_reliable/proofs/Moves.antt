@@ -1,14 +1,15 @@
 -- One node moved on and the others stayed: what holds of the whole world.
 use Rattle.std.proofs.Common.{◌≡◌, ◌≤◌, ℕ, ◌+◌, Bool, true, false, List, [], ◌++◌, length, map, Some, refl, sym, ap, ◌∙◌, inl, inr, eqb-true, subst, add-zero, append-nil, arith}
 use Rattle.std.specs.Prelude.{◌⊎◌, ◌==◌}
-use Rattle.std.specs.List.{slice_get, find}
+use Rattle.std.specs.List.{slice_get, find, range_with_len}
 use Rattle.std.proofs.lemmas.Bool.Decides.{nat_tests}
 use Rattle.sp_base.specs.Rows.{replace_where}
-use Rattle.sp_rules.specs.declared.frame.FrameValue.{FrameValue}
-use Rattle.sp_rules.specs.Node.{Node, Answer, Says, Makes}
-use Rattle.sp_rules.specs.World.{World, Direction, is_me, frames_in, directions_after, numbers_from}
-use Rattle.sp_rules.specs.Told.{Message, IsPrefix}
-use Rattle.sp_rules.specs.Holds.{NodeHolds, FrameHolds, Holds}
+use Rattle.sp_first.specs.declared.frame.FrameValue.{FrameValue}
+use Rattle.sp_first.specs.Node.{Node, Answer, Says, Makes}
+use Rattle.sp_first.specs.World.{State, Direction, is_me, frames_in, directions_after}
+use Rattle.sp_base.specs.Lists.{IsPrefix}
+use Rattle.sp_first.specs.Told.{Message}
+use Rattle.sp_first.specs.Holds.{NodeHolds, FrameHolds, Holds}
 use Rattle.laws_reliable.proofs.Lists.{still_in}
 use Rattle.laws_reliable.proofs.Flows.{later}
 use Rattle.laws_reliable.proofs.Tables.{find_stepped, find_other, frame_after}
@@ -22,7 +23,7 @@ pub record Stepped (S D T E : List Message) (count more last bound a : ℕ) (aft
   pub made : (to : ℕ) (frame : FrameValue) → answer ≡ Makes to frame → FrameHolds (S ++ T) frame
   pub prefix : IsPrefix (D ++ E) (S ++ T)
   pub taken : count + more ≤ length (D ++ E)
-  pub numbered : map (λ m. m.0) (S ++ T) ≡ numbers_from 1 (length (S ++ T))
+  pub numbered : map (λ m. m.0) (S ++ T) ≡ range_with_len 1 (length (S ++ T))
 
 pub later_node : (S D T E : List Message) (count more last bound u : ℕ) (n : Node) → NodeHolds S D count last bound u n → (u ≡ 1 → T ≡ []) → (u ≡ last → E ≡ []) → (u ≡ last → more ≡ 0)
     → NodeHolds (S ++ T) (D ++ E) (count + more) last bound u n
@@ -41,7 +42,7 @@ frames_on : (directions : List Direction) (a : ℕ) (answer : Answer) (u v place
 frames_on directions a (Says reply) u v place found at = inl at
 frames_on directions a (Makes to frame) u v place found at = elim (frame_after directions a to u v place frame found at) [ inl old ↦ inl old | inr new ↦ inr (to, ap (Makes to) (sym new)) ]
 
-pub moved : (S D T E : List Message) (count more last bound a : ℕ) (after : Node) (answer : Answer) (old new : World) → Holds S D count last bound old → Stepped S D T E count more last bound a after answer
+pub moved : (S D T E : List Message) (count more last bound a : ℕ) (after : Node) (answer : Answer) (old new : State) → Holds S D count last bound old → Stepped S D T E count more last bound a after answer
     → new ≡ record { nodes = replace_where (is_me a) after old.nodes; directions = directions_after old.directions a answer } → Holds (S ++ T) (D ++ E) (count + more) last bound new
 moved S D T E count more last bound a after answer old new h step is =
     rw is (record {
@@ -69,7 +70,7 @@ moved S D T E count more last bound a after answer old new h step is =
         later_node S D T E count more last bound u n before (λ x. step.no_t (other 1 x)) (λ x. step.no_e (other last x)) (λ x. step.no_more (other last x))
 
 -- a step that adds nothing
-pub quiet_step : (S D : List Message) (count last bound a : ℕ) (after : Node) (answer : Answer) (old : World) → Holds S D count last bound old → NodeHolds S D count last bound a after
+pub quiet_step : (S D : List Message) (count last bound a : ℕ) (after : Node) (answer : Answer) (old : State) → Holds S D count last bound old → NodeHolds S D count last bound a after
     → ((to : ℕ) (frame : FrameValue) → answer ≡ Makes to frame → FrameHolds S frame) → Stepped S D [] [] count 0 last bound a after answer
 quiet_step S D count last bound a after answer old h node made = record {
   no_t = λ _. refl;

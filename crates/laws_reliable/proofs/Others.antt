@@ -15,15 +15,15 @@ use Rattle.sp_journal.specs.declared.entry.Reply.{Reply}
 use Rattle.sp_journal.specs.declared.entry.Effect.{Effect}
 use Rattle.sp_journal.specs.declared.entry.Effect.TheVariants.{Delivered}
 use Rattle.sp_journal.specs.declared.entry.Entry.{Entry}
-use Rattle.sp_rules.specs.declared.frame.FrameValue.{FrameValue}
-use Rattle.sp_rules.specs.Flow.{FlowState, judge_rel, delivery, effects_of, send_refusal}
-use Rattle.sp_rules.specs.Link.{link_in, link_answer}
-use Rattle.sp_rules.specs.Node.{Node, Output, Send, Take, Poll, Arrive, arrive_output, send_output}
-use Rattle.sp_rules.specs.World.{World, Run, Begins, Goes_on, WorldStep, frame_in}
-use Rattle.sp_rules.specs.Told.{Message, delivered, delivered_at, delivered_by}
-use Rattle.sp_rules.specs.Holds.{Holds, FlowHolds}
-use Rattle.sp_rules.proofs.FlowLemmas.{effects_after, frame_does}
-use Rattle.sp_rules.proofs.RunLemmas.{about, same_length}
+use Rattle.sp_first.specs.declared.frame.FrameValue.{FrameValue}
+use Rattle.sp_first.specs.Flow.{FlowState, judge_rel, delivery, effects_of, send_refusal}
+use Rattle.sp_first.specs.Link.{link_in, link_answer}
+use Rattle.sp_first.specs.Node.{Node, Output, Send, Take, Poll, Arrive, arrive_output, send_output}
+use Rattle.sp_first.specs.World.{State, Run, Begins, Goes_on, StateStep, frame_in}
+use Rattle.sp_first.specs.Told.{Message, delivered, delivered_at, delivered_by}
+use Rattle.sp_first.specs.Holds.{Holds}
+use Rattle.sp_first.proofs.FlowLemmas.{effects_after, frame_does}
+use Rattle.sp_first.proofs.RunLemmas.{about, same_length}
 use Rattle.laws_reliable.proofs.Runs.{run_holds, told_more}
 use Rattle.laws_reliable.proofs.Steps.{effects_are}
 
@@ -81,7 +81,7 @@ arrival_silent last a b n from frame (links.Stale boot counter) src dst other = 
 arrival_silent last a b n from frame links.Fresh src dst other =
     silent_as a b n.me _ _ (frame_does n.me from n.rel frame.report frame.rel).effects (frame_silent last a b n.me n.rel.bound n.rel.flow frame.rel src dst other)
 
-pass_silent : (S D : List Message) (count last bound a b : ℕ) (old new : World) (u v : NodeId) (number : ℕ) (j : Entry) → WorldStep old (events.Pass u v number) j new → Holds S D count last bound old → (a ≡ 1 → b ≡ last → ⊥)
+pass_silent : (S D : List Message) (count last bound a b : ℕ) (old new : State) (u v : NodeId) (number : ℕ) (j : Entry) → StateStep old (events.Pass u v number) j new → Holds S D count last bound old → (a ≡ 1 → b ≡ last → ⊥)
     → IsSilent a b v.0 j.effects
 pass_silent S D count last bound a b old new u v number j step h other = found (frame_in old.directions u.0 v.0 number) refl
   where
@@ -100,7 +100,7 @@ pass_silent S D count last bound a b old new u v number j step h other = found (
         let P : ℕ → Type 0 = λ k. IsSilent a b k j.effects in
         subst P here.me (silent_as a b n.me _ _ effects (arrival_silent last a b n u.0 frame (link_answer (link_in n.links u.0) number) here.flow.ends.0 here.flow.ends.1 other))
 
-entry_silent : (S D : List Message) (count last bound a b : ℕ) (old new : World) (e : Event) (j : Entry) → WorldStep old e j new → Holds S D count last bound old → (a ≡ 1 → b ≡ last → ⊥) → delivered_at a b (e, j) ≡ []
+entry_silent : (S D : List Message) (count last bound a b : ℕ) (old new : State) (e : Event) (j : Entry) → StateStep old e j new → Holds S D count last bound old → (a ≡ 1 → b ≡ last → ⊥) → delivered_at a b (e, j) ≡ []
 entry_silent S D count last bound a b old new (events.Rel from to payload) j step h other =
     let ns = about old new (events.Rel from to payload) j step (Send payload) refl in
     silent_as a b from.0 _ [] (effects_are old new (events.Rel from to payload) j step ∙ ap (λ (o : Output). o.effects) ns.0 ∙ no_send_effects step.node (send_refusal step.node.rel.bound step.node.rel.flow)) (none_silent a b from.0)
@@ -114,7 +114,7 @@ entry_silent S D count last bound a b old new (events.Pass u v number) j step h 
 
 -- ---- every run
 
-pub no_other : (s : Scenario) (es : List Event) (js : List Entry) (w : World) → IsScenario s → Run s es js w → (a b : ℕ) → (a ≡ 1 → b ≡ s.graph.nodes → ⊥) → delivered es js a b ≡ []
+pub no_other : (s : Scenario) (es : List Event) (js : List Entry) (w : State) → IsScenario s → Run s es js w → (a b : ℕ) → (a ≡ 1 → b ≡ s.graph.nodes → ⊥) → delivered es js a b ≡ []
 no_other s es js w scenario Begins a b other = refl
 no_other s es js w scenario (Goes_on {es = es'} {js = js'} {old = old} {e = e} {j = j} run range step) a b other =
     let even = same_length s es' js' old run in

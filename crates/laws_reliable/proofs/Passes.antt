@@ -9,16 +9,16 @@ use Rattle.sp_schedule.specs.declared.event.Event.TheVariants as events
 use Rattle.sp_journal.specs.declared.entry.LinkWord.{LinkWord}
 use Rattle.sp_journal.specs.declared.entry.LinkWord.TheVariants as links
 use Rattle.sp_journal.specs.declared.entry.Entry.{Entry}
-use Rattle.sp_rules.specs.declared.frame.FrameValue.{FrameValue}
-use Rattle.sp_rules.specs.Link.{link_in, link_answer}
-use Rattle.sp_rules.specs.Rel.{RelState, Handled}
-use Rattle.sp_rules.specs.Node.{Node, Output, Arrive, handled, arrive_output, after_arrive}
-use Rattle.sp_rules.specs.World.{World, WorldStep, frame_in}
-use Rattle.sp_rules.specs.Told.{Message, delivered_by}
-use Rattle.sp_rules.specs.Holds.{NodeHolds, FrameHolds, Holds}
-use Rattle.sp_rules.specs.Laws.{gives_payload}
-use Rattle.sp_rules.proofs.FlowLemmas.{FrameDoes, frame_does, flow_after, effects_after}
-use Rattle.sp_rules.proofs.RunLemmas.{about}
+use Rattle.sp_first.specs.declared.frame.FrameValue.{FrameValue}
+use Rattle.sp_first.specs.Link.{link_in, link_answer}
+use Rattle.sp_first.specs.Rel.{RelState, Handled}
+use Rattle.sp_first.specs.Node.{Node, Output, Arrive, handled, arrive_output, after_arrive}
+use Rattle.sp_first.specs.World.{State, StateStep, frame_in}
+use Rattle.sp_first.specs.Told.{Message, delivered_by}
+use Rattle.sp_first.specs.Holds.{NodeHolds, FrameHolds, Holds}
+use Rattle.sp_first.specs.Laws.{gives_payload}
+use Rattle.sp_first.proofs.FlowLemmas.{FrameDoes, frame_does, flow_after, effects_after}
+use Rattle.sp_first.proofs.RunLemmas.{about}
 use Rattle.laws_reliable.proofs.Moves.{Stepped, quiet_step}
 use Rattle.laws_reliable.proofs.Arrivals.{FlowDone, arrival_done}
 use Rattle.laws_reliable.proofs.Steps.{GoesOn, finish, reply_is, effects_are, not_taken, no_frame, node_same, node_at}
@@ -32,7 +32,7 @@ delivered_here last e j a E told quiet = go (a == last) refl
     go false is = let apart : a ≡ last → ⊥ = λ x. grind (arith, nat_tests) in sym (quiet apart)
 
 -- the frame of a number holds what was sent
-frame_holds : (S D : List Message) (count last bound : ℕ) (w : World) (u v number : ℕ) (frame : FrameValue) → Holds S D count last bound w → frame_in w.directions u v number ≡ Some frame → FrameHolds S frame
+frame_holds : (S D : List Message) (count last bound : ℕ) (w : State) (u v number : ℕ) (frame : FrameValue) → Holds S D count last bound w → frame_in w.directions u v number ≡ Some frame → FrameHolds S frame
 frame_holds S D count last bound w u v zero frame h found = cc
 frame_holds S D count last bound w u v (suc before) frame h found = h.frames u v before frame found
 
@@ -49,11 +49,11 @@ fresh_node S D count last bound u n after rel r node does me is done =
       bounded = record { list = rw (flow_is, limit_is) done.within.list; inbox = rw (flow_is, limit_is) done.within.inbox };
     }
 
-pub record PassDone (S D : List Message) (count last bound : ℕ) (e : Event) (j : Entry) (new : World) : Type 0 where
+pub record PassDone (S D : List Message) (count last bound : ℕ) (e : Event) (j : Entry) (new : State) : Type 0 where
   pub goes : GoesOn S D count last bound new e j
   pub one : length j.effects ≤ 1
 
-pub pass_goes : (S D : List Message) (count last bound : ℕ) (old new : World) (u v : NodeId) (number : ℕ) (j : Entry) → (step : WorldStep old (events.Pass u v number) j new) → Holds S D count last bound old
+pub pass_goes : (S D : List Message) (count last bound : ℕ) (old new : State) (u v : NodeId) (number : ℕ) (j : Entry) → (step : StateStep old (events.Pass u v number) j new) → Holds S D count last bound old
     → PassDone S D count last bound (events.Pass u v number) j new
 pass_goes S D count last bound old new u v number j step h = found (frame_in old.directions u.0 v.0 number) refl
   where

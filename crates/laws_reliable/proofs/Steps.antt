@@ -10,15 +10,15 @@ use Rattle.sp_schedule.specs.Ranges.{IsScenario, InRange}
 use Rattle.sp_journal.specs.declared.entry.Reply.{Reply}
 use Rattle.sp_journal.specs.declared.entry.Effect.{Effect}
 use Rattle.sp_journal.specs.declared.entry.Entry.{Entry}
-use Rattle.sp_rules.specs.declared.frame.FrameValue.{FrameValue}
-use Rattle.sp_rules.specs.Flow.{is_full}
-use Rattle.sp_rules.specs.Rel.{next_place, frame_to}
-use Rattle.sp_rules.specs.Node.{Node, Answer, Output, NodeStep, Send, Take, Poll, Says, Makes}
-use Rattle.sp_rules.specs.World.{World, WorldStep, acting, reply_to}
-use Rattle.sp_rules.specs.Told.{Message, sent_at, delivered_at, delivered_by, accepted_in}
-use Rattle.sp_rules.specs.Holds.{NodeHolds, FrameHolds, Holds}
-use Rattle.sp_rules.specs.Laws.{is_taken_at, gives_payload}
-use Rattle.sp_rules.proofs.RunLemmas.{about}
+use Rattle.sp_first.specs.declared.frame.FrameValue.{FrameValue}
+use Rattle.sp_first.specs.Flow.{is_full}
+use Rattle.sp_first.specs.Rel.{next_place, frame_to}
+use Rattle.sp_first.specs.Node.{Node, Answer, Output, NodeStep, Send, Take, Poll, Says, Makes}
+use Rattle.sp_first.specs.World.{State, StateStep, acting, reply_to}
+use Rattle.sp_first.specs.Told.{Message, sent_at, delivered_at, delivered_by, accepted_in}
+use Rattle.sp_first.specs.Holds.{NodeHolds, FrameHolds, Holds}
+use Rattle.sp_first.specs.Laws.{is_taken_at, gives_payload}
+use Rattle.sp_first.proofs.RunLemmas.{about}
 use Rattle.laws_reliable.proofs.Moves.{Stepped, moved, quiet_step, later_frame}
 use Rattle.laws_reliable.proofs.Clients.{send_steps, take_steps, frame_message}
 
@@ -53,19 +53,19 @@ taken_here d e j here = ap (λ (b : Bool). length (cond {A = List (Event × Entr
 -- ---- the step of the node, and what its entry tells, joined
 
 -- the world goes on as its events tell
-abbrev pub GoesOn : List Message → List Message → ℕ → ℕ → ℕ → World → Event → Entry → Type 0
+abbrev pub GoesOn : List Message → List Message → ℕ → ℕ → ℕ → State → Event → Entry → Type 0
 GoesOn S D count last bound new e j = Holds (S ++ sent_at 1 last (e, j)) (D ++ delivered_at 1 last (e, j)) (count + taken_in last e j) last bound new
 
-pub finish : (S D T E : List Message) (count more last bound : ℕ) (old new : World) (e : Event) (j : Entry) (step : WorldStep old e j new) → Holds S D count last bound old
+pub finish : (S D T E : List Message) (count more last bound : ℕ) (old new : State) (e : Event) (j : Entry) (step : StateStep old e j new) → Holds S D count last bound old
     → Stepped S D T E count more last bound (acting e) step.after step.output.answer → sent_at 1 last (e, j) ≡ T → delivered_at 1 last (e, j) ≡ E → taken_in last e j ≡ more → GoesOn S D count last bound new e j
 finish S D T E count more last bound old new e j step h stepped sent delivered taken =
     rw (sent, delivered, taken) (moved S D T E count more last bound (acting e) step.after step.output.answer old new h stepped step.world)
 
 -- what the entry says, where the node says it
-pub reply_is : (old new : World) (e : Event) (j : Entry) (r : Reply) (step : WorldStep old e j new) → step.output.answer ≡ Says r → j.reply ≡ r
+pub reply_is : (old new : State) (e : Event) (j : Entry) (r : Reply) (step : StateStep old e j new) → step.output.answer ≡ Says r → j.reply ≡ r
 reply_is old new e j r step says = ap (λ (x : Entry). x.reply) step.journal ∙ ap (reply_to old (acting e)) says
 
-pub effects_are : (old new : World) (e : Event) (j : Entry) (step : WorldStep old e j new) → j.effects ≡ step.output.effects
+pub effects_are : (old new : State) (e : Event) (j : Entry) (step : StateStep old e j new) → j.effects ≡ step.output.effects
 effects_are old new e j step = ap (λ (x : Entry). x.effects) step.journal
 
 stepped_as : (S D T E : List Message) (count more last bound a a' : ℕ) (after after' : Node) (answer answer' : Answer) → a' ≡ a → after' ≡ after → answer' ≡ answer → Stepped S D T E count more last bound a after answer
@@ -90,8 +90,8 @@ node_at S D count last bound u v n same h = let P : ℕ → Type 0 = λ x. NodeH
 
 -- ---- a client sends
 
-pub send_goes : (s : Scenario) (es : List Event) (S D : List Message) (count : ℕ) (old new : World) (from to : NodeId) (payload : List ℕ) (j : Entry) → IsScenario s → InRange s es (events.Rel from to payload)
-    → (step : WorldStep old (events.Rel from to payload) j new) → Holds S D count s.graph.nodes s.limits.buffer old → GoesOn S D count s.graph.nodes s.limits.buffer new (events.Rel from to payload) j
+pub send_goes : (s : Scenario) (es : List Event) (S D : List Message) (count : ℕ) (old new : State) (from to : NodeId) (payload : List ℕ) (j : Entry) → IsScenario s → InRange s es (events.Rel from to payload)
+    → (step : StateStep old (events.Rel from to payload) j new) → Holds S D count s.graph.nodes s.limits.buffer old → GoesOn S D count s.graph.nodes s.limits.buffer new (events.Rel from to payload) j
 send_goes s es S D count old new from to payload j scenario range step h = go (is_full n.rel.bound n.rel.flow) refl
   where
     e : Event
@@ -134,7 +134,7 @@ send_goes s es S D count old new from to payload j scenario range step h = go (i
 
 -- ---- a client takes
 
-pub take_goes : (s : Scenario) (es : List Event) (S D : List Message) (count : ℕ) (old new : World) (at from : NodeId) (j : Entry) → InRange s es (events.Take at from) → (step : WorldStep old (events.Take at from) j new)
+pub take_goes : (s : Scenario) (es : List Event) (S D : List Message) (count : ℕ) (old new : State) (at from : NodeId) (j : Entry) → InRange s es (events.Take at from) → (step : StateStep old (events.Take at from) j new)
     → Holds S D count s.graph.nodes s.limits.buffer old → GoesOn S D count s.graph.nodes s.limits.buffer new (events.Take at from) j
 take_goes s es S D count old new at from j range step h =
     let e = events.Take at from in
@@ -153,7 +153,7 @@ take_goes s es S D count old new at from j range step h =
 
 -- ---- a poll
 
-pub poll_goes : (S D : List Message) (count last bound : ℕ) (old new : World) (u v : NodeId) (j : Entry) → (step : WorldStep old (events.Poll u v) j new) → Holds S D count last bound old → GoesOn S D count last bound new (events.Poll u v) j
+pub poll_goes : (S D : List Message) (count last bound : ℕ) (old new : State) (u v : NodeId) (j : Entry) → (step : StateStep old (events.Poll u v) j new) → Holds S D count last bound old → GoesOn S D count last bound new (events.Poll u v) j
 poll_goes S D count last bound old new u v j step h =
     let e = events.Poll u v in
     let n = step.node in

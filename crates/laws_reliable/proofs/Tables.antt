@@ -6,11 +6,11 @@ use Rattle.std.proofs.lemmas.Bool.Decides.{nat_tests}
 use Rattle.std.proofs.Common.{arith}
 use Rattle.sp_base.specs.Rows.{replace_where}
 use Rattle.sp_schedule.specs.declared.scenario.Scenario.{Scenario}
-use Rattle.sp_rules.specs.declared.frame.FrameValue.{FrameValue}
-use Rattle.sp_rules.specs.Node.{Node}
-use Rattle.sp_rules.specs.World.{Direction, is_me, frames_in, with_frame, node_at_boot}
-use Rattle.sp_rules.proofs.RunLemmas.{both, frames-same, frames-other}
-use Rattle.laws_reliable.proofs.Lists.{get_push}
+use Rattle.sp_first.specs.declared.frame.FrameValue.{FrameValue}
+use Rattle.sp_first.specs.Node.{Node}
+use Rattle.sp_first.specs.World.{Direction, is_me, frames_in, with_frame, node_at_boot}
+use Rattle.sp_first.proofs.RunLemmas.{both, frames-same, frames-other}
+use Rattle.sp_base.proofs.ListLemmas.{get_push}
 
 -- the node that made the step is found as it is then
 pub find_stepped : (u : ℕ) (y : Node) (nodes : List Node) (n : Node) → y.me ≡ u → find (is_me u) (replace_where (is_me u) y nodes) ≡ Some n → n ≡ y

@@ -1,3 +1,5 @@
 pub mod NumberLemmas
 pub mod RefusalLemmas
 pub mod RowLemmas
+pub mod ListLemmas
+pub mod PositionLemmas

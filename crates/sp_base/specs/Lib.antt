@@ -4,3 +4,6 @@ pub mod Reading
 pub mod Refusals
 pub mod Rows
 pub mod Spelling
+pub mod Finds
+pub mod Lists
+pub mod Position

@@ -7,6 +7,7 @@ mod limits;
 mod listed;
 mod memory;
 mod reader;
+mod room;
 
 pub use cursor::Cursor;
 pub use id::{EdgeId, Flow, Limits, NodeId};
@@ -17,3 +18,4 @@ pub use limits::{
 pub use listed::{Bytes, Listed};
 pub use memory::Memory;
 pub use reader::{Reader, Short};
+pub use room::push_in_room;

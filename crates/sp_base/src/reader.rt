@@ -3,28 +3,16 @@ ghost use Rattle.std.specs.Prelude.{◌≡◌, length};
 ghost use Rattle.sp_base.specs.Reading.{Takes, number_at, piece_at};
 
 use byteorder::{BigEndian, ByteOrder};
-use std::error::Error;
-use std::fmt;
 use std::marker::Model;
+use thiserror::Error;
 
 /// Fewer bytes are left than a field needs: how many it needs, and how many are left.
-#[derive(Clone, Copy, Debug, PartialEq, Eq)]
+#[derive(Clone, Copy, Debug, PartialEq, Eq, Error)]
+#[error("{need} bytes are needed and {left} are left")]
 pub struct Short {
     pub need: usize,
     pub left: usize,
 }
-
-impl fmt::Display for Short {
-    fn fmt<W: fmt::Write>(&self, f: &mut fmt::Formatter<W>) -> fmt::Result {
-        write!(
-            f,
-            "{} bytes are needed and {} are left",
-            self.need, self.left
-        )
-    }
-}
-
-impl Error for Short {}
 
 /// The bytes that are left to read. A read that is refused takes none of them.
 #[derive(Debug, Drop)]

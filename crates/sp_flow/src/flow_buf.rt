@@ -1,9 +1,9 @@
 // The messages base + 1 to have of a flow, in order. All memory is taken at the start.
 ghost use Rattle.std.specs.Prelude.{◌≡◌, ◌==◌, ◌+◌, ◌-◌, ◌^◌, ◌<◌, ◌≤◌, ◌↔◌, List, IfOk, OnOk, OnErr, IfErr, IsErr, drop, length, vec_capacity};
 ghost use Rattle.std.specs.Option.{option_copied};
-ghost use Rattle.sp_rules.specs.Position.{IsPosition, taken, acknowledged, message_of, empty_buffer};
+ghost use Rattle.sp_base.specs.Position.{IsPosition, kept, acknowledged, message_of, empty_buffer};
 
-use sp_base::{Bytes, Memory};
+use sp_base::{Bytes, Memory, push_in_room};
 use std::alloc::Global;
 use std::marker::Model;
 
@@ -29,7 +29,7 @@ pub struct Full {
 impl Model for FlowBuf {
     ghost use Rattle.std.specs.Prelude.{List, ◌+◌, length, vec_capacity};
     ghost use Rattle.std.specs.Prelude.{ℕ};
-    ghost use Rattle.sp_rules.specs.Position.{Buffer};
+    ghost use Rattle.sp_base.specs.Position.{Buffer};
     ghost use Rattle.sp_flow.specs.Sound.{IsSound};
 
     ghost Value = { Buffer (List ℕ) };
@@ -84,7 +84,7 @@ impl FlowBuf {
     /// Takes message have + 1. Where the buffer is full nothing changes, and the message comes back.
     pub fn push(&mut self, payload: Bytes) -> Result<(), Full>
         requires { self.old.at.have < 2 ^ 63 - 1 }
-        ensures ok { OnOk result (self.new ≡ record { bound = self.old.bound; at = taken self.old.at payload }) }
+        ensures ok { OnOk result (self.new ≡ record { bound = self.old.bound; at = kept self.old.at payload }) }
         ensures full { IsErr result ↔ (self.old.at.have - self.old.at.base ≡ self.old.bound) }
         ensures back { IfErr result (λ full. full ≡ record { base = self.old.at.base; have = self.old.at.have; back = payload }) }
         ensures err { OnErr result (self.new ≡ self.old) }
@@ -96,10 +96,8 @@ impl FlowBuf {
                 back: payload,
             });
         }
-        match self.items.push(payload) {
-            Ok(()) => Ok(()),
-            Err(_) => unreachable!(),
-        }
+        push_in_room(&mut self.items, payload);
+        Ok(())
     }
 
     /// All messages up to this number are acknowledged, and are dropped here.

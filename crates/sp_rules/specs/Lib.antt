@@ -1,9 +1,0 @@
-pub mod Position
-pub mod Flow
-pub mod Rel
-pub mod Link
-pub mod Node
-pub mod World
-pub mod Told
-pub mod Holds
-pub mod Laws

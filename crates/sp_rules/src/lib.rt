@@ -1,6 +1,3 @@
-//! The rules of the overlay as definitions alone: what a node keeps, what each event does to it, and what a run is.
+//! The rules of a whole node as definitions alone, a file for each part: what the part keeps, and what each event does to it.
+//! They stand on ids, messages, the topology and frames, never on schedules, journals or text.
 #![tactic(auto)]
-
-mod frame;
-
-pub use frame::FrameValue;

@@ -11,7 +11,7 @@ use Rattle.sp_base.specs.declared.id.NodeId.{NodeId}
 use Rattle.sp_schedule.specs.declared.scenario.Scenario.{Scenario}
 use Rattle.sp_schedule.specs.declared.event.Event.{Event}
 use Rattle.sp_schedule.specs.declared.event.Event.TheVariants as events
-use Rattle.sp_schedule.specs.Finds.{Finds}
+use Rattle.sp_base.specs.Finds.{Finds}
 use Rattle.sp_schedule.specs.Ranges.{InRange, IsHop, polls}
 use Rattle.sp_schedule.specs.Spelling.{Word, event_words}
 use Rattle.sp_schedule.proofs.FieldLemmas.{one_number, other_name}

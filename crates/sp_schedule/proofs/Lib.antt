@@ -3,7 +3,7 @@ pub mod FieldLemmas
 pub mod EdgeLemmas
 pub mod EventLemmas
 pub mod ReadLemmas
-pub mod PlaceLemmas
+pub mod StageLemmas
 pub mod Texts
 pub mod WholeReadings
 pub mod Spelled

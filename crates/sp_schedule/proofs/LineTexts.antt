@@ -60,7 +60,7 @@ some_text text line rest begins none =
     let lengths : length (line ++ 10 ∷ rest) ≡ 0 = ap length (sym begins.split ∙ none) in
     omega (arith, length-append line (10 ∷ rest))
 
--- lines, more of them, and what is behind the first
+-- lines, more of them, and what is after the first
 pub record Front (lines all : List (List ℕ)) (behind : List ℕ) : Type 0 where
   pub more : List (List ℕ)
   pub whole : all ≡ lines ++ more

@@ -14,13 +14,13 @@ use Rattle.sp_schedule.specs.declared.scenario.LmsHeight.TheVariants.{Five, Ten}
 use Rattle.sp_schedule.specs.declared.scenario.Scenario.{Scenario}
 use Rattle.sp_schedule.specs.declared.event.Event.{Event}
 use Rattle.sp_schedule.specs.declared.event.Event.TheVariants as events
-use Rattle.sp_schedule.specs.declared.place.Place.{Place}
-use Rattle.sp_schedule.specs.declared.place.Place.TheVariants as places
+use Rattle.sp_schedule.specs.declared.stage.Stage.{Stage}
+use Rattle.sp_schedule.specs.declared.stage.Stage.TheVariants as stages
 use Rattle.sp_schedule.specs.Ranges.{InRange}
 use Rattle.sp_schedule.specs.Spelling.{Word, event_words, height_of}
 use Rattle.sp_schedule.specs.Leads.{Leads}
 use Rattle.sp_schedule.proofs.CountLemmas.{polls_below}
-use Rattle.sp_schedule.proofs.PlaceLemmas.{AreGood}
+use Rattle.sp_schedule.proofs.StageLemmas.{AreGood}
 
 -- no byte of the word is a space or a newline
 abbrev pub IsClean : Word → Type 0
@@ -84,21 +84,21 @@ event_spelled s es (events.Pass u v number) few short right =
     four _ _ _ _ (clean_name (codes "pass") refl refl) (clean_number u.0 (omega arith)) (clean_number v.0 (omega arith)) (clean_number number (omega arith))
 
 -- a good line is spelled so
-pub leads_spelled : (place : Place) (words : List Word) (next : Place) → AreGood place → Leads place words next → IsSpelled words
-leads_spelled places.Start words next good leads = rw leads.0 (two _ _ (clean_name (codes "schedule") refl refl) (clean_name (codes "1") refl refl))
-leads_spelled places.Version words next good leads = rw leads.spelled (two _ _ (clean_name (codes "seed") refl refl) (clean_digits leads.seed))
-leads_spelled (places.Seed seed) words next good leads =
+pub leads_spelled : (stage : Stage) (words : List Word) (next : Stage) → AreGood stage → Leads stage words next → IsSpelled words
+leads_spelled stages.Start words next good leads = rw leads.0 (two _ _ (clean_name (codes "schedule") refl refl) (clean_name (codes "1") refl refl))
+leads_spelled stages.Version words next good leads = rw leads.spelled (two _ _ (clean_name (codes "seed") refl refl) (clean_digits leads.seed))
+leads_spelled (stages.Seed seed) words next good leads =
     rw leads.spelled (two _ _ (clean_name (codes "height") refl refl) (clean_number (height_of leads.height) (small_height leads.height)))
-leads_spelled (places.Height seed height) words next good leads =
+leads_spelled (stages.Height seed height) words next good leads =
     rw leads.spelled (three _ _ _ (clean_name (codes "bounds") refl refl) (clean_number leads.limits.buffer (omega arith)) (clean_number leads.limits.store (omega arith)))
-leads_spelled (places.Bounds seed height limits) words next good leads =
+leads_spelled (stages.Bounds seed height limits) words next good leads =
     rw leads.spelled (two _ _ (clean_name (codes "nodes") refl refl) (clean_number leads.nodes (omega arith)))
-leads_spelled (places.Edges s) words next good (inl says) =
+leads_spelled (stages.Edges s) words next good (inl says) =
     let ends = says.in_range.ends in
     let weight = says.in_range.weight in
     rw says.spelled (four _ _ _ _ (clean_name (codes "edge") refl refl) (clean_number says.edge.low.0 (omega arith)) (clean_number says.edge.high.0 (omega arith)) (clean_number says.edge.weight (omega arith)))
-leads_spelled (places.Edges s) words next good (inr says) = rw says.spelled (one _ (clean_name (codes "begin") refl refl))
-leads_spelled (places.Events s es) words next good (inl says) =
+leads_spelled (stages.Edges s) words next good (inr says) = rw says.spelled (one _ (clean_name (codes "begin") refl refl))
+leads_spelled (stages.Events s es) words next good (inl says) =
     rw says.spelled (event_spelled s es says.event (let nodes = good.0.nodes in omega arith) good.2 says.in_range)
-leads_spelled (places.Events s es) words next good (inr says) = rw says.0 (one _ (clean_name (codes "end") refl refl))
-leads_spelled (places.End s es) words next good leads = absurd leads
+leads_spelled (stages.Events s es) words next good (inr says) = rw says.0 (one _ (clean_name (codes "end") refl refl))
+leads_spelled (stages.End s es) words next good leads = absurd leads

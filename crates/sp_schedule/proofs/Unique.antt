@@ -1,4 +1,4 @@
--- A line leads from a place to one place at most.
+-- A line leads from a stage to one stage at most.
 use Rattle.std.proofs.Common.{◌≡◌, ◌<◌, ◌≤◌, ℕ, ◌^◌, inl, inr, List, ◌∷◌, length, refl, sym, ap, ◌∙◌, arith}
 use Rattle.std.specs.Prelude.{codes}
 use Rattle.std.specs.Fmt.{decimal}
@@ -12,15 +12,15 @@ use Rattle.sp_schedule.specs.declared.scenario.Edge.{Edge}
 use Rattle.sp_schedule.specs.declared.scenario.Scenario.{Scenario}
 use Rattle.sp_schedule.specs.declared.event.Event.{Event}
 use Rattle.sp_schedule.specs.declared.event.Event.TheVariants as events
-use Rattle.sp_schedule.specs.declared.place.Place.{Place}
-use Rattle.sp_schedule.specs.declared.place.Place.TheVariants as places
+use Rattle.sp_schedule.specs.declared.stage.Stage.{Stage}
+use Rattle.sp_schedule.specs.declared.stage.Stage.TheVariants as stages
 use Rattle.sp_schedule.specs.Ranges.{AreBounds, InRange}
 use Rattle.sp_schedule.specs.Spelling.{Word, bounds_words, end_words, event_words, height_words}
 use Rattle.sp_schedule.specs.Leads.{IsNextEdge, Leads}
 use Rattle.sp_schedule.proofs.CountLemmas.{polls_below}
 use Rattle.sp_schedule.proofs.EdgeLemmas.{IsSmall, one_edge}
 use Rattle.sp_schedule.proofs.FieldLemmas.{one_number, other_name}
-use Rattle.sp_schedule.proofs.PlaceLemmas.{AreGood}
+use Rattle.sp_schedule.proofs.StageLemmas.{AreGood}
 
 -- ---- one value for each line
 
@@ -106,30 +106,30 @@ no_event_ends words (events.Take a b) is ends = other_name words (codes "take") 
 no_event_ends words (events.Poll a b) is ends = other_name words (codes "poll") (codes "end") _ _ refl is ends
 no_event_ends words (events.Pass a b m) is ends = other_name words (codes "pass") (codes "end") _ _ refl is ends
 
--- ---- one place
+-- ---- one stage
 
-pub leads_unique : (place : Place) (words : List Word) (a b : Place) → AreGood place → Leads place words a → Leads place words b → a ≡ b
-leads_unique places.Start words a b good x y = x.1 ∙ sym y.1
-leads_unique places.Version words a b good x y =
+pub leads_unique : (stage : Stage) (words : List Word) (a b : Stage) → AreGood stage → Leads stage words a → Leads stage words b → a ≡ b
+leads_unique stages.Start words a b good x y = x.1 ∙ sym y.1
+leads_unique stages.Version words a b good x y =
     let seed = encode_lower_injective x.seed y.seed x.is_seed.1 y.is_seed.1 (second _ _ _ _ _ (sym x.spelled ∙ y.spelled)) in
     x.next_place ∙ rw seed (sym y.next_place)
-leads_unique (places.Seed seed) words a b good x y =
+leads_unique (stages.Seed seed) words a b good x y =
     x.next_place ∙ rw (one_height words x.height y.height x.spelled y.spelled) (sym y.next_place)
-leads_unique (places.Height seed height) words a b good x y =
+leads_unique (stages.Height seed height) words a b good x y =
     x.next_place ∙ rw (one_bounds words x.limits y.limits x.in_range y.in_range x.spelled y.spelled) (sym y.next_place)
-leads_unique (places.Bounds seed height limits) words a b good x y =
+leads_unique (stages.Bounds seed height limits) words a b good x y =
     let nodes = same_number x.nodes y.nodes (let few = x.in_range in omega arith) (let few = y.in_range in omega arith) (second _ _ _ _ _ (sym x.spelled ∙ y.spelled)) in
     x.next_place ∙ rw nodes (sym y.next_place)
-leads_unique (places.Edges s) words a b good (inl x) (inl y) =
+leads_unique (stages.Edges s) words a b good (inl x) (inl y) =
     let edge = one_edge words x.edge y.edge (small_edge s x.edge good.nodes.1 x.in_range) (small_edge s y.edge good.nodes.1 y.in_range) x.spelled y.spelled in
     x.next_place ∙ rw edge (sym y.next_place)
-leads_unique (places.Edges s) words a b good (inl x) (inr y) = absurd (other_name words (codes "edge") (codes "begin") _ _ refl x.spelled y.spelled)
-leads_unique (places.Edges s) words a b good (inr x) (inl y) = absurd (other_name words (codes "begin") (codes "edge") _ _ refl x.spelled y.spelled)
-leads_unique (places.Edges s) words a b good (inr x) (inr y) = x.next_place ∙ sym y.next_place
-leads_unique (places.Events s es) words a b good (inl x) (inl y) =
+leads_unique (stages.Edges s) words a b good (inl x) (inr y) = absurd (other_name words (codes "edge") (codes "begin") _ _ refl x.spelled y.spelled)
+leads_unique (stages.Edges s) words a b good (inr x) (inl y) = absurd (other_name words (codes "begin") (codes "edge") _ _ refl x.spelled y.spelled)
+leads_unique (stages.Edges s) words a b good (inr x) (inr y) = x.next_place ∙ sym y.next_place
+leads_unique (stages.Events s es) words a b good (inl x) (inl y) =
     let event = one_event s es words x.event y.event (let nodes = good.0.nodes in omega arith) good.2 x.in_range y.in_range x.spelled y.spelled in
     x.next_place ∙ rw event (sym y.next_place)
-leads_unique (places.Events s es) words a b good (inl x) (inr y) = absurd (no_event_ends words x.event x.spelled y.0)
-leads_unique (places.Events s es) words a b good (inr x) (inl y) = absurd (no_event_ends words y.event y.spelled x.0)
-leads_unique (places.Events s es) words a b good (inr x) (inr y) = x.1 ∙ sym y.1
-leads_unique (places.End s es) words a b good x y = absurd x
+leads_unique (stages.Events s es) words a b good (inl x) (inr y) = absurd (no_event_ends words x.event x.spelled y.0)
+leads_unique (stages.Events s es) words a b good (inr x) (inl y) = absurd (no_event_ends words y.event y.spelled x.0)
+leads_unique (stages.Events s es) words a b good (inr x) (inr y) = x.1 ∙ sym y.1
+leads_unique (stages.End s es) words a b good x y = absurd x

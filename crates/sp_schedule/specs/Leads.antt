@@ -1,4 +1,4 @@
--- A line in its place: what it says, and where the next line stands.
+-- A line at its stage: what it says, and where the next line stands.
 use Rattle.std.specs.Prelude.{ℕ, ◌≡◌, ◌-◌, ◌<◌, ◌≤◌, ◌⊎◌, List, [], ◌∷◌, ◌++◌, length, slice_get, Option, IfSome}
 use Rattle.sp_base.specs.declared.limits.TheConstants.{MAX_EVENTS, MAX_NODES}
 use Rattle.sp_base.specs.Spelling.{AreBytes}
@@ -7,8 +7,8 @@ use Rattle.sp_schedule.specs.declared.scenario.LmsHeight.{LmsHeight}
 use Rattle.sp_schedule.specs.declared.scenario.Edge.{Edge}
 use Rattle.sp_schedule.specs.declared.scenario.Scenario.{Scenario}
 use Rattle.sp_schedule.specs.declared.event.Event.{Event}
-use Rattle.sp_schedule.specs.declared.place.Place.{Place}
-use Rattle.sp_schedule.specs.declared.place.Place.TheVariants as places
+use Rattle.sp_schedule.specs.declared.stage.Stage.{Stage}
+use Rattle.sp_schedule.specs.declared.stage.Stage.TheVariants as stages
 use Rattle.sp_schedule.specs.Ranges.{AreBounds, IsWeight, IsLine, InRange}
 use Rattle.sp_schedule.specs.Spelling.{Word, version_words, seed_words, height_words, bounds_words, nodes_words, edge_words, begin_words, event_words, end_words}
 
@@ -21,7 +21,7 @@ IsLower f e = (f.low.0 < e.low.0) ⊎ ((f.low.0 ≡ e.low.0) × (f.high.0 < e.hi
 abbrev pub last_edge : List Edge → Option Edge
 last_edge edges = slice_get edges (length edges - 1)
 
--- the edge joins two nodes, the lower one first, and stands behind the edges so far
+-- the edge joins two nodes, the lower one first, and stands after the edges so far
 pub record IsNextEdge (s : Scenario) (e : Edge) : Type 0 where
   pub ends : (1 ≤ e.low.0) × (e.low.0 < e.high.0) × (e.high.0 ≤ s.graph.nodes)
   pub weight : IsWeight e
@@ -32,58 +32,58 @@ with_edge s e = record { seed = s.seed; height = s.height; limits = s.limits; gr
 
 -- ---- what each line says
 
-pub record SaysSeed (words : List Word) (next : Place) : Type 0 where
+pub record SaysSeed (words : List Word) (next : Stage) : Type 0 where
   pub seed : List ℕ
   pub is_seed : (length seed ≡ 32) × AreBytes seed
   pub spelled : words ≡ seed_words seed
-  pub next_place : next ≡ places.Seed seed
+  pub next_place : next ≡ stages.Seed seed
 
-pub record SaysHeight (seed : List ℕ) (words : List Word) (next : Place) : Type 0 where
+pub record SaysHeight (seed : List ℕ) (words : List Word) (next : Stage) : Type 0 where
   pub height : LmsHeight
   pub spelled : words ≡ height_words height
-  pub next_place : next ≡ places.Height seed height
+  pub next_place : next ≡ stages.Height seed height
 
-pub record SaysBounds (seed : List ℕ) (height : LmsHeight) (words : List Word) (next : Place) : Type 0 where
+pub record SaysBounds (seed : List ℕ) (height : LmsHeight) (words : List Word) (next : Stage) : Type 0 where
   pub limits : Limits
   pub in_range : AreBounds limits
   pub spelled : words ≡ bounds_words limits
-  pub next_place : next ≡ places.Bounds seed height limits
+  pub next_place : next ≡ stages.Bounds seed height limits
 
-pub record SaysNodes (seed : List ℕ) (height : LmsHeight) (limits : Limits) (words : List Word) (next : Place) : Type 0 where
+pub record SaysNodes (seed : List ℕ) (height : LmsHeight) (limits : Limits) (words : List Word) (next : Stage) : Type 0 where
   pub nodes : ℕ
   pub in_range : (2 ≤ nodes) × (nodes ≤ MAX_NODES)
   pub spelled : words ≡ nodes_words nodes
-  pub next_place : next ≡ places.Edges (record { seed = seed; height = height; limits = limits; graph = record { nodes = nodes; edges = [] } })
+  pub next_place : next ≡ stages.Edges (record { seed = seed; height = height; limits = limits; graph = record { nodes = nodes; edges = [] } })
 
-pub record SaysEdge (s : Scenario) (words : List Word) (next : Place) : Type 0 where
+pub record SaysEdge (s : Scenario) (words : List Word) (next : Stage) : Type 0 where
   pub edge : Edge
   pub in_range : IsNextEdge s edge
   pub spelled : words ≡ edge_words edge
-  pub next_place : next ≡ places.Edges (with_edge s edge)
+  pub next_place : next ≡ stages.Edges (with_edge s edge)
 
 -- the edges are those of a line of nodes
-pub record SaysBegin (s : Scenario) (words : List Word) (next : Place) : Type 0 where
+pub record SaysBegin (s : Scenario) (words : List Word) (next : Stage) : Type 0 where
   pub line : IsLine s
   pub spelled : words ≡ begin_words
-  pub next_place : next ≡ places.Events s []
+  pub next_place : next ≡ stages.Events s []
 
 -- a schedule has at most 16,384 events
-pub record SaysEvent (s : Scenario) (es : List Event) (words : List Word) (next : Place) : Type 0 where
+pub record SaysEvent (s : Scenario) (es : List Event) (words : List Word) (next : Stage) : Type 0 where
   pub event : Event
   pub in_range : InRange s es event
   pub room : length es < MAX_EVENTS
   pub spelled : words ≡ event_words event
-  pub next_place : next ≡ places.Events s (es ++ event ∷ [])
+  pub next_place : next ≡ stages.Events s (es ++ event ∷ [])
 
--- ---- lines in their places
+-- ---- lines at their stages
 
--- a line of these words is good in the place, and leads to the next one
-abbrev pub Leads : Place → List Word → Place → Type 0
-Leads places.Start words next = (words ≡ version_words) × (next ≡ places.Version)
-Leads places.Version words next = SaysSeed words next
-Leads (places.Seed seed) words next = SaysHeight seed words next
-Leads (places.Height seed height) words next = SaysBounds seed height words next
-Leads (places.Bounds seed height limits) words next = SaysNodes seed height limits words next
-Leads (places.Edges s) words next = SaysEdge s words next ⊎ SaysBegin s words next
-Leads (places.Events s es) words next = SaysEvent s es words next ⊎ ((words ≡ end_words) × (next ≡ places.End s es))
-Leads (places.End s es) words next = ⊥
+-- a line of these words is good at the stage, and leads to the next one
+abbrev pub Leads : Stage → List Word → Stage → Type 0
+Leads stages.Start words next = (words ≡ version_words) × (next ≡ stages.Version)
+Leads stages.Version words next = SaysSeed words next
+Leads (stages.Seed seed) words next = SaysHeight seed words next
+Leads (stages.Height seed height) words next = SaysBounds seed height words next
+Leads (stages.Bounds seed height limits) words next = SaysNodes seed height limits words next
+Leads (stages.Edges s) words next = SaysEdge s words next ⊎ SaysBegin s words next
+Leads (stages.Events s es) words next = SaysEvent s es words next ⊎ ((words ≡ end_words) × (next ≡ stages.End s es))
+Leads (stages.End s es) words next = ⊥

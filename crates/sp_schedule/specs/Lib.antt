@@ -3,8 +3,9 @@ pub mod Spelling
 pub mod Reads
 pub mod Leads
 pub mod Readings
+pub mod Refusals
+pub mod Laws
+-- ---- what proofs and the parts of this crate use among themselves
 pub mod Counts
-pub mod Finds
 pub mod Edges
 pub mod Judged
-pub mod Laws

@@ -1,7 +1,7 @@
 // The lines of edges, and the line that ends them: the edges are then those of a line of nodes.
 ghost use Rattle.std.specs.Prelude.{◌≡◌, ◌≤◌, ◌-◌, ◌↔◌, IfSome, IsTrue, length, map, slice_get};
 ghost use Rattle.std.specs.Fmt.{decimal};
-ghost use Rattle.sp_schedule.specs.Finds.{Finds};
+ghost use Rattle.sp_base.specs.Finds.{Finds};
 ghost use Rattle.sp_schedule.specs.Leads.{IsLower, IsNextEdge, last_edge};
 ghost use Rattle.sp_schedule.specs.Edges.{IsAmong, StandsAt};
 ghost use Rattle.sp_schedule.specs.Ranges.{IsLine, IsWeight, ends_of, line_from};
@@ -44,7 +44,7 @@ fn edge_of(nodes: u8, low: &[u8], high: &[u8], weight: &[u8]) -> Option<Edge>
     })
 }
 
-/// Whether the edge goes from a lower node to a higher one, and stands behind the edges so far.
+/// Whether the edge goes from a lower node to a higher one, and stands after the edges so far.
 fn is_next(scenario: &Scenario, edge: &Edge) -> bool
     requires among { IsAmong scenario.now.graph.nodes edge.now }
     requires weight { IsWeight edge.now }
@@ -53,7 +53,7 @@ fn is_next(scenario: &Scenario, edge: &Edge) -> bool
     edge.low.0 < edge.high.0 && ascends(scenario.graph.edges.as_slice(), edge)
 }
 
-/// Whether the edge stands behind the last of those so far.
+/// Whether the edge stands after the last of those so far.
 fn ascends(edges: &[Edge], edge: &Edge) -> bool
     ensures { IsTrue result ↔ IfSome (last_edge edges.now) (λ f. IsLower f edge.now) }
 {

@@ -4,7 +4,7 @@ ghost use Rattle.std.specs.Fmt.{decimal};
 ghost use Rattle.sp_base.specs.declared.limits.TheConstants.{MAX_PAYLOAD_BYTES};
 ghost use Rattle.sp_base.specs.Spelling.{AreBytes};
 ghost use Rattle.sp_text.specs.Spelling.{hex_word};
-ghost use Rattle.sp_schedule.specs.Finds.{Finds};
+ghost use Rattle.sp_base.specs.Finds.{Finds};
 ghost use Rattle.sp_schedule.specs.Ranges.{InRange, IsHop, polls};
 ghost use Rattle.sp_schedule.specs.Spelling.{end_words, event_words};
 

@@ -3,7 +3,7 @@ ghost use Rattle.std.specs.Prelude.{◌≡◌, ◌≤◌, ◌↔◌, IsTrue, len
 ghost use Rattle.std.specs.Fmt.{decimal};
 ghost use Rattle.sp_base.specs.declared.limits.TheConstants.{MAX_NODES};
 ghost use Rattle.sp_base.specs.Spelling.{AreBytes};
-ghost use Rattle.sp_schedule.specs.Finds.{Finds};
+ghost use Rattle.sp_base.specs.Finds.{Finds};
 ghost use Rattle.sp_schedule.specs.Ranges.{AreBounds};
 ghost use Rattle.sp_schedule.specs.Spelling.{version_words, seed_words, height_words, bounds_words, nodes_words, begin_words};
 

@@ -1,13 +1,13 @@
 // The words of a line: its name and its fields, and the numbers among these.
 ghost use Rattle.std.specs.Prelude.{ℕ, ◌≡◌, ◌≢◌, ◌≤◌, ◌∷◌, ◌↔◌, List, map, IfNone, IfSome, IsTrue};
 ghost use Rattle.std.specs.Fmt.{decimal};
-ghost use Rattle.sp_schedule.specs.Finds.{Finds};
+ghost use Rattle.sp_base.specs.Finds.{Finds};
 ghost use Rattle.sp_schedule.specs.Spelling.{Word};
 
 use sp_base::NodeId;
 use sp_text::number;
 
-/// The words behind a line's name. None exactly where the line has another name, or no word at all.
+/// The words after a line's name. None exactly where the line has another name, or no word at all.
 pub fn fields<'a>(name: &[u8], words: &'a [&'a [u8]]) -> Option<&'a [&'a [u8]]>
     ensures found { IfSome result (λ fields. map (λ w. w.now) words.now ≡ name.now ∷ map (λ w. w.now) fields.now) }
     ensures none { IfNone result ((fields : List Word) → map (λ w. w.now) words.now ≢ name.now ∷ fields) }

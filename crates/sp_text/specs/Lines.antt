@@ -1,4 +1,4 @@
--- The lines of a text: each ends with a newline, and what stands behind the last newline is no line.
+-- The lines of a text: each ends with a newline, and what stands after the last newline is no line.
 use Rattle.std.specs.Prelude.{ℕ, ◌≡◌, ◌≢◌, List, ◌∷◌, ◌++◌, All}
 
 -- no byte is a newline

@@ -7,94 +7,96 @@ use Rattle.sp_base.specs.declared.limits.TheConstants.{MAX_INPUT_BYTES}
 use Rattle.sp_outside.specs.Streams.{IsInput}
 use Rattle.sp_schedule.specs.declared.scenario.Scenario.{Scenario}
 use Rattle.sp_schedule.specs.declared.event.Event.{Event}
-use Rattle.sp_schedule.specs.declared.place.Place.{Place}
-use Rattle.sp_schedule.specs.declared.place.Ending.{Ending}
-use Rattle.sp_schedule.specs.declared.place.Ending.TheVariants as endings
-use Rattle.sp_schedule.specs.declared.place.Kind.{Kind}
+use Rattle.sp_schedule.specs.declared.stage.Stage.{Stage}
+use Rattle.sp_schedule.specs.declared.stage.Ending.{Ending}
+use Rattle.sp_schedule.specs.declared.stage.Ending.TheVariants as endings
+use Rattle.sp_schedule.specs.declared.refused.Kind.{Kind}
 use Rattle.sp_schedule.specs.Reads.{Reads}
 use Rattle.sp_schedule.specs.Readings.{IsReading, EndsAt, IsEnd, All_good}
 use Rattle.sp_schedule.specs.Laws.{WholeReadingsRead, GoodTextsAreReadWhole}
 use Rattle.sp_world.specs.Past.{Past}
 use Rattle.sp_top.specs.declared.ended.Status.{Status}
 use Rattle.sp_top.specs.declared.ended.Status.TheVariants as statuses
-use Rattle.sp_top.specs.Outputs.{replay_words, IsOutput, No_command, Whole_journal, First_bad_line, IsRefusal, IsWorldOf, IsTextOf, status_of, refused_line, lines_before}
-use Rattle.sp_top.specs.Claims.{IsPlayed, Wrote}
+use Rattle.sp_schedule.specs.Refusals.{refused_line}
+use Rattle.sp_top.specs.Played.{IsTextOf, status_of, IsPlayed}
+use Rattle.sp_top.specs.Outputs.{replay_words, IsOutput, No_command, Whole_journal, First_bad_line, IsRefusal, IsWorldOf, lines_before}
+use Rattle.sp_top.specs.Claims.{Wrote}
 
 -- a reading that ended well read a text that wasn't cut, up to its line `end`
-pub record EndedWell (is_cut : Bool) (place : Place) : Type 0 where
+pub record EndedWell (is_cut : Bool) (stage : Stage) : Type 0 where
   pub whole : is_cut ≡ false
-  pub end : IsEnd place
+  pub end : IsEnd stage
 
-ended_well : (place : Place) (count : ℕ) (behind : List ℕ) (is_cut : Bool) (ending : Ending) → EndsAt place count behind is_cut ending → ending ≡ endings.Whole → EndedWell is_cut place
-ended_well place count behind is_cut ending (All_good end) is = record { whole = refl; end = end }
-ended_well place count behind is_cut ending _ is = cc
+ended_well : (stage : Stage) (count : ℕ) (behind : List ℕ) (is_cut : Bool) (ending : Ending) → EndsAt stage count behind is_cut ending → ending ≡ endings.Whole → EndedWell is_cut stage
+ended_well stage count behind is_cut ending (All_good end) is = record { whole = refl; end = end }
+ended_well stage count behind is_cut ending _ is = cc
 
 -- nothing of a short text is cut
 short_text : (text : List ℕ) → nat_lt MAX_INPUT_BYTES (length text) ≡ false → take MAX_INPUT_BYTES text ≡ text
 short_text text is = let within : length text ≤ MAX_INPUT_BYTES = grind (arith, nat_tests) in take_all MAX_INPUT_BYTES text within
 
-whole_read : WholeReadingsRead → (text : List ℕ) (place : Place) (past : Past) → IsReading (take MAX_INPUT_BYTES text) (nat_lt MAX_INPUT_BYTES (length text)) (record { place = place; ending = endings.Whole }) → IsWorldOf place (Some past)
+whole_read : WholeReadingsRead → (text : List ℕ) (stage : Stage) (past : Past) → IsReading (take MAX_INPUT_BYTES text) (nat_lt MAX_INPUT_BYTES (length text)) (record { stage = stage; ending = endings.Whole }) → IsWorldOf stage (Some past)
     → Reads text past.scenario past.events
-whole_read law text place past reading of_place =
-    let well = ended_well place _ reading.behind _ endings.Whole reading.ends refl in
-    let P : Bool → Type 0 = λ b. IsReading (take MAX_INPUT_BYTES text) b (record { place = place; ending = endings.Whole }) in
-    let Q : List ℕ → Type 0 = λ t. IsReading t false (record { place = place; ending = endings.Whole }) in
+whole_read law text stage past reading of_stage =
+    let well = ended_well stage _ reading.behind _ endings.Whole reading.ends refl in
+    let P : Bool → Type 0 = λ b. IsReading (take MAX_INPUT_BYTES text) b (record { stage = stage; ending = endings.Whole }) in
+    let Q : List ℕ → Type 0 = λ t. IsReading t false (record { stage = stage; ending = endings.Whole }) in
     let uncut = subst Q (short_text text well.whole) (subst P well.whole reading) in
-    let read = law text (record { place = place; ending = endings.Whole }) well.end.scenario well.end.events uncut refl well.end.is in
-    let R : Place → Type 0 = λ p. IsWorldOf p (Some past) in
-    let same = subst R well.end.is of_place in
+    let read = law text (record { stage = stage; ending = endings.Whole }) well.end.scenario well.end.events uncut refl well.end.is in
+    let R : Stage → Type 0 = λ p. IsWorldOf p (Some past) in
+    let same = subst R well.end.is of_stage in
     rw (same.0, same.1) read
 
 -- ---- the output
 
-output_whole : WholeReadingsRead → (left : Option (List ℕ)) (bytes : List ℕ) (is_cut : Bool) (place : Place) (world : Option Past) (out : List ℕ) → IsInput left MAX_INPUT_BYTES bytes is_cut
-    → IsReading bytes is_cut (record { place = place; ending = endings.Whole }) → IsWorldOf place world → IsTextOf world endings.Whole out → IsOutput replay_words left world statuses.Done out
-output_whole law left bytes is_cut place None out input reading of_place text = absurd text
-output_whole law None bytes is_cut place (Some past) out input reading of_place text = rw text (Whole_journal past refl tt)
-output_whole law (Some given) bytes is_cut place (Some past) out input reading of_place text =
-    rw text (Whole_journal past refl (whole_read law given place past (rw (input.0, input.1) at reading) of_place))
+output_whole : WholeReadingsRead → (left : Option (List ℕ)) (bytes : List ℕ) (is_cut : Bool) (stage : Stage) (world : Option Past) (out : List ℕ) → IsInput left MAX_INPUT_BYTES bytes is_cut
+    → IsReading bytes is_cut (record { stage = stage; ending = endings.Whole }) → IsWorldOf stage world → IsTextOf world endings.Whole out → IsOutput replay_words left world statuses.Done out
+output_whole law left bytes is_cut stage None out input reading of_stage text = absurd text
+output_whole law None bytes is_cut stage (Some past) out input reading of_stage text = rw text (Whole_journal past refl tt)
+output_whole law (Some given) bytes is_cut stage (Some past) out input reading of_stage text =
+    rw text (Whole_journal past refl (whole_read law given stage past (rw (input.0, input.1) at reading) of_stage))
 
 -- a text that is refused spells no schedule
-refused_spells_none : GoodTextsAreReadWhole → (text : List ℕ) (place : Place) (line : ℕ) (kind : Kind) → IsReading (take MAX_INPUT_BYTES text) (nat_lt MAX_INPUT_BYTES (length text)) (record { place = place; ending = endings.Refused line kind })
+refused_spells_none : GoodTextsAreReadWhole → (text : List ℕ) (stage : Stage) (line : ℕ) (kind : Kind) → IsReading (take MAX_INPUT_BYTES text) (nat_lt MAX_INPUT_BYTES (length text)) (record { stage = stage; ending = endings.Refused line kind })
     → (s : Scenario) (es : List Event) → Reads text s es → ⊥
-refused_spells_none law text place line kind reading s es reads =
+refused_spells_none law text stage line kind reading s es reads =
     let within = reads.size in
     let uncut : nat_lt MAX_INPUT_BYTES (length text) ≡ false = grind (arith, nat_tests) in
-    let P : Bool → Type 0 = λ b. IsReading (take MAX_INPUT_BYTES text) b (record { place = place; ending = endings.Refused line kind }) in
-    let Q : List ℕ → Type 0 = λ t. IsReading t false (record { place = place; ending = endings.Refused line kind }) in
+    let P : Bool → Type 0 = λ b. IsReading (take MAX_INPUT_BYTES text) b (record { stage = stage; ending = endings.Refused line kind }) in
+    let Q : List ℕ → Type 0 = λ t. IsReading t false (record { stage = stage; ending = endings.Refused line kind }) in
     let whole = subst Q (take_all MAX_INPUT_BYTES text within) (subst P uncut reading) in
-    let ended : endings.Refused line kind ≡ endings.Whole = (law text s es (record { place = place; ending = endings.Refused line kind }) reads whole).1 in
+    let ended : endings.Refused line kind ≡ endings.Whole = (law text s es (record { stage = stage; ending = endings.Refused line kind }) reads whole).1 in
     cc
 
-refusal_of : GoodTextsAreReadWhole → (text : List ℕ) (place : Place) (world : Option Past) (line : ℕ) (kind : Kind) → IsReading (take MAX_INPUT_BYTES text) (nat_lt MAX_INPUT_BYTES (length text)) (record { place = place; ending = endings.Refused line kind })
-    → IsWorldOf place world → IsRefusal (Some text) world line kind
-refusal_of law text place world line kind reading of_place = record {
-  place = place;
+refusal_of : GoodTextsAreReadWhole → (text : List ℕ) (stage : Stage) (world : Option Past) (line : ℕ) (kind : Kind) → IsReading (take MAX_INPUT_BYTES text) (nat_lt MAX_INPUT_BYTES (length text)) (record { stage = stage; ending = endings.Refused line kind })
+    → IsWorldOf stage world → IsRefusal (Some text) world line kind
+refusal_of law text stage world line kind reading of_stage = record {
+  stage = stage;
   reading = reading;
-  world = of_place;
-  bad = refused_spells_none law text place line kind reading;
+  world = of_stage;
+  bad = refused_spells_none law text stage line kind reading;
 }
 
 text_refused : (world : Option Past) (line : ℕ) (kind : Kind) (out : List ℕ) → IsTextOf world (endings.Refused line kind) out → out ≡ lines_before world ++ refused_line line kind
 text_refused None line kind out text = text
 text_refused (Some past) line kind out text = text
 
-output_refused : GoodTextsAreReadWhole → (left : Option (List ℕ)) (bytes : List ℕ) (is_cut : Bool) (place : Place) (world : Option Past) (line : ℕ) (kind : Kind) (out : List ℕ) → IsInput left MAX_INPUT_BYTES bytes is_cut
-    → IsReading bytes is_cut (record { place = place; ending = endings.Refused line kind }) → IsWorldOf place world → IsTextOf world (endings.Refused line kind) out → IsOutput replay_words left world statuses.Refused out
-output_refused law None bytes is_cut place world line kind out input reading of_place text = rw (text_refused world line kind out text) (First_bad_line world line kind refl tt)
-output_refused law (Some given) bytes is_cut place world line kind out input reading of_place text =
-    rw (text_refused world line kind out text) (First_bad_line world line kind refl (refusal_of law given place world line kind (rw (input.0, input.1) at reading) of_place))
+output_refused : GoodTextsAreReadWhole → (left : Option (List ℕ)) (bytes : List ℕ) (is_cut : Bool) (stage : Stage) (world : Option Past) (line : ℕ) (kind : Kind) (out : List ℕ) → IsInput left MAX_INPUT_BYTES bytes is_cut
+    → IsReading bytes is_cut (record { stage = stage; ending = endings.Refused line kind }) → IsWorldOf stage world → IsTextOf world (endings.Refused line kind) out → IsOutput replay_words left world statuses.Refused out
+output_refused law None bytes is_cut stage world line kind out input reading of_stage text = rw (text_refused world line kind out text) (First_bad_line world line kind refl tt)
+output_refused law (Some given) bytes is_cut stage world line kind out input reading of_stage text =
+    rw (text_refused world line kind out text) (First_bad_line world line kind refl (refusal_of law given stage world line kind (rw (input.0, input.1) at reading) of_stage))
 
-output_by : WholeReadingsRead → GoodTextsAreReadWhole → (left : Option (List ℕ)) (bytes : List ℕ) (is_cut : Bool) (place : Place) (ending : Ending) (world : Option Past) (out : List ℕ) → IsInput left MAX_INPUT_BYTES bytes is_cut
-    → IsReading bytes is_cut (record { place = place; ending = ending }) → IsWorldOf place world → IsTextOf world ending out → IsOutput replay_words left world (status_of ending) out
-output_by whole good left bytes is_cut place endings.Whole world out input reading of_place text = output_whole whole left bytes is_cut place world out input reading of_place text
-output_by whole good left bytes is_cut place (endings.Refused line kind) world out input reading of_place text = output_refused good left bytes is_cut place world line kind out input reading of_place text
+output_by : WholeReadingsRead → GoodTextsAreReadWhole → (left : Option (List ℕ)) (bytes : List ℕ) (is_cut : Bool) (stage : Stage) (ending : Ending) (world : Option Past) (out : List ℕ) → IsInput left MAX_INPUT_BYTES bytes is_cut
+    → IsReading bytes is_cut (record { stage = stage; ending = ending }) → IsWorldOf stage world → IsTextOf world ending out → IsOutput replay_words left world (status_of ending) out
+output_by whole good left bytes is_cut stage endings.Whole world out input reading of_stage text = output_whole whole left bytes is_cut stage world out input reading of_stage text
+output_by whole good left bytes is_cut stage (endings.Refused line kind) world out input reading of_stage text = output_refused good left bytes is_cut stage world line kind out input reading of_stage text
 
 -- what was played is the output of the input
 pub played_output : WholeReadingsRead → GoodTextsAreReadWhole → (left : Option (List ℕ)) (bytes : List ℕ) (is_cut : Bool) (world : Option Past) (status : Status) (out : List ℕ) → IsInput left MAX_INPUT_BYTES bytes is_cut
     → IsPlayed bytes is_cut world status out → IsOutput replay_words left world status out
 played_output whole good left bytes is_cut world status out input played =
-    rw played.status_is (output_by whole good left bytes is_cut played.place played.ending world out input played.reading played.of_place played.text_is)
+    rw played.status_is (output_by whole good left bytes is_cut played.stage played.ending world out input played.reading played.of_stage played.text_is)
 
 -- the whole output was written
 pub wrote_whole : (words : List (List ℕ)) (left : Option (List ℕ)) (world : Option Past) (status : Status) (out : List ℕ) (before after : Option (List ℕ)) → IsOutput words left world status out → Appends before after out → Wrote words left world status before after

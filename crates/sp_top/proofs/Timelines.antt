@@ -1,5 +1,5 @@
 -- Events that are in range, one after the other.
-use Rattle.std.proofs.Common.{◌≡◌, ◌<◌, ◌≤◌, ℕ, List, [], ◌∷◌, ◌++◌, length, take, Some, refl, sym, ap, ◌∙◌, inl, inr, arith, subst, length-append}
+use Rattle.std.proofs.Common.{◌≡◌, ◌<◌, ◌≤◌, ℕ, List, [], ◌∷◌, ◌++◌, length, take, Some, sym, ap, ◌∙◌, inl, inr, arith, subst, length-append}
 use Rattle.std.specs.List.{slice_get}
 use Rattle.std.proofs.lemmas.List.{take-append-le}
 use Rattle.std.proofs.lemmas.Option.{slice_get_within}
@@ -8,13 +8,9 @@ use Rattle.sp_base.specs.declared.limits.TheConstants.{MAX_EVENTS}
 use Rattle.sp_schedule.specs.declared.scenario.Scenario.{Scenario}
 use Rattle.sp_schedule.specs.declared.event.Event.{Event}
 use Rattle.sp_schedule.specs.Ranges.{InRange, AreInRange, None_yet, One_more}
-use Rattle.laws_reliable.proofs.Lists.{get_push}
+use Rattle.sp_base.proofs.ListLemmas.{get_push, get_seam}
 
-get_seam : {X : Type 0} (xs : List X) (y : X) (ys : List X) → slice_get (xs ++ y ∷ ys) (length xs) ≡ Some y
-get_seam [] y ys = refl
-get_seam (x ∷ xs) y ys = get_seam xs y ys
-
--- each event is in range behind those before it
+-- each event is in range after those before it
 in_range_in : (s : Scenario) (es : List Event) (k : ℕ) (e : Event) → AreInRange s es → slice_get es k ≡ Some e → InRange s (take k es) e
 in_range_in s es k e None_yet at = cc
 in_range_in s es k e (One_more {before = before} last all range) at = elim (get_push before last k e at) [

@@ -1,15 +1,12 @@
 -- The headline: what the program promises of every run.
-use Rattle.std.specs.Prelude.{ℕ, ◌≡◌, Bool, List, Option, None, IfSome}
+use Rattle.std.specs.Prelude.{ℕ, ◌≡◌, List, Option, None}
 use Rattle.std.specs.Io.KnownBytes.{Appends}
 use Rattle.sp_outside.specs.Streams.{AppendsFront}
-use Rattle.sp_rules.specs.Laws.{RunClaims}
-use Rattle.sp_schedule.specs.declared.place.Place.{Place}
-use Rattle.sp_schedule.specs.declared.place.Ending.{Ending}
-use Rattle.sp_schedule.specs.Readings.{IsReading}
+use Rattle.sp_first.specs.Laws.{RunClaims}
 use Rattle.sp_world.specs.Past.{Past, IsRun}
 use Rattle.sp_top.specs.declared.ended.Status.{Status}
 use Rattle.sp_top.specs.declared.ended.Status.TheVariants as statuses
-use Rattle.sp_top.specs.Outputs.{IsOutput, IsWorldOf, IsTextOf, status_of}
+use Rattle.sp_top.specs.Outputs.{IsOutput}
 
 -- what holds of the world of an outcome, after every event and at the end
 pub record WorldClaims (past : Past) : Type 0 where
@@ -37,13 +34,3 @@ Wrote words left past statuses.Sink before after = IsBegun words left past befor
 Wrote words left past statuses.Source before after = (past ≡ None) × (after ≡ before)
 Wrote words left past statuses.Memory before after = (past ≡ None) × (after ≡ before)
 Wrote words left past status before after = IsWritten words left past status before after
-
--- what was read and run, and the text that tells it
-pub record IsPlayed (text : List ℕ) (is_cut : Bool) (world : Option Past) (status : Status) (out : List ℕ) : Type 0 where
-  pub place : Place
-  pub ending : Ending
-  pub reading : IsReading text is_cut (record { place = place; ending = ending })
-  pub of_place : IsWorldOf place world
-  pub claims : IfSome world WorldClaims
-  pub status_is : status ≡ status_of ending
-  pub text_is : IsTextOf world ending out

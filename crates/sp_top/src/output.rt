@@ -3,13 +3,12 @@ ghost use Rattle.std.specs.Prelude.{◌≡◌, ◌≤◌, ◌++◌, length, IfOk
 ghost use Rattle.std.specs.String.{string_bytes};
 ghost use Rattle.sp_base.specs.declared.limits.TheConstants.{MAX_EVENTS};
 ghost use Rattle.sp_journal.specs.JournalText as text;
-ghost use Rattle.sp_top.specs.Outputs.{HasWorld, IsTextOf, refused_line, kind_word};
+ghost use Rattle.sp_top.specs.Played.{IsTextOf, HasWorld};
 
 use laws_reliable::every_run;
 use sp_base::Memory;
 use sp_journal::{journal_lines, journal_text};
-use sp_schedule::{Ending, Kind};
-use sp_text::push_number;
+use sp_schedule::{Ending, push_refused};
 use sp_world::World;
 use std::alloc::Global;
 
@@ -52,28 +51,4 @@ fn before(alloc: Global, world: &World) -> Result<String, Memory>
 {
     every_run();
     journal_lines(alloc, world.journal())
-}
-
-#[tactic(auto, unfolding(crate::specs::Outputs::refused_line))]
-fn push_refused(out: &mut String, line: u32, kind: Kind) -> Result<(), Memory>
-    ensures { OnOk result (string_bytes out.new ≡ string_bytes out.old ++ refused_line line kind) }
-{
-    out.push_str("refused ")?;
-    push_number(out, u64::from(line))?;
-    out.push_str(" ")?;
-    out.push_str(word(kind))?;
-    out.push_str("\n")?;
-    Ok(())
-}
-
-/// The word of a kind.
-fn word(kind: Kind) -> &'static str
-    ensures { result.now ≡ kind_word kind }
-{
-    match kind {
-        Kind::NoEnd => "NoEnd",
-        Kind::AfterEnd => "AfterEnd",
-        Kind::TooBig => "TooBig",
-        Kind::Unbuilt => "Unbuilt",
-    }
 }

@@ -2,24 +2,24 @@
 ghost use Rattle.std.specs.Prelude.{◌≡◌, ◌≤◌, length, IfOk};
 ghost use Rattle.sp_base.specs.declared.limits.TheConstants.{MAX_EVENTS};
 ghost use Rattle.sp_schedule.specs.Ranges.{IsScenario, AreInRange};
-ghost use Rattle.sp_schedule.specs.Readings.{IsInPlace};
+ghost use Rattle.sp_schedule.specs.Readings.{IsGoodStage};
 ghost use Rattle.sp_world.specs.Past.{IsShort};
 ghost use Rattle.sp_top.specs.Outputs.{IsWorldOf};
 
 use sp_base::Memory;
-use sp_schedule::{Place, Scenario, Timeline};
+use sp_schedule::{Scenario, Stage, Timeline};
 use sp_world::World;
 use std::alloc::Global;
 
 /// The world of the events that were read, or none where the header wasn't read whole.
-pub fn play(alloc: Global, place: Place) -> Result<Option<World>, Memory>
-    requires { IsInPlace place }
-    ensures of_place { IfOk result (IsWorldOf place) }
+pub fn play(alloc: Global, stage: Stage) -> Result<Option<World>, Memory>
+    requires { IsGoodStage stage }
+    ensures of_stage { IfOk result (IsWorldOf stage) }
     ensures short { IfOk result IsShort }
 {
-    match place {
-        Place::Events(scenario, events) => Ok(Some(play_all(alloc, scenario, events)?)),
-        Place::End(scenario, events) => Ok(Some(play_all(alloc, scenario, events)?)),
+    match stage {
+        Stage::Events(scenario, events) => Ok(Some(play_all(alloc, scenario, events)?)),
+        Stage::End(scenario, events) => Ok(Some(play_all(alloc, scenario, events)?)),
         _ => Ok(None),
     }
 }

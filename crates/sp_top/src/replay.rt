@@ -3,9 +3,10 @@ ghost use Rattle.std.specs.Prelude.{◌≡◌, ◌≢◌, ◌≤◌, ◌⊎◌, 
 ghost use Rattle.std.specs.String.{string_bytes};
 ghost use Rattle.sp_base.specs.declared.limits.TheConstants.{MAX_INPUT_BYTES};
 ghost use Rattle.sp_outside.specs.Causes.{Rose};
-ghost use Rattle.sp_top.specs.Outputs as outputs;
+ghost use Rattle.sp_top.specs.Played as played;
 ghost use Rattle.sp_top.specs.Outputs.{replay_words};
-ghost use Rattle.sp_top.specs.Claims.{Wrote, WorldClaims, IsPlayed};
+ghost use Rattle.sp_top.specs.Played.{IsPlayed};
+ghost use Rattle.sp_top.specs.Claims.{Wrote, WorldClaims};
 
 use crate::output::text_of;
 use crate::play::play;
@@ -64,7 +65,7 @@ fn read_and_run(alloc: Global, input: &Input) -> Result<Played, Memory>
 {
     let reading = read(alloc, &input.bytes, input.is_cut)?;
     let ending = reading.ending;
-    let world = play(alloc, reading.place)?;
+    let world = play(alloc, reading.stage)?;
     let text = text_of(alloc, &world, ending)?;
     claim(&world);
     Ok(Played {
@@ -85,7 +86,7 @@ fn claim(world: &Option<World>)
 }
 
 fn status_of(ending: Ending) -> Status
-    ensures { result ≡ outputs.status_of ending }
+    ensures { result ≡ played.status_of ending }
 {
     match ending {
         Ending::Whole => Status::Done,

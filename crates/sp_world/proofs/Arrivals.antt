@@ -3,9 +3,9 @@ use Rattle.std.proofs.Common.{◌≡◌, ℕ, false, List, length, Some, None}
 use Rattle.std.specs.Prelude.{◌==◌, ◌&&◌}
 use Rattle.std.specs.declared.option.Option.{Option}
 use Rattle.sp_journal.specs.declared.entry.AnswerWord.TheVariants as answers
-use Rattle.sp_rules.specs.Flow.{FlowState, judge_rel, is_full}
-use Rattle.sp_rules.specs.Rel.{RelState}
-use Rattle.sp_rules.proofs.FlowLemmas.{judged_new}
+use Rattle.sp_first.specs.Flow.{FlowState, judge_rel, is_full}
+use Rattle.sp_first.specs.Rel.{RelState}
+use Rattle.sp_first.proofs.FlowLemmas.{judged_new}
 use Rattle.sp_world.specs.declared.rel.Parcel.{Parcel}
 use Rattle.sp_world.specs.declared.rel.Parcel.TheVariants as parcels
 use Rattle.sp_world.specs.Judged.{IsJudged}

@@ -8,10 +8,10 @@ use Rattle.sp_schedule.specs.declared.event.Event.{Event}
 use Rattle.sp_schedule.specs.declared.event.Event.TheVariants as events
 use Rattle.sp_schedule.specs.Ranges.{IsScenario, InRange, is_poll, polls}
 use Rattle.sp_journal.specs.declared.entry.Entry.{Entry}
-use Rattle.sp_rules.specs.declared.frame.FrameValue.{FrameValue}
-use Rattle.sp_rules.specs.Node.{Node}
-use Rattle.sp_rules.specs.World.{Direction, Run, node_at_boot, frames_in, frame_in}
-use Rattle.sp_rules.proofs.RunLemmas.{node_place, frame_count}
+use Rattle.sp_first.specs.declared.frame.FrameValue.{FrameValue}
+use Rattle.sp_first.specs.Node.{Node}
+use Rattle.sp_first.specs.World.{Direction, Run, node_at_boot, frames_in, frame_in}
+use Rattle.sp_first.proofs.RunLemmas.{node_place, frame_count}
 use Rattle.sp_world.specs.Acts.{world, IsThere, CanAct}
 
 there : (s : Scenario) (es : List Event) (js : List Entry) (nodes : List Node) (directions : List Direction) (u : ℕ) → Run s es js (world nodes directions) → 1 ≤ u → u ≤ s.graph.nodes → IsThere nodes u

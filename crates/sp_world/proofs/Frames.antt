@@ -3,8 +3,8 @@ use Rattle.std.proofs.Common.{◌≡◌, ℕ, Bool, true, false, List, [], ◌�
 use Rattle.std.specs.Prelude.{◌==◌, ◌&&◌}
 use Rattle.std.specs.List.{position}
 use Rattle.sp_base.proofs.RowLemmas.{first_where-read, put_where-position, is_first}
-use Rattle.sp_rules.specs.declared.frame.FrameValue.{FrameValue}
-use Rattle.sp_rules.specs.World.{Direction, is_from_to, with_frame, frames_in}
+use Rattle.sp_first.specs.declared.frame.FrameValue.{FrameValue}
+use Rattle.sp_first.specs.World.{Direction, is_from_to, with_frame, frames_in}
 
 ends : (u v : ℕ) (d : Direction) → is_from_to u v d ≡ true → (d.from ≡ u) × (d.to ≡ v)
 ends u v d is = go (d.from == u) (d.to == v) refl refl is

@@ -3,11 +3,11 @@ use Rattle.std.specs.Prelude.{ℕ, ◌≡◌, ◌+◌, ◌-◌, ◌^◌, ◌<◌
 use Rattle.sp_base.specs.Rows.{IsFirstAt}
 use Rattle.sp_schedule.specs.declared.event.Event.{Event}
 use Rattle.sp_schedule.specs.declared.event.Event.TheVariants as events
-use Rattle.sp_rules.specs.declared.frame.FrameValue.{FrameValue}
-use Rattle.sp_rules.specs.Node.{Node}
-use Rattle.sp_rules.specs.World.{World, Direction, acting, is_me, frames_in, frame_in}
+use Rattle.sp_first.specs.declared.frame.FrameValue.{FrameValue}
+use Rattle.sp_first.specs.Node.{Node}
+use Rattle.sp_first.specs.World.{State, Direction, acting, is_me, frames_in, frame_in}
 
-abbrev pub world : List Node → List Direction → World
+abbrev pub world : List Node → List Direction → State
 world nodes directions = record { nodes = nodes; directions = directions }
 
 -- node u stands at place u - 1

@@ -5,13 +5,13 @@ use Rattle.sp_schedule.specs.declared.scenario.Scenario.{Scenario}
 use Rattle.sp_schedule.specs.declared.event.Event.{Event}
 use Rattle.sp_schedule.specs.Ranges.{IsScenario}
 use Rattle.sp_journal.specs.declared.entry.Entry.{Entry}
-use Rattle.sp_rules.specs.World.{World, Run, WorldStep, at_start}
+use Rattle.sp_first.specs.World.{State, Run, StateStep, at_start}
 
 pub record Past : Type 0 where
   pub scenario : Scenario
   pub events : List Event
   pub journal : List Entry
-  pub state : World
+  pub state : State
 
 -- the past is a run of its scenario
 pub record IsRun (p : Past) : Type 0 where
@@ -28,7 +28,7 @@ pub record GoesOn (old : Past) (event : Event) (new : Past) : Type 0 where
   pub scenario : new.scenario ≡ old.scenario
   pub events : new.events ≡ old.events ++ event ∷ []
   pub journal : new.journal ≡ old.journal ++ entry ∷ []
-  pub step : WorldStep old.state event entry new.state
+  pub step : StateStep old.state event entry new.state
 
 -- as long as a schedule may be
 abbrev pub IsShort : Option Past → Type 0

@@ -4,10 +4,10 @@ use Rattle.sp_journal.specs.declared.entry.AnswerWord.{AnswerWord}
 use Rattle.sp_journal.specs.declared.entry.AnswerWord.TheVariants as answers
 use Rattle.sp_journal.specs.declared.entry.Effect.{Effect}
 use Rattle.sp_journal.specs.declared.entry.Entry.{Entry}
-use Rattle.sp_rules.specs.Flow.{is_full, admit_rel}
-use Rattle.sp_rules.specs.Link.{heard}
-use Rattle.sp_rules.specs.Rel.{RelState, with_flow, reported}
-use Rattle.sp_rules.specs.Node.{Node, Output, Says}
+use Rattle.sp_first.specs.Flow.{is_full, admit_rel}
+use Rattle.sp_first.specs.Link.{heard}
+use Rattle.sp_first.specs.Rel.{RelState, with_flow, reported}
+use Rattle.sp_first.specs.Node.{Node, Output, Says}
 use Rattle.sp_world.specs.declared.rel.Parcel.{Parcel}
 use Rattle.sp_world.specs.declared.rel.Parcel.TheVariants as parcels
 

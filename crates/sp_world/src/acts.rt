@@ -1,6 +1,6 @@
 // One event at its acting node, with the frames of all directions.
 ghost use Rattle.std.specs.Prelude.{◌≡◌, IfOk, OnErr};
-ghost use Rattle.sp_rules.specs.World.{WorldStep};
+ghost use Rattle.sp_first.specs.World.{StateStep};
 ghost use Rattle.sp_world.specs.Acts.{world, IsThere, IsGiven, CanAct};
 
 use crate::directions::Directions;
@@ -18,7 +18,7 @@ pub fn act(
     event: &Event,
 ) -> Result<Entry, Memory>
     requires { CanAct nodes.old.items directions.old event.now }
-    ensures ok { IfOk result (λ entry. WorldStep (world nodes.old.items directions.old) event.now entry (world nodes.new.items directions.new)) }
+    ensures ok { IfOk result (λ entry. StateStep (world nodes.old.items directions.old) event.now entry (world nodes.new.items directions.new)) }
     ensures nodes { OnErr result (nodes.new.items ≡ nodes.old.items) }
     ensures directions { OnErr result (directions.new ≡ directions.old) }
 {
@@ -39,7 +39,7 @@ fn send(
     payload: &Bytes,
 ) -> Result<Entry, Memory>
     requires { IsThere nodes.old.items s.0 }
-    ensures ok { IfOk result (λ entry. WorldStep (world nodes.old.items directions.now) (Event.Rel s d payload.now) entry (world nodes.new.items directions.now)) }
+    ensures ok { IfOk result (λ entry. StateStep (world nodes.old.items directions.now) (Event.Rel s d payload.now) entry (world nodes.new.items directions.now)) }
     ensures err { OnErr result (nodes.new.items ≡ nodes.old.items) }
 {
     let node = &mut nodes[s.0 as usize - 1];
@@ -54,7 +54,7 @@ fn take(
     s: NodeId,
 ) -> Entry
     requires { IsThere nodes.old.items d.0 }
-    ensures { WorldStep (world nodes.old.items directions.now) (Event.Take d s) result (world nodes.new.items directions.now) }
+    ensures { StateStep (world nodes.old.items directions.now) (Event.Take d s) result (world nodes.new.items directions.now) }
 {
     let node = &mut nodes[d.0 as usize - 1];
     node.take(alloc)
@@ -69,7 +69,7 @@ fn poll(
 ) -> Result<Entry, Memory>
     requires there { IsThere nodes.old.items u.0 }
     requires given { IsGiven directions.old (Event.Poll u v) }
-    ensures ok { IfOk result (λ entry. WorldStep (world nodes.old.items directions.old) (Event.Poll u v) entry (world nodes.new.items directions.new)) }
+    ensures ok { IfOk result (λ entry. StateStep (world nodes.old.items directions.old) (Event.Poll u v) entry (world nodes.new.items directions.new)) }
     ensures nodes { OnErr result (nodes.new.items ≡ nodes.old.items) }
     ensures directions { OnErr result (directions.new ≡ directions.old) }
 {
@@ -94,7 +94,7 @@ fn pass(
 ) -> Result<Entry, Memory>
     requires there { IsThere nodes.old.items v.0 }
     requires given { IsGiven directions.now (Event.Pass u v number) }
-    ensures ok { IfOk result (λ entry. WorldStep (world nodes.old.items directions.now) (Event.Pass u v number) entry (world nodes.new.items directions.now)) }
+    ensures ok { IfOk result (λ entry. StateStep (world nodes.old.items directions.now) (Event.Pass u v number) entry (world nodes.new.items directions.now)) }
     ensures err { OnErr result (nodes.new.items ≡ nodes.old.items) }
 {
     let node = &mut nodes[v.0 as usize - 1];

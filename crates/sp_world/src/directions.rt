@@ -1,10 +1,10 @@
 // All frames of a world by their direction, so that a frame is found by its direction and number alone.
 ghost use Rattle.std.specs.Prelude.{◌≡◌, ◌∷◌, ◌++◌, [], OnOk, OnErr, position};
 ghost use Rattle.std.specs.Option.{option_copied};
-ghost use Rattle.sp_rules.specs.World.{is_from_to, frames_in, frame_in, with_frame};
+ghost use Rattle.sp_first.specs.World.{is_from_to, frames_in, frame_in, with_frame};
 
 use sp_base::{Listed, Memory, NodeId};
-use sp_rules::FrameValue;
+use sp_first::FrameValue;
 use std::alloc::Global;
 use std::marker::Model;
 
@@ -17,7 +17,7 @@ struct Direction {
 }
 
 impl Model for Direction {
-    ghost use Rattle.sp_rules.specs.World as world;
+    ghost use Rattle.sp_first.specs.World as world;
 
     ghost Value = { world.Direction };
 
@@ -31,7 +31,7 @@ pub struct Directions {
 
 impl Model for Directions {
     ghost use Rattle.std.specs.Prelude.{List};
-    ghost use Rattle.sp_rules.specs.World as world;
+    ghost use Rattle.sp_first.specs.World as world;
 
     ghost Value = { List world.Direction };
 

@@ -1,6 +1,6 @@
 // The links of one node: for each neighbour the number of its last fresh frame.
 ghost use Rattle.std.specs.Prelude.{◌≡◌, ℕ, List, IfOk, map, position};
-ghost use Rattle.sp_rules.specs.Link.{is_link, new_link, link_in, link_answer, heard};
+ghost use Rattle.sp_first.specs.Link.{is_link, new_link, link_in, link_answer, heard};
 
 use sp_base::{Memory, NodeId};
 use sp_journal::LinkWord;
@@ -14,7 +14,7 @@ struct Link {
 }
 
 impl Model for Link {
-    ghost use Rattle.sp_rules.specs.Link as link;
+    ghost use Rattle.sp_first.specs.Link as link;
 
     ghost Value = { link.Link };
 
@@ -30,7 +30,7 @@ pub struct Links {
 
 impl Model for Links {
     ghost use Rattle.std.specs.Prelude.{List};
-    ghost use Rattle.sp_rules.specs.Link as link;
+    ghost use Rattle.sp_first.specs.Link as link;
 
     ghost Value = { List link.Link };
 

@@ -1,6 +1,6 @@
 // The neighbours of a node in a graph.
 ghost use Rattle.std.specs.Prelude.{◌≡◌, IfOk, map};
-ghost use Rattle.sp_rules.specs.World.{neighbours, other_end};
+ghost use Rattle.sp_first.specs.World.{neighbours, other_end};
 
 use sp_base::{Memory, NodeId};
 use sp_schedule::Edge;

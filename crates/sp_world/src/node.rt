@@ -1,14 +1,14 @@
 // One node: each call is one case of its step by the rules.
 ghost use Rattle.std.specs.Prelude.{◌≡◌, ◌∷◌, [], IfOk, OnErr, map};
-ghost use Rattle.sp_rules.specs.Node.{NodeStep, Send, Take, Arrive, booted, with_rel};
-ghost use Rattle.sp_rules.specs.Rel.{frame_to, served};
+ghost use Rattle.sp_first.specs.Node.{NodeStep, Send, Take, Arrive, booted, with_rel};
+ghost use Rattle.sp_first.specs.Rel.{frame_to, served};
 ghost use Rattle.sp_world.specs.Steps.{output_of_entry, heard_node, CanAdmit, after_parcel, effects_of_parcel, answer_of};
 
 use crate::links::Links;
 use crate::rel::{Parcel, Rel};
 use sp_base::{Bytes, Flow, Listed, Memory, NodeId};
+use sp_first::FrameValue;
 use sp_journal::{AnswerWord, Entry, ItemWord, LinkWord, Reply};
-use sp_rules::FrameValue;
 use std::alloc::Global;
 use std::marker::Model;
 
@@ -20,7 +20,7 @@ pub struct Node {
 }
 
 impl Model for Node {
-    ghost use Rattle.sp_rules.specs.Node as node;
+    ghost use Rattle.sp_first.specs.Node as node;
 
     ghost Value = { node.Node };
 

@@ -1,14 +1,14 @@
 // Reliable messaging at one node: its flow, and what it keeps of its neighbours.
 ghost use Rattle.std.specs.Prelude.{◌≡◌, ◌==◌, ◌&&◌, ◌<◌, ◌^◌, List, false, IfOk, map, slice_get, length};
-ghost use Rattle.sp_rules.specs.Flow.{no_flow, is_full, pushed, after_take, message_for, judge_rel, admit_rel, delivery, send_refusal};
-ghost use Rattle.sp_rules.specs.Rel.{new_peer, with_flow, frame_to, served, reported};
+ghost use Rattle.sp_first.specs.Flow.{no_flow, is_full, pushed, after_take, message_for, judge_rel, admit_rel, delivery, send_refusal};
+ghost use Rattle.sp_first.specs.Rel.{new_peer, with_flow, frame_to, served, reported};
 ghost use Rattle.sp_world.specs.Judged.{IsJudged};
 
 use crate::rel_peers::{RelPeer, RelPeers};
-use sp_base::{Bytes, Flow, Listed, Memory, NodeId};
+use sp_base::{Bytes, Flow, Listed, Memory, NodeId, push_in_room};
+use sp_first::FrameValue;
 use sp_flow::FlowBuf;
 use sp_journal::{AnswerWord, Effect, Effects, Reply};
-use sp_rules::FrameValue;
 use std::alloc::Global;
 use std::marker::Model;
 
@@ -36,7 +36,7 @@ pub enum Parcel {
 
 impl Model for Rel {
     ghost use Rattle.std.specs.Prelude.{◌+◌, length, vec_capacity};
-    ghost use Rattle.sp_rules.specs.Rel as rel;
+    ghost use Rattle.sp_first.specs.Rel as rel;
 
     ghost Value = { rel.RelState };
 
@@ -142,7 +142,7 @@ impl Rel {
     }
 
     /// A copy of the message that a neighbour wants, with its number.
-    #[tactic(auto, using(sp_rules::proofs::PositionLemmas::message_past))]
+    #[tactic(auto, using(sp_base::proofs::PositionLemmas::message_past))]
     fn message_for(
         &self,
         alloc: Global,
@@ -251,7 +251,7 @@ impl Rel {
         Ok(Listed::from_vec(effects))
     }
 
-    /// Takes a new message: into the inbox at the destination, behind the others elsewhere.
+    /// Takes a new message: into the inbox at the destination, after the others elsewhere.
     pub fn admit(&mut self, me: NodeId, payload: Bytes)
         requires room { is_full self.old.bound self.old.flow ≡ false }
         requires inbox { (me.0 == self.old.flow.dst) && (length self.old.flow.inbox == self.old.bound) ≡ false }
@@ -260,10 +260,7 @@ impl Rel {
         if me == self.ends.dst {
             self.is_active = true;
             self.passed += 1;
-            match self.inbox.push(payload) {
-                Ok(()) => {}
-                Err(_) => unreachable!(),
-            }
+            push_in_room(&mut self.inbox, payload);
         } else {
             self.push(payload);
         }

@@ -1,6 +1,6 @@
 // What one node keeps of its neighbours for reliable messaging: what each reported, and where its cycle of service stands.
 ghost use Rattle.std.specs.Prelude.{◌≡◌, ℕ, List, Option, IfOk, map, position};
-ghost use Rattle.sp_rules.specs.Rel.{is_peer, new_peer, peer_in, put_peer};
+ghost use Rattle.sp_first.specs.Rel.{is_peer, new_peer, peer_in, put_peer};
 
 use sp_base::{Cursor, Memory, NodeId};
 use std::alloc::Global;
@@ -15,7 +15,7 @@ pub struct RelPeer {
 }
 
 impl Model for RelPeer {
-    ghost use Rattle.sp_rules.specs.Rel as rel;
+    ghost use Rattle.sp_first.specs.Rel as rel;
 
     ghost Value = { rel.RelPeer };
 
@@ -31,7 +31,7 @@ pub struct RelPeers {
 
 impl Model for RelPeers {
     ghost use Rattle.std.specs.Prelude.{List};
-    ghost use Rattle.sp_rules.specs.Rel as rel;
+    ghost use Rattle.sp_first.specs.Rel as rel;
 
     ghost Value = { List rel.RelPeer };
 

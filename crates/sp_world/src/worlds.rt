@@ -3,16 +3,17 @@ ghost use Rattle.std.specs.Prelude.{◌≡◌, ◌<◌, ◌∷◌, ◌++◌, [],
 ghost use Rattle.std.specs.Option.{option_copied};
 ghost use Rattle.sp_base.specs.declared.limits.TheConstants.{MAX_EVENTS};
 ghost use Rattle.sp_schedule.specs.Ranges.{IsScenario, InRange};
-ghost use Rattle.sp_rules.specs.World.{frame_in, node_at_boot, numbers_from};
+ghost use Rattle.std.specs.List.{range_with_len};
+ghost use Rattle.sp_first.specs.World.{frame_in, node_at_boot};
 ghost use Rattle.sp_world.specs.Past.{IsRun, GoesOn, before_all};
 
 use crate::acts::act;
 use crate::directions::Directions;
 use crate::neighbours::neighbours;
 use crate::node::Node;
-use sp_base::{Flow, Memory, NodeId};
+use sp_base::{Flow, Memory, NodeId, push_in_room};
+use sp_first::FrameValue;
 use sp_journal::Entry;
-use sp_rules::FrameValue;
 use sp_schedule::{Event, Scenario};
 use std::alloc::Global;
 use std::marker::Model;
@@ -63,8 +64,8 @@ impl World {
         self.events.reserve(1)?;
         self.journal.reserve(1)?;
         let entry = act(alloc, &mut self.nodes, &mut self.directions, &event)?;
-        put(&mut self.events, event);
-        put(&mut self.journal, entry);
+        push_in_room(&mut self.events, event);
+        push_in_room(&mut self.journal, entry);
         Ok(())
     }
 
@@ -101,7 +102,7 @@ impl World {
 
 /// Every node at its start, from the first on.
 fn all_nodes(alloc: Global, scenario: &Scenario) -> Result<Vec<Node>, Memory>
-    ensures { IfOk result (λ nodes. nodes.items ≡ map (node_at_boot scenario.now) (numbers_from 1 scenario.now.graph.nodes)) }
+    ensures { IfOk result (λ nodes. nodes.items ≡ map (node_at_boot scenario.now) (range_with_len 1 scenario.now.graph.nodes)) }
 {
     let count = scenario.graph.nodes;
     let ends = Flow {
@@ -116,15 +117,4 @@ fn all_nodes(alloc: Global, scenario: &Scenario) -> Result<Vec<Node>, Memory>
         nodes.push(Node::boot(alloc, me, scenario.limits.buffer, ends, &found)?)?;
     }
     Ok(nodes)
-}
-
-/// Adds an item for which there is room.
-fn put<T: Drop>(items: &mut Vec<T>, item: T)
-    requires { vec_len items.old < vec_capacity items.old }
-    ensures { items.new.items ≡ items.old.items ++ item ∷ [] }
-{
-    match items.push(item) {
-        Ok(()) => {}
-        Err(_) => unreachable!(),
-    }
 }

@@ -1,16 +1,16 @@
 // Sources and sinks that fail, at their first call and in mid-stream.
-use crate::first_message::{JOURNAL, SCHEDULE};
-use crate::over_memory::{assert_reads, assert_sends};
 use sp_outside::{MemorySource, PlannedSink, PlannedSource};
 use std::alloc::Global;
 use std::process::Abort;
 use std::test::Fail;
+use test_kit::first_message::{JOURNAL, SCHEDULE};
+use test_kit::over_memory::{reads, sends};
 
 /// A source that fails at the read of this number, counted from 0.
 fn assert_source_fault(rt: &impl Abort, alloc: Global, failing: u64) -> Result<(), Fail> {
     let calls = [failing];
     let mut source = PlannedSource::new(SCHEDULE.as_bytes(), 16, &calls);
-    let outcome = assert_reads(rt, alloc, &["replay"], &mut source, 5, "", &failing)?;
+    let outcome = reads(alloc, &["replay"], &mut source, 5, "")?;
     assert!(rt; outcome.world.is_none(), "at read {failing}");
     Ok(())
 }
@@ -33,15 +33,12 @@ fn assert_sink_fault(
     let calls = [failing];
     let mut source = MemorySource::new(SCHEDULE.as_bytes());
     let mut sink = PlannedSink::new(alloc, 8, &calls);
-    assert_sends(
-        rt,
-        alloc,
+    sends(alloc,
         &["replay"],
         &mut source,
         &mut sink,
         6,
         written,
-        &failing,
     )?;
     assert!(rt; JOURNAL.starts_with(written), "at write {failing}");
     Ok(())

@@ -1,10 +1,6 @@
-//! Replays as tests: worked schedules with their journals, texts that are refused, and an outside that fails.
+//! Replays as tests: stories with their journals, the borders of what is good, words that are no command, and an outside that fails.
 #![tactic(auto)]
 
-#[cfg(test)]
-mod bad_events;
-#[cfg(test)]
-mod bad_headers;
 #[cfg(test)]
 mod borders;
 #[cfg(test)]
@@ -12,10 +8,6 @@ mod faults;
 #[cfg(test)]
 mod first_message;
 #[cfg(test)]
-mod over_memory;
-#[cfg(test)]
-mod too_long;
+mod stories;
 #[cfg(test)]
 mod words;
-#[cfg(test)]
-mod worked_runs;

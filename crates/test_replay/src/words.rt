@@ -1,9 +1,9 @@
 // Words that are no command. The source isn't read: here its first read would fail.
-use crate::over_memory::{assert_reads, assert_sends};
 use sp_outside::{PlannedSink, PlannedSource};
 use std::alloc::Global;
 use std::process::Abort;
 use std::test::Fail;
+use test_kit::over_memory::{reads, sends};
 
 /// How many rows `no_command` has.
 const ROWS: u32 = 6;
@@ -24,7 +24,7 @@ fn no_command(row: u32) -> Option<&'static [&'static str]> {
 /// These words must be a usage fault.
 fn assert_usage_fault(rt: &impl Abort, alloc: Global, words: &[&str]) -> Result<(), Fail> {
     let mut source = PlannedSource::new(b"", 1, &[0]);
-    let outcome = assert_reads(rt, alloc, words, &mut source, 2, "usage\n", &words)?;
+    let outcome = reads(alloc, words, &mut source, 2, "usage\n")?;
     assert!(rt; outcome.world.is_none(), "for {words:?}");
     Ok(())
 }
@@ -38,16 +38,16 @@ fn words_that_are_no_command_are_a_usage_fault(rt: HostRuntime) -> Result<(), Fa
 }
 
 /// These words must be a fault of a sink whose first write fails.
-fn assert_sink_fault(rt: &impl Abort, alloc: Global, words: &[&str]) -> Result<(), Fail> {
+fn is_sink_fault(alloc: Global, words: &[&str]) -> Result<(), Fail> {
     let mut source = PlannedSource::new(b"", 1, &[0]);
     let mut sink = PlannedSink::new(alloc, 8, &[0]);
-    assert_sends(rt, alloc, words, &mut source, &mut sink, 6, "", &words)
+    sends(alloc, words, &mut source, &mut sink, 6, "")
 }
 
 #[test]
 fn a_usage_fault_that_cannot_be_told_is_a_fault_of_the_sink(rt: HostRuntime) -> Result<(), Fail> {
     for row in 0..ROWS {
-        assert_sink_fault(&rt, rt.alloc(), no_command(row).ok_or("no words")?)?;
+        is_sink_fault(rt.alloc(), no_command(row).ok_or("no words")?)?;
     }
     Ok(())
 }

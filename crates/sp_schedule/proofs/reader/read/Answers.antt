@@ -1,5 +1,5 @@
 use Rattle.std.proofs.Common.{arith}
-use Rattle.sp_schedule.proofs.PlaceLemmas.{in_place}
+use Rattle.sp_schedule.proofs.StageLemmas.{good_stage}
 use Rattle.sp_schedule.proofs.ReadLemmas.{none_so_far, one_more_so_far, shorter, stays, stops_at_line}
 use Rattle.sp_schedule.proofs.reader.read.Goals as goal
 
@@ -16,11 +16,11 @@ lines-preserved c =
 
 pub returns-in-Bad-clause-reading : goal.returns-in-Bad-clause-reading
 returns-in-Bad-clause-reading c =
-    stops_at_line _ _ _ _ c.lines.invariant.good c.in-Some.ensures.found c.in_ok-next.ensures c.in-Bad.is c.requires _ c.refused.ensures.place c.refused.ensures.ending
+    stops_at_line _ _ _ _ c.lines.invariant.good c.in-Some.ensures.found c.in_ok-next.ensures c.in-Bad.is c.requires _ c.refused.ensures.stage c.refused.ensures.ending
 
-pub returns-in-Bad-clause-in_place : goal.returns-in-Bad-clause-in_place
-returns-in-Bad-clause-in_place c =
-    rw (c.refused.ensures.place, stays _ _ _ _ c.in_ok-next.ensures c.in-Bad.is) (in_place c.lines.invariant.good.begins)
+pub returns-in-Bad-clause-good_stage : goal.returns-in-Bad-clause-good_stage
+returns-in-Bad-clause-good_stage c =
+    rw (c.refused.ensures.stage, stays _ _ _ _ c.in_ok-next.ensures c.in-Bad.is) (good_stage c.lines.invariant.good.begins)
 
-pub returns-clause-in_place : goal.returns-clause-in_place
-returns-clause-in_place c = in_place c.lines.invariant.good.begins
+pub returns-clause-good_stage : goal.returns-clause-good_stage
+returns-clause-good_stage c = good_stage c.lines.invariant.good.begins

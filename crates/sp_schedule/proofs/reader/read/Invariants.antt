@@ -5,7 +5,7 @@ use Rattle.sp_schedule.proofs.reader.read.Given as goal
 
 abbrev pub invariant-lines : goal.invariant-lines
 invariant-lines l = record {
-  good : GoodSoFar l.text l.rest l.place l.count;
+  good : GoodSoFar l.text l.rest l.stage l.count;
   fits : l.count + length l.rest ≤ MAX_INPUT_BYTES;
 }
 

@@ -1,5 +1,5 @@
 use Rattle.std.proofs.Common.{ap, ◌∙◌, length}
-use Rattle.sp_rules.specs.declared.frame.FrameValue.{FrameValue}
+use Rattle.sp_first.specs.declared.frame.FrameValue.{FrameValue}
 use Rattle.std.specs.Prelude.{List}
 use Rattle.sp_world.proofs.Acted.{polled}
 use Rattle.sp_world.proofs.acts.poll.Goals as goal

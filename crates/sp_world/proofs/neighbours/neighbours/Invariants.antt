@@ -1,6 +1,6 @@
 use Rattle.std.proofs.Common.{◌≡◌, map, take}
 use Rattle.std.specs.List.{flat_map}
-use Rattle.sp_rules.specs.World.{other_end}
+use Rattle.sp_first.specs.World.{other_end}
 use Rattle.sp_world.proofs.neighbours.neighbours.Given as goal
 
 abbrev pub invariant-edges : goal.invariant-edges

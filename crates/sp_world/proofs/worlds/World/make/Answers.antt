@@ -1,4 +1,4 @@
-use Rattle.sp_rules.specs.World.{Begins}
+use Rattle.sp_first.specs.World.{Begins}
 use Rattle.sp_world.proofs.worlds.World.make.Goals as goal
 
 pub invariant_of-result : goal.invariant_of-result

@@ -1,4 +1,0 @@
-pub mod FlowLemmas
-pub mod PositionLemmas
-pub mod RunLemmas
-pub mod StepLemmas
