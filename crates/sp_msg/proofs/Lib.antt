@@ -1,0 +1,5 @@
+pub mod EncodedIsRead
+pub mod EncodingLemmas
+pub mod FieldLemmas
+pub mod MaskLemmas
+pub mod ReadIsEncoded

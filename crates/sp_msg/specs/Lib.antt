@@ -1,0 +1,5 @@
+pub mod Bodies
+pub mod Caused
+pub mod Fields
+pub mod Laws
+pub mod Views

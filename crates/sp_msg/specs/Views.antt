@@ -1,0 +1,36 @@
+-- Messages as values: a borrowed one read as one of its own, and what it names.
+use Rattle.std.specs.Prelude.{ℕ, ◌==◌, Bool}
+use Rattle.std.specs.Int.{bit_at}
+use Rattle.sp_base.specs.declared.id.NodeId.{NodeId}
+use Rattle.sp_msg.specs.declared.body.Body.{Body}
+use Rattle.sp_msg.specs.declared.body.Body.TheVariants as bodies
+use Rattle.sp_msg.specs.declared.body.BodyRef.{BodyRef}
+use Rattle.sp_msg.specs.declared.body.BodyRef.TheVariants as borrowed
+use Rattle.sp_msg.specs.declared.body.Prio.{Prio}
+use Rattle.sp_msg.specs.declared.body.PrioRef.{PrioRef}
+use Rattle.sp_msg.specs.declared.body.Rel.{Rel}
+use Rattle.sp_msg.specs.declared.body.RelRef.{RelRef}
+
+abbrev pub as_prio : PrioRef → Prio
+as_prio p = record { src = p.src; dst = p.dst; seq = p.seq; prio = p.prio; expiry = p.expiry; mask = p.mask; payload = p.payload.now }
+
+abbrev pub as_rel : RelRef → Rel
+as_rel r = record { src = r.src; dst = r.dst; seq = r.seq; payload = r.payload.now }
+
+-- the message, wherever its payload lies
+abbrev pub as_body : BodyRef → Body
+as_body (borrowed.Prio p) = bodies.Prio (as_prio p)
+as_body (borrowed.Rel r) = bodies.Rel (as_rel r)
+as_body (borrowed.Ack a) = bodies.Ack a
+as_body (borrowed.Weight w) = bodies.Weight w
+
+-- the node whose signature a message bears
+abbrev pub signer_of : Body → NodeId
+signer_of (bodies.Prio p) = p.src
+signer_of (bodies.Rel r) = r.src
+signer_of (bodies.Ack a) = a.dst
+signer_of (bodies.Weight w) = w.origin
+
+-- a mask names an edge by its bit, counted from the least
+abbrev pub names_edge : ℕ → ℕ → Bool
+names_edge mask edge = bit_at mask edge == 1
