@@ -4,7 +4,7 @@ use Rattle.std.specs.Int.{byte_at, bytes_high_first}
 use Rattle.std.proofs.Math.Seq.{drop-append_seam, take-append_seam}
 use Rattle.std.proofs.lemmas.Bool.{cases_Bool}
 use Rattle.std.proofs.lemmas.Bool.Decides.{nat_tests}
-use Rattle.std.proofs.lemmas.List.Elements.{All-cons, All-drop, All-head, All-nil, All-tail, All-take}
+use Rattle.std.proofs.lemmas.List.Elements.{All-cons, All-drop, All-from_get_or, All-head, All-nil, All-tail, All-take}
 use Rattle.std.proofs.lemmas.Nat.{div-mul-add, mod-mul-add}
 use Rattle.byteorder.specs.Endian.{big_bytes, big_from, big_number}
 use Rattle.byteorder.specs.Numbers.{big_from-cons, big_from-lt, big_from-take, big_number-reads_back, length-bytes_high_first}
@@ -18,6 +18,10 @@ pub byte_at_place : (bytes : List ℕ) → AreBytes bytes → (k : ℕ) → slic
 byte_at_place [] are k = lit< tt
 byte_at_place (b ∷ bytes) are zero = All-head (λ b. b < 256) b bytes are
 byte_at_place (b ∷ bytes) are (suc k) = byte_at_place bytes (All-tail (λ b. b < 256) b bytes are) k
+
+-- a list with a byte at each place is bytes: what the type of a slice says, by `λ i. (c.type_inv.x i).fits`
+pub AreBytes-from_places : (bytes : List ℕ) → ((k : ℕ) → slice_index bytes k < 256) → AreBytes bytes
+AreBytes-from_places bytes each = All-from_get_or (λ b. b < 256) bytes 0 (λ k below. each k)
 
 byte_small : (i x : ℕ) → byte_at i x < 256
 byte_small zero x = omega arith
