@@ -1,16 +1,20 @@
 -- What is read is encoded by the bytes that were read.
-use Rattle.std.proofs.Common.{◌≡◌, ℕ, ◌==◌, false, inl, inr, List, [], ◌∷◌, ◌++◌, length, append_assoc, append-nil, Ok, Err, if◌then◌else◌, refl, sym, ap, ◌∙◌, subst, arith}
+use Rattle.std.proofs.Common.{◌≡◌, ℕ, ◌==◌, false, inl, inr, List, [], ◌∷◌, ◌++◌, length, append_assoc, append-nil, Result, Ok, Err, if◌then◌else◌, refl, sym, ap, ◌∙◌, subst, arith}
+use Rattle.std.specs.Prelude.{IfOk}
 use Rattle.std.proofs.lemmas.Bool.{cases_Bool, eqb-true, ne_eqb}
 use Rattle.byteorder.specs.Endian.{big_bytes}
 use Rattle.sp_base.specs.Reading.{number_at, piece_at}
-use Rattle.sp_base.specs.Refusals.{◌>>=◌, as_refusal}
+use Rattle.sp_base.specs.Refusals.{◌>>=◌, Gives, as_refusal}
 use Rattle.sp_base.specs.Spelling.{AreBytes}
 use Rattle.sp_base.proofs.NumberLemmas.{BeginsWithPiece, number_read, piece_read}
 use Rattle.sp_base.proofs.RefusalLemmas.{as_refusal_ok, then_ok}
 use Rattle.sp_msg.specs.declared.body.Body.{Body}
 use Rattle.sp_msg.specs.declared.body.Body.TheVariants as bodies
 use Rattle.sp_msg.specs.declared.body.TheConstants.{PRIO, REL, ACK, WEIGHT}
+use Rattle.sp_msg.specs.declared.body.BodyRef.{BodyRef}
+use Rattle.sp_msg.specs.declared.refused.MsgRefused.{MsgRefused}
 use Rattle.sp_msg.specs.declared.refused.MsgRefused.TheVariants as refusals
+use Rattle.sp_msg.specs.Views.{as_body}
 use Rattle.sp_msg.specs.Bodies.{HasGoodFields, ack_fields, ack_from, body_at, body_of_kind, encoded, fields_of, kind_of, last_of, numbers_of, of_fields, payload_of, prio_fields, prio_from, read_body, rel_fields, rel_from, weight_fields, weight_from, with_payload}
 use Rattle.sp_msg.specs.Fields.{AreInRange, Rule, fields_at, spelled}
 use Rattle.sp_msg.specs.Laws.{FrontIsEncoded, ReadIsEncoded}
@@ -215,3 +219,8 @@ unfolding read_body
 read_is_encoded bytes body are e =
     let s = then_ok (body_at bytes) (λ found. if length found.1 == 0 then Ok found.0 else Err refusals.Tail) body e in
     is_whole bytes s.0.0 body s.0.1 (front_is_encoded bytes s.0.0 s.0.1 are s.1) s.2
+
+-- what a call read has its fields in their ranges
+pub read_is_good : (result : Result BodyRef MsgRefused) (bytes : List ℕ) → AreBytes bytes → Gives as_body result (read_body bytes) → IfOk result (λ body. HasGoodFields (as_body body))
+read_is_good (Ok body) bytes are gives = (read_is_encoded bytes (as_body body) are gives).1
+read_is_good (Err e) bytes are gives = tt

@@ -1,7 +1,7 @@
 // The message that bytes are, read from the left; its payload is borrowed from them.
-ghost use Rattle.std.specs.Prelude.{◌-◌, ◌^◌};
+ghost use Rattle.std.specs.Prelude.{IfOk, ◌-◌, ◌^◌};
 ghost use Rattle.sp_base.specs.Refusals.{Gives};
-ghost use Rattle.sp_msg.specs.Bodies.{ack_fields, ack_from, prio_fields, prio_from, read_body, rel_fields, rel_from, of_fields, weight_fields, weight_from, with_payload};
+ghost use Rattle.sp_msg.specs.Bodies.{HasGoodFields, ack_fields, ack_from, prio_fields, prio_from, read_body, rel_fields, rel_from, of_fields, weight_fields, weight_from, with_payload};
 ghost use Rattle.sp_msg.specs.Fields.{field_at, free, ranged};
 ghost use Rattle.sp_msg.specs.Views.{as_body};
 ghost use Rattle.sp_msg.specs.declared.body.BodyRef.TheVariants as borrowed;
@@ -15,23 +15,30 @@ use sp_base::{
 
 impl<'a> BodyRef<'a> {
     /// The message that all of these bytes are, or what is first wrong from the left. It takes no memory.
-    #[tactic(auto, unfolding(crate::specs::Bodies::read_body, crate::specs::Bodies::body_at))]
     pub fn read(bytes: &'a [u8]) -> Result<BodyRef<'a>, MsgRefused>
-        ensures { Gives as_body result (read_body bytes.now) }
+        ensures read { Gives as_body result (read_body bytes.now) }
+        ensures fields { IfOk result (λ body. HasGoodFields (as_body body)) }
     {
-        let mut reader = Reader::new(bytes);
-        let body = match reader.u8()? {
-            PRIO => BodyRef::Prio(prio_at(&mut reader)?),
-            REL => BodyRef::Rel(rel_at(&mut reader)?),
-            ACK => BodyRef::Ack(ack_at(&mut reader)?),
-            WEIGHT => BodyRef::Weight(weight_at(&mut reader)?),
-            _ => return Err(MsgRefused::Kind),
-        };
-        if reader.left() != 0 {
-            return Err(MsgRefused::Tail);
-        }
-        Ok(body)
+        whole_body(bytes)
     }
+}
+
+#[tactic(auto, unfolding(crate::specs::Bodies::read_body, crate::specs::Bodies::body_at))]
+fn whole_body<'a>(bytes: &'a [u8]) -> Result<BodyRef<'a>, MsgRefused>
+    ensures { Gives as_body result (read_body bytes.now) }
+{
+    let mut reader = Reader::new(bytes);
+    let body = match reader.u8()? {
+        PRIO => BodyRef::Prio(prio_at(&mut reader)?),
+        REL => BodyRef::Rel(rel_at(&mut reader)?),
+        ACK => BodyRef::Ack(ack_at(&mut reader)?),
+        WEIGHT => BodyRef::Weight(weight_at(&mut reader)?),
+        _ => return Err(MsgRefused::Kind),
+    };
+    if reader.left() != 0 {
+        return Err(MsgRefused::Tail);
+    }
+    Ok(body)
 }
 
 #[tactic(auto, unfolding(crate::specs::Bodies::with_payload, sp_base::specs::Reading::piece_at))]
