@@ -1,0 +1,5 @@
+//! The formats held against values that were made outside the project.
+#![tactic(auto)]
+
+#[cfg(test)]
+mod bodies;
