@@ -5,6 +5,7 @@
 mod document;
 mod fault;
 mod height;
+mod key;
 mod laws;
 mod neighbours;
 mod read;

@@ -1,0 +1,13 @@
+-- When a signature counts: where the signer has a key, and it is valid under that key.
+use Rattle.std.specs.Prelude.{ℕ, List, Option, Some, None}
+use Rattle.sp_hss.specs.Validity.{IsValid}
+
+-- the signer has a key, and the signature is valid for the message under it
+abbrev pub IsSigned : Option (List ℕ) → List ℕ → List ℕ → Type 0
+IsSigned None message signature = ⊥
+IsSigned (Some key) message signature = IsValid key message signature
+
+-- the signer has a key, and the signature isn't valid for the message under it
+abbrev pub IsForged : Option (List ℕ) → List ℕ → List ℕ → Type 0
+IsForged None message signature = ⊥
+IsForged (Some key) message signature = ¬ (IsValid key message signature)

@@ -1,0 +1,13 @@
+//! Signatures of nodes: a node signs messages under its own key, and a signature counts exactly where it is valid under the key that the
+//! topology has for the message's signer.
+#![tactic(auto)]
+
+mod blank;
+mod checking;
+mod refused;
+mod signer;
+
+pub use blank::Blank;
+pub use checking::{check, check_topology};
+pub use refused::SignRefused;
+pub use signer::NodeSigner;
