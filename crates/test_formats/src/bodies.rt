@@ -1,12 +1,16 @@
 // Messages held against rows that another program's table of fields gave: good ones, refused ones, and each cut of four.
+ghost use Rattle.sp_msg.specs.Bodies.{HasGoodFields};
+ghost use Rattle.sp_msg.specs.Views.{as_body};
+
 use hex::decode;
 use sha2::{Digest, Sha256};
-use sp_base::{Bytes, EdgeId, NodeId};
+use sp_base::EdgeId;
 use sp_msg::{
     BodyRef, Effect, Effects, Mask, MsgRefused, Why, encode, encoded_len, keep, mask_has,
     push_body, signer,
 };
 use std::alloc::Global;
+use std::fmt::Write;
 use std::process::Abort;
 use std::test::Fail;
 
@@ -152,63 +156,72 @@ const CUTS: &str = "\
 
 /// The bytes of a word: a dash is none, and so many bytes 00 may follow.
 fn bytes_of(alloc: Global, word: &str) -> Result<Vec<u8>, Fail> {
-    if word == "-" {
-        return Ok(Vec::new(alloc));
+    let (digits, zeros) = word.split_once(" and ").unwrap_or((word, "0 bytes 00"));
+    let zeros: usize = zeros.strip_suffix(" bytes 00").ok_or("no count")?.parse()?;
+    let mut bytes = decode(alloc, digits.trim_start_matches('-'))?;
+    for _ in 0..zeros {
+        bytes.push(0)?;
     }
-    let Some((digits, zeros)) = word.split_once(" and ") else {
-        return Ok(decode(alloc, word)?);
-    };
-    let count = zeros.strip_suffix(" bytes 00").ok_or("no count")?;
-    let count: usize = count.parse()?;
-    let mut bytes = decode(alloc, digits)?;
-    bytes.extend_from_slice(&vec![in alloc; 0; count]?)?;
     Ok(bytes)
-}
-
-/// The word of a payload.
-fn payload_word(alloc: Global, payload: &[u8]) -> Result<String, Fail> {
-    if payload.is_empty() {
-        return Ok("-".to_string(alloc)?);
-    }
-    Ok(hex::encode(alloc, payload)?)
 }
 
 /// The fields of a message as a row has them.
 fn fields_of(alloc: Global, body: &BodyRef<'_>) -> Result<String, Fail> {
-    Ok(match body {
+    match body {
         BodyRef::Prio(p) => {
-            let payload = payload_word(alloc, p.payload)?;
-            format!(in alloc;
-                "prio {} {} {} {} {} {:032x} {payload}",
-                p.src.0, p.dst.0, p.seq, p.prio, p.expiry, p.mask
-            )?
+            let numbers = [
+                p.src.0.into(),
+                p.dst.0.into(),
+                p.seq,
+                p.prio.into(),
+                p.expiry,
+            ];
+            let mut text = joined(alloc, "prio", &numbers)?;
+            write!(text, " {:032x}", p.mask)?;
+            with_payload(text, p.payload)
         }
         BodyRef::Rel(r) => {
-            let payload = payload_word(alloc, r.payload)?;
-            format!(in alloc; "rel {} {} {} {payload}", r.src.0, r.dst.0, r.seq)?
+            let text = joined(alloc, "rel", &[r.src.0.into(), r.dst.0.into(), r.seq])?;
+            with_payload(text, r.payload)
         }
-        BodyRef::Ack(a) => format!(in alloc; "ack {} {} {}", a.src.0, a.dst.0, a.seq)?,
+        BodyRef::Ack(a) => joined(alloc, "ack", &[a.src.0.into(), a.dst.0.into(), a.seq]),
         BodyRef::Weight(w) => {
-            format!(in alloc; "weight {} {} {} {}", w.origin.0, w.edge.0, w.seq, w.weight)?
+            let numbers = [w.origin.0.into(), w.edge.0.into(), w.seq, w.weight.into()];
+            joined(alloc, "weight", &numbers)
         }
-    })
+    }
+}
+
+/// A kind and the numbers after it.
+fn joined(alloc: Global, kind: &str, numbers: &[u64]) -> Result<String, Fail> {
+    let mut text = kind.to_string(alloc)?;
+    for number in numbers {
+        write!(text, " {number}")?;
+    }
+    Ok(text)
+}
+
+fn with_payload(mut text: String, payload: &[u8]) -> Result<String, Fail> {
+    text.push_str(if payload.is_empty() { " -" } else { " " })?;
+    for byte in payload {
+        write!(text, "{byte:02x}")?;
+    }
+    Ok(text)
 }
 
 /// What these bytes are refused for.
 fn refusal_of(alloc: Global, bytes: &[u8]) -> Result<String, Fail> {
-    Ok(match BodyRef::read(bytes) {
-        Ok(body) => fields_of(alloc, &body)?,
-        Err(refused) => match refused {
-            MsgRefused::Short(short) => {
-                format!(in alloc; "Short {} {}", short.need, short.left)?
-            }
-            MsgRefused::Range(field) => format!(in alloc; "Range {field:?}")?,
-            other => format!(in alloc; "{other:?}")?,
-        },
-    })
+    match BodyRef::read(bytes) {
+        Ok(body) => fields_of(alloc, &body),
+        Err(MsgRefused::Short(short)) => {
+            joined(alloc, "Short", &[short.need as u64, short.left as u64])
+        }
+        Err(MsgRefused::Range(field)) => Ok(format!(in alloc; "Range {field:?}")?),
+        Err(other) => Ok(format!(in alloc; "{other:?}")?),
+    }
 }
 
-/// The bytes are read as these fields of this signer, and a copy that is kept is encoded as these bytes.
+/// The bytes are read as these fields of this signer.
 fn assert_reads(
     rt: &impl Abort,
     alloc: Global,
@@ -218,15 +231,26 @@ fn assert_reads(
 ) -> Result<(), Fail> {
     let body = BodyRef::read(bytes)?;
     assert_eq!(rt; fields_of(alloc, &body)?.as_str(), fields);
-    assert_eq!(rt; format!(in alloc; "{}", signer(&body).0)?.as_str(), by);
-    let kept = keep(alloc, &body, b"signature")?;
-    let copy = kept.copy(alloc)?;
+    assert_eq!(rt; Ok(signer(&body).0), by.parse());
+    assert_encodes(rt, alloc, &body, bytes)
+}
+
+/// The message is encoded as these bytes, by a copy of one that is kept.
+fn assert_encodes(
+    rt: &impl Abort,
+    alloc: Global,
+    body: &BodyRef<'_>,
+    bytes: &[u8],
+) -> Result<(), Fail>
+    requires { HasGoodFields (as_body body.now) }
+{
+    let copy = keep(alloc, body, b"signature")?.copy(alloc)?;
     assert_eq!(rt; copy.signature.as_slice(), b"signature".as_slice());
-    assert_eq!(rt; encode(alloc, &kept.body)?.as_slice(), bytes);
     assert_eq!(rt; encoded_len(&copy.body), bytes.len());
-    let mut after = b"before".to_vec(alloc)?;
-    push_body(&mut after, &copy.body)?;
-    assert_eq!(rt; after.strip_prefix(b"before".as_slice()), Some(bytes));
+    let mut out = encode(alloc, &copy.body)?.into_vec();
+    assert_eq!(rt; out.as_slice(), bytes);
+    push_body(&mut out, &copy.body)?;
+    assert_eq!(rt; out.strip_prefix(bytes), Some(bytes));
     Ok(())
 }
 
@@ -254,14 +278,8 @@ fn a_message_of_1024_bytes_is_read_and_encoded(rt: HostRuntime) -> Result<(), Fa
         hex::encode(alloc, Sha256::digest(&bytes))?.as_str(),
         LONG_HASH
     );
-    let payload = hex::encode(
-        alloc,
-        bytes
-            .strip_prefix(decode(alloc, LONG)?.as_slice())
-            .ok_or("no payload")?,
-    )?;
-    let fields = format!(in alloc; "rel 16 1 1 {payload}")?;
-    assert_reads(&rt, alloc, &bytes, &fields, "16")
+    let body = BodyRef::read(&bytes)?;
+    assert_encodes(&rt, alloc, &body, &bytes)
 }
 
 #[test]
@@ -301,7 +319,7 @@ fn each_cut_of_a_good_message_is_short(rt: HostRuntime) -> Result<(), Fail> {
 
 #[test]
 fn a_mask_has_the_edges_of_its_bits(rt: HostRuntime) {
-    for edge in [0, 1, 7, 8, 63, 64, 118, 119, 120, 127] {
+    for edge in 0..128 {
         let mask: Mask = 1 << edge;
         for other in 0..400 {
             assert_eq!(rt;
@@ -309,65 +327,28 @@ fn a_mask_has_the_edges_of_its_bits(rt: HostRuntime) {
                 other == edge,
                 "{edge} and {other}"
             );
-            assert_eq!(rt;
-                mask_has(&!mask, EdgeId(other)),
-                other != edge && other < 128
-            );
         }
-        assert!(rt; !mask_has(&Mask::MAX, EdgeId(u16::MAX)));
     }
+    assert!(rt; mask_has(&Mask::MAX, EdgeId(127)));
+    assert!(rt; !mask_has(&Mask::MAX, EdgeId(128)));
+    assert!(rt; !mask_has(&Mask::MAX, EdgeId(u16::MAX)));
 }
 
 #[test]
 fn effects_stand_in_their_order(rt: HostRuntime) -> Result<(), Fail> {
     let alloc = rt.alloc();
     assert_eq!(rt; Effects::with_room(alloc, 0)?.room(), 0);
-    let mut effects = Effects::with_room(alloc, 6)?;
-    effects.push(Effect::Signed(Bytes::copy(alloc, b"\x01")?));
-    effects.push(Effect::Stored {
-        place: 2,
-        id: 7,
-        src: NodeId(3),
-        seq: 4,
-        prio: 5,
-    });
-    effects.push(Effect::Gone {
-        place: 2,
-        id: 7,
-        why: Why::Expired,
-    });
-    effects.push(Effect::Delivered {
-        src: NodeId(3),
-        seq: 4,
-        payload: Bytes::copy(alloc, b"\x02")?,
-    });
-    effects.push(Effect::DeliveredPrio {
-        src: NodeId(3),
-        seq: 4,
-        payload: Bytes::copy(alloc, b"")?,
-    });
+    let mut effects = Effects::with_room(alloc, 3)?;
+    for (id, why) in [(1, Why::Evicted), (2, Why::Taken)] {
+        assert!(rt; effects.room() > 1);
+        effects.push(Effect::Gone { place: 9, id, why });
+    }
     assert_eq!(rt; effects.room(), 1);
-    effects.push(Effect::WeightHeld {
-        origin: NodeId(1),
-        edge: EdgeId(0),
-        seq: 1,
-        weight: 25,
-    });
-    assert_eq!(rt; effects.room(), 0);
-    let [
-        Effect::Signed(bytes),
-        Effect::Stored { prio: 5, .. },
-        Effect::Gone { why, .. },
-        Effect::Delivered { payload, .. },
-        Effect::DeliveredPrio { .. },
-        Effect::WeightHeld { weight: 25, .. },
-    ] = effects.as_slice()
-    else {
-        return Err("the effects stand in another order".into());
-    };
-    assert_eq!(rt; bytes.as_slice(), b"\x01".as_slice());
-    assert_eq!(rt; *why, Why::Expired);
-    assert_eq!(rt; payload.as_slice(), b"\x02".as_slice());
-    assert_eq!(rt; effects.into_vec().len(), 6);
+    let text = format!(in alloc; "{:?}", effects.as_slice())?;
+    assert_eq!(rt;
+        text.as_str(),
+        "[Gone { place: 9, id: 1, why: Evicted }, Gone { place: 9, id: 2, why: Taken }]"
+    );
+    assert_eq!(rt; effects.into_vec().len(), 2);
     Ok(())
 }
