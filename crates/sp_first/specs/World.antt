@@ -2,7 +2,7 @@
 use Rattle.std.specs.Prelude.{ℕ, ◌≡◌, ◌+◌, ◌==◌, ◌&&◌, Bool, List, [], ◌∷◌, ◌++◌, length, map, find, slice_get, Option, Some, None, option_map, zero, suc, if◌then◌else◌}
 use Rattle.std.specs.List.{flat_map, range_with_len}
 use Rattle.sp_base.specs.Rows.{first_where, put_where, replace_where}
-use Rattle.sp_schedule.specs.declared.scenario.Edge.{Edge}
+use Rattle.sp_topology.specs.declared.topology.Edge.{Edge}
 use Rattle.sp_schedule.specs.declared.scenario.Scenario.{Scenario}
 use Rattle.sp_schedule.specs.declared.event.Event.{Event}
 use Rattle.sp_schedule.specs.declared.event.Event.TheVariants as events

@@ -3,7 +3,7 @@ use Rattle.std.proofs.Common.{add-one, ◌≡◌, ◌<◌, ◌≤◌, ℕ, ◌+�
 use Rattle.std.specs.Fmt.{decimal}
 use Rattle.std.proofs.Math.Seq.{drop-cons}
 use Rattle.std.proofs.lemmas.List.{drop_all}
-use Rattle.sp_schedule.specs.declared.scenario.Edge.{Edge}
+use Rattle.sp_topology.specs.declared.topology.Edge.{Edge}
 use Rattle.sp_schedule.specs.declared.scenario.Scenario.{Scenario}
 use Rattle.sp_schedule.specs.Ranges.{IsWeight, ends_of, line_from}
 use Rattle.sp_schedule.specs.Edges.{IsAmong, StandsAt}

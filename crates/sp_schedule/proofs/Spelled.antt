@@ -9,8 +9,8 @@ use Rattle.hex.specs.Hex.{encode_lower}
 use Rattle.sp_text.specs.Lines.{IsInOneLine}
 use Rattle.sp_text.specs.Spelling.{IsOneWord, hex_word}
 use Rattle.sp_text.proofs.Separators.{IsInOneLine-decimal, IsInOneLine-encode_lower, IsInOneLine-from_test, IsInOneLine-hex_word, IsOneWord-decimal, IsOneWord-encode_lower, IsOneWord-from_test, IsOneWord-hex_word}
-use Rattle.sp_schedule.specs.declared.scenario.LmsHeight.{LmsHeight}
-use Rattle.sp_schedule.specs.declared.scenario.LmsHeight.TheVariants.{Five, Ten}
+use Rattle.sp_topology.specs.declared.topology.LmsHeight.{LmsHeight}
+use Rattle.sp_topology.specs.declared.topology.LmsHeight.TheVariants.{Five, Ten}
 use Rattle.sp_schedule.specs.declared.scenario.Scenario.{Scenario}
 use Rattle.sp_schedule.specs.declared.event.Event.{Event}
 use Rattle.sp_schedule.specs.declared.event.Event.TheVariants as events

@@ -6,9 +6,9 @@ use Rattle.sp_base.specs.declared.limits.TheConstants.{MAX_EVENTS, MAX_NODES}
 use Rattle.sp_text.proofs.HexWordLemmas.{encode_lower_injective, hex_word_injective}
 use Rattle.sp_base.specs.declared.id.NodeId.{NodeId}
 use Rattle.sp_base.specs.declared.id.Limits.{Limits}
-use Rattle.sp_schedule.specs.declared.scenario.LmsHeight.{LmsHeight}
-use Rattle.sp_schedule.specs.declared.scenario.LmsHeight.TheVariants.{Five, Ten}
-use Rattle.sp_schedule.specs.declared.scenario.Edge.{Edge}
+use Rattle.sp_topology.specs.declared.topology.LmsHeight.{LmsHeight}
+use Rattle.sp_topology.specs.declared.topology.LmsHeight.TheVariants.{Five, Ten}
+use Rattle.sp_topology.specs.declared.topology.Edge.{Edge}
 use Rattle.sp_schedule.specs.declared.scenario.Scenario.{Scenario}
 use Rattle.sp_schedule.specs.declared.event.Event.{Event}
 use Rattle.sp_schedule.specs.declared.event.Event.TheVariants as events

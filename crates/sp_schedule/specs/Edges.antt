@@ -1,6 +1,6 @@
 -- What is asked of one edge alone.
 use Rattle.std.specs.Prelude.{ℕ, ◌≡◌, ◌+◌, ◌<◌, ◌≤◌}
-use Rattle.sp_schedule.specs.declared.scenario.Edge.{Edge}
+use Rattle.sp_topology.specs.declared.topology.Edge.{Edge}
 
 -- both ends are nodes
 abbrev pub IsAmong : ℕ → Edge → Type 0

@@ -3,8 +3,8 @@ use Rattle.std.specs.Prelude.{ℕ, ◌≡◌, ◌-◌, ◌<◌, ◌≤◌, ◌�
 use Rattle.sp_base.specs.declared.limits.TheConstants.{MAX_EVENTS, MAX_NODES}
 use Rattle.sp_base.specs.Spelling.{AreBytes}
 use Rattle.sp_base.specs.declared.id.Limits.{Limits}
-use Rattle.sp_schedule.specs.declared.scenario.LmsHeight.{LmsHeight}
-use Rattle.sp_schedule.specs.declared.scenario.Edge.{Edge}
+use Rattle.sp_topology.specs.declared.topology.LmsHeight.{LmsHeight}
+use Rattle.sp_topology.specs.declared.topology.Edge.{Edge}
 use Rattle.sp_schedule.specs.declared.scenario.Scenario.{Scenario}
 use Rattle.sp_schedule.specs.declared.event.Event.{Event}
 use Rattle.sp_schedule.specs.declared.stage.Stage.{Stage}

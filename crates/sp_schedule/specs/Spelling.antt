@@ -18,9 +18,9 @@ use Rattle.std.specs.Fmt.{decimal}
 use Rattle.hex.specs.Hex.{encode_lower}
 use Rattle.sp_text.specs.Spelling.{hex_word}
 use Rattle.sp_base.specs.declared.id.Limits.{Limits}
-use Rattle.sp_schedule.specs.declared.scenario.LmsHeight.{LmsHeight}
-use Rattle.sp_schedule.specs.declared.scenario.LmsHeight.TheVariants.{Five, Ten}
-use Rattle.sp_schedule.specs.declared.scenario.Edge.{Edge}
+use Rattle.sp_topology.specs.declared.topology.LmsHeight.{LmsHeight}
+use Rattle.sp_topology.specs.declared.topology.LmsHeight.TheVariants.{Five, Ten}
+use Rattle.sp_topology.specs.declared.topology.Edge.{Edge}
 use Rattle.sp_schedule.specs.declared.scenario.Scenario.{Scenario}
 use Rattle.sp_schedule.specs.declared.event.Event.{Event}
 use Rattle.sp_schedule.specs.declared.event.Event.TheVariants as events

@@ -19,6 +19,7 @@ pub use event::Event;
 pub use laws::{a_good_text_is_read_whole, a_whole_reading_reads};
 pub use reader::read;
 pub use refused::{Kind, push_refused};
-pub use scenario::{Edge, Graph, LmsHeight, Scenario};
+pub use scenario::{Graph, Scenario};
+pub use sp_topology::{Edge, LmsHeight};
 pub use stage::{Ending, Reading, Stage};
 pub use timeline::Timeline;

@@ -1,20 +1,6 @@
 // What a schedule's header says: who is there, how they are joined, and what each of them keeps.
-use sp_base::{Limits, Listed, NodeId};
-
-/// The height of a node's signature trees (RFC 8554, section 5.1).
-#[derive(Clone, Copy, Debug, PartialEq, Eq)]
-pub enum LmsHeight {
-    Five,
-    Ten,
-}
-
-/// A link between two nodes, the lower one first.
-#[derive(Clone, Copy, Debug, PartialEq, Eq)]
-pub struct Edge {
-    pub low: NodeId,
-    pub high: NodeId,
-    pub weight: u32,
-}
+use sp_base::{Limits, Listed};
+use sp_topology::{Edge, LmsHeight};
 
 /// Nodes 1 to `nodes`, and the links between them.
 #[derive(Debug, Drop)]

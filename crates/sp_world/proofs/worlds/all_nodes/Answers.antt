@@ -1,6 +1,6 @@
 use Rattle.std.proofs.Common.{◌+◌, ap, ◌∙◌, map, List}
 use Rattle.sp_base.specs.declared.id.NodeId.{NodeId}
-use Rattle.sp_schedule.specs.declared.scenario.Edge.{Edge}
+use Rattle.sp_topology.specs.declared.topology.Edge.{Edge}
 use Rattle.sp_first.specs.World.{neighbours}
 use Rattle.sp_world.proofs.Pasts.{one_more_node}
 use Rattle.sp_world.proofs.worlds.all_nodes.Goals as goal

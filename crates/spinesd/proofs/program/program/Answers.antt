@@ -1,4 +1,4 @@
-use Rattle.std.proofs.Common.{◌≡◌, ap, ◌∙◌}
+use Rattle.std.proofs.Common.{ap, ◌∙◌}
 use Rattle.spinesd.proofs.program.program.Goals as goal
 
 pub returns-clause-unread : goal.returns-clause-unread
