@@ -23,7 +23,7 @@ pub struct Prio {
     pub seq: u64,
     /// 1 to 10, and 10 goes first.
     pub prio: u8,
-    /// The last moment at which it counts, in seconds since 1970.
+    /// The last moment at which it counts, in milliseconds of a node's clock.
     pub expiry: u64,
     pub mask: Mask,
     pub payload: Bytes,

@@ -53,7 +53,9 @@ fn compare(alloc: Global, code: u8, bytes: &[u8], status: u8, output: &str) -> R
         return Ok(());
     }
     let wrote = bytes.escape_ascii();
-    let text = format!(in alloc; "ended with {code} in place of {status}, and wrote {wrote} in place of {output}")?;
+    let text = format!(in alloc;
+        "ended with {code} in place of {status}, and wrote {wrote} in place of {output}"
+    )?;
     Err(text.into())
 }
 

@@ -110,9 +110,7 @@ fn the_whole_journal_of_the_events_before_a_bad_line_is_written(
     rt: HostRuntime,
 ) -> Result<(), Fail> {
     let alloc = rt.alloc();
-    let good = SCHEDULE
-        .strip_suffix("end\n")
-        .ok_or("no end")?;
+    let good = SCHEDULE.strip_suffix("end\n").ok_or("no end")?;
     let text = format!(in alloc; "{good}take 1 3\nend\n")?;
     let output = "journal 1
 1 accepted 1

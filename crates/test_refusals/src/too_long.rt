@@ -45,9 +45,5 @@ fn an_event_without_an_end_is_refused(rt: HostRuntime) -> Result<(), Fail> {
 
 #[test]
 fn bytes_without_an_end_after_end_are_refused(rt: HostRuntime) -> Result<(), Fail> {
-    is_refused(
-        rt.alloc(),
-        b"end\n",
-        "journal 1\nrefused 10 AfterEnd\n",
-    )
+    is_refused(rt.alloc(), b"end\n", "journal 1\nrefused 10 AfterEnd\n")
 }

@@ -33,13 +33,7 @@ fn assert_sink_fault(
     let calls = [failing];
     let mut source = MemorySource::new(SCHEDULE.as_bytes());
     let mut sink = PlannedSink::new(alloc, 8, &calls);
-    sends(alloc,
-        &["replay"],
-        &mut source,
-        &mut sink,
-        6,
-        written,
-    )?;
+    sends(alloc, &["replay"], &mut source, &mut sink, 6, written)?;
     assert!(rt; JOURNAL.starts_with(written), "at write {failing}");
     Ok(())
 }

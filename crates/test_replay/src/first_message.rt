@@ -64,12 +64,7 @@ fn the_first_message_may_come_in_pieces(rt: HostRuntime) -> Result<(), Fail> {
 fn goes(alloc: Global, piece: usize) -> Result<(), Fail> {
     let mut source = MemorySource::new(SCHEDULE.as_bytes());
     let mut sink = PlannedSink::new(alloc, piece, &[]);
-    sends(alloc,
-        &["replay"],
-        &mut source,
-        &mut sink,
-        0,
-        JOURNAL)
+    sends(alloc, &["replay"], &mut source, &mut sink, 0, JOURNAL)
 }
 
 #[test]
