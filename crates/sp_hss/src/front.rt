@@ -6,11 +6,11 @@ ghost use Rattle.sp_lms.specs.Keys as keys;
 ghost use Rattle.sp_lms.specs.Parameters as lms;
 ghost use Rattle.sp_hss.specs.At.{AreAt};
 ghost use Rattle.sp_hss.specs.KeyTree.{front_of, front_len, total};
-ghost use Rattle.sp_hss.specs.Tree.{tree_with};
+ghost use Rattle.sp_hss.specs.Tree.{tree_with, tree_growing};
 
 use crate::Tree;
 use crate::check::TREE_KEY_LEN;
-use sp_lms::{LmsKey, LmsParam};
+use sp_lms::{GrowingKey, LmsKey, LmsParam};
 use sp_ots::OtsParam;
 
 /// The bytes that every signature begins with.
@@ -27,32 +27,53 @@ pub(crate) fn go_to(
     seed: &[u8; 32],
     upper: &mut LmsKey,
     lower: &mut LmsKey,
+    next: &mut GrowingKey,
     front: &mut [u8],
 )
-    requires at { AreAt height seed.now (upper.old.used - 1) index upper.old lower.old front.old }
+    requires at { AreAt height seed.now (upper.old.used - 1) index upper.old lower.old next.old front.old }
     requires left { index < total height }
     requires room { length front.old ≡ front_len height }
-    ensures { AreAt height seed.now (index / lms.leaf_count height) index upper.new lower.new front.new }
+    ensures { AreAt height seed.now (index / lms.leaf_count height) index upper.new lower.new next.new front.new }
 {
     if index / u64::from(height.leaf_count()) == u64::from(upper.used()) {
-        next_tree(seed, upper, lower, front);
+        next_tree(seed, upper, lower, next, front);
     }
 }
 
-/// Goes on to the lower tree whose number the upper tree's next leaf has, and writes what its signatures begin with.
-fn next_tree(seed: &[u8; 32], upper: &mut LmsKey, lower: &mut LmsKey, front: &mut [u8])
+/// Goes on to the lower tree whose number the upper tree's next leaf has, which is grown, writes what its signatures begin with,
+/// and begins the tree after it.
+fn next_tree(
+    seed: &[u8; 32],
+    upper: &mut LmsKey,
+    lower: &mut LmsKey,
+    next: &mut GrowingKey,
+    front: &mut [u8],
+)
     requires upper { upper.old ≡ tree_with upper.old.lms seed.now Tree.Upper upper.old.used }
     requires lower { lower.old.lms ≡ upper.old.lms }
     requires digits { lower.old.ots ≡ OtsParam.W4 }
+    requires next { next.old ≡ tree_growing upper.old.lms seed.now (Tree.Lower upper.old.used) (lms.leaf_count upper.old.lms) }
     requires left { upper.old.used < lms.leaf_count upper.old.lms }
     requires room { length front.old ≡ front_len upper.old.lms }
     ensures upper { upper.new ≡ record upper.old { used = upper.old.used + 1 } }
     ensures lower { lower.new ≡ tree_with upper.old.lms seed.now (Tree.Lower upper.old.used) 0 }
+    ensures next { next.new ≡ tree_growing upper.old.lms seed.now (Tree.Lower (upper.old.used + 1)) 0 }
     ensures front { front.new ≡ front_of upper.old.lms seed.now upper.old.used }
 {
-    let tree = Tree::Lower(upper.used());
-    lower.remake(tree.id(seed), tree.seed(seed));
+    let after = Tree::Lower(upper.used() + 1);
+    next.replace(lower, after.id(seed), after.seed(seed));
     write_front(upper, &lower.public(), front);
+}
+
+/// Grows a leaf of the next lower tree, if there is a next one.
+pub(crate) fn grow_next(upper: &LmsKey, next: &mut GrowingKey)
+    requires { upper.now.used < lms.leaf_count upper.now.lms → next.old.grown < lms.leaf_count next.old.lms }
+    ensures some { upper.now.used < lms.leaf_count upper.now.lms → next.new ≡ record next.old { grown = next.old.grown + 1 } }
+    ensures none { upper.now.used ≡ lms.leaf_count upper.now.lms → next.new ≡ next.old }
+{
+    if upper.used() < upper.total() {
+        next.grow();
+    }
 }
 
 /// Writes one level less than two, the signature of a lower tree's key, and the key.

@@ -3,9 +3,9 @@ ghost use Rattle.std.specs.Prelude.{◌≡◌, ◌≢◌, ◌+◌, ◌≤◌, �
 ghost use Rattle.sp_hss.specs.KeyTree.{public_key, signature, signature_len, total};
 ghost use Rattle.sp_hss.specs.Validity.{IsValid};
 
-use crate::front::{front_len, go_to, sign_next, write_front};
+use crate::front::{front_len, go_to, grow_next, sign_next, write_front};
 use crate::{HssRefused, Tree};
-use sp_lms::{LmsKey, LmsParam};
+use sp_lms::{GrowingKey, LmsKey, LmsParam};
 use sp_ots::OtsParam;
 use std::alloc::Global;
 use std::marker::Model;
@@ -21,6 +21,7 @@ pub struct Signer {
     bound: u64,
     upper: LmsKey,
     lower: LmsKey,
+    next: GrowingKey,
     front: Vec<u8>,
 }
 
@@ -40,7 +41,7 @@ impl Signer {
     /// The signer of a seed for the indexes from `from` up to, and not with, `upto`.
     ///
     /// An index that signs two messages is no longer safe, so no other signer of the seed may have been given any of these.
-    /// Takes 128 bytes of memory for each leaf of a tree, and hashes two whole trees.
+    /// Takes 192 bytes of memory for each leaf of a tree. Hashes two whole trees, and the leaves of the next lower tree up to that of `from`.
     pub fn make(
         alloc: Global,
         height: LmsParam,
@@ -61,12 +62,21 @@ impl Signer {
         let Ok(mut lower) = Tree::Lower(tree).key(alloc, height, &seed) else {
             return Err(HssRefused::Memory);
         };
+        let leaf = (from - u64::from(tree) * leaves) as u32;
+        let grown = if u64::from(tree) + 1 < leaves {
+            leaf
+        } else {
+            0
+        };
+        let Ok(next) = Tree::Lower(tree + 1).growing(alloc, height, &seed, grown) else {
+            return Err(HssRefused::Memory);
+        };
         let Ok(mut front) = vec![in alloc; 0u8; front_len(height)] else {
             return Err(HssRefused::Memory);
         };
         upper.skip_to(tree);
         write_front(&mut upper, &lower.public(), &mut front);
-        lower.skip_to((from - u64::from(tree) * leaves) as u32);
+        lower.skip_to(leaf);
         Ok(Signer {
             height,
             seed,
@@ -74,6 +84,7 @@ impl Signer {
             bound: upto,
             upper,
             lower,
+            next,
             front,
         })
     }
@@ -157,11 +168,13 @@ impl Signer {
             &self.seed,
             &mut self.upper,
             &mut self.lower,
+            &mut self.next,
             &mut self.front,
         );
         let (front, behind) = out.split_at_mut(self.front.len());
         front.copy_from_slice(&self.front);
         sign_next(&mut self.lower, msg, behind);
+        grow_next(&self.upper, &mut self.next);
         self.index += 1;
         Ok(())
     }

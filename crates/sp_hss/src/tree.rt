@@ -1,10 +1,11 @@
 // The trees of the two levels: each has an id and a seed of its own, which are tags under the signer's seed.
-ghost use Rattle.std.specs.Prelude.{◌≡◌, [], ◌∷◌, ◌++◌, IfOk, IfErr};
+ghost use Rattle.std.specs.Prelude.{◌≡◌, ◌≤◌, [], ◌∷◌, ◌++◌, IfOk, IfErr};
 ghost use Rattle.sp_hmac.specs.Hmac.{hmac};
+ghost use Rattle.sp_lms.specs.Parameters.{leaf_count};
 ghost use Rattle.sp_hss.specs.KeyTree.{name, tree_id, tree_seed};
-ghost use Rattle.sp_hss.specs.Tree.{tree_with};
+ghost use Rattle.sp_hss.specs.Tree.{tree_with, tree_growing};
 
-use sp_lms::{LmsKey, LmsParam, LmsRefused};
+use sp_lms::{GrowingKey, LmsKey, LmsParam, LmsRefused};
 use sp_ots::OtsParam;
 use std::alloc::Global;
 
@@ -29,6 +30,31 @@ impl Tree {
         ensures memory { IfErr result (λ refused. refused ≡ LmsRefused.Memory) }
     {
         LmsKey::make(alloc, height, OtsParam::W4, self.id(seed), self.seed(seed))
+    }
+
+    /// The key of the tree while it grows, with its first leaves.
+    pub(crate) fn growing(
+        self,
+        alloc: Global,
+        height: LmsParam,
+        seed: &[u8; 32],
+        leaves: u32,
+    ) -> Result<GrowingKey, LmsRefused>
+        requires { leaves ≤ leaf_count height }
+        ensures ok { IfOk result (λ key. key ≡ tree_growing height seed.now self leaves) }
+        ensures memory { IfErr result (λ refused. refused ≡ LmsRefused.Memory) }
+    {
+        let mut key = GrowingKey::make(
+            alloc,
+            height,
+            OtsParam::W4,
+            self.id(seed),
+            self.seed(seed),
+        )?;
+        'leaves: for _ in 0..leaves {
+            key.grow();
+        }
+        Ok(key)
     }
 
     /// The id of the tree: I (RFC 8554, section 5.3).

@@ -1,6 +1,7 @@
 pub mod Ancestors
 pub mod Candidates
-pub mod Filling
+pub mod Growth
+pub mod Levels
 pub mod Parts
 pub mod Siblings
 pub mod Types

@@ -1,28 +1,11 @@
 -- The siblings on the way from a leaf, where a key keeps all nodes.
-use Rattle.std.proofs.Common.{◌≡◌, ℕ, ◌+◌, ◌-◌, ◌*◌, ◌/◌, ◌%◌, ◌^◌, ◌==◌, ◌<◌, ◌≤◌, Bool, true, false, List, [], length, slice_index_or, refl, sym, ◌∙◌, ap, arith}
-use Rattle.std.proofs.Math.Pow.{pow-add}
+use Rattle.std.proofs.Common.{◌≡◌, ℕ, ◌+◌, ◌-◌, ◌*◌, ◌/◌, ◌%◌, ◌^◌, ◌==◌, ◌<◌, ◌≤◌, Bool, true, false, List, [], length, slice_index_or, refl, ◌∙◌, ap, arith}
 use Rattle.std.proofs.Math.Pow.{pow_mono}
 use Rattle.std.proofs.lemmas.List.{get_or_read}
 use Rattle.std.proofs.lemmas.Bool.{eqb-true, eqb-false}
-use Rattle.std.proofs.lemmas.Nat.{pow_pos, le-div, div_below}
 use Rattle.sp_lms.specs.Trees.{tree_node, sibling}
-use Rattle.sp_lms.specs.Nodes.{HasNodes}
-use Rattle.sp_lms.proofs.Filling.{doubled}
-
--- a node is on the level that its number says
-pub record IsOnLevel (depth r : ℕ) : Type 0 where
-  pub low : 2 ^ depth ≤ r
-  pub high : r < 2 ^ (depth + 1)
-
--- the node above a leaf on a level
-above_leaf : (height level depth r : ℕ) → depth + level ≡ height → 2 ^ height ≤ r → r < 2 * 2 ^ height → IsOnLevel depth (r / 2 ^ level)
-above_leaf height level depth r sum low high =
-    let whole : 2 ^ height ≡ 2 ^ depth * 2 ^ level = ap (λ (k : ℕ). 2 ^ k) (sym sum) ∙ pow-add 2 depth level in
-    let two : 2 ^ (depth + 1) ≡ 2 * 2 ^ depth = doubled depth in
-    record {
-      low = le-div (2 ^ depth) r (2 ^ level) (pow_pos level) (omega arith);
-      high = rw two (div_below r (2 ^ level) (2 * 2 ^ depth) (pow_pos level) (omega arith));
-    }
+use Rattle.sp_lms.specs.Nodes.{IsOnLevel, HasNodes}
+use Rattle.sp_lms.proofs.Levels.{doubled, above_leaf}
 
 -- siblings are on one level
 siblings_meet : (a r : ℕ) (b : Bool) → (r % 2 == 0) ≡ b → 2 * a ≤ r → r < 2 * (2 * a) → (2 * a ≤ sibling r) × (sibling r < 2 * (2 * a))
@@ -49,7 +32,7 @@ pub sibling_kept : (height : ℕ) (id : List ℕ) (leaf : ℕ → List ℕ) (nod
     → slice_index_or nodes (sibling (r / 2 ^ level)) [] ≡ tree_node id leaf level (sibling (r / 2 ^ level))
 sibling_kept height id leaf nodes level r kept within low high =
     let there = sibling_on_level height level r within low high in
-    kept.node level (height - level) (sibling (r / 2 ^ level)) (omega arith) there.low there.high (omega (arith, there.low, pow_pos (height - level)))
+    kept.node level (height - level) (sibling (r / 2 ^ level)) (omega arith) there
 
 -- what is read at the number of the sibling
 pub sibling_read : (height : ℕ) (id : List ℕ) (leaf : ℕ → List ℕ) (nodes : List (List ℕ)) (level r number place : ℕ) (x : List ℕ) → HasNodes height id leaf nodes

@@ -5,6 +5,8 @@ pub mod Keys
 pub mod Validity
 pub mod PublicKey
 pub mod Key
+pub mod Growing
 pub mod Nodes
 pub mod Kept
+pub mod Grown
 pub mod Laws

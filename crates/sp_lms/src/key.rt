@@ -5,7 +5,7 @@ ghost use Rattle.sp_lms.specs.Trees.{path};
 ghost use Rattle.sp_lms.specs.Keys.{public_key, seed_leaf, signature};
 ghost use Rattle.sp_lms.specs.Validity.{IsValid};
 
-use crate::fill::fill;
+use crate::grow::grow_all;
 use crate::param::MOST_LEVELS;
 use crate::path::sibling;
 use crate::public_key::spelled;
@@ -19,12 +19,12 @@ use std::marker::Model;
 /// A contract sees what made the key, and how many of its leaves are used. All memory is taken by `make`.
 #[derive(Drop)]
 pub struct LmsKey {
-    lms: LmsParam,
-    ots: OtsParam,
-    id: [u8; 16],
-    seed: [u8; 32],
-    used: u32,
-    nodes: Vec<[u8; 32]>,
+    pub(crate) lms: LmsParam,
+    pub(crate) ots: OtsParam,
+    pub(crate) id: [u8; 16],
+    pub(crate) seed: [u8; 32],
+    pub(crate) used: u32,
+    pub(crate) nodes: Vec<[u8; 32]>,
 }
 
 impl Model for LmsKey {
@@ -55,7 +55,7 @@ impl LmsKey {
         ensures memory { IfErr result (λ refused. refused ≡ LmsRefused.Memory) }
     {
         let mut nodes = vec![in alloc; [0u8; 32]; 2 << lms.height()]?;
-        fill(lms, ots, &id, &seed, &mut nodes);
+        grow_all(lms, ots, &id, &seed, &mut nodes);
         Ok(LmsKey {
             lms,
             ots,
@@ -72,7 +72,7 @@ impl LmsKey {
     pub fn remake(&mut self, id: [u8; 16], seed: [u8; 32])
         ensures { self.new ≡ record { lms = self.old.lms; ots = self.old.ots; id = id; seed = seed; used = 0 } }
     {
-        fill(self.lms, self.ots, &id, &seed, &mut self.nodes);
+        grow_all(self.lms, self.ots, &id, &seed, &mut self.nodes);
         self.id = id;
         self.seed = seed;
         self.used = 0;

@@ -2,7 +2,8 @@
 #![tactic(auto)]
 
 mod bytes;
-mod fill;
+mod grow;
+mod growing;
 mod hashes;
 mod key;
 mod laws;
@@ -12,6 +13,7 @@ mod public_key;
 mod refused;
 
 pub use bytes::u32_at;
+pub use growing::GrowingKey;
 pub use key::LmsKey;
 pub use laws::what_a_seed_signs_is_valid;
 pub use param::{LmsParam, sig_len};

@@ -4,14 +4,16 @@ use Rattle.std.proofs.lemmas.List.{with_items_is}
 use Rattle.std.proofs.lemmas.Nat.{pow_pos}
 use Rattle.sp_ots.specs.Strings.{u32str}
 use Rattle.sp_lms.specs.Key.{Key}
+use Rattle.sp_lms.specs.Growing.{Growing}
 use Rattle.sp_lms.specs.Keys as keys
 use Rattle.sp_lms.specs.Parameters.{height, leaf_count}
 use Rattle.sp_hss.specs.KeyTree.{tree_key, front_of}
-use Rattle.sp_hss.specs.Tree.{tree_with}
+use Rattle.sp_hss.specs.Tree.{tree_with, tree_growing}
 use Rattle.sp_hss.specs.At.{AreAt}
 use Rattle.sp_hss.specs.declared.tree.Tree.TheVariants.{Upper, Lower}
 use Rattle.sp_hss.proofs.Lengths.{length-front_of, starts_at}
 use Rattle.sp_hss.proofs.signer.Signer.make.Goals as goal
+use Rattle.sp_hss.proofs.signer.Signer.make.Goals.{then-from-leaves, else-from-leaves}
 
 pub invariant_of-result : goal.invariant_of-result
 unfolding front_of
@@ -38,10 +40,17 @@ invariant_of-result c =
     c.skip_to-2.ensures ∙ ap (λ (v : Key). record v { used = from - c.from.result * c.from-leaves.result }) c.in-Ok-key.ensures.ok
     ∙ ap (λ (x : ℕ). tree_with h seed (Lower t) (from - x)) place in
     let used : c.skip_to-2.new.self.used ≡ from - t * n = ap (λ (v : Key). v.used) lower in
-    let at : AreAt h seed t from c.write_front.new.upper c.skip_to-2.new.self (with_items c.in-Ok-vec.front c.write_front.new.front).items = record {
+    let ahead = c.in-Ok-growing.ensures.ok in
+    let grown : c.in-Ok-growing.next.grown ≡ c.if-from-leaves.grown = ap (λ (v : Growing). v.grown) ahead in
+    let at : AreAt h seed t from c.write_front.new.upper c.skip_to-2.new.self c.in-Ok-growing.next (with_items c.in-Ok-vec.front c.write_front.new.front).items = record {
       tree = start.tree;
       upper_is = upper;
       lower_is = lower ∙ ap (tree_with h seed (Lower t)) (sym used);
+      next_is = ahead ∙ ap (tree_growing h seed (Lower (t + 1))) (sym grown);
+      beside = λ more. elim c.if-from-leaves.branch [
+        | then-from-leaves w ↦ omega (arith, grown, w.grown-is, used, place)
+        | else-from-leaves w ↦ absurd (omega (arith, w.if-from-leaves.false, leaves, c.from-2.ensures, more))
+      ];
       front_is = with_items_is c.in-Ok-vec.front c.write_front.new.front long ∙ front;
       index_is = start.index ∙ ap (λ (x : ℕ). t * n + x) (sym used);
       leaf = omega (arith, start.leaf, used);
