@@ -15,7 +15,7 @@ pub record IsCutAt (place : ℕ) (upper lower_key lower signature : List ℕ) : 
   pub lower_key_is : lower_key ≡ take 56 (drop place signature)
   pub lower_is : lower ≡ drop (place + 56) signature
 
-cut_at : (upper lower_key lower : List ℕ) (place : ℕ) → length upper ≡ place → length lower_key ≡ 56 → IsCutAt place upper lower_key lower (upper ++ lower_key ++ lower)
+pub cut_at : (upper lower_key lower : List ℕ) (place : ℕ) → length upper ≡ place → length lower_key ≡ 56 → IsCutAt place upper lower_key lower (upper ++ lower_key ++ lower)
 cut_at upper lower_key lower place first second =
     let behind : upper ++ lower_key ++ lower ≡ upper ++ (lower_key ++ lower) = append_assoc upper lower_key lower in
     let both : length (upper ++ lower_key) ≡ place + 56 = omega (arith, length-append upper lower_key) in

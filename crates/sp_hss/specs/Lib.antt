@@ -2,6 +2,8 @@ pub mod KeyTree
 pub mod Tree
 pub mod At
 pub mod Validity
+pub mod Front
+pub mod Remembered
 pub mod Signer
 pub mod Kept
 pub mod Laws

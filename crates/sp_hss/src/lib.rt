@@ -7,6 +7,7 @@ mod laws;
 mod refused;
 mod signer;
 mod tree;
+mod verifier;
 
 pub use check::verify;
 pub use laws::what_a_seed_signs_is_valid;
@@ -14,3 +15,4 @@ pub use refused::HssRefused;
 pub use signer::Signer;
 pub use sp_lms::LmsParam;
 pub use tree::Tree;
+pub use verifier::Verifier;
