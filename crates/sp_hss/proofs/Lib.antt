@@ -1,4 +1,5 @@
 pub mod Cuts
 pub mod Fronts
 pub mod Lengths
+pub mod Uses
 pub mod Validity

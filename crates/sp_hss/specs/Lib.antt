@@ -6,4 +6,5 @@ pub mod Front
 pub mod Remembered
 pub mod Signer
 pub mod Kept
+pub mod Uses
 pub mod Laws

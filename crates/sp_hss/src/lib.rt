@@ -10,7 +10,10 @@ mod tree;
 mod verifier;
 
 pub use check::verify;
-pub use laws::what_a_seed_signs_is_valid;
+pub use laws::{
+    an_upper_leaf_signs_one_message, no_leaf_signs_two_messages, two_indexes_have_two_leaves,
+    two_leaves_make_a_signature, what_a_seed_signs_is_valid,
+};
 pub use refused::HssRefused;
 pub use signer::Signer;
 pub use sp_lms::LmsParam;
