@@ -1,4 +1,4 @@
-// Signing: the trees that are kept, the index that comes next, and the bound that it stops at (RFC 8554, section 6.2).
+// Signing: the trees that are kept, the one that grows, the index that comes next, and the bound that it stops at (RFC 8554, section 6.2).
 ghost use Rattle.std.specs.Prelude.{◌≡◌, ◌≢◌, ◌+◌, ◌≤◌, ◌↔◌, IfErr, IfOk, IsErr, OnErr, OnOk, length};
 ghost use Rattle.sp_hss.specs.KeyTree.{public_key, signature, signature_len, total};
 ghost use Rattle.sp_hss.specs.Validity.{IsValid};
@@ -41,7 +41,11 @@ impl Signer {
     /// The signer of a seed for the indexes from `from` up to, and not with, `upto`.
     ///
     /// An index that signs two messages is no longer safe, so no other signer of the seed may have been given any of these.
-    /// Takes 192 bytes of memory for each leaf of a tree. Hashes two whole trees, and the leaves of the next lower tree up to that of `from`.
+    /// **A seed has one height for ever.** The ids and seeds of its trees come from the seed and a tree's number alone, so at another height
+    /// the same one-time keys sign other messages: the first indexes of both heights have their leaves in common.
+    ///
+    /// Takes 192 bytes of memory for each leaf of a tree, and a few thousand for the front. Hashes two whole trees, and of the next lower tree as
+    /// many leaves as come before that of `from`.
     pub fn make(
         alloc: Global,
         height: LmsParam,
@@ -141,6 +145,8 @@ impl Signer {
     /// Writes the signature of a message into `out`, which has `signature_len` bytes (RFC 8554, section 6.2).
     ///
     /// The index is used then, and the next one comes. After a refusal nothing has changed.
+    ///
+    /// Each call grows a leaf of the next lower tree, so none waits for a tree: the first by a lower tree signs that tree's key too.
     pub fn sign(&mut self, msg: &[u8], out: &mut [u8]) -> Result<(), HssRefused>
         requires { length out.old ≡ signature_len self.old.height }
         ensures signature { OnOk result (out.new ≡ signature self.old.height self.old.seed self.old.index msg.now) }

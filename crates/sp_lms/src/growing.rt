@@ -37,6 +37,7 @@ impl Model for GrowingKey {
 impl GrowingKey {
     /// The key of a seed for the tree with this id, of which no leaf is grown yet.
     ///
+    /// An id belongs to one key: one seed, one height and one w, as with `LmsKey::make`.
     /// Takes 64 bytes of memory for each leaf, and hashes nothing.
     pub fn make(
         alloc: Global,
@@ -86,7 +87,7 @@ impl GrowingKey {
     /// Puts the key, whose tree is whole, in the place of another one, and begins the tree of a seed and an id in the memory of that one.
     ///
     /// Hashes nothing. A leaf that signs two messages is no longer safe: where the key was made before, `LmsKey::skip_to` gives up
-    /// what it has used.
+    /// what it has used. The id belongs to one key, as with `make`.
     pub fn replace(&mut self, key: &mut LmsKey, id: [u8; 16], seed: [u8; 32])
         requires { self.old.grown ≡ leaf_count self.old.lms }
         ensures key { key.new ≡ record { lms = self.old.lms; ots = self.old.ots; id = self.old.id; seed = self.old.seed; used = 0 } }

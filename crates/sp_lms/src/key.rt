@@ -43,6 +43,9 @@ impl LmsKey {
     /// The key of a seed for the tree with this id, none of whose leaves is used.
     ///
     /// A leaf that signs two messages is no longer safe: where the key was made before, `skip_to` gives up what it has used.
+    /// An id belongs to one key: one seed, one height and one w. The one-time keys come from the id, the seed and a leaf's number alone, so
+    /// the same id and seed at another height are the same one-time keys.
+    ///
     /// Takes 64 bytes of memory for each leaf, and hashes the whole tree.
     pub fn make(
         alloc: Global,
@@ -68,7 +71,7 @@ impl LmsKey {
 
     /// Becomes the key of another seed and id, none of whose leaves is used. Takes no memory.
     ///
-    /// Where that key was made before, `skip_to` gives up what it has used, as with `make`.
+    /// Where that key was made before, `skip_to` gives up what it has used, as with `make`. The id belongs to that key alone, as with `make`.
     pub fn remake(&mut self, id: [u8; 16], seed: [u8; 32])
         ensures { self.new ≡ record { lms = self.old.lms; ots = self.old.ots; id = id; seed = seed; used = 0 } }
     {
