@@ -1,10 +1,10 @@
 // A key whose two blocks are hashed once, for the many tags that are made under it.
-ghost use Rattle.std.specs.Prelude.{◌≡◌, ◌++◌, ◌↔◌, IsTrue};
-ghost use Rattle.sp_hmac.specs.Hmac.{changed, key_block, block_hmac};
+ghost use Rattle.std.specs.Prelude.{◌≡◌, ℕ, List, ◌++◌, ◌↔◌, IsTrue};
+ghost use Rattle.sp_hmac.specs.Hmac.{changed, key_block, hmac};
+ghost use Rattle.sp_hmac.specs.Keyed.{HoldsKey};
 
 use crate::same::is_same;
 use sha2::{Digest, Sha256};
-use std::marker::Model;
 
 /// The bytes of a block of SHA-256.
 const BLOCK_LEN: usize = 64;
@@ -16,34 +16,20 @@ const OUTER_PAD: u8 = 0x5c;
 
 /// A key, ready for tags: a tag hashes the message and one digest, and neither of the key's blocks again.
 ///
-/// A contract sees the key's block of 64 bytes.
+/// The key itself isn't kept. A contract says of which key the tags are, as the contracts of `sha2` say which message a hasher holds.
 #[derive(Drop)]
 pub struct Keyed {
-    block: [u8; 64],
     inner: Sha256,
     outer: Sha256,
-}
-
-impl Model for Keyed {
-    ghost use Rattle.std.specs.Prelude.{ℕ, List};
-
-    ghost Value = { List ℕ };
-
-    ghost use Rattle.sp_hmac.specs.Keyed.{HoldsKey};
-
-    ghost view = { λ k. k.block };
-
-    ghost invariant = { HoldsKey };
 }
 
 impl Keyed {
     /// The key of these bytes, of any number.
     pub fn new(key: &[u8]) -> Keyed
-        ensures { result ≡ key_block key.now }
+        ensures { HoldsKey result key.now }
     {
         let block = key_block(key);
         Keyed {
-            block,
             inner: Sha256::new_with_prefix(changed(INNER_PAD, &block)),
             outer: Sha256::new_with_prefix(changed(OUTER_PAD, &block)),
         }
@@ -52,7 +38,7 @@ impl Keyed {
     /// The tag of `a` followed by `b`.
     #[tactic(auto, unfolding(crate::specs::Hmac::block_hmac))]
     pub fn tag(&self, a: &[u8], b: &[u8]) -> [u8; 32]
-        ensures { result ≡ block_hmac self.now (a.now ++ b.now) }
+        ensures { (key : List ℕ) → HoldsKey self.now key → result ≡ hmac key (a.now ++ b.now) }
     {
         let mut inner = self.inner.clone().unwrap();
         inner.update(a);
@@ -65,7 +51,7 @@ impl Keyed {
 
     /// Whether this is the tag of `a` followed by `b`, all 32 bytes of it.
     pub fn verify(&self, a: &[u8], b: &[u8], tag: &[u8]) -> bool
-        ensures { IsTrue result ↔ (tag.now ≡ block_hmac self.now (a.now ++ b.now)) }
+        ensures { (key : List ℕ) → HoldsKey self.now key → IsTrue result ↔ (tag.now ≡ hmac key (a.now ++ b.now)) }
     {
         is_same(tag, &self.tag(a, b))
     }
