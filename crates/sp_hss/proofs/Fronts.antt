@@ -28,7 +28,8 @@ long_key : (front : List ℕ) → 60 ≤ length front → length (lower_key_of f
 long_key front long = omega (arith, length-drop (length front - 56) front)
 
 -- under a valid front a signature is valid exactly where that of the lower tree is
-pub valid_after_front : (public front rest message : List ℕ) → IsFrontUnder public front → tree.IsValid (lower_key_of front) message rest → IsValid public message (front ++ rest)
+pub valid_after_front : (public front rest message : List ℕ) → IsFrontUnder public front
+    → tree.IsValid (lower_key_of front) message rest → IsValid public message (front ++ rest)
 valid_after_front public front rest message known valid =
     let after = after_front front rest known.long in
     inr record {
@@ -42,7 +43,8 @@ valid_after_front public front rest message known valid =
       );
     }
 
-pub lower_valid : (public front rest message : List ℕ) → IsFrontUnder public front → IsValid public message (front ++ rest) → tree.IsValid (lower_key_of front) message rest
+pub lower_valid : (public front rest message : List ℕ) → IsFrontUnder public front
+    → IsValid public message (front ++ rest) → tree.IsValid (lower_key_of front) message rest
 lower_valid public front rest message known valid = elim valid [
   | inl one ↦ absurd (omega (arith, one.levels, known.levels))
   | inr two ↦

@@ -1,5 +1,6 @@
 // What holds of everything that a seed signs, whoever wrote the signer.
-ghost use Rattle.sp_hss.specs.Laws.{AnUpperLeafSignsOneMessage, NoLeafSignsTwoMessages, SeedSignaturesAreValid, TwoIndexesHaveTwoLeaves, TwoLeavesMakeASignature};
+ghost use Rattle.sp_hss.specs.Laws.{AnUpperLeafSignsOneMessage, NoLeafSignsTwoMessages, SeedSignaturesAreValid};
+ghost use Rattle.sp_hss.specs.Laws.{TwoIndexesHaveTwoLeaves, TwoLeavesMakeASignature};
 
 /// A law: the signature of every message at every index is valid under the seed's public key.
 pub fn what_a_seed_signs_is_valid()

@@ -29,12 +29,14 @@ nothing_grown height id leaf nodes long = record {
 }
 
 -- after the last one all stand
-pub all_grown : (height : ℕ) (id : List ℕ) (leaf : ℕ → List ℕ) (nodes : List (List ℕ)) → HasGrown (2 ^ height) height id leaf nodes → HasNodes height id leaf nodes
+pub all_grown : (height : ℕ) (id : List ℕ) (leaf : ℕ → List ℕ) (nodes : List (List ℕ)) → HasGrown (2 ^ height) height id leaf nodes
+    → HasNodes height id leaf nodes
 all_grown height id leaf nodes grown = record {
   count = grown.count;
   node = λ level depth r sum on.
       let whole : 2 ^ (depth + 1) * 2 ^ level ≡ 2 ^ (height + 1) = sym (pow-add 2 (depth + 1) level) ∙ ap (λ (k : ℕ). 2 ^ k) (omega arith) in
-      let most : 2 ^ (depth + 1) ≤ (2 ^ height + 2 ^ height) / 2 ^ level = le-div (2 ^ (depth + 1)) (2 ^ height + 2 ^ height) (2 ^ level) (pow_pos level) (omega (arith, whole, doubled height)) in
+      let most : 2 ^ (depth + 1) ≤ (2 ^ height + 2 ^ height) / 2 ^ level =
+      le-div (2 ^ (depth + 1)) (2 ^ height + 2 ^ height) (2 ^ level) (pow_pos level) (omega (arith, whole, doubled height)) in
       grown.node level depth r sum on (omega arith);
 }
 
@@ -74,7 +76,8 @@ unfolding tree_node
 made_of_two top depth grown height r id leaf nodes x sum held on last made =
     let below = below_on_level depth r on in
     let left : slice_index_or nodes (2 * r) [] ≡ tree_node id leaf top (2 * r) = held.low top (depth + 1) (2 * r) (omega arith) sum below.0 (omega arith) in
-    let right : slice_index_or nodes (2 * r + 1) [] ≡ tree_node id leaf top (2 * r + 1) = held.low top (depth + 1) (2 * r + 1) (omega arith) sum below.1 (omega arith) in
+    let right : slice_index_or nodes (2 * r + 1) [] ≡ tree_node id leaf top (2 * r + 1) =
+    held.low top (depth + 1) (2 * r + 1) (omega arith) sum below.1 (omega arith) in
     let step : tree_node id leaf (top + 1) r ≡ inner_hash id r (tree_node id leaf top (2 * r)) (tree_node id leaf top (2 * r + 1)) = rw (add-one top) refl in
     made ∙ rw (left, right) (sym step)
 
@@ -127,7 +130,8 @@ same_above n top level even next above =
 
 -- so all stands that the leaf makes whole
 pub grown_at_first : (top grown height : ℕ) (id : List ℕ) (leaf : ℕ → List ℕ) (nodes : List (List ℕ)) → HasGrownUpTo top grown height id leaf nodes
-    → ((2 ^ height + grown) / 2 ^ top) % 2 ≡ 0 → (2 ^ height + grown + 1) / 2 ^ top ≡ (2 ^ height + grown) / 2 ^ top + 1 → HasGrown (grown + 1) height id leaf nodes
+    → ((2 ^ height + grown) / 2 ^ top) % 2 ≡ 0 → (2 ^ height + grown + 1) / 2 ^ top ≡ (2 ^ height + grown) / 2 ^ top + 1
+    → HasGrown (grown + 1) height id leaf nodes
 grown_at_first top grown height id leaf nodes held even next =
     let n = 2 ^ height + grown in
     let sum_is : 2 ^ height + (grown + 1) ≡ 2 ^ height + grown + 1 = omega arith in

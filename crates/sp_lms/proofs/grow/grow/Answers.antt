@@ -33,7 +33,9 @@ levels-preserved c =
     record {
       this = ap (λ (k : ℕ). k / 2) held.this ∙ half_more n c.levels.level;
       next = sym next ∙ ap (λ (k : ℕ). k / 2) held.next ∙ half_more (n + 1) c.levels.level;
-      grown = node_grown c.levels.level c.args.q h half c.args.id.now (seed_leaf c.args.lms c.args.ots c.args.id.now c.args.seed.now) c.levels.nodes c.inner_hash.result
+      grown =
+          node_grown c.levels.level c.args.q h half c.args.id.now (seed_leaf c.args.lms c.args.ots c.args.id.now c.args.seed.now) c.levels.nodes
+          c.inner_hash.result
           (omega (arith, c.height-level-end.ensures.value)) c.requires.leaf held.grown (odd ∙ held.this) (omega (arith, odd, held.next)) c.inner_hash.ensures;
     }
 

@@ -15,7 +15,8 @@ returns-in-Some-clause-answer c =
     let known : IsFrontUnder k.public.items k.front.items = c.self.invariant.known c.if-self.true in
     let whole : c.args.sig.now ≡ k.front.items ++ lower = c.in-Some.ensures ∙ ap (λ (xs : List ℕ). xs ++ lower) c.deref.ensures.value in
     let key : c.lower_key.result.now ≡ lower_key_of k.front.items = c.lower_key.ensures ∙ ap lower_key_of c.deref-in-Some.ensures.value in
-    let told : (IsTrue c.verify.result → tree.IsValid c.lower_key.result.now msg lower) × (tree.IsValid c.lower_key.result.now msg lower → IsTrue c.verify.result) = c.verify.ensures in
+    let told : (IsTrue c.verify.result → tree.IsValid c.lower_key.result.now msg lower) × (tree.IsValid c.lower_key.result.now msg lower → IsTrue c.verify.result) =
+    c.verify.ensures in
     let ways = rw key at told in
     rw (← c.self.view_is, whole) (
       λ right. valid_after_front k.public.items k.front.items lower msg known (ways.0 right),
@@ -41,7 +42,8 @@ invariant_of-self c =
     let found = front_of_valid k.public.items c.args.msg.now c.args.sig.now (length k.front.items) (c.self.invariant.room (omega (arith, len))) valid in
     let front : c.copy_from_slice.new.self.items ≡ take (length k.front.items) c.args.sig.now =
     c.copy_from_slice.ensures.items ∙ ap (λ (n : ℕ). take n c.args.sig.now) len in
-    let same : length c.copy_from_slice.new.self.items ≡ length k.front.items = ap length front ∙ length-take-le (length k.front.items) c.args.sig.now found.0 in
+    let same : length c.copy_from_slice.new.self.items ≡ length k.front.items =
+    ap length front ∙ length-take-le (length k.front.items) c.args.sig.now found.0 in
     record {
       room = rw same c.self.invariant.room;
       known = λ _. rw front found.1;

@@ -17,7 +17,8 @@ invariant_of-self c =
 pub invariant_of-key : goal.invariant_of-key
 invariant_of-key c =
     let k = c.self.inside in
-    let whole : k.grown ≡ leaf_count k.lms = ap (λ (v : Growing). v.grown) c.self.view_is ∙ c.requires ∙ sym (ap (λ (v : Growing). leaf_count v.lms) c.self.view_is) in
+    let whole : k.grown ≡ leaf_count k.lms =
+    ap (λ (v : Growing). v.grown) c.self.view_is ∙ c.requires ∙ sym (ap (λ (v : Growing). leaf_count v.lms) c.self.view_is) in
     let tree : HasNodes (height k.lms) k.id (seed_leaf k.lms k.ots k.id k.seed) k.nodes.items =
     all_grown (height k.lms) k.id (seed_leaf k.lms k.ots k.id k.seed) k.nodes.items (rw whole at c.self.invariant.tree) in
     record {
