@@ -33,7 +33,8 @@ pub fn compressions(work: Work, count: u32, bench: &mut Bench) -> u64 {
         }),
         Work::Key(height) => key(height).saturating_mul(all),
         Work::SignBelow(_) => signing_below(&mut bench.levels, count),
-        Work::VerifyBelow(height) => checking_below(&bench.levels, height, count),
+        Work::VerifyBelow(height) => checking_below(&bench.levels, height, count, false),
+        Work::VerifyKnown(height) => checking_below(&bench.levels, height, count, true),
     }
 }
 
@@ -82,45 +83,79 @@ fn base(param: OtsParam) -> u64
     }
 }
 
+/// Those of a leaf of a tree: the chains with their private starts, the key of their ends, and the leaf's hash.
+fn leaf() -> u64 {
+    blocks(22 + 67 * 32).saturating_add(67 * 16 + 1)
+}
+
+/// Those of a node above the leaves.
+fn inner_node() -> u64 {
+    blocks(22 + 64)
+}
+
 /// Those of both trees of a key of two levels. Its few tags and its one signature are left out: one in 3,000.
 fn key(height: LmsParam) -> u64 {
     let leaves = u64::from(height.leaf_count());
-    // The chains with their private starts, the key of their ends, and the leaf's hash.
-    let leaf = blocks(22 + 67 * 32).saturating_add(67 * 16 + 1);
-    let inner = blocks(22 + 64).saturating_mul(leaves.saturating_sub(1));
     leaves
-        .saturating_mul(leaf)
-        .saturating_add(inner)
+        .saturating_mul(leaf())
+        .saturating_add(inner_node().saturating_mul(leaves.saturating_sub(1)))
         .saturating_mul(2)
 }
 
-/// Those of signatures by the first lower tree, which is kept.
+/// Those of signatures by the first lower tree, beside which the second one grows.
 fn signing_below(levels: &mut Option<Levels>, count: u32) -> u64 {
     let Some(levels) = levels else {
         return 0;
     };
     let mut all = 0u64;
     for i in 0..count {
+        let index = levels.index();
         let message = message(i);
         levels.sign(&message);
-        let left = left(
-            OtsParam::W4,
-            &levels.lower_id(),
-            i,
-            &levels.lower_randomizer(),
-            &message,
-        );
-        all = all.saturating_add(signing(OtsParam::W4, left));
+        all = all.saturating_add(signed_last(levels, index, &message));
     }
     all
 }
 
-/// Those of checks of the first signature for each message: both levels, each with its path.
-fn checking_below(levels: &Option<Levels>, height: LmsParam, count: u32) -> u64 {
+/// Those of the last signature, which has this index: of its leaf, of the leaf that grew beside it with the nodes that became whole, and of the
+/// upper tree's leaf where the lower tree is new. The few tags of a new tree are left out.
+pub fn signed_last(levels: &Levels, index: u64, message: &[u8]) -> u64 {
+    let leaves = u64::from(levels.height().leaf_count()).max(1);
+    let tree = index / leaves % leaves;
+    let q = index % leaves;
+    let lower = left(
+        OtsParam::W4,
+        &levels.lower_id(),
+        q as u32,
+        &levels.lower_randomizer(),
+        message,
+    );
+    let mut all = signing(OtsParam::W4, lower);
+    if tree.saturating_add(1) < leaves {
+        let whole = u64::from(q.trailing_ones());
+        all = all
+            .saturating_add(leaf())
+            .saturating_add(inner_node().saturating_mul(whole));
+    }
+    if q == 0 && index > 0 {
+        let upper = left(
+            OtsParam::W4,
+            &levels.upper_id(),
+            tree as u32,
+            &levels.upper_randomizer(),
+            &levels.lower_key(),
+        );
+        all = all.saturating_add(signing(OtsParam::W4, upper));
+    }
+    all
+}
+
+/// Those of checks of the first signature for each message: both levels, each with its path, or the lower one alone where the front is known.
+fn checking_below(levels: &Option<Levels>, height: LmsParam, count: u32, is_known: bool) -> u64 {
     let Some(levels) = levels else {
         return 0;
     };
-    let path = blocks(22 + 64)
+    let path = inner_node()
         .saturating_mul(height.height() as u64)
         .saturating_add(1);
     let upper = left(
@@ -130,7 +165,11 @@ fn checking_below(levels: &Option<Levels>, height: LmsParam, count: u32) -> u64 
         &levels.upper_randomizer(),
         &levels.lower_key(),
     );
-    let above = checking(OtsParam::W4, 56, upper).saturating_add(path);
+    let above = if is_known {
+        0
+    } else {
+        checking(OtsParam::W4, 56, upper).saturating_add(path)
+    };
     sum(count, |i| {
         let lower = left(
             OtsParam::W4,

@@ -1,6 +1,6 @@
-// A signer of two levels and its last signature.
+// A signer of two levels, its last signature, and a verifier of its key.
 use crate::tree::SEED;
-use sp_hss::{HssRefused, LmsParam, Signer, verify};
+use sp_hss::{HssRefused, LmsParam, Signer, Verifier, verify};
 use sp_lms::sig_len;
 use sp_ots::OtsParam;
 use std::alloc::Global;
@@ -11,6 +11,7 @@ pub struct Levels {
     signer: Signer,
     signature: Vec<u8>,
     public: [u8; 60],
+    verifier: Verifier,
 }
 
 impl Levels {
@@ -23,11 +24,13 @@ impl Levels {
             return Err(HssRefused::Memory);
         };
         let public = signer.public();
+        let verifier = Verifier::make(alloc, &public)?;
         Ok(Levels {
             height,
             signer,
             signature,
             public,
+            verifier,
         })
     }
 
@@ -37,6 +40,15 @@ impl Levels {
 
     pub fn signature(&self) -> &[u8] {
         &self.signature
+    }
+
+    pub fn height(&self) -> LmsParam {
+        self.height
+    }
+
+    /// The index of the next signature.
+    pub fn index(&self) -> u64 {
+        self.signer.index()
     }
 
     /// The id of the upper tree.
@@ -73,6 +85,11 @@ impl Levels {
         if self.signature.len() == self.signer.signature_len() {
             let _ = self.signer.sign(message, &mut self.signature);
         }
+    }
+
+    /// Checks the last signature, and remembers its front where it is valid.
+    pub fn verify_known(&mut self, message: &[u8]) -> bool {
+        self.verifier.verify(message, &self.signature)
     }
 
     pub fn verify(&self, message: &[u8]) -> bool {

@@ -1,5 +1,7 @@
 // The times of all works, each beside the compressions that it is made of, in one run.
-use crate::count::compressions;
+use crate::count::{compressions, signed_last};
+use crate::levels::Levels;
+use crate::tree::message;
 use crate::work::{Bench, WORKS, Work, prepare, run};
 use sp_hss::LmsParam;
 use std::alloc::Global;
@@ -18,6 +20,12 @@ pub struct Counts {
 
 /// Each work is timed so often, and its least time counts: the machine may have other work.
 const ROUNDS: u32 = 5;
+
+/// A whole key of height 5, and the calls round a border at height 10: how many are signed before, and the count.
+const LIVES: [(&str, LmsParam, u32, u32); 2] = [
+    ("HSS sign, h = 5", LmsParam::H5, 0, 1024),
+    ("HSS sign, h = 10", LmsParam::H10, 1004, 40),
+];
 
 /// What the rounds of a work gave: the seconds of one bare compression and of the whole work, the least of
 /// all rounds, and the first byte of the result, so that no work can be left out.
@@ -54,7 +62,7 @@ pub fn measure(rt: &(impl Print + Clock + AllocGlobal), counts: Counts) -> io::R
             whole / (blocks * bare)
         )?;
     }
-    Ok(())
+    measure_calls(rt)
 }
 
 impl Counts {
@@ -73,6 +81,91 @@ impl Counts {
 
 fn prepared(alloc: Global, work: Work) -> io::Result<Bench> {
     prepare(alloc, work).map_err(|_| io::ErrorKind::OutOfMemory.into())
+}
+
+/// What the calls of a signer one by one took: the seconds of all and of the longest, and their compressions, all and the most of a call.
+#[derive(Clone, Copy)]
+struct Calls {
+    all: f64,
+    longest: f64,
+    compressions: u64,
+    most: u64,
+}
+
+/// Signs so many times after others, each call timed by itself: of each call the least of all rounds.
+fn time_calls(
+    rt: &(impl Clock + AllocGlobal),
+    height: LmsParam,
+    before: u32,
+    count: u32,
+) -> io::Result<Calls> {
+    let mut least = vec![in rt.alloc(); f64::INFINITY; count as usize]?;
+    let mut calls = Calls {
+        all: 0.0,
+        longest: 0.0,
+        compressions: 0,
+        most: 0,
+    };
+    for _ in 0..ROUNDS {
+        calls = round_of_calls(rt, height, before, &mut least)?;
+    }
+    for seconds in least.iter() {
+        calls.all += *seconds;
+        calls.longest = calls.longest.max(*seconds);
+    }
+    Ok(calls)
+}
+
+/// Signs once for each of the times, and lowers each to that of its call where this is less. Gives the compressions.
+fn round_of_calls(
+    rt: &(impl Clock + AllocGlobal),
+    height: LmsParam,
+    before: u32,
+    least: &mut [f64],
+) -> io::Result<Calls> {
+    let Ok(mut levels) = Levels::make(rt.alloc(), height) else {
+        return Err(io::ErrorKind::OutOfMemory.into());
+    };
+    for i in 0..before {
+        levels.sign(&message(i));
+    }
+    let mut calls = Calls {
+        all: 0.0,
+        longest: 0.0,
+        compressions: 0,
+        most: 0,
+    };
+    for seconds in least.iter_mut() {
+        let index = levels.index();
+        let message = message((index % 0x1_0000_0000) as u32);
+        let start = Instant::now(rt)?;
+        levels.sign(&message);
+        *seconds = seconds.min(start.elapsed(rt)?.as_secs_f64());
+        let compressions = signed_last(&levels, index, &message);
+        calls.compressions = calls.compressions.saturating_add(compressions);
+        calls.most = calls.most.max(compressions);
+    }
+    Ok(calls)
+}
+
+/// Prints the longest of the calls of a signer beside their mean, in time and in compressions.
+fn measure_calls(rt: &(impl Print + Clock + AllocGlobal)) -> io::Result<()> {
+    println!(rt;
+        "{:<20} {:>9} {:>10} {:>12} {:>7} {:>7}",
+        "calls one by one", "count", "a second", "compressions", "most", "longest"
+    )?;
+    for (name, height, before, count) in LIVES {
+        let calls = time_calls(rt, height, before, count)?;
+        let number = nearest_u64_to_f64(count as u64);
+        println!(rt;
+            "{name:<20} {count:>9} {:>10.1} {:>12.1} {:>7} {:>7.3}",
+            number / calls.all,
+            nearest_u64_to_f64(calls.compressions) / number,
+            calls.most,
+            calls.longest * number / calls.all
+        )?;
+    }
+    Ok(())
 }
 
 /// Times the bare compressions and the work by turns.

@@ -34,10 +34,12 @@ pub enum Work {
     SignBelow(LmsParam),
     /// Its signature is checked.
     VerifyBelow(LmsParam),
+    /// The same where the front of the signature is remembered.
+    VerifyKnown(LmsParam),
 }
 
 /// All works and their names, the compression first.
-pub const WORKS: [(&str, Work); 19] = [
+pub const WORKS: [(&str, Work); 21] = [
     ("compression", Work::Compression),
     ("the same in lanes", Work::FourAtOnce),
     ("tag of 64 bytes", Work::ShortTag),
@@ -55,8 +57,10 @@ pub const WORKS: [(&str, Work); 19] = [
     ("HSS key, h = 10", Work::Key(LmsParam::H10)),
     ("HSS sign, h = 5", Work::SignBelow(LmsParam::H5)),
     ("HSS verify, h = 5", Work::VerifyBelow(LmsParam::H5)),
+    ("HSS known, h = 5", Work::VerifyKnown(LmsParam::H5)),
     ("HSS sign, h = 10", Work::SignBelow(LmsParam::H10)),
     ("HSS verify, h = 10", Work::VerifyBelow(LmsParam::H10)),
+    ("HSS known, h = 10", Work::VerifyKnown(LmsParam::H10)),
 ];
 
 /// The bytes of the longest one-time signature.
@@ -91,6 +95,12 @@ pub fn prepare(alloc: Global, work: Work) -> Result<Bench, HssRefused> {
             levels.sign(&message(0));
             Some(levels)
         }
+        Work::VerifyKnown(height) => {
+            let mut levels = Levels::make(alloc, height)?;
+            levels.sign(&message(0));
+            levels.verify_known(&message(0));
+            Some(levels)
+        }
         _ => None,
     };
     Ok(Bench {
@@ -115,6 +125,7 @@ pub fn run(work: Work, count: u32, bench: &mut Bench) -> [u8; 32] {
         Work::Key(height) => keys(bench.alloc, height, count),
         Work::SignBelow(_) => signatures_below(&mut bench.levels, count),
         Work::VerifyBelow(_) => checks_below(&bench.levels, count),
+        Work::VerifyKnown(_) => checks_known(&mut bench.levels, count),
     }
 }
 
@@ -218,6 +229,17 @@ fn checks_below(levels: &Option<Levels>, count: u32) -> [u8; 32] {
     if let Some(levels) = levels {
         for i in 0..count {
             sum[0] ^= levels.verify(&message(i)) as u8;
+        }
+    }
+    sum
+}
+
+/// The same where the front is remembered.
+fn checks_known(levels: &mut Option<Levels>, count: u32) -> [u8; 32] {
+    let mut sum = [0u8; 32];
+    if let Some(levels) = levels {
+        for i in 0..count {
+            sum[0] ^= levels.verify_known(&message(i)) as u8;
         }
     }
     sum
