@@ -5,6 +5,7 @@ use Rattle.byteorder.specs.Endian.{big_bytes}
 use Rattle.sp_base.proofs.NumberLemmas.{number_back, piece_back}
 use Rattle.sp_msg.specs.declared.body.Body.{Body}
 use Rattle.sp_msg.specs.declared.body.Body.TheVariants as bodies
+use Rattle.sp_msg.specs.declared.body.TheConstants.{PRIO, REL, ACK, WEIGHT}
 use Rattle.sp_msg.specs.declared.refused.MsgRefused.TheVariants as refusals
 use Rattle.sp_msg.specs.Bodies.{ack_fields, ack_from, body_at, body_of_kind, encoded, last_of, numbers_of, of_fields, prio_fields, prio_from, read_body, rel_fields, rel_from, weight_fields, weight_from, with_payload}
 use Rattle.sp_msg.specs.Fields.{AreInRange, HaveRoom, Rule, spelled}
@@ -43,16 +44,16 @@ weight_room = (lit< tt, (lit< tt, (lit< tt, (lit< tt, tt))))
 
 pub encoded_is_read : EncodedIsRead
 encoded_is_read (bodies.Prio p) rest good =
-    kind_back 1 (spelled prio_fields (numbers_of (bodies.Prio p)) ++ p.payload ++ rest) (lit< tt)
+    kind_back PRIO (spelled prio_fields (numbers_of (bodies.Prio p)) ++ p.payload ++ rest) (lit< tt)
     ∙ with_payload_back prio_fields prio_from (numbers_of (bodies.Prio p)) p.payload rest prio_room good refl
 encoded_is_read (bodies.Rel r) rest good =
-    kind_back 2 (spelled rel_fields (numbers_of (bodies.Rel r)) ++ r.payload ++ rest) (lit< tt)
+    kind_back REL (spelled rel_fields (numbers_of (bodies.Rel r)) ++ r.payload ++ rest) (lit< tt)
     ∙ with_payload_back rel_fields rel_from (numbers_of (bodies.Rel r)) r.payload rest rel_room good refl
 encoded_is_read (bodies.Ack a) rest good =
-    kind_back 3 (spelled ack_fields (numbers_of (bodies.Ack a)) ++ [] ++ rest) (lit< tt)
+    kind_back ACK (spelled ack_fields (numbers_of (bodies.Ack a)) ++ [] ++ rest) (lit< tt)
     ∙ of_fields_back ack_fields ack_from (numbers_of (bodies.Ack a)) rest ack_room good
 encoded_is_read (bodies.Weight w) rest good =
-    kind_back 4 (spelled weight_fields (numbers_of (bodies.Weight w)) ++ [] ++ rest) (lit< tt)
+    kind_back WEIGHT (spelled weight_fields (numbers_of (bodies.Weight w)) ++ [] ++ rest) (lit< tt)
     ∙ of_fields_back weight_fields weight_from (numbers_of (bodies.Weight w)) rest weight_room good
 
 -- a message that bytes begin with is all of them, or more follows

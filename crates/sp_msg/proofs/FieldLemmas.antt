@@ -65,8 +65,9 @@ field_read (ranged name size low high) bytes p are e =
     let s = then_ok (as_refusal refusals.Short (number_at size bytes)) (judged low high name) p e in
     let n = number_read size bytes s.0 are (as_refusal_ok refusals.Short (number_at size bytes) s.0 s.1) in
     let good = passed low high name s.0 p s.2 in
-    let here : BeginsWithField (ranged name size low high) bytes s.0.0 s.0.1 = record { is = n.spelled; in_range = (good.1, good.2); are_bytes = n.are_bytes } in
-    subst (λ (q : ℕ × List ℕ). BeginsWithField (ranged name size low high) bytes q.0 q.1) good.0 here
+    let r = ranged name size low high in
+    let here : BeginsWithField r bytes s.0.0 s.0.1 = record { is = n.spelled; in_range = (good.1, good.2); are_bytes = n.are_bytes } in
+    subst (λ (q : ℕ × List ℕ). BeginsWithField r bytes q.0 q.1) good.0 here
 field_read (free size) bytes p are e =
     let n = number_read size bytes p are (as_refusal_ok refusals.Short (number_at size bytes) p e) in
     record { is = n.spelled; in_range = n.fits; are_bytes = n.are_bytes }

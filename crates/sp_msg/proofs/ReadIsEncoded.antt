@@ -41,14 +41,17 @@ put_together rs make bytes numbers middle payload rest front back = record {
   last = sym back.count;
 }
 
-same_parts : (rs : List Rule) (make : List ℕ → List ℕ → Body) (bytes : List ℕ) (p q : Body × List ℕ) → p ≡ q → Parts rs make bytes p.0 p.1 → Parts rs make bytes q.0 q.1
+same_parts : (rs : List Rule) (make : List ℕ → List ℕ → Body) (bytes : List ℕ) (p q : Body × List ℕ) → p ≡ q → Parts rs make bytes p.0 p.1
+    → Parts rs make bytes q.0 q.1
 same_parts rs make bytes p q same is = subst (λ (z : Body × List ℕ). Parts rs make bytes z.0 z.1) same is
 
 with_payload_read : (rs : List Rule) (make : List ℕ → List ℕ → Body) (bytes : List ℕ) (p : Body × List ℕ) → AreBytes bytes → with_payload rs make bytes ≡ Ok p
     → Parts rs make bytes p.0 p.1
 unfolding with_payload
 with_payload_read rs make bytes p are e =
-    let s = then_ok (fields_at rs bytes) (λ xs. as_refusal refusals.Short (piece_at (last_of xs.0) xs.1) >>= λ payload. Ok (make xs.0 payload.0, payload.1)) p e in
+    let s =
+    then_ok (fields_at rs bytes)
+    (λ xs. as_refusal refusals.Short (piece_at (last_of xs.0) xs.1) >>= λ payload. Ok (make xs.0 payload.0, payload.1)) p e in
     let t = then_ok (as_refusal refusals.Short (piece_at (last_of s.0.0) s.0.1)) (λ payload. Ok (make s.0.0 payload.0, payload.1)) p s.2 in
     let front = fields_read rs bytes s.0 are s.1 in
     let back = piece_read (last_of s.0.0) s.0.1 t.0 (as_refusal_ok refusals.Short (piece_at (last_of s.0.0) s.0.1) t.0 t.1) in
@@ -63,7 +66,8 @@ record Numbers (rs : List Rule) (make : List ℕ → Body) (bytes : List ℕ) (b
   in_range : AreInRange rs numbers
   made : make numbers ≡ body
 
-same_numbers : (rs : List Rule) (make : List ℕ → Body) (bytes : List ℕ) (p q : Body × List ℕ) → p ≡ q → Numbers rs make bytes p.0 p.1 → Numbers rs make bytes q.0 q.1
+same_numbers : (rs : List Rule) (make : List ℕ → Body) (bytes : List ℕ) (p q : Body × List ℕ) → p ≡ q → Numbers rs make bytes p.0 p.1
+    → Numbers rs make bytes q.0 q.1
 same_numbers rs make bytes p q same is = subst (λ (z : Body × List ℕ). Numbers rs make bytes z.0 z.1) same is
 
 of_fields_read : (rs : List Rule) (make : List ℕ → Body) (bytes : List ℕ) (p : Body × List ℕ) → AreBytes bytes → of_fields rs make bytes ≡ Ok p
@@ -139,12 +143,15 @@ rel_spells bytes body rest parts =
     } in
     subst (λ b. Spells REL bytes b rest) parts.made here
 
+no_payload : (bytes front rest : List ℕ) → bytes ≡ front ++ rest → bytes ≡ front ++ [] ++ rest
+no_payload bytes front rest is = is ∙ ap (λ bs. bs ++ rest) (sym (append-nil front))
+
 ack_spells : (bytes : List ℕ) (body : Body) (rest : List ℕ) → Numbers ack_fields ack_from bytes body rest → Spells ACK bytes body rest
 ack_spells bytes body rest parts =
     let numbers = ack_numbers parts.numbers parts.in_range in
     let here : Spells ACK bytes (ack_from parts.numbers) rest = record {
       kind_is = refl;
-      is = parts.is ∙ ap (λ xs. spelled ack_fields xs ++ rest) (sym numbers) ∙ ap (λ bs. bs ++ rest) (sym (append-nil (spelled ack_fields (numbers_of (ack_from parts.numbers)))));
+      is = no_payload bytes (spelled ack_fields (numbers_of (ack_from parts.numbers))) rest (parts.is ∙ ap (λ xs. spelled ack_fields xs ++ rest) (sym numbers));
       good = subst (AreInRange ack_fields) (sym numbers) parts.in_range;
     } in
     subst (λ b. Spells ACK bytes b rest) parts.made here
@@ -154,7 +161,7 @@ weight_spells bytes body rest parts =
     let numbers = weight_numbers parts.numbers parts.in_range in
     let here : Spells WEIGHT bytes (weight_from parts.numbers) rest = record {
       kind_is = refl;
-      is = parts.is ∙ ap (λ xs. spelled weight_fields xs ++ rest) (sym numbers) ∙ ap (λ bs. bs ++ rest) (sym (append-nil (spelled weight_fields (numbers_of (weight_from parts.numbers)))));
+      is = no_payload bytes (spelled weight_fields (numbers_of (weight_from parts.numbers))) rest (parts.is ∙ ap (λ xs. spelled weight_fields xs ++ rest) (sym numbers));
       good = subst (AreInRange weight_fields) (sym numbers) parts.in_range;
     } in
     subst (λ b. Spells WEIGHT bytes b rest) parts.made here
@@ -175,7 +182,8 @@ of_kind kind bytes p are e = elim (cases_Bool (kind == PRIO)) [
       | inr not_ack ↦ elim (cases_Bool (kind == WEIGHT)) [
         | inl is ↦
             let f : of_fields weight_fields weight_from bytes ≡ Ok p = rw (not_prio, not_rel, not_ack, is) at e in
-            subst (λ k. Spells k bytes p.0 p.1) (sym (eqb-true kind WEIGHT is)) (weight_spells bytes p.0 p.1 (of_fields_read weight_fields weight_from bytes p are f))
+            subst (λ k. Spells k bytes p.0 p.1) (sym (eqb-true kind WEIGHT is))
+            (weight_spells bytes p.0 p.1 (of_fields_read weight_fields weight_from bytes p are f))
         | inr not_weight ↦ absurd (let f = rw (not_prio, not_rel, not_ack, not_weight) at e in cc)
       ]
     ]
@@ -194,7 +202,10 @@ with_kind : (kind : ℕ) (bytes others : List ℕ) (body : Body) (rest : List �
     → (bytes ≡ encoded body ++ rest) × HasGoodFields body
 with_kind kind bytes others body rest first after =
     let fields = spelled (fields_of body) (numbers_of body) ++ payload_of body ++ rest in (
-      first ∙ ap (λ bs. big_bytes 1 kind ++ bs) after.is ∙ ap (λ k. big_bytes 1 k ++ fields) (sym after.kind_is) ∙ ap (λ front. front ++ fields) (kind_byte body),
+      first
+          ∙ ap (λ bs. big_bytes 1 kind ++ bs) after.is
+          ∙ ap (λ k. big_bytes 1 k ++ fields) (sym after.kind_is)
+          ∙ ap (λ front. front ++ fields) (kind_byte body),
       after.good,
     )
 
@@ -221,6 +232,7 @@ read_is_encoded bytes body are e =
     is_whole bytes s.0.0 body s.0.1 (front_is_encoded bytes s.0.0 s.0.1 are s.1) s.2
 
 -- what a call read has its fields in their ranges
-pub read_is_good : (result : Result BodyRef MsgRefused) (bytes : List ℕ) → AreBytes bytes → Gives as_body result (read_body bytes) → IfOk result (λ body. HasGoodFields (as_body body))
+pub read_is_good : (result : Result BodyRef MsgRefused) (bytes : List ℕ) → AreBytes bytes → Gives as_body result (read_body bytes)
+    → IfOk result (λ body. HasGoodFields (as_body body))
 read_is_good (Ok body) bytes are gives = (read_is_encoded bytes (as_body body) are gives).1
 read_is_good (Err e) bytes are gives = tt

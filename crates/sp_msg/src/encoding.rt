@@ -49,6 +49,7 @@ pub fn push_body(out: &mut Vec<u8>, body: &Body) -> Result<(), AllocError>
     ensures bytes { OnOk result (out.new.items ≡ out.old.items ++ encoded body.now) }
     ensures refused { OnErr result (out.new.items ≡ out.old.items) }
     ensures room { vec_len out.old + length (encoded body.now) ≤ vec_capacity out.old → IsOk result }
+    ensures capacity { vec_capacity out.old ≤ vec_capacity out.new }
 {
     out.reserve(encoded_len(body))?;
     match body {
@@ -63,7 +64,8 @@ pub fn push_body(out: &mut Vec<u8>, body: &Body) -> Result<(), AllocError>
 fn push_prio(out: &mut Vec<u8>, prio: &Prio)
     requires fields { HasGoodFields (bodies.Prio prio.now) }
     requires room { vec_len out.old + (PRIO_LEN + length prio.now.payload) ≤ vec_capacity out.old }
-    ensures { out.new.items ≡ out.old.items ++ encoded (bodies.Prio prio.now) }
+    ensures bytes { out.new.items ≡ out.old.items ++ encoded (bodies.Prio prio.now) }
+    ensures capacity { vec_capacity out.old ≤ vec_capacity out.new }
 {
     push_u8(out, PRIO);
     push_u8(out, prio.src.0);
@@ -78,7 +80,8 @@ fn push_prio(out: &mut Vec<u8>, prio: &Prio)
 fn push_rel(out: &mut Vec<u8>, rel: &Rel)
     requires fields { HasGoodFields (bodies.Rel rel.now) }
     requires room { vec_len out.old + (REL_LEN + length rel.now.payload) ≤ vec_capacity out.old }
-    ensures { out.new.items ≡ out.old.items ++ encoded (bodies.Rel rel.now) }
+    ensures bytes { out.new.items ≡ out.old.items ++ encoded (bodies.Rel rel.now) }
+    ensures capacity { vec_capacity out.old ≤ vec_capacity out.new }
 {
     push_u8(out, REL);
     push_u8(out, rel.src.0);
@@ -89,7 +92,8 @@ fn push_rel(out: &mut Vec<u8>, rel: &Rel)
 
 fn push_ack(out: &mut Vec<u8>, ack: &Ack)
     requires room { vec_len out.old + ACK_LEN ≤ vec_capacity out.old }
-    ensures { out.new.items ≡ out.old.items ++ encoded (bodies.Ack ack.now) }
+    ensures bytes { out.new.items ≡ out.old.items ++ encoded (bodies.Ack ack.now) }
+    ensures capacity { vec_capacity out.old ≤ vec_capacity out.new }
 {
     push_u8(out, ACK);
     push_u8(out, ack.src.0);
@@ -99,7 +103,8 @@ fn push_ack(out: &mut Vec<u8>, ack: &Ack)
 
 fn push_weight(out: &mut Vec<u8>, weight: &WeightBody)
     requires room { vec_len out.old + WEIGHT_LEN ≤ vec_capacity out.old }
-    ensures { out.new.items ≡ out.old.items ++ encoded (bodies.Weight weight.now) }
+    ensures bytes { out.new.items ≡ out.old.items ++ encoded (bodies.Weight weight.now) }
+    ensures capacity { vec_capacity out.old ≤ vec_capacity out.new }
 {
     push_u8(out, WEIGHT);
     push_u8(out, weight.origin.0);
@@ -114,7 +119,7 @@ fn push_u8(out: &mut Vec<u8>, number: u8)
     requires { vec_len out.old + 1 ≤ vec_capacity out.old }
     ensures bytes { out.new.items ≡ out.old.items ++ big_bytes 1 number }
     ensures len { vec_len out.new ≡ vec_len out.old + 1 }
-    ensures room { vec_capacity out.old ≤ vec_capacity out.new }
+    ensures capacity { vec_capacity out.old ≤ vec_capacity out.new }
 {
     push_bytes(out, &number.to_be_bytes());
 }
@@ -123,7 +128,7 @@ fn push_u16(out: &mut Vec<u8>, number: u16)
     requires { vec_len out.old + 2 ≤ vec_capacity out.old }
     ensures bytes { out.new.items ≡ out.old.items ++ big_bytes 2 number }
     ensures len { vec_len out.new ≡ vec_len out.old + 2 }
-    ensures room { vec_capacity out.old ≤ vec_capacity out.new }
+    ensures capacity { vec_capacity out.old ≤ vec_capacity out.new }
 {
     push_bytes(out, &number.to_be_bytes());
 }
@@ -132,7 +137,7 @@ fn push_u32(out: &mut Vec<u8>, number: u32)
     requires { vec_len out.old + 4 ≤ vec_capacity out.old }
     ensures bytes { out.new.items ≡ out.old.items ++ big_bytes 4 number }
     ensures len { vec_len out.new ≡ vec_len out.old + 4 }
-    ensures room { vec_capacity out.old ≤ vec_capacity out.new }
+    ensures capacity { vec_capacity out.old ≤ vec_capacity out.new }
 {
     push_bytes(out, &number.to_be_bytes());
 }
@@ -141,7 +146,7 @@ fn push_u64(out: &mut Vec<u8>, number: u64)
     requires { vec_len out.old + 8 ≤ vec_capacity out.old }
     ensures bytes { out.new.items ≡ out.old.items ++ big_bytes 8 number }
     ensures len { vec_len out.new ≡ vec_len out.old + 8 }
-    ensures room { vec_capacity out.old ≤ vec_capacity out.new }
+    ensures capacity { vec_capacity out.old ≤ vec_capacity out.new }
 {
     push_bytes(out, &number.to_be_bytes());
 }
@@ -150,7 +155,7 @@ fn push_u128(out: &mut Vec<u8>, number: u128)
     requires { vec_len out.old + 16 ≤ vec_capacity out.old }
     ensures bytes { out.new.items ≡ out.old.items ++ big_bytes 16 number }
     ensures len { vec_len out.new ≡ vec_len out.old + 16 }
-    ensures room { vec_capacity out.old ≤ vec_capacity out.new }
+    ensures capacity { vec_capacity out.old ≤ vec_capacity out.new }
 {
     push_bytes(out, &number.to_be_bytes());
 }
@@ -159,7 +164,8 @@ fn push_u128(out: &mut Vec<u8>, number: u128)
 fn push_payload(out: &mut Vec<u8>, payload: &[u8])
     requires short { length payload.now ≤ MAX_PAYLOAD_BYTES }
     requires room { vec_len out.old + (2 + length payload.now) ≤ vec_capacity out.old }
-    ensures { out.new.items ≡ (out.old.items ++ big_bytes 2 (length payload.now)) ++ payload.now }
+    ensures bytes { out.new.items ≡ (out.old.items ++ big_bytes 2 (length payload.now)) ++ payload.now }
+    ensures capacity { vec_capacity out.old ≤ vec_capacity out.new }
 {
     push_u16(out, payload.len() as u16);
     push_bytes(out, payload);
@@ -169,7 +175,7 @@ fn push_bytes(out: &mut Vec<u8>, bytes: &[u8])
     requires { vec_len out.old + length bytes.now ≤ vec_capacity out.old }
     ensures bytes { out.new.items ≡ out.old.items ++ bytes.now }
     ensures len { vec_len out.new ≡ vec_len out.old + length bytes.now }
-    ensures room { vec_capacity out.old ≤ vec_capacity out.new }
+    ensures capacity { vec_capacity out.old ≤ vec_capacity out.new }
 {
     out.extend_from_slice(bytes).unwrap();
 }
