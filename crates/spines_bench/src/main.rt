@@ -5,13 +5,11 @@
 #![tactic(auto)]
 
 mod count;
-mod formats;
 mod levels;
 mod measure;
 mod tree;
 mod work;
 
-use formats::{FORMATS, measure_formats, message_of, run_format};
 use measure::{Counts, measure};
 use std::env::Env;
 use std::{env, io};
@@ -47,20 +45,12 @@ fn show(rt: &(impl Print + AllocGlobal)) -> io::Result<()> {
         let [a, b, c, d, ..] = run(work, count, &mut bench);
         println!(rt; "{name:<20} {a:02x}{b:02x}{c:02x}{d:02x}")?;
     }
-    for (name, format, len) in FORMATS {
-        let mut bytes = message_of(rt.alloc(), len)?;
-        let result = run_format(rt.alloc(), format, 1, &mut bytes);
-        println!(rt; "{name:<20} {result:02x}")?;
-    }
     Ok(())
 }
 
 fn main(rt: HostRuntime) -> io::Result<()> {
     match counts(&rt)? {
         None => show(&rt),
-        Some(counts) => {
-            measure(&rt, counts)?;
-            measure_formats(&rt, counts.tags)
-        }
+        Some(counts) => measure(&rt, counts),
     }
 }

@@ -2,7 +2,6 @@
 ghost use Rattle.sp_msg.specs.Bodies.{HasGoodFields};
 ghost use Rattle.sp_msg.specs.Views.{as_body};
 
-use crate::tree::SEED;
 use sp_base::{Bytes, NodeId};
 use sp_hmac::Keyed;
 use sp_msg::{BodyRef, MsgRefused, RelRef, encode, keep};
@@ -23,41 +22,56 @@ pub enum Format {
     Copy,
 }
 
-/// The works, their names, and the length of the payload.
-pub const FORMATS: [(&str, Format, usize); 5] = [
-    ("read, no payload", Format::Read, 0),
-    ("read, 1,024 bytes", Format::Read, 1024),
-    ("tag of it", Format::Tag, 1024),
-    ("copy of it", Format::Copy, 1024),
-    ("encode, 1,024 bytes", Format::Encode, 1024),
-];
+/// How many works there are.
+pub const WORKS: u32 = 5;
+
+/// The work of this number, counted from 0: its name, and the length of the payload.
+pub fn work(number: u32) -> Option<(&'static str, Format, usize)> {
+    match number {
+        0 => Some(("read, no payload", Format::Read, 0)),
+        1 => Some(("read, 1,024 bytes", Format::Read, 1024)),
+        2 => Some(("tag of it", Format::Tag, 1024)),
+        3 => Some(("copy of it", Format::Copy, 1024)),
+        4 => Some(("encode, 1,024 bytes", Format::Encode, 1024)),
+        _ => None,
+    }
+}
+
+/// The key of the tags.
+const KEY: [u8; 32] = [1; 32];
 
 /// Each work is timed so often, and its least time counts: the machine may have other work.
 const ROUNDS: u32 = 5;
 
-/// Prints how long each work takes, in nanoseconds, and its result, so that no work can be left out.
-pub fn measure_formats(rt: &(impl Print + Clock + AllocGlobal), count: u32) -> io::Result<()> {
-    println!(rt;
-        "{:<20} {:>9} {:>10} {:>6}",
-        "work", "count", "ns", "result"
-    )?;
-    for (name, format, len) in FORMATS {
-        let mut least = f64::INFINITY;
-        let mut result = 0;
-        for _ in 0..ROUNDS {
-            let mut bytes = message_of(rt.alloc(), len)?;
-            let start = Instant::now(rt)?;
-            result = run_format(rt.alloc(), format, count, &mut bytes);
-            least = least.min(start.elapsed(rt)?.as_secs_f64());
-        }
-        let each = least * 1e9 / nearest_u64_to_f64(u64::from(count));
-        println!(rt; "{name:<20} {count:>9} {each:>10.1} {result:>6x}")?;
+/// Prints how long a work takes, in nanoseconds, and its result, so that no work can be left out.
+pub fn measure(rt: &(impl Print + Clock + AllocGlobal), number: u32, count: u32) -> io::Result<()> {
+    let Some((name, format, len)) = work(number) else {
+        return Ok(());
+    };
+    let mut least = f64::INFINITY;
+    let mut result = 0;
+    for _ in 0..ROUNDS {
+        let mut bytes = message_of(rt.alloc(), len)?;
+        let start = Instant::now(rt)?;
+        result = run(rt.alloc(), format, count, &mut bytes);
+        least = least.min(start.elapsed(rt)?.as_secs_f64());
     }
-    Ok(())
+    let each = least * 1e9 / nearest_u64_to_f64(u64::from(count));
+    println!(rt; "{name:<20} {count:>9} {each:>10.1} {result:>6x}")
+}
+
+/// Does a work once, and prints its result.
+pub fn show(rt: &(impl Print + AllocGlobal), number: u32) -> io::Result<()> {
+    let Some((name, format, len)) = work(number) else {
+        return Ok(());
+    };
+    let mut bytes = message_of(rt.alloc(), len)?;
+    let result = run(rt.alloc(), format, 1, &mut bytes);
+    println!(rt; "{name:<20} {result:02x}")
 }
 
 /// The bytes of a reliable message with a payload of so many bytes, at most 1,024.
-pub fn message_of(alloc: Global, len: usize) -> io::Result<Bytes> {
+fn message_of(alloc: Global, len: usize) -> io::Result<Bytes> {
     let payload = [7u8; 1024];
     let body = BodyRef::Rel(RelRef {
         src: NodeId(1),
@@ -75,7 +89,7 @@ fn encoded(alloc: Global, body: &BodyRef<'_>) -> Result<Bytes, MsgRefused>
 }
 
 /// Does the work `count` times. The result depends on each.
-pub fn run_format(alloc: Global, format: Format, count: u32, bytes: &mut Bytes) -> u8 {
+fn run(alloc: Global, format: Format, count: u32, bytes: &mut Bytes) -> u8 {
     match format {
         Format::Read => reads(count, bytes),
         Format::Tag => tags(count, bytes),
@@ -97,7 +111,7 @@ fn reads(count: u32, bytes: &mut Bytes) -> u8 {
 }
 
 fn tags(count: u32, bytes: &mut Bytes) -> u8 {
-    let keyed = Keyed::new(&SEED);
+    let keyed = Keyed::new(&KEY);
     let mut sum = 0u8;
     for i in 0..count {
         number(bytes, i);
