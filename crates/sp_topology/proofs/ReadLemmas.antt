@@ -384,6 +384,26 @@ steps_read : (bytes fronted noded counted rest : List ℕ) (f : Front) (nodes : 
 unfolding topology_at
 steps_read bytes fronted noded counted rest f nodes count edges one two three four = rw one (rw two (rw three (rw four refl)))
 
+-- what the steps read of bytes begins them
+whole_read : (bytes fronted noded counted rest : List ℕ) (f : Front) (nodes : List NodeKey) (count : ℕ) (edges : List Edge)
+    → ((i : ℕ) → get_or bytes i 0 < 256) → front_at bytes ≡ Ok (f, fronted)
+    → nodes_at f.height f.count 0 fronted ≡ Ok (nodes, noded) → judged_at 2 edge_count_fault noded ≡ Ok (count, counted)
+    → edges_at (ids_of nodes) count (0, 0) counted ≡ Ok (edges, rest)
+    → TopologyRead bytes (record { version = f.version; height = f.height; nodes = nodes; edges = edges }) rest
+whole_read bytes fronted noded counted rest f nodes count edges fit one two three four =
+    let t : Topology = record { version = f.version; height = f.height; nodes = nodes; edges = edges } in
+    let are : AreBytes bytes = λ k d inside. rw (get_or_default_zero bytes k d inside) (fit k) in
+    topology_read bytes (t, rest) are (steps_read bytes fronted noded counted rest f nodes count edges one two three four)
+
+-- it is in its ranges
+pub is_in_range : (bytes fronted noded counted rest : List ℕ) (f : Front) (nodes : List NodeKey) (count : ℕ) (edges : List Edge)
+    → ((i : ℕ) → get_or bytes i 0 < 256) → front_at bytes ≡ Ok (f, fronted)
+    → nodes_at f.height f.count 0 fronted ≡ Ok (nodes, noded) → judged_at 2 edge_count_fault noded ≡ Ok (count, counted)
+    → edges_at (ids_of nodes) count (0, 0) counted ≡ Ok (edges, rest)
+    → IsTopology (record { version = f.version; height = f.height; nodes = nodes; edges = edges })
+is_in_range bytes fronted noded counted rest f nodes count edges fit one two three four =
+    (whole_read bytes fronted noded counted rest f nodes count edges fit one two three four).is
+
 -- what comes after a document isn't longer than the whole
 pub rest_is_shorter : (bytes fronted noded counted rest : List ℕ) (f : Front) (nodes : List NodeKey) (count : ℕ) (edges : List Edge)
     → ((i : ℕ) → get_or bytes i 0 < 256) → front_at bytes ≡ Ok (f, fronted)
@@ -391,6 +411,5 @@ pub rest_is_shorter : (bytes fronted noded counted rest : List ℕ) (f : Front) 
     → edges_at (ids_of nodes) count (0, 0) counted ≡ Ok (edges, rest) → length rest ≤ length bytes
 rest_is_shorter bytes fronted noded counted rest f nodes count edges fit one two three four =
     let t : Topology = record { version = f.version; height = f.height; nodes = nodes; edges = edges } in
-    let are : AreBytes bytes = λ k d inside. rw (get_or_default_zero bytes k d inside) (fit k) in
-    let is = topology_read bytes (t, rest) are (steps_read bytes fronted noded counted rest f nodes count edges one two three four) in
+    let is = whole_read bytes fronted noded counted rest f nodes count edges fit one two three four in
     omega (arith, ap length is.spelled, length-append (document t) rest)

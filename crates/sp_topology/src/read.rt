@@ -1,10 +1,10 @@
 // A topology read from its document, from the left.
-ghost use Rattle.std.specs.Prelude.{◌≡◌, ◌-◌, ◌==◌, length, map};
+ghost use Rattle.std.specs.Prelude.{IfOk, ◌≡◌, ◌-◌, ◌==◌, length, map};
 ghost use Rattle.std.specs.List.{list_any};
 ghost use Rattle.sp_base.specs.Refusals.{Gives};
 ghost use Rattle.sp_topology.specs.Documents.{GivesInMemory, edge_at, edges_at, front_at, judged_at, node_at, nodes_at, read_of};
 ghost use Rattle.sp_topology.specs.Faults.{edge_count_fault};
-ghost use Rattle.sp_topology.specs.Ranges.{has_id, ids_of};
+ghost use Rattle.sp_topology.specs.Ranges.{IsTopology, has_id, ids_of};
 
 use crate::document::{FORMAT, KEY_BYTES, NAME};
 use crate::fault::{
@@ -20,7 +20,8 @@ impl Topology {
     /// and `Key`; `TooMany`; of each edge `Loop`, `Order`, `Twice`, `Unknown` and `Weight`; and `Short` wherever a field is missing.
     #[tactic(auto, unfolding(crate::specs::Documents::topology_at))]
     pub fn read(alloc: Global, bytes: &[u8]) -> Result<(Topology, usize), TopologyRefused>
-        ensures { GivesInMemory (λ p. p) result (read_of bytes.now) }
+        ensures read { GivesInMemory (λ p. p) result (read_of bytes.now) }
+        ensures ranges { IfOk result (λ read. IsTopology read.0) }
     {
         let mut reader = Reader::new(bytes);
         let front = read_front(&mut reader)?;

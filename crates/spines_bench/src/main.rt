@@ -13,7 +13,7 @@ mod work;
 use measure::{Counts, measure};
 use std::env::Env;
 use std::{env, io};
-use work::{WORKS, Work, prepare, run};
+use work::{WORKS, Work, prepare, row, run};
 
 /// The counts that the words say, or None where there are no words.
 fn counts(rt: &(impl Env + Alloc)) -> io::Result<Option<Counts>> {
@@ -35,22 +35,29 @@ fn counts(rt: &(impl Env + Alloc)) -> io::Result<Option<Counts>> {
     }
 }
 
+/// Does a work once, and prints its result.
+fn show(rt: &(impl Print + AllocGlobal), name: &str, work: Work) -> io::Result<()> {
+    let Ok(mut bench) = prepare(rt.alloc(), work) else {
+        return Err(io::ErrorKind::OutOfMemory.into());
+    };
+    let count = if let Work::FourAtOnce = work { 4 } else { 1 };
+    let [a, b, c, d, ..] = run(work, count, &mut bench);
+    println!(rt; "{name:<20} {a:02x}{b:02x}{c:02x}{d:02x}")
+}
+
 /// Does each work once.
-fn show(rt: &(impl Print + AllocGlobal)) -> io::Result<()> {
-    for (name, work) in WORKS {
-        let Ok(mut bench) = prepare(rt.alloc(), work) else {
-            return Err(io::ErrorKind::OutOfMemory.into());
-        };
-        let count = if let Work::FourAtOnce = work { 4 } else { 1 };
-        let [a, b, c, d, ..] = run(work, count, &mut bench);
-        println!(rt; "{name:<20} {a:02x}{b:02x}{c:02x}{d:02x}")?;
+fn show_all(rt: &(impl Print + AllocGlobal)) -> io::Result<()> {
+    for number in 0..WORKS {
+        if let Some((name, work)) = row(number) {
+            show(rt, name, work)?;
+        }
     }
     Ok(())
 }
 
 fn main(rt: HostRuntime) -> io::Result<()> {
     match counts(&rt)? {
-        None => show(&rt),
+        None => show_all(&rt),
         Some(counts) => measure(&rt, counts),
     }
 }

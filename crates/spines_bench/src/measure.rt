@@ -2,7 +2,7 @@
 use crate::count::{compressions, signed_last};
 use crate::levels::Levels;
 use crate::tree::message;
-use crate::work::{Bench, WORKS, Work, prepare, run};
+use crate::work::{Bench, WORKS, Work, prepare, row, run};
 use sp_hss::LmsParam;
 use std::alloc::Global;
 use std::io;
@@ -21,11 +21,17 @@ pub struct Counts {
 /// Each work is timed so often, and its least time counts: the machine may have other work.
 const ROUNDS: u32 = 5;
 
-/// A whole key of height 5, and the calls round a border at height 10: how many are signed before, and the count.
-const LIVES: [(&str, LmsParam, u32, u32); 2] = [
-    ("HSS sign, h = 5", LmsParam::H5, 0, 1024),
-    ("HSS sign, h = 10", LmsParam::H10, 1004, 40),
-];
+/// The calls of a signer that are measured one by one: a name, the height, how many are signed before, and the count.
+type Life = (&'static str, LmsParam, u32, u32);
+
+/// A whole key of height 5, and the calls round a border at height 10.
+fn life_of(number: u32) -> Option<Life> {
+    match number {
+        0 => Some(("HSS sign, h = 5", LmsParam::H5, 0, 1024)),
+        1 => Some(("HSS sign, h = 10", LmsParam::H10, 1004, 40)),
+        _ => None,
+    }
+}
 
 /// What the rounds of a work gave: the seconds of one bare compression and of the whole work, the least of
 /// all rounds, and the first byte of the result, so that no work can be left out.
@@ -36,33 +42,56 @@ struct Timing {
 }
 
 /// Prints how often a second each work is done, its compressions, how much longer it takes than these
-/// alone, and the first byte of its result.
+/// alone, and the first byte of its result; and then the calls of a signer one by one.
 pub fn measure(rt: &(impl Print + Clock + AllocGlobal), counts: Counts) -> io::Result<()> {
     println!(rt;
         "{:<20} {:>9} {:>10} {:>12} {:>7} {:>6}",
         "work", "count", "a second", "compressions", "ratio", "result"
     )?;
-    for (name, work) in WORKS {
-        let count = counts.of(work);
-        let blocks = nearest_u64_to_f64(compressions(
-            work,
-            count,
-            &mut prepared(rt.alloc(), work)?,
-        ));
-        let Timing {
-            bare,
-            whole,
-            result,
-        } = time(rt, work, counts.compressions, count)?;
-        let all = nearest_u64_to_f64(count as u64);
-        println!(rt;
-            "{name:<20} {count:>9} {:>10.1} {:>12.1} {:>7.3} {result:>6x}",
-            all / whole,
-            blocks / all,
-            whole / (blocks * bare)
-        )?;
+    for number in 0..WORKS {
+        if let Some((name, work)) = row(number) {
+            measure_work(rt, name, work, counts)?;
+        }
     }
-    measure_calls(rt)
+    println!(rt;
+        "{:<20} {:>9} {:>10} {:>12} {:>7} {:>7}",
+        "calls one by one", "count", "a second", "compressions", "most", "longest"
+    )?;
+    for number in 0..2 {
+        if let Some(life) = life_of(number) {
+            measure_calls(rt, life)?;
+        }
+    }
+    Ok(())
+}
+
+/// One row of the works.
+fn measure_work(
+    rt: &(impl Print + Clock + AllocGlobal),
+    name: &str,
+    work: Work,
+    counts: Counts,
+) -> io::Result<()> {
+    let count = counts.of(work);
+    let blocks = blocks_of(rt.alloc(), work, count)?;
+    let Timing {
+        bare,
+        whole,
+        result,
+    } = time(rt, work, counts.compressions, count)?;
+    let all = nearest_u64_to_f64(count as u64);
+    println!(rt;
+        "{name:<20} {count:>9} {:>10.1} {:>12.1} {:>7.3} {result:>6x}",
+        all / whole,
+        blocks / all,
+        whole / (blocks * bare)
+    )
+}
+
+/// The compressions of a work.
+fn blocks_of(alloc: Global, work: Work, count: u32) -> io::Result<f64> {
+    let mut bench = prepared(alloc, work)?;
+    Ok(nearest_u64_to_f64(compressions(work, count, &mut bench)))
 }
 
 impl Counts {
@@ -149,23 +178,17 @@ fn round_of_calls(
 }
 
 /// Prints the longest of the calls of a signer beside their mean, in time and in compressions.
-fn measure_calls(rt: &(impl Print + Clock + AllocGlobal)) -> io::Result<()> {
+fn measure_calls(rt: &(impl Print + Clock + AllocGlobal), life: Life) -> io::Result<()> {
+    let (name, height, before, count) = life;
+    let calls = time_calls(rt, height, before, count)?;
+    let number = nearest_u64_to_f64(count as u64);
     println!(rt;
-        "{:<20} {:>9} {:>10} {:>12} {:>7} {:>7}",
-        "calls one by one", "count", "a second", "compressions", "most", "longest"
-    )?;
-    for (name, height, before, count) in LIVES {
-        let calls = time_calls(rt, height, before, count)?;
-        let number = nearest_u64_to_f64(count as u64);
-        println!(rt;
-            "{name:<20} {count:>9} {:>10.1} {:>12.1} {:>7} {:>7.3}",
-            number / calls.all,
-            nearest_u64_to_f64(calls.compressions) / number,
-            calls.most,
-            calls.longest * number / calls.all
-        )?;
-    }
-    Ok(())
+        "{name:<20} {count:>9} {:>10.1} {:>12.1} {:>7} {:>7.3}",
+        number / calls.all,
+        nearest_u64_to_f64(calls.compressions) / number,
+        calls.most,
+        calls.longest * number / calls.all
+    )
 }
 
 /// Times the bare compressions and the work by turns.

@@ -38,30 +38,36 @@ pub enum Work {
     VerifyKnown(LmsParam),
 }
 
-/// All works and their names, the compression first.
-pub const WORKS: [(&str, Work); 21] = [
-    ("compression", Work::Compression),
-    ("the same in lanes", Work::FourAtOnce),
-    ("tag of 64 bytes", Work::ShortTag),
-    ("tag of 5,120 bytes", Work::LongTag),
-    ("67 chains of 15", Work::Chains),
-    ("the same one by one", Work::ChainsOneByOne),
-    ("sign, w = 1", Work::Sign(OtsParam::W1)),
-    ("verify, w = 1", Work::Verify(OtsParam::W1)),
-    ("sign, w = 2", Work::Sign(OtsParam::W2)),
-    ("verify, w = 2", Work::Verify(OtsParam::W2)),
-    ("sign, w = 4", Work::Sign(OtsParam::W4)),
-    ("verify, w = 4", Work::Verify(OtsParam::W4)),
-    ("sign, w = 8", Work::Sign(OtsParam::W8)),
-    ("verify, w = 8", Work::Verify(OtsParam::W8)),
-    ("HSS key, h = 10", Work::Key(LmsParam::H10)),
-    ("HSS sign, h = 5", Work::SignBelow(LmsParam::H5)),
-    ("HSS verify, h = 5", Work::VerifyBelow(LmsParam::H5)),
-    ("HSS known, h = 5", Work::VerifyKnown(LmsParam::H5)),
-    ("HSS sign, h = 10", Work::SignBelow(LmsParam::H10)),
-    ("HSS verify, h = 10", Work::VerifyBelow(LmsParam::H10)),
-    ("HSS known, h = 10", Work::VerifyKnown(LmsParam::H10)),
-];
+/// How many works there are.
+pub const WORKS: u32 = 21;
+
+/// The work of this number, counted from 0, and its name. The compression is the first.
+pub fn row(number: u32) -> Option<(&'static str, Work)> {
+    match number {
+        0 => Some(("compression", Work::Compression)),
+        1 => Some(("the same in lanes", Work::FourAtOnce)),
+        2 => Some(("tag of 64 bytes", Work::ShortTag)),
+        3 => Some(("tag of 5,120 bytes", Work::LongTag)),
+        4 => Some(("67 chains of 15", Work::Chains)),
+        5 => Some(("the same one by one", Work::ChainsOneByOne)),
+        6 => Some(("sign, w = 1", Work::Sign(OtsParam::W1))),
+        7 => Some(("verify, w = 1", Work::Verify(OtsParam::W1))),
+        8 => Some(("sign, w = 2", Work::Sign(OtsParam::W2))),
+        9 => Some(("verify, w = 2", Work::Verify(OtsParam::W2))),
+        10 => Some(("sign, w = 4", Work::Sign(OtsParam::W4))),
+        11 => Some(("verify, w = 4", Work::Verify(OtsParam::W4))),
+        12 => Some(("sign, w = 8", Work::Sign(OtsParam::W8))),
+        13 => Some(("verify, w = 8", Work::Verify(OtsParam::W8))),
+        14 => Some(("HSS key, h = 10", Work::Key(LmsParam::H10))),
+        15 => Some(("HSS sign, h = 5", Work::SignBelow(LmsParam::H5))),
+        16 => Some(("HSS verify, h = 5", Work::VerifyBelow(LmsParam::H5))),
+        17 => Some(("HSS known, h = 5", Work::VerifyKnown(LmsParam::H5))),
+        18 => Some(("HSS sign, h = 10", Work::SignBelow(LmsParam::H10))),
+        19 => Some(("HSS verify, h = 10", Work::VerifyBelow(LmsParam::H10))),
+        20 => Some(("HSS known, h = 10", Work::VerifyKnown(LmsParam::H10))),
+        _ => None,
+    }
+}
 
 /// The bytes of the longest one-time signature.
 const ROOM: usize = 8516;

@@ -3,3 +3,7 @@
 
 #[cfg(test)]
 mod bodies;
+#[cfg(test)]
+mod texts;
+#[cfg(test)]
+mod topologies;
