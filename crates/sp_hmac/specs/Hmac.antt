@@ -6,7 +6,7 @@ use Rattle.sha2.specs.Sha256.{sha256}
 abbrev pub short_key : List ℕ → List ℕ
 short_key key = if nat_le (length key) 64 then key else sha256 key
 
--- the key with zeros behind it, which fill one block of 64 bytes (section 2, step 1)
+-- the key with zeros after it, which fill one block of 64 bytes (section 2, step 1)
 unfoldable pub key_block : List ℕ → List ℕ
 key_block key = short_key key ++ replicate (64 - length (short_key key)) 0
 

@@ -21,7 +21,7 @@ pub length-tree_id : (seed : List ℕ) (tree : Tree) → length (tree_id seed tr
 unfolding tree_id
 length-tree_id seed tree = length-take-le 16 (hmac seed (codes "I" ++ name tree)) (omega (arith, length-hmac seed (codes "I" ++ name tree)))
 
--- a number and what stands behind it
+-- a number and what stands after it
 number_first : (x : ℕ) (rest : List ℕ) → x < 2 ^ 32 → (number_of (u32str x ++ rest) ≡ x) × (drop 4 (u32str x ++ rest) ≡ rest)
 number_first x rest fits =
     let long = length-u32str x in (

@@ -43,7 +43,7 @@ total h = leaf_count h * leaf_count h
 unfoldable pub public_key : LmsParam → List ℕ → List ℕ
 public_key h seed = u32str 2 ++ tree_key h seed Upper
 
--- what all signatures by lower tree t begin with: one level less, and the tree's public key behind its signature (section 6.2)
+-- what all signatures by lower tree t begin with: one level less, and the tree's public key after its signature (section 6.2)
 unfoldable pub front_of : LmsParam → List ℕ → ℕ → List ℕ
 front_of h seed t =
     let lower_key = tree_key h seed (Lower t) in

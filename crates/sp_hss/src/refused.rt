@@ -1,26 +1,16 @@
 // Why a signer isn't made, and why it doesn't sign.
-use std::error::Error;
-use std::fmt;
+use thiserror::Error;
 
 /// Why a signer isn't made, or why it doesn't sign.
-#[derive(Clone, Copy, Debug, PartialEq, Eq)]
+#[derive(Clone, Copy, Debug, PartialEq, Eq, Error)]
 pub enum HssRefused {
     /// Every index is used.
+    #[error("all {index} signatures are made")]
     Spent { index: u64 },
     /// No index below the bound is left. `Signer::extend` moves the bound.
+    #[error("no index from {bound} on is reserved")]
     NotReserved { bound: u64 },
     /// No memory is left for the trees.
+    #[error("no memory is left")]
     Memory,
 }
-
-impl fmt::Display for HssRefused {
-    fn fmt<W: fmt::Write>(&self, f: &mut fmt::Formatter<W>) -> fmt::Result {
-        match self {
-            HssRefused::Spent { index } => write!(f, "all {index} signatures are made"),
-            HssRefused::NotReserved { bound } => write!(f, "no index from {bound} on is reserved"),
-            HssRefused::Memory => f.write_str("no memory is left"),
-        }
-    }
-}
-
-impl Error for HssRefused {}

@@ -18,7 +18,7 @@ sha256_of_55 m long =
     ∙ ap (λ (n : ℕ). digest_bytes (hash_after initial_hash_256 (m ++ padding 55) n) 8) blocks
     ∙ ap (λ (p : List ℕ). digest_bytes (compress initial_hash_256 p) 8) (take_all 64 (m ++ padding 55) (omega (arith, count)))
 
--- nine bytes that are written behind a message
+-- nine bytes that are written after a message
 pub padding_behind : (m tail : List ℕ) → length m ≡ 55 → put_mid 55 9 (m ++ replicate 9 0) tail ≡ m ++ tail
 padding_behind m tail long =
     let front : take 55 (m ++ replicate 9 0) ≡ m = take_at m (replicate 9 0) 55 long in

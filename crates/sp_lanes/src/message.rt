@@ -6,7 +6,7 @@ ghost use Rattle.sp_lanes.specs.Blocks.{block_digest};
 use crate::block::hash_blocks;
 use crate::words::LANES;
 
-/// What stands behind a message of 55 bytes: a bit 1, zeros, and its length of 440 bits in eight bytes.
+/// What stands after a message of 55 bytes: a bit 1, zeros, and its length of 440 bits in eight bytes.
 const PADDING_OF_55: [u8; 9] = [0x80, 0, 0, 0, 0, 0, 0, 0x01, 0xb8];
 
 /// The digest of each message of 55 bytes, the longest that one block holds with its padding.

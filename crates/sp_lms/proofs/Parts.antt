@@ -1,4 +1,4 @@
--- A string of four parts, one behind the other, and each of them.
+-- A string of four parts, one after the other, and each of them.
 use Rattle.std.proofs.Common.{◌≡◌, ℕ, zero, suc, ◌+◌, ◌-◌, List, ◌++◌, length, take, drop, map, refl, ◌∙◌, ap, arith}
 use Rattle.std.specs.List.{range_with_len, concat, slice_range}
 use Rattle.std.specs.Simd.{first_chunks}
@@ -11,7 +11,7 @@ pub record Parts (a b c d whole : List ℕ) (i j k : ℕ) : Type 0 where
   pub fourth : drop k whole ≡ d
   pub long : length whole ≡ k + length d
 
--- a part behind a front
+-- a part after a front
 part_behind : (front part rest : List ℕ) (i j : ℕ) → length front ≡ i → i + length part ≡ j → slice_range (front ++ part ++ rest) i j ≡ part
 part_behind front part rest i j at end =
     let size : length part ≡ j - i = omega arith in

@@ -1,4 +1,4 @@
--- A string of four parts that is written part by part, each behind the one before.
+-- A string of four parts that is written part by part, each after the one before.
 use Rattle.std.proofs.Common.{◌≡◌, ℕ, ◌+◌, ◌-◌, ◌≤◌, List, ◌++◌, length, drop, ◌∙◌, ap, arith}
 use borrow.Rule.Slice.PartMut.{put_mid}
 use Rattle.std.proofs.lemmas.List.{length-append, length-drop}

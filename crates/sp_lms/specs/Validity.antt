@@ -34,7 +34,7 @@ leaf_of signature = str_to_u32 (slice_range signature 0 4)
 abbrev pub one_time_of : OtsParam → List ℕ → List ℕ
 one_time_of one_time signature = slice_range signature 4 (4 + ots.signature_len one_time)
 
--- the number behind it, which is the typecode of the tree
+-- the number after it, which is the typecode of the tree
 abbrev pub typecode_of : OtsParam → List ℕ → ℕ
 typecode_of one_time signature =
     str_to_u32 (slice_range signature (4 + ots.signature_len one_time) (8 + ots.signature_len one_time))

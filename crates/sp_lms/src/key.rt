@@ -156,7 +156,7 @@ impl LmsKey {
         out[behind + 4..].copy_from_slice(path[..self.lms.height()].as_flattened());
     }
 
-    /// The siblings of node r, which is a leaf's, and of those above it, and zeros behind them.
+    /// The siblings of node r, which is a leaf's, and of those above it, and zeros after them.
     fn path(&self, r: u32) -> [[u8; 32]; MOST_LEVELS]
         requires low { leaf_count self.now.lms ≤ r }
         requires high { r < 2 * leaf_count self.now.lms }

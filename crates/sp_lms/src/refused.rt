@@ -2,28 +2,18 @@
 ghost use Rattle.std.specs.Prelude.{◌≡◌};
 
 use std::alloc::AllocError;
-use std::error::Error;
-use std::fmt;
+use thiserror::Error;
 
 /// Why a key of one tree isn't made, or why it doesn't sign.
-#[derive(Clone, Copy, Debug, PartialEq, Eq)]
+#[derive(Clone, Copy, Debug, PartialEq, Eq, Error)]
 pub enum LmsRefused {
     /// Each leaf has signed its one message.
+    #[error("the key has signed as many messages as it may")]
     Spent,
     /// No memory is left for the tree.
+    #[error("no memory is left")]
     Memory,
 }
-
-impl fmt::Display for LmsRefused {
-    fn fmt<W: fmt::Write>(&self, f: &mut fmt::Formatter<W>) -> fmt::Result {
-        f.write_str(match self {
-            LmsRefused::Spent => "the key has signed as many messages as it may",
-            LmsRefused::Memory => "no memory is left",
-        })
-    }
-}
-
-impl Error for LmsRefused {}
 
 impl From<AllocError> for LmsRefused {
     ghost use Rattle.sp_lms.specs.declared.refused.LmsRefused.{LmsRefused};

@@ -31,7 +31,7 @@ ends_of_signature param id q hash signature from elements ends n last n_is last_
     (λ i within. ap (λ (xs : List (List ℕ)). slice_index_or xs i []) elements_are ∙ element_at signature n i within)
     ∙ rw (n_is, last_is) refl
 
--- as many pieces of 32 bytes as chains stand behind a signature's front
+-- as many pieces of 32 bytes as chains stand after a signature's front
 chunks_are : (param : OtsParam) (signature rest : List ℕ) (n : ℕ) → n ≡ chain_count param → length signature ≡ signature_len param → rest ≡ drop 36 signature
     → first_chunks 32 (length rest / 32) rest ≡ first_chunks 32 n (drop 36 signature)
 chunks_are param signature rest n n_is whole rest_is =

@@ -34,7 +34,7 @@ same_for_all n m v i few within = get_or-take n (replicate m v) i 0 within ∙ g
 pub made_at : {X : Type 0} (f : ℕ → X) (xs : List X) (n i : ℕ) (d : X) → xs ≡ map f (range_with_len 0 n) → i < n → get_or xs i d ≡ f i
 made_at {X = X} f xs n i d made within = ap (λ (ys : List X). get_or ys i d) made ∙ get_or-map-range_with_len f 0 n i i d within (omega arith)
 
--- the pieces of 32 bytes behind a signature's front
+-- the pieces of 32 bytes after a signature's front
 chunk_at : (n i : ℕ) (xs : List ℕ) → i < n → get_or (first_chunks 32 n xs) i [] ≡ take 32 (drop (32 * i) xs)
 chunk_at zero i xs within = absurd (omega arith)
 chunk_at (suc n) zero xs within = refl

@@ -1,9 +1,9 @@
--- What a message holds whose parts are written one behind the other.
+-- What a message holds whose parts are written one after the other.
 use Rattle.std.proofs.Common.{◌≡◌, ℕ, ◌+◌, List, [], ◌∷◌, ◌++◌, length, take, drop, replicate, refl, sym, ◌∙◌, ap, arith}
 use borrow.Rule.Slice.PartMut.{put_mid}
 use Rattle.std.proofs.lemmas.List.{append-nil, take_at, drop-drop, drop_at, length-append}
 
--- one more part, of n bytes, behind those that stand
+-- one more part, of n bytes, after those that stand
 put_behind : (was front rest part now : List ℕ) (place n : ℕ) → was ≡ front ++ rest → length front ≡ place → length part ≡ n
     → now ≡ take place was ++ part ++ drop (place + length part) was
     → now ≡ (front ++ part) ++ drop n rest
@@ -36,7 +36,7 @@ laid_out id leaf chain step element m1 m2 m3 m4 m5 l1 l2 l3 l4 l5 e1 e2 e3 e4 e5
     let f5 : m5 ≡ four ++ element ++ [] = put_behind m4 four (replicate 32 0) element m5 23 32 f4 long4 l5 e5 in
     f5 ∙ append-nil (four ++ element)
 
--- a checksum of two bytes, written over two zeros behind a hash
+-- a checksum of two bytes, written over two zeros after a hash
 pub checksum_behind : (hash checksum : List ℕ) → length hash ≡ 32 → put_mid 32 2 (hash ++ 0 ∷ 0 ∷ []) checksum ≡ hash ++ checksum
 checksum_behind hash checksum long =
     let front : take 32 (hash ++ 0 ∷ 0 ∷ []) ≡ hash = take_at hash (0 ∷ 0 ∷ []) 32 long in

@@ -20,18 +20,18 @@ filled_all f xs i n long high low before =
     let e : i ≡ n = omega arith in
     sym (take_all i xs (omega arith)) ∙ before ∙ ap (λ (k : ℕ). map f (range_with_len 0 k)) e
 
--- the places behind stay
+-- the places after stay
 pub rest_more : {X : Type 0} (was xs : List X) (i : ℕ) (x : X) → drop i xs ≡ drop i was → drop (i + 1) (set xs i x) ≡ drop (i + 1) was
 rest_more was xs i x before = drop-set-lt (i + 1) xs i x (omega arith) ∙ drop_more_same xs was i before
 
--- the first place behind is as it was
+-- the first place after is as it was
 pub rest_first : {X : Type 0} (was xs : List X) (i : ℕ) (d : X) → drop i xs ≡ drop i was → get_or xs i d ≡ get_or was i d
 rest_first {X = X} was xs i d before =
     let place : i + 0 ≡ i = omega arith in
     ap (λ (k : ℕ). get_or xs k d) (sym place) ∙ sym (get_or-drop i xs 0 d) ∙ ap (λ (ys : List X). get_or ys 0 d) before
     ∙ get_or-drop i was 0 d ∙ ap (λ (k : ℕ). get_or was k d) place
 
--- the values of f at n numbers, and at those behind them
+-- the values of f at n numbers, and at those after them
 in_two : {X : Type 0} (f : ℕ → X) (a n k b m : ℕ) → a + n ≡ b → n + k ≡ m → map f (range_with_len a m) ≡ map f (range_with_len a n) ++ map f (range_with_len b k)
 in_two f a zero k b m start all =
     let same : a ≡ b = omega arith in

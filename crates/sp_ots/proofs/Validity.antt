@@ -55,7 +55,7 @@ digit-le : (param : OtsParam) (hash : List ℕ) (i : ℕ) → digit param hash i
 unfolding digit
 digit-le param hash i = and_le_l (2 ^ width param - 1) _
 
--- pieces of 32 bytes, one behind the other: their length, and each of them
+-- pieces of 32 bytes, one after the other: their length, and each of them
 pub length-pieces : (f : ℕ → List ℕ) (a n : ℕ) → ((i : ℕ) → length (f i) ≡ 32) → length (concat (map f (range_with_len a n))) ≡ 32 * n
 length-pieces f a zero long = refl
 length-pieces f a (suc n) long =

@@ -8,7 +8,7 @@ use Rattle.sp_ots.specs.Strings.{u8str, u16str, u32str}
 unfoldable pub next_element : List ℕ → ℕ → ℕ → ℕ → List ℕ → List ℕ
 next_element id q i j element = sha256 (id ++ u32str q ++ u16str i ++ u8str j ++ element)
 
--- the element of chain i that stands `count` steps behind the one at step `from`
+-- the element of chain i that stands `count` steps after the one at step `from`
 unfoldable pub stepped : List ℕ → ℕ → ℕ → ℕ → ℕ → List ℕ → List ℕ
 stepped id q i from zero element = element
 stepped id q i from (suc count) element = next_element id q i (from + count) (stepped id q i from count element)

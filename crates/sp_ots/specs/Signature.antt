@@ -9,7 +9,7 @@ use Rattle.sp_ots.specs.Digits.{digit}
 use Rattle.sp_ots.specs.Chains.{chain_end}
 use Rattle.sp_ots.specs.Keys.{private_start}
 
--- the hash of a message behind its randomizer C: Q, after D_MESG (algorithm 3)
+-- the hash of a message after its randomizer C: Q, after D_MESG (algorithm 3)
 unfoldable pub message_hash : List ℕ → ℕ → List ℕ → List ℕ → List ℕ
 message_hash id q randomizer message = sha256 (id ++ u32str q ++ u16str 0x8181 ++ randomizer ++ message)
 

@@ -8,7 +8,7 @@ ghost use Rattle.sp_ots.specs.Digits.{checksum, digit};
 use crate::OtsParam;
 use crate::param::MOST_CHAINS;
 
-/// The digit of each chain, and zeros behind them.
+/// The digit of each chain, and zeros after them.
 pub(crate) fn digits(param: OtsParam, hash: &[u8; 32]) -> [u8; MOST_CHAINS]
     ensures { take (chain_count param) result ≡ for_each_chain param (digit param hash.now) }
 {
@@ -20,7 +20,7 @@ pub(crate) fn digits(param: OtsParam, hash: &[u8; 32]) -> [u8; MOST_CHAINS]
     digits
 }
 
-/// The hash and its checksum behind it.
+/// The hash and its checksum after it.
 fn with_checksum(param: OtsParam, hash: &[u8; 32]) -> [u8; 34]
     ensures { result ≡ hash.now ++ u16str (checksum param hash.now) }
 {

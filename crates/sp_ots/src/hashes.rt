@@ -48,7 +48,7 @@ pub(crate) fn key_of_ends(id: &[u8; 16], q: u32, ends: &[[u8; 32]]) -> [u8; 32]
     hasher.finalize()
 }
 
-/// The hash of a message behind its randomizer.
+/// The hash of a message after its randomizer.
 #[tactic(auto, unfolding(crate::specs::Signature::message_hash))]
 pub(crate) fn message_hash(id: &[u8; 16], q: u32, randomizer: &[u8], message: &[u8]) -> [u8; 32]
     ensures { result ≡ message_hash id.now q randomizer.now message.now }

@@ -55,7 +55,7 @@ fn signed_elements(
     run_chains(id, q, &from[..count], &to[..count], elements);
 }
 
-/// Writes the parts of a signature one behind the other.
+/// Writes the parts of a signature one after the other.
 fn join(param: OtsParam, randomizer: &[u8; 32], elements: &[[u8; 32]], out: &mut [u8])
     requires { length out.old ≡ 36 + 32 * length elements.now }
     ensures { out.new ≡ u32str (typecode param) ++ randomizer.now ++ concat elements.now }
