@@ -5,8 +5,23 @@ use Rattle.sp_ots.specs.declared.param.OtsParam.{OtsParam}
 use Rattle.sp_lms.specs.declared.param.LmsParam.{LmsParam}
 use Rattle.sp_lms.specs.Parameters.{signature_len}
 use Rattle.sp_lms.specs.Validity as tree
+use Rattle.sp_lms.specs.PublicKey.{IsReadFrom}
+use Rattle.sp_lms.specs.declared.public_key.PublicKey.{PublicKey}
 use Rattle.sp_lms.proofs.Types.{same_types}
 use Rattle.sp_hss.specs.Validity.{IsSignedThrough, IsValid}
+
+-- under a key that was read, what is valid is valid under its bytes
+pub read_valid : (key : PublicKey) (public message signature : List ℕ) → IsReadFrom public key
+    → (tree.IsValidUnder key.lms key.ots key.id key.root message signature → tree.IsValid public message signature)
+    × (tree.IsValid public message signature → tree.IsValidUnder key.lms key.ots key.id key.root message signature)
+read_valid key public message signature read = (
+  λ under. (key.lms, key.ots, read.types, rw (read.id, read.root) at under),
+  λ valid.
+      let same = same_types valid.0 key.lms valid.1 key.ots public valid.2 read.types in
+      let P : LmsParam → Type 0 = λ l. tree.IsValidUnder l valid.1 key.id key.root message signature in
+      let Q : OtsParam → Type 0 = λ o. tree.IsValidUnder key.lms o key.id key.root message signature in
+      subst Q same.1 (subst P same.0 (rw (read.id, read.root) valid.3)),
+)
 
 -- the three parts of a signature, by their places
 pub record IsCutAt (place : ℕ) (upper lower_key lower signature : List ℕ) : Type 0 where
@@ -17,12 +32,12 @@ pub record IsCutAt (place : ℕ) (upper lower_key lower signature : List ℕ) : 
 
 pub cut_at : (upper lower_key lower : List ℕ) (place : ℕ) → length upper ≡ place → length lower_key ≡ 56 → IsCutAt place upper lower_key lower (upper ++ lower_key ++ lower)
 cut_at upper lower_key lower place first second =
-    let behind : upper ++ lower_key ++ lower ≡ upper ++ (lower_key ++ lower) = append_assoc upper lower_key lower in
+    let whole : upper ++ lower_key ++ lower ≡ upper ++ (lower_key ++ lower) = append_assoc upper lower_key lower in
     let both : length (upper ++ lower_key) ≡ place + 56 = omega (arith, length-append upper lower_key) in
     record {
       long = omega (arith, length-append (upper ++ lower_key) lower, both);
-      upper_is = sym (ap (take place) behind ∙ take_at upper (lower_key ++ lower) place first);
-      lower_key_is = sym (ap (λ (xs : List ℕ). take 56 (drop place xs)) behind ∙ ap (take 56) (drop_at upper (lower_key ++ lower) place first) ∙ take_at lower_key lower 56 second);
+      upper_is = sym (ap (take place) whole ∙ take_at upper (lower_key ++ lower) place first);
+      lower_key_is = sym (ap (λ (xs : List ℕ). take 56 (drop place xs)) whole ∙ ap (take 56) (drop_at upper (lower_key ++ lower) place first) ∙ take_at lower_key lower 56 second);
       lower_is = sym (drop_at (upper ++ lower_key) lower (place + 56) both);
     }
 

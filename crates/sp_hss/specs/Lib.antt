@@ -1,10 +1,11 @@
 pub mod KeyTree
-pub mod Tree
-pub mod At
 pub mod Validity
-pub mod Front
-pub mod Remembered
 pub mod Signer
-pub mod Kept
 pub mod Uses
 pub mod Laws
+-- ---- what proofs and the parts of this crate use among themselves
+pub mod Tree
+pub mod At
+pub mod Front
+pub mod Remembered
+pub mod Kept

@@ -36,6 +36,6 @@ fn verify_below(upper_key: &[u8], msg: &[u8], sig: &[u8]) -> bool
         return false;
     }
     let lower_key = &sig[place..place + TREE_KEY_LEN];
-    sp_lms::verify(upper_key, lower_key, &sig[..place])
+    upper.verify(lower_key, &sig[..place])
         && sp_lms::verify(lower_key, msg, &sig[place + TREE_KEY_LEN..])
 }

@@ -2,7 +2,9 @@ pub mod Parameters
 pub mod Strings
 pub mod Digits
 pub mod Chains
-pub mod UnderWay
 pub mod Keys
 pub mod Signature
 pub mod Candidate
+
+-- ---- what proofs and the parts of this crate use among themselves
+pub mod UnderWay

@@ -2,7 +2,7 @@ use Rattle.std.proofs.Common.{◌≡◌, ◌+◌, ◌-◌, length, take, drop, r
 use Rattle.std.specs.Bool.{IsTrue}
 use Rattle.std.proofs.lemmas.List.{take_rest}
 use Rattle.sp_lms.specs.Validity as tree
-use Rattle.sp_hss.proofs.Cuts.{parts_stand, put_together, signed_at}
+use Rattle.sp_hss.proofs.Cuts.{parts_stand, read_valid, put_together, signed_at}
 use Rattle.sp_hss.proofs.check.verify_below.Goals as goal
 
 pub returns-in_default : goal.returns-in_default
@@ -28,7 +28,8 @@ returns-then-verify c =
     let sig = c.args.sig.now in
     let place = c.sig_len-place.result in
     let size : place + 56 - place ≡ 56 = omega arith in
-    let first : tree.IsValid c.args.upper_key.now (take (place + 56 - place) (drop place sig)) (take place sig) = c.verify.ensures.0 c.if-verify.true in
+    let first : tree.IsValid c.args.upper_key.now (take (place + 56 - place) (drop place sig)) (take place sig) =
+    (read_valid key c.args.upper_key.now (take (place + 56 - place) (drop place sig)) (take place sig) read).0 (c.verify.ensures.0 c.if-verify.true) in
     let lower_key = take (place + 56 - place) (drop place sig) in
     let lower = take (length sig - (place + 56)) (drop (place + 56) sig) in
     let second : (IsTrue c.verify-then-verify.result → tree.IsValid lower_key msg lower) × (tree.IsValid lower_key msg lower → IsTrue c.verify-then-verify.result) =
@@ -57,5 +58,5 @@ returns-else-verify c =
       λ right. cc,
       λ signed.
           let at = signed_at key.lms key.ots signed.0 signed.1 signed.2 c.args.upper_key.now c.args.msg.now c.args.sig.now read.types signed.3 in
-          c.verify.ensures.1 (rw (size, c.sig_len-place.ensures) at.upper_valid),
+          c.verify.ensures.1 ((read_valid key c.args.upper_key.now _ _ read).1 (rw (size, c.sig_len-place.ensures) at.upper_valid)),
     )
