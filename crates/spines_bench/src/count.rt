@@ -6,6 +6,7 @@ use crate::tree::{ID, LEAF, message};
 use crate::work::{Bench, Work};
 use sha2::{Digest, Sha256};
 use sp_hss::LmsParam;
+use sp_lanes::LANES;
 use sp_ots::OtsParam;
 
 /// The compressions that the work takes for the messages below `count`, with what was prepared for it.
@@ -13,7 +14,7 @@ pub fn compressions(work: Work, count: u32, bench: &mut Bench) -> u64 {
     let all = count as u64;
     match work {
         Work::Compression => all,
-        Work::FourAtOnce => all / 4 * 4,
+        Work::FourAtOnce => all / LANES as u64 * LANES as u64,
         // The key's blocks are hashed once for all, and the outer hash is of one digest.
         Work::ShortTag => blocks(64).saturating_add(1).saturating_mul(all),
         Work::LongTag => blocks(5120).saturating_add(1).saturating_mul(all),

@@ -11,6 +11,7 @@ mod tree;
 mod work;
 
 use measure::{Counts, measure};
+use sp_lanes::LANES;
 use std::env::Env;
 use std::{env, io};
 use work::{WORKS, Work, prepare, row, run};
@@ -40,7 +41,11 @@ fn show(rt: &(impl Print + AllocGlobal), name: &str, work: Work) -> io::Result<(
     let Ok(mut bench) = prepare(rt.alloc(), work) else {
         return Err(io::ErrorKind::OutOfMemory.into());
     };
-    let count = if let Work::FourAtOnce = work { 4 } else { 1 };
+    let count = if let Work::FourAtOnce = work {
+        LANES as u32
+    } else {
+        1
+    };
     let [a, b, c, d, ..] = run(work, count, &mut bench);
     println!(rt; "{name:<20} {a:02x}{b:02x}{c:02x}{d:02x}")
 }

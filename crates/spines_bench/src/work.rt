@@ -7,7 +7,7 @@ use crate::tree::{ID, LEAF, SEED, message};
 use sha2::{Digest, Sha256};
 use sp_hmac::Keyed;
 use sp_hss::{HssRefused, LmsParam};
-use sp_lanes::digests;
+use sp_lanes::{LANES, digests};
 use sp_ots::{OtsParam, candidate, run_chains, run_chains_one_by_one, sig_len, sign};
 use std::alloc::Global;
 
@@ -147,9 +147,9 @@ fn compressions(count: u32) -> [u8; 32] {
 
 /// Each lane goes on from its own digest.
 fn four_at_once(count: u32) -> [u8; 32] {
-    let mut blocks = [[0u8; 55]; 4];
-    let mut four = [[0u8; 32]; 4];
-    for _ in 0..count / 4 {
+    let mut blocks = [[0u8; 55]; LANES];
+    let mut four = [[0u8; 32]; LANES];
+    for _ in 0..count / LANES as u32 {
         for (block, digest) in blocks.iter_mut().zip(four) {
             block[0] ^= digest[0];
         }
