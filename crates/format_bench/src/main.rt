@@ -1,12 +1,13 @@
-//! Measures the reading and writing of messages beside their tags and copies.
+//! Measures the reading and writing of messages beside their tags and copies, and the reading of topologies and the checks of
+//! signatures beside one another.
 //!
 //! Without words each work is done once, and its result is printed. With the word COUNT each work is done that many times a round,
 //! and the least time of a round is printed.
 #![tactic(auto)]
 
+mod documents;
 mod messages;
 
-use messages::{WORKS, measure, show};
 use std::env::Env;
 use std::{env, io};
 
@@ -24,10 +25,16 @@ fn count(rt: &(impl Env + Alloc)) -> io::Result<Option<u32>> {
 
 fn main(rt: HostRuntime) -> io::Result<()> {
     let count = count(&rt)?;
-    for number in 0..WORKS {
+    for number in 0..messages::WORKS {
         match count {
-            None => show(&rt, number)?,
-            Some(count) => measure(&rt, number, count)?,
+            None => messages::show(&rt, number)?,
+            Some(count) => messages::measure(&rt, number, count)?,
+        }
+    }
+    for number in 0..documents::WORKS {
+        match count {
+            None => documents::show(&rt, number)?,
+            Some(count) => documents::measure(&rt, number, count)?,
         }
     }
     Ok(())

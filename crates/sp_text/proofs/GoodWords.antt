@@ -109,7 +109,8 @@ parts_of before (b ∷ bytes) stands = elim (cases_eq b 32) [
 
 -- ---- words, one space apart, are a line without a bad place
 
-stands_on : (before : ℕ) (word tail : List ℕ) → IsWordByte before → All IsWordByte word → ((b : ℕ) → IsWordByte b → Stands b tail) → Stands before (word ++ tail)
+stands_on : (before : ℕ) (word tail : List ℕ) → IsWordByte before → All IsWordByte word → ((b : ℕ) → IsWordByte b → Stands b tail)
+    → Stands before (word ++ tail)
 stands_on before [] tail is bytes then = then before is
 stands_on before (b ∷ word) tail is bytes then =
     let next = All-head IsWordByte b word bytes in

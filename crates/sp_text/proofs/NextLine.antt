@@ -102,7 +102,8 @@ no_newline_before (b ∷ text) = elim (cases_eq b 10) [
   | inl same ↦ let is : (b == 10) ≡ true = grind (arith, nat_tests) in rw is (All-nil (λ (x : ℕ). x ≢ 10))
   | inr other ↦
       let differs : (b == 10) ≡ false = ne_eqb b 10 other in
-      rw (differs, take_one_more (position_or_len is_newline text) b text) (All-cons (λ (x : ℕ). x ≢ 10) b (before_first is_newline text) other (no_newline_before text))
+      rw (differs, take_one_more (position_or_len is_newline text) b text)
+      (All-cons (λ (x : ℕ). x ≢ 10) b (before_first is_newline text) other (no_newline_before text))
 ]
 
 -- what a line that is read makes of its text
@@ -139,7 +140,8 @@ splits number text rest line read =
       | inr short ↦ elim (cases_Bool (position_or_len is_newline text == length text)) [
         | inl whole ↦ absurd (let refused = rw (short, whole) at read in cc)
         | inr inside ↦
-            let kept : Ok (record { number = number; bytes = before_first is_newline text }, after_first is_newline text) ≡ Ok (line, rest) = rw (short, inside) at read in
+            let kept : Ok (record { number = number; bytes = before_first is_newline text }, after_first is_newline text) ≡ Ok (line, rest) = rw
+            (short, inside) at read in
             let pair : (record { number = number; bytes = before_first is_newline text }, after_first is_newline text) ≡ (line, rest) = cc in
             let few : position_or_len is_newline text ≤ 131200 = at_most (position_or_len is_newline text) short in
             let more = before_end (position_or_len is_newline text) (length text) inside within in

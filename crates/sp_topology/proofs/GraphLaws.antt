@@ -37,7 +37,8 @@ edges_pass ids before (edge ∷ edges) are =
 
 passed : (ids : List ℕ) (edges : List Edge) → graph_fault ids edges ≡ None → AreIds 0 ids × IsGraph ids edges
 passed ids edges e =
-    let one = neither (node_count_fault (length ids)) (or_else (ids_fault 0 ids) (or_else (edge_count_fault (length edges)) (edges_fault ids (0, 0) edges))) e in
+    let one = neither (node_count_fault (length ids)) (or_else (ids_fault 0 ids)
+    (or_else (edge_count_fault (length edges)) (edges_fault ids (0, 0) edges))) e in
     let two = neither (ids_fault 0 ids) (or_else (edge_count_fault (length edges)) (edges_fault ids (0, 0) edges)) one.1 in
     let three = neither (edge_count_fault (length edges)) (edges_fault ids (0, 0) edges) two.1 in
     let graph : IsGraph ids edges = record {

@@ -69,7 +69,8 @@ pub number_of_height : (number : ℕ) (height : LmsHeight) → height_at number 
 number_of_height number height e = elim (cases_Bool (number == 5)) [
   | inl five ↦ let is : Some Five ≡ Some height = rw five at e in let same : Five ≡ height = cc in ap height_number (sym same) ∙ (grind (arith, nat_tests))
   | inr other ↦ elim (cases_Bool (number == 10)) [
-    | inl ten ↦ let is : Some Ten ≡ Some height = rw (other, ten) at e in let same : Ten ≡ height = cc in ap height_number (sym same) ∙ (grind (arith, nat_tests))
+    | inl ten ↦ let is : Some Ten ≡ Some height = rw (other, ten) at e in let same : Ten ≡ height = cc in ap height_number (sym same) ∙
+        (grind (arith, nat_tests))
     | inr neither ↦ absurd (let is = rw (other, neither) at e in cc)
   ]
 ]
@@ -79,7 +80,12 @@ test_true a b same = grind (arith, nat_tests)
 
 pub key_passes : (height : LmsHeight) (key : List ℕ) → IsKey height key → key_fault height key ≡ None
 key_passes height key is =
-    rw (test_true (big_number 4 key) 2 is.levels, test_true (big_number 4 (drop 4 key)) (typecode_of height) is.tree, test_true (big_number 4 (drop 8 key)) 3 is.one_time) refl
+    rw (
+      test_true (big_number 4 key) 2 is.levels,
+      test_true (big_number 4 (drop 4 key)) (typecode_of height) is.tree,
+      test_true
+          (big_number 4 (drop 8 key)) 3 is.one_time,
+    ) refl
 
 three : (a b c : ℕ) (x y z : ℕ) → (a == x) && (b == y) && (c == z) ≡ true → (a ≡ x) × (b ≡ y) × (c ≡ z)
 three a b c x y z e = (grind (arith, nat_tests), grind (arith, nat_tests), grind (arith, nat_tests))

@@ -1,3 +1,4 @@
+pub mod FieldReads
 pub mod GraphLaws
 pub mod Judged
 pub mod NeighbourLemmas

@@ -18,7 +18,8 @@ below_both p q r (inr a) (inr b) = inr (omega (arith, a.0, b.0), omega (arith, a
 
 -- each later edge leads from the node to one above this
 abbrev Rises : ℕ → ℕ × ℕ → ℕ → Type 0
-Rises node before bound = (ends : ℕ × ℕ) → IsBelow before ends → ends.0 < ends.1 → 0 < ends.0 → (ends.1 ≡ node → bound < ends.0) × (ends.0 ≡ node → bound < ends.1)
+Rises node before bound = (ends : ℕ × ℕ) → IsBelow before ends → ends.0 < ends.1 → 0 < ends.0 → (ends.1 ≡ node → bound < ends.0) ×
+    (ends.0 ≡ node → bound < ends.1)
 
 rises_later : (node : ℕ) (before ends : ℕ × ℕ) (bound : ℕ) → IsBelow before ends → Rises node before bound → Rises node ends bound
 rises_later node before ends bound below rises others later = rises others (below_both before ends others below later)
@@ -51,14 +52,17 @@ ascend_on node place bound ids before (e ∷ edges) some are rises =
     elim (cases_Bool (e.low.0 == node)) [
       | inl from ↦
           let same : e.low.0 ≡ node = eqb-true e.low.0 node from in
-          let on : Rises node (ends_of e) e.high.0 = subst (λ (x : ℕ). Rises node (x, e.high.0) e.high.0) (sym same) (rises_from_higher node e.high.0 (omega (arith, same, ends.ascend))) in
+          let on : Rises node (ends_of e) e.high.0 = subst (λ (x : ℕ). Rises node (x, e.high.0) e.high.0) (sym same)
+          (rises_from_higher node e.high.0 (omega (arith, same, ends.ascend))) in
           rw from (leads.1 same, ascend_on node (place + 1) e.high.0 ids (ends_of e) edges some are.2 on)
       | inr other ↦ elim (cases_Bool (e.high.0 == node)) [
         | inl to ↦
             let same : e.high.0 ≡ node = eqb-true e.high.0 node to in
-            let on : Rises node (ends_of e) e.low.0 = subst (λ (x : ℕ). Rises node (e.low.0, x) e.low.0) (sym same) (rises_from_lower node e.low.0 (omega (arith, same, ends.ascend))) in
+            let on : Rises node (ends_of e) e.low.0 = subst (λ (x : ℕ). Rises node (e.low.0, x) e.low.0) (sym same)
+            (rises_from_lower node e.low.0 (omega (arith, same, ends.ascend))) in
             rw (other, to) (leads.0 same, ascend_on node (place + 1) e.low.0 ids (ends_of e) edges some are.2 on)
-        | inr neither ↦ rw (other, neither) (ascend_on node (place + 1) bound ids (ends_of e) edges some are.2 (rises_later node before (ends_of e) bound ends.after rises))
+        | inr neither ↦ rw (other, neither) (ascend_on node (place + 1) bound ids (ends_of e) edges some are.2
+            (rises_later node before (ends_of e) bound ends.after rises))
       ]
     ]
 
@@ -69,8 +73,10 @@ neighbours_ascend node height nodes edges are_nodes are_edges =
 
 -- those that were found when no edge is left
 pub found_ascend : (node place : ℕ) (height : LmsHeight) (nodes : List NodeKey) (edges : List Edge) (found : List (NodeId × EdgeId)) → AreNodes height 0 nodes
-    → AreEdges (ids_of nodes) (0, 0) edges → length edges ≤ place → found ++ neighbours_from node place (drop place edges) ≡ neighbours_from node 0 edges → Ascend 0 found
+    → AreEdges (ids_of nodes) (0, 0) edges → length edges ≤ place
+    → found ++ neighbours_from node place (drop place edges) ≡ neighbours_from node 0 edges → Ascend 0 found
 found_ascend node place height nodes edges found are_nodes are_edges past all =
     let none : drop place edges ≡ [] = drop_all place edges past in
-    let same : found ≡ neighbours_from node 0 edges = sym (append-nil found) ∙ ap (λ (rest : List Edge). found ++ neighbours_from node place rest) (sym none) ∙ all in
+    let same : found ≡ neighbours_from node 0 edges = sym (append-nil found) ∙ ap (λ (rest : List Edge). found ++ neighbours_from node place rest)
+    (sym none) ∙ all in
     rw same (neighbours_ascend node height nodes edges are_nodes are_edges)

@@ -65,5 +65,6 @@ pub edges_no_memory : (ids : List ℕ) (before : ℕ × ℕ) (edges : List Edge)
 edges_no_memory ids before [] = none
 edges_no_memory ids before (e ∷ edges) =
     after (edge_fault ids before e) (edges_fault ids (ends_of e) edges)
-    (after (ends_fault (are_nodes ids (ends_of e)) before (ends_of e)) (weight_fault e.weight) (ends_no_memory (are_nodes ids (ends_of e)) before (ends_of e)) (weight_no_memory e.weight))
+    (after (ends_fault (are_nodes ids (ends_of e)) before (ends_of e)) (weight_fault e.weight)
+    (ends_no_memory (are_nodes ids (ends_of e)) before (ends_of e)) (weight_no_memory e.weight))
     (edges_no_memory ids (ends_of e) edges)

@@ -21,7 +21,8 @@ onto items (Ok rest) = Ok (items ++ rest.0, rest.1)
 onto items (Err refused) = Err refused
 
 -- one item more was read
-onto_one : {X R E : Type 0} (items : List X) (x : X) (rest : Result (List X × R) E) → onto items (rest >>= λ xs. Ok (x ∷ xs.0, xs.1)) ≡ onto (items ++ x ∷ []) rest
+onto_one : {X R E : Type 0} (items : List X) (x : X) (rest : Result (List X × R) E)
+    → onto items (rest >>= λ xs. Ok (x ∷ xs.0, xs.1)) ≡ onto (items ++ x ∷ []) rest
 onto_one items x (Ok rest) = ap (λ xs. Ok (xs, rest.1)) (sym (append_assoc items (x ∷ []) rest.0))
 onto_one items x (Err refused) = refl
 

@@ -1,13 +1,11 @@
 -- Bytes that are read as a topology begin with its document.
-use Rattle.std.proofs.Common.{◌≡◌, if◌then◌else◌, ℕ, suc, zero, ◌<◌, ◌≤◌, ◌^◌, ◌==◌, inl, inr, List, [], ◌∷◌, ◌++◌, length, get_or, append_assoc, length-append, Result, Ok, Some, None, refl, sym, ap, subst, ◌∙◌, arith}
-use Rattle.std.specs.Prelude.{Option, flat_map}
-use Rattle.std.proofs.lemmas.Bool.{cases_Bool, eqb-true}
-use Rattle.std.proofs.lemmas.List.Elements.{All-cons, All-head, All-nil, All-tail}
+use Rattle.std.proofs.Common.{◌≡◌, ℕ, suc, zero, ◌<◌, ◌≤◌, List, [], ◌∷◌, ◌++◌, length, get_or, append_assoc, length-append, Result, Ok, refl, sym, ap, subst, arith}
+use Rattle.std.specs.Prelude.{flat_map}
 use Rattle.std.proofs.lemmas.Grind.{get_or_default_zero}
 use Rattle.byteorder.specs.Endian.{big_bytes}
-use Rattle.sp_base.proofs.NumberLemmas.{number_read, piece_read}
+use Rattle.sp_base.proofs.NumberLemmas.{piece_read}
 use Rattle.sp_base.proofs.RefusalLemmas.{as_refusal_ok, then_ok}
-use Rattle.sp_base.specs.Reading.{number_at, piece_at}
+use Rattle.sp_base.specs.Reading.{piece_at}
 use Rattle.sp_base.specs.Refusals.{◌>>=◌, as_refusal}
 use Rattle.sp_base.specs.Spelling.{AreBytes}
 use Rattle.sp_topology.specs.declared.topology.LmsHeight.{LmsHeight}
@@ -16,144 +14,12 @@ use Rattle.sp_topology.specs.declared.topology.NodeKey.{NodeKey}
 use Rattle.sp_topology.specs.declared.topology.Topology.{Topology}
 use Rattle.sp_topology.specs.declared.refused.TopologyRefused.{TopologyRefused}
 use Rattle.sp_topology.specs.declared.refused.TopologyRefused.TheVariants as refusals
-use Rattle.sp_topology.specs.Documents.{Front, ReadIsSpelled, document, edge_at, edge_bytes, edges_at, ends_at, field_at, format_fault, front_at, front_bytes, front_of, height_field_at, height_or_refusal, judged_at, key_at, name, name_fault, node_at, node_bytes, nodes_at, topology_at, unless}
-use Rattle.sp_topology.specs.Faults.{are_nodes, edge_count_fault, ends_fault, id_fault, key_fault, node_count_fault, weight_fault}
-use Rattle.sp_topology.specs.Heights.{height_at, height_number}
+use Rattle.sp_topology.specs.Documents.{Front, ReadIsSpelled, document, edge_at, edge_bytes, edges_at, ends_at, field_at, front_at, front_bytes, front_of, judged_at, key_at, node_at, node_bytes, nodes_at, topology_at, unless}
+use Rattle.sp_topology.specs.Faults.{are_nodes, edge_count_fault, ends_fault, id_fault, key_fault, weight_fault}
 use Rattle.sp_topology.specs.Ranges.{AreEdges, AreEnds, AreNodes, IsId, IsKey, IsTopology, IsWeight, ends_of, ids_of}
-use Rattle.sp_topology.proofs.Judged.{edge_count_passed, ends_passed, id_passed, key_passed, node_count_passed, number_of_height, weight_passed}
+use Rattle.sp_topology.proofs.Judged.{edge_count_passed, ends_passed, id_passed, key_passed, weight_passed}
 use Rattle.sp_topology.proofs.Spelled.{length-ids_of}
-
--- bytes begin with these, and the rest are bytes too
-record Begins (bytes front rest : List ℕ) : Type 0 where
-  spelled : bytes ≡ front ++ rest
-  are_bytes : AreBytes rest
-
--- two beginnings, one after the other
-joined : (bytes front middle mid rest : List ℕ) → Begins bytes front middle → Begins middle mid rest → Begins bytes (front ++ mid) rest
-joined bytes front middle mid rest one two = record {
-  spelled = one.spelled ∙ ap (λ tail. front ++ tail) two.spelled ∙ sym (append_assoc front mid rest);
-  are_bytes = two.are_bytes;
-}
-
-unless_ok : {A : Type 0} (fault : Option TopologyRefused) (x y : A) → unless fault x ≡ Ok y → (fault ≡ None) × (x ≡ y)
-unless_ok None x y e = (refl, cc)
-unless_ok (Some fault) x y e = absurd (cc)
-
-abbrev ok_of : {A : Type 0} → A → Result A TopologyRefused
-ok_of x = Ok x
-
-ok_same : {A : Type 0} (x y : A) → ok_of x ≡ ok_of y → x ≡ y
-ok_same x y e = cc
-
-front_are_bytes : (front rest : List ℕ) → AreBytes (front ++ rest) → AreBytes front
-front_are_bytes [] rest are = All-nil (λ (b : ℕ). b < 256)
-front_are_bytes (b ∷ front) rest are =
-    All-cons (λ (b : ℕ). b < 256) b front (All-head (λ (b : ℕ). b < 256) b (front ++ rest) are) (front_are_bytes front rest (All-tail (λ (b : ℕ). b < 256) b (front ++ rest) are))
-
-rest_are_bytes : (front rest : List ℕ) → AreBytes (front ++ rest) → AreBytes rest
-rest_are_bytes [] rest are = are
-rest_are_bytes (b ∷ front) rest are = rest_are_bytes front rest (All-tail (λ (b : ℕ). b < 256) b (front ++ rest) are)
-
--- a field that was read
-record Field (n : ℕ) (bytes : List ℕ) (x : ℕ) (rest : List ℕ) : Type 0 where
-  begins : Begins bytes (big_bytes n x) rest
-  small : x < 256 ^ n
-
-field_read : (n : ℕ) (bytes : List ℕ) (p : ℕ × List ℕ) → AreBytes bytes → field_at n bytes ≡ Ok p → Field n bytes p.0 p.1
-field_read n bytes p are e =
-    let is = number_read n bytes p are (as_refusal_ok refusals.Short (number_at n bytes) p e) in
-    record { begins = record { spelled = is.spelled; are_bytes = is.are_bytes }; small = is.fits }
-
--- a field that was read and judged
-record Judged (n : ℕ) (fault : ℕ → Option TopologyRefused) (bytes : List ℕ) (x : ℕ) (rest : List ℕ) : Type 0 where
-  field : Field n bytes x rest
-  passes : fault x ≡ None
-
-judged_read : (n : ℕ) (fault : ℕ → Option TopologyRefused) (bytes : List ℕ) (p : ℕ × List ℕ) → AreBytes bytes → judged_at n fault bytes ≡ Ok p
-    → Judged n fault bytes p.0 p.1
-unfolding judged_at
-judged_read n fault bytes p are e =
-    let s = then_ok (field_at n bytes) (λ x. unless (fault x.0) x) p e in
-    let u = unless_ok (fault s.0.0) s.0 p s.2 in
-    let here : Judged n fault bytes s.0.0 s.0.1 = record { field = field_read n bytes s.0 are s.1; passes = u.0 } in
-    subst (λ (q : ℕ × List ℕ). Judged n fault bytes q.0 q.1) u.1 here
-
--- ---- the front
-
-height_ok : (height : Option LmsHeight) (bytes : List ℕ) (p : LmsHeight × List ℕ) → height_or_refusal height bytes ≡ Ok p → (height ≡ Some p.0) × (bytes ≡ p.1)
-height_ok (Some height) bytes p e =
-    let pair : (height, bytes) ≡ p = cc in
-    (ap (λ (q : LmsHeight × List ℕ). Some q.0) pair, ap (λ (q : LmsHeight × List ℕ). q.1) pair)
-height_ok None bytes p e = absurd (cc)
-
-height_read : (bytes : List ℕ) (p : LmsHeight × List ℕ) → AreBytes bytes → height_field_at bytes ≡ Ok p → Begins bytes (big_bytes 1 (height_number p.0)) p.1
-unfolding height_field_at
-height_read bytes p are e =
-    let s = then_ok (field_at 1 bytes) (λ x. height_or_refusal (height_at x.0) x.1) p e in
-    let h = height_ok (height_at s.0.0) s.0.1 p s.2 in
-    let is = (field_read 1 bytes s.0 are s.1).begins in
-    let number : height_number p.0 ≡ s.0.0 = number_of_height s.0.0 p.0 h.0 in
-    rw number (subst (λ (rest : List ℕ). Begins bytes (big_bytes 1 s.0.0) rest) h.1 is)
-
-exact : (x wanted : ℕ) (refused : TopologyRefused) → (if x == wanted then None else Some refused) ≡ None → x ≡ wanted
-exact x wanted refused e = elim (cases_Bool (x == wanted)) [
-  | inl same ↦ eqb-true x wanted same
-  | inr other ↦ absurd (let is = rw other at e in cc)
-]
-
-record FrontRead (bytes : List ℕ) (f : Front) (rest : List ℕ) : Type 0 where
-  begins : Begins bytes (front_bytes f) rest
-  version : f.version < 2 ^ 32
-  count : (2 ≤ f.count) × (f.count ≤ 16)
-
--- the steps of the front, each with what comes after it
-abbrev after_height : ℕ → LmsHeight × List ℕ → Result (Front × List ℕ) TopologyRefused
-after_height version h = judged_at 1 node_count_fault h.1 >>= λ c. Ok (record { version = version; height = h.0; count = c.0 }, c.1)
-
-abbrev after_version : ℕ × List ℕ → Result (Front × List ℕ) TopologyRefused
-after_version v = height_field_at v.1 >>= λ h. after_height v.0 h
-
-abbrev after_format : ℕ × List ℕ → Result (Front × List ℕ) TopologyRefused
-after_format g = field_at 4 g.1 >>= λ v. after_version v
-
-abbrev after_name : ℕ × List ℕ → Result (Front × List ℕ) TopologyRefused
-after_name b = judged_at 1 format_fault b.1 >>= λ g. after_format g
-
-front_joined : (f : Front) (bytes named formatted versioned raised counted : List ℕ) → Begins bytes (big_bytes 4 name) named → Begins named (big_bytes 1 1) formatted
-    → Begins formatted (big_bytes 4 f.version) versioned → Begins versioned (big_bytes 1 (height_number f.height)) raised → Begins raised (big_bytes 1 f.count) counted
-    → Begins bytes (front_bytes f) counted
-front_joined f bytes named formatted versioned raised counted one two three four five =
-    let last = joined versioned (big_bytes 1 (height_number f.height)) raised (big_bytes 1 f.count) counted four five in
-    let third = joined formatted (big_bytes 4 f.version) versioned (big_bytes 1 (height_number f.height) ++ big_bytes 1 f.count) counted three last in
-    let second = joined named (big_bytes 1 1) formatted (big_bytes 4 f.version ++ (big_bytes 1 (height_number f.height) ++ big_bytes 1 f.count)) counted two third in
-    joined bytes (big_bytes 4 name) named (big_bytes 1 1 ++ (big_bytes 4 f.version ++ (big_bytes 1 (height_number f.height) ++ big_bytes 1 f.count))) counted one second
-
-same_front : (bytes : List ℕ) (p q : Front × List ℕ) → p ≡ q → FrontRead bytes p.0 p.1 → FrontRead bytes q.0 q.1
-same_front bytes p q same is = subst (λ (z : Front × List ℕ). FrontRead bytes z.0 z.1) same is
-
-front_read : (bytes : List ℕ) (p : Front × List ℕ) → AreBytes bytes → front_at bytes ≡ Ok p → FrontRead bytes p.0 p.1
-unfolding front_at
-front_read bytes p are e =
-    let s1 = then_ok (judged_at 4 name_fault bytes) after_name p e in
-    let s2 = then_ok (judged_at 1 format_fault s1.0.1) after_format p s1.2 in
-    let s3 = then_ok (field_at 4 s2.0.1) after_version p s2.2 in
-    let s4 = then_ok (height_field_at s3.0.1) (after_height s3.0.0) p s3.2 in
-    let s5 = then_ok (judged_at 1 node_count_fault s4.0.1) (λ c. Ok (record { version = s3.0.0; height = s4.0.0; count = c.0 }, c.1)) p s4.2 in
-    let f : Front = record { version = s3.0.0; height = s4.0.0; count = s5.0.0 } in
-    let j1 = judged_read 4 name_fault bytes s1.0 are s1.1 in
-    let j2 = judged_read 1 format_fault s1.0.1 s2.0 j1.field.begins.are_bytes s2.1 in
-    let j3 = field_read 4 s2.0.1 s3.0 j2.field.begins.are_bytes s3.1 in
-    let j4 = height_read s3.0.1 s4.0 j3.begins.are_bytes s4.1 in
-    let j5 = judged_read 1 node_count_fault s4.0.1 s5.0 j4.are_bytes s5.1 in
-    let named : Begins bytes (big_bytes 4 name) s1.0.1 = subst (λ (x : ℕ). Begins bytes (big_bytes 4 x) s1.0.1) (exact s1.0.0 name refusals.Magic j1.passes) j1.field.begins in
-    let formatted : Begins s1.0.1 (big_bytes 1 1) s2.0.1 = subst (λ (x : ℕ). Begins s1.0.1 (big_bytes 1 x) s2.0.1) (exact s2.0.0 1 refusals.Format j2.passes) j2.field.begins in
-    let here : FrontRead bytes f s5.0.1 = record {
-      begins = front_joined f bytes s1.0.1 s2.0.1 s3.0.1 s4.0.1 s5.0.1 named formatted j3.begins j4 j5.field.begins;
-      version = omega (arith, j3.small);
-      count = node_count_passed s5.0.0 j5.passes;
-    } in
-    let pair : (f, s5.0.1) ≡ p = ok_same (f, s5.0.1) p s5.2 in
-    same_front bytes (f, s5.0.1) p pair here
+use Rattle.sp_topology.proofs.FieldReads.{Begins, FrontRead, Judged, field_read, front_are_bytes, front_read, joined, judged_read, ok_same, rest_are_bytes, unless_ok}
 
 -- ---- nodes
 
@@ -179,14 +45,16 @@ record NodeRead (height : LmsHeight) (before : ℕ) (bytes : List ℕ) (n : Node
   is_id : IsId before n.id.0
   is_key : IsKey height n.key
 
-same_node : (height : LmsHeight) (before : ℕ) (bytes : List ℕ) (p q : NodeKey × List ℕ) → p ≡ q → NodeRead height before bytes p.0 p.1 → NodeRead height before bytes q.0 q.1
+same_node : (height : LmsHeight) (before : ℕ) (bytes : List ℕ) (p q : NodeKey × List ℕ) → p ≡ q → NodeRead height before bytes p.0 p.1
+    → NodeRead height before bytes q.0 q.1
 same_node height before bytes p q same is = subst (λ (z : NodeKey × List ℕ). NodeRead height before bytes z.0 z.1) same is
 
 node_read : (height : LmsHeight) (before : ℕ) (bytes : List ℕ) (p : NodeKey × List ℕ) → AreBytes bytes → node_at height before bytes ≡ Ok p
     → NodeRead height before bytes p.0 p.1
 unfolding node_at
 node_read height before bytes p are e =
-    let s1 = then_ok (judged_at 1 (id_fault before) bytes) (λ id. key_at height id.1 >>= λ key. Ok (record { id = record { 0 = id.0 }; key = key.0 }, key.1)) p e in
+    let s1 = then_ok (judged_at 1 (id_fault before) bytes) (λ id. key_at height id.1 >>= λ key. Ok
+    (record { id = record { 0 = id.0 }; key = key.0 }, key.1)) p e in
     let s2 = then_ok (key_at height s1.0.1) (λ key. Ok (record { id = record { 0 = s1.0.0 }; key = key.0 }, key.1)) p s1.2 in
     let n : NodeKey = record { id = record { 0 = s1.0.0 }; key = s2.0.0 } in
     let j1 = judged_read 1 (id_fault before) bytes s1.0 are s1.1 in
@@ -203,10 +71,12 @@ record NodesRead (height : LmsHeight) (count before : ℕ) (bytes : List ℕ) (n
   are : AreNodes height before nodes
   long : length nodes ≡ count
 
-same_nodes : (height : LmsHeight) (count before : ℕ) (bytes : List ℕ) (p q : List NodeKey × List ℕ) → p ≡ q → NodesRead height count before bytes p.0 p.1 → NodesRead height count before bytes q.0 q.1
+same_nodes : (height : LmsHeight) (count before : ℕ) (bytes : List ℕ) (p q : List NodeKey × List ℕ) → p ≡ q
+    → NodesRead height count before bytes p.0 p.1 → NodesRead height count before bytes q.0 q.1
 same_nodes height count before bytes p q same is = subst (λ (z : List NodeKey × List ℕ). NodesRead height count before bytes z.0 z.1) same is
 
-one_more_node : (height : LmsHeight) (count before : ℕ) (bytes middle rest : List ℕ) (n : NodeKey) (nodes : List NodeKey) → NodeRead height before bytes n middle
+one_more_node : (height : LmsHeight) (count before : ℕ) (bytes middle rest : List ℕ) (n : NodeKey) (nodes : List NodeKey)
+    → NodeRead height before bytes n middle
     → NodesRead height count n.id.0 middle nodes rest → NodesRead height (suc count) before bytes (n ∷ nodes) rest
 one_more_node height count before bytes middle rest n nodes one others = record {
   begins = joined bytes (node_bytes n) middle (flat_map node_bytes nodes) rest one.begins others.begins;
@@ -241,8 +111,10 @@ ends_read : (ids : List ℕ) (before : ℕ × ℕ) (bytes : List ℕ) (p : (ℕ 
     → EndsRead ids before bytes p.0 p.1
 unfolding ends_at
 ends_read ids before bytes p are e =
-    let s1 = then_ok (field_at 1 bytes) (λ low. field_at 1 low.1 >>= λ high. unless (ends_fault (are_nodes ids (low.0, high.0)) before (low.0, high.0)) ((low.0, high.0), high.1)) p e in
-    let s2 = then_ok (field_at 1 s1.0.1) (λ high. unless (ends_fault (are_nodes ids (s1.0.0, high.0)) before (s1.0.0, high.0)) ((s1.0.0, high.0), high.1)) p s1.2 in
+    let s1 = then_ok (field_at 1 bytes) (λ low. field_at 1 low.1 >>= λ high. unless
+    (ends_fault (are_nodes ids (low.0, high.0)) before (low.0, high.0)) ((low.0, high.0), high.1)) p e in
+    let s2 = then_ok (field_at 1 s1.0.1) (λ high. unless (ends_fault (are_nodes ids (s1.0.0, high.0)) before (s1.0.0, high.0))
+    ((s1.0.0, high.0), high.1)) p s1.2 in
     let u = unless_ok (ends_fault (are_nodes ids (s1.0.0, s2.0.0)) before (s1.0.0, s2.0.0)) ((s1.0.0, s2.0.0), s2.0.1) p s2.2 in
     let j1 = field_read 1 bytes s1.0 are s1.1 in
     let j2 = field_read 1 s1.0.1 s2.0 j1.begins.are_bytes s2.1 in
@@ -257,10 +129,12 @@ record EdgeRead (ids : List ℕ) (before : ℕ × ℕ) (bytes : List ℕ) (e : E
   are : AreEnds ids before (ends_of e)
   weight : IsWeight e.weight
 
-same_edge : (ids : List ℕ) (before : ℕ × ℕ) (bytes : List ℕ) (p q : Edge × List ℕ) → p ≡ q → EdgeRead ids before bytes p.0 p.1 → EdgeRead ids before bytes q.0 q.1
+same_edge : (ids : List ℕ) (before : ℕ × ℕ) (bytes : List ℕ) (p q : Edge × List ℕ) → p ≡ q → EdgeRead ids before bytes p.0 p.1
+    → EdgeRead ids before bytes q.0 q.1
 same_edge ids before bytes p q same is = subst (λ (z : Edge × List ℕ). EdgeRead ids before bytes z.0 z.1) same is
 
-edge_joined : (bytes middle rest low high weight : List ℕ) → Begins bytes (low ++ high) middle → Begins middle weight rest → Begins bytes (low ++ (high ++ weight)) rest
+edge_joined : (bytes middle rest low high weight : List ℕ) → Begins bytes (low ++ high) middle → Begins middle weight rest
+    → Begins bytes (low ++ (high ++ weight)) rest
 edge_joined bytes middle rest low high weight one two =
     subst (λ (front : List ℕ). Begins bytes front rest) (append_assoc low high weight) (joined bytes (low ++ high) middle weight rest one two)
 
@@ -269,8 +143,17 @@ edge_read : (ids : List ℕ) (before : ℕ × ℕ) (bytes : List ℕ) (p : Edge 
 unfolding edge_at
 edge_read ids before bytes p are e =
     let s1 = then_ok (ends_at ids before bytes)
-    (λ ends. judged_at 4 weight_fault ends.1 >>= λ weight. Ok (record { low = record { 0 = ends.0.0 }; high = record { 0 = ends.0.1 }; weight = weight.0 }, weight.1)) p e in
-    let s2 = then_ok (judged_at 4 weight_fault s1.0.1) (λ weight. Ok (record { low = record { 0 = s1.0.0.0 }; high = record { 0 = s1.0.0.1 }; weight = weight.0 }, weight.1)) p s1.2 in
+    (λ ends. judged_at 4 weight_fault ends.1 >>= λ weight. Ok (
+      record {
+        low = record { 0 = ends.0.0 };
+        high = record { 0 = ends.0.1 };
+        weight =
+            weight.0;
+      },
+      weight.1,
+    )) p e in
+    let s2 = then_ok (judged_at 4 weight_fault s1.0.1) (λ weight. Ok
+    (record { low = record { 0 = s1.0.0.0 }; high = record { 0 = s1.0.0.1 }; weight = weight.0 }, weight.1)) p s1.2 in
     let edge : Edge = record { low = record { 0 = s1.0.0.0 }; high = record { 0 = s1.0.0.1 }; weight = s2.0.0 } in
     let j1 = ends_read ids before bytes s1.0 are s1.1 in
     let j2 = judged_read 4 weight_fault s1.0.1 s2.0 j1.begins.are_bytes s2.1 in
@@ -286,7 +169,8 @@ record EdgesRead (ids : List ℕ) (count : ℕ) (before : ℕ × ℕ) (bytes : L
   are : AreEdges ids before edges
   long : length edges ≡ count
 
-same_edges : (ids : List ℕ) (count : ℕ) (before : ℕ × ℕ) (bytes : List ℕ) (p q : List Edge × List ℕ) → p ≡ q → EdgesRead ids count before bytes p.0 p.1 → EdgesRead ids count before bytes q.0 q.1
+same_edges : (ids : List ℕ) (count : ℕ) (before : ℕ × ℕ) (bytes : List ℕ) (p q : List Edge × List ℕ) → p ≡ q
+    → EdgesRead ids count before bytes p.0 p.1 → EdgesRead ids count before bytes q.0 q.1
 same_edges ids count before bytes p q same is = subst (λ (z : List Edge × List ℕ). EdgesRead ids count before bytes z.0 z.1) same is
 
 one_more_edge : (ids : List ℕ) (count : ℕ) (before : ℕ × ℕ) (bytes middle rest : List ℕ) (e : Edge) (edges : List Edge) → EdgeRead ids before bytes e middle
@@ -330,17 +214,20 @@ abbrev with_front : Front × List ℕ → Result (Topology × List ℕ) Topology
 with_front f = nodes_at f.0.height f.0.count 0 f.1 >>= λ nodes. with_nodes f.0 nodes
 
 all_joined : (f : Front) (nodes : List NodeKey) (edges : List Edge) (count : ℕ) (bytes fronted noded counted rest : List ℕ) → FrontRead bytes f fronted
-    → NodesRead f.height f.count 0 fronted nodes noded → Judged 2 edge_count_fault noded count counted → EdgesRead (ids_of nodes) count (0, 0) counted edges rest
+    → NodesRead f.height f.count 0 fronted nodes noded → Judged 2 edge_count_fault noded count counted
+    → EdgesRead (ids_of nodes) count (0, 0) counted edges rest
     → TopologyRead bytes (record { version = f.version; height = f.height; nodes = nodes; edges = edges }) rest
 all_joined f nodes edges count bytes fronted noded counted rest first second third fourth =
     let t : Topology = record { version = f.version; height = f.height; nodes = nodes; edges = edges } in
     let same_count = sym fourth.long in
-    let is_counted : Begins noded (big_bytes 2 (length edges)) counted = subst (λ (n : ℕ). Begins noded (big_bytes 2 n) counted) same_count third.field.begins in
+    let is_counted : Begins noded (big_bytes 2 (length edges)) counted = subst
+    (λ (n : ℕ). Begins noded (big_bytes 2 n) counted) same_count third.field.begins in
     let is_front : Begins bytes (front_bytes (front_of t)) fronted =
     subst (λ (n : ℕ). Begins bytes (front_bytes (record { version = f.version; height = f.height; count = n })) fronted) (sym second.long) first.begins in
     let tail = joined noded (big_bytes 2 (length edges)) counted (flat_map edge_bytes edges) rest is_counted fourth.begins in
     let later = joined fronted (flat_map node_bytes nodes) noded (big_bytes 2 (length edges) ++ flat_map edge_bytes edges) rest second.begins tail in
-    let whole = joined bytes (front_bytes (front_of t)) fronted (flat_map node_bytes nodes ++ (big_bytes 2 (length edges) ++ flat_map edge_bytes edges)) rest is_front later in
+    let whole = joined bytes (front_bytes (front_of t)) fronted (flat_map node_bytes nodes ++
+    (big_bytes 2 (length edges) ++ flat_map edge_bytes edges)) rest is_front later in
     let long = length-ids_of nodes in
     let few = edge_count_passed count third.passes in
     record {
@@ -380,7 +267,8 @@ read_is_spelled bytes rest t are e =
 -- the steps of a reading, joined
 steps_read : (bytes fronted noded counted rest : List ℕ) (f : Front) (nodes : List NodeKey) (count : ℕ) (edges : List Edge) → front_at bytes ≡ Ok (f, fronted)
     → nodes_at f.height f.count 0 fronted ≡ Ok (nodes, noded) → judged_at 2 edge_count_fault noded ≡ Ok (count, counted)
-    → edges_at (ids_of nodes) count (0, 0) counted ≡ Ok (edges, rest) → topology_at bytes ≡ Ok (record { version = f.version; height = f.height; nodes = nodes; edges = edges }, rest)
+    → edges_at (ids_of nodes) count (0, 0) counted ≡ Ok (edges, rest)
+    → topology_at bytes ≡ Ok (record { version = f.version; height = f.height; nodes = nodes; edges = edges }, rest)
 unfolding topology_at
 steps_read bytes fronted noded counted rest f nodes count edges one two three four = rw one (rw two (rw three (rw four refl)))
 

@@ -22,7 +22,8 @@ use Rattle.sp_topology.proofs.Judged.{edge_count_passes, ends_pass, height_of_nu
 field_back : (n x : ℕ) (rest : List ℕ) → x < 256 ^ n → field_at n (big_bytes n x ++ rest) ≡ Ok (x, rest)
 field_back n x rest small = ap (λ r. as_refusal refusals.Short r) (number_back n x rest small)
 
-judged_back : (n x : ℕ) (fault : ℕ → Option TopologyRefused) (rest : List ℕ) → x < 256 ^ n → fault x ≡ None → judged_at n fault (big_bytes n x ++ rest) ≡ Ok (x, rest)
+judged_back : (n x : ℕ) (fault : ℕ → Option TopologyRefused) (rest : List ℕ) → x < 256 ^ n → fault x ≡ None
+    → judged_at n fault (big_bytes n x ++ rest) ≡ Ok (x, rest)
 unfolding judged_at
 judged_back n x fault rest small passes = rw (field_back n x rest small, passes) refl
 
@@ -39,10 +40,12 @@ height_back height rest =
     rw (field_back 1 (height_number height) rest small, height_of_number height) refl
 
 front_split : (f : Front) (rest : List ℕ)
-    → front_bytes f ++ rest ≡ big_bytes 4 name ++ (big_bytes 1 1 ++ (big_bytes 4 f.version ++ (big_bytes 1 (height_number f.height) ++ (big_bytes 1 f.count ++ rest))))
+    → front_bytes f ++ rest ≡ big_bytes 4 name ++ (big_bytes 1 1 ++
+    (big_bytes 4 f.version ++ (big_bytes 1 (height_number f.height) ++ (big_bytes 1 f.count ++ rest))))
 front_split f rest =
     append_assoc (big_bytes 4 name) (big_bytes 1 1 ++ (big_bytes 4 f.version ++ (big_bytes 1 (height_number f.height) ++ big_bytes 1 f.count))) rest
-    ∙ ap (λ bytes. big_bytes 4 name ++ bytes) (append_assoc (big_bytes 1 1) (big_bytes 4 f.version ++ (big_bytes 1 (height_number f.height) ++ big_bytes 1 f.count)) rest
+    ∙ ap (λ bytes. big_bytes 4 name ++ bytes) (append_assoc (big_bytes 1 1)
+    (big_bytes 4 f.version ++ (big_bytes 1 (height_number f.height) ++ big_bytes 1 f.count)) rest
     ∙ ap (λ bytes. big_bytes 1 1 ++ bytes) (append_assoc (big_bytes 4 f.version) (big_bytes 1 (height_number f.height) ++ big_bytes 1 f.count) rest
     ∙ ap (λ bytes. big_bytes 4 f.version ++ bytes) (append_assoc (big_bytes 1 (height_number f.height)) (big_bytes 1 f.count) rest)))
 
@@ -50,7 +53,8 @@ front_back : (f : Front) (rest : List ℕ) → f.version < 2 ^ 32 → 2 ≤ f.co
 unfolding front_at
 front_back f rest small low high =
     rw (front_split f rest)
-    (rw (judged_back 4 name name_fault (big_bytes 1 1 ++ (big_bytes 4 f.version ++ (big_bytes 1 (height_number f.height) ++ (big_bytes 1 f.count ++ rest)))) (lit< tt) refl)
+    (rw (judged_back 4 name name_fault (big_bytes 1 1 ++ (big_bytes 4 f.version ++
+    (big_bytes 1 (height_number f.height) ++ (big_bytes 1 f.count ++ rest)))) (lit< tt) refl)
     (rw (judged_back 1 1 format_fault (big_bytes 4 f.version ++ (big_bytes 1 (height_number f.height) ++ (big_bytes 1 f.count ++ rest))) (lit< tt) refl)
     (rw (field_back 4 f.version (big_bytes 1 (height_number f.height) ++ (big_bytes 1 f.count ++ rest)) small)
     (rw (height_back f.height (big_bytes 1 f.count ++ rest))
@@ -130,7 +134,8 @@ document_split : (t : Topology) (rest : List ℕ)
     → document t ++ rest ≡ front_bytes (front_of t) ++ (flat_map node_bytes t.nodes ++ (big_bytes 2 (length t.edges) ++ (flat_map edge_bytes t.edges ++ rest)))
 document_split t rest =
     append_assoc (front_bytes (front_of t)) (flat_map node_bytes t.nodes ++ (big_bytes 2 (length t.edges) ++ flat_map edge_bytes t.edges)) rest
-    ∙ ap (λ bytes. front_bytes (front_of t) ++ bytes) (append_assoc (flat_map node_bytes t.nodes) (big_bytes 2 (length t.edges) ++ flat_map edge_bytes t.edges) rest
+    ∙ ap (λ bytes. front_bytes (front_of t) ++ bytes) (append_assoc (flat_map node_bytes t.nodes)
+    (big_bytes 2 (length t.edges) ++ flat_map edge_bytes t.edges) rest
     ∙ ap (λ bytes. flat_map node_bytes t.nodes ++ bytes) (append_assoc (big_bytes 2 (length t.edges)) (flat_map edge_bytes t.edges) rest))
 
 pub spelled_is_read : SpelledIsRead
