@@ -7,7 +7,6 @@ pub mod PublicKey
 pub mod Key
 pub mod Growing
 pub mod Laws
-
 -- ---- what proofs and the parts of this crate use among themselves
 pub mod Nodes
 pub mod Kept

@@ -5,6 +5,5 @@ pub mod Chains
 pub mod Keys
 pub mod Signature
 pub mod Candidate
-
 -- ---- what proofs and the parts of this crate use among themselves
 pub mod UnderWay

@@ -1,6 +1,7 @@
 // The document of a topology, written.
 ghost use Rattle.std.specs.Prelude.{◌≡◌, ◌≤◌, ◌++◌, IfErr, IfOk, OnOk, flat_map, length};
 ghost use Rattle.byteorder.specs.Endian.{big_bytes};
+ghost use Rattle.sp_base.specs.declared.limits.TheConstants.{MAX_NODES};
 ghost use Rattle.sp_topology.specs.Documents.{document, edge_bytes, front_bytes, front_of, node_bytes};
 ghost use Rattle.sp_topology.specs.Ranges.{IsTopology};
 
@@ -30,7 +31,7 @@ impl Topology {
 }
 
 fn push_front(out: &mut Vec<u8>, topology: &Topology) -> Result<(), AllocError>
-    requires { length topology.now.nodes ≤ 16 }
+    requires { length topology.now.nodes ≤ MAX_NODES }
     ensures { OnOk result (out.new.items ≡ out.old.items ++ front_bytes (front_of topology.now)) }
 {
     push_u32(out, NAME)?;
