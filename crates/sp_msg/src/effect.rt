@@ -2,7 +2,7 @@
 ghost use Rattle.std.specs.Prelude.{◌≡◌, ◌-◌, ◌<◌, ◌++◌, [], ◌∷◌, IfErr, IfOk, IsOk};
 
 use crate::MsgRefused;
-use sp_base::{Bytes, EdgeId, NodeId};
+use sp_base::{Bytes, EdgeId, NodeId, push_in_room};
 use std::alloc::Global;
 use std::marker::Model;
 
@@ -102,7 +102,7 @@ impl Effects {
         requires { 0 < self.old.room }
         ensures { self.new ≡ record { list = self.old.list ++ effect ∷ []; room = self.old.room - 1 } }
     {
-        self.list.push(effect).unwrap();
+        push_in_room(&mut self.list, effect);
         self.room -= 1;
     }
 

@@ -5,7 +5,7 @@ ghost use Rattle.sp_schedule.specs.Ranges.{polls};
 
 use crate::Event;
 use crate::poll_counts::PollCounts;
-use sp_base::{Memory, NodeId};
+use sp_base::{Memory, NodeId, push_in_room};
 use std::alloc::Global;
 use std::marker::Model;
 
@@ -69,7 +69,7 @@ impl Timeline {
     {
         self.events.reserve(1)?;
         self.counts.count(&event)?;
-        self.events.push(event).unwrap();
+        push_in_room(&mut self.events, event);
         Ok(())
     }
 }

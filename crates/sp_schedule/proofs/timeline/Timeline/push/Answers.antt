@@ -9,5 +9,5 @@ count-requires c = λ u v.
 
 pub invariant_of-self-2 : goal.invariant_of-self-2
 invariant_of-self-2 c =
-    rw (c.push.ensures.items, c.unwrap.ensures, c.in_ok-count.ensures.ok, c.reserve.ensures.items)
+    rw (c.push_in_room.ensures.items, c.in_ok-count.ensures.ok, c.reserve.ensures.items)
     (counted_more c.self.inside.events.items c.self.inside.counts c.args.event c.self.invariant)
