@@ -1,3 +1,7 @@
 //! The rules of a whole node as definitions alone, a file for each part: what the part keeps, and what each event does to it.
 //! They stand on ids, messages, the topology and frames, never on schedules, journals or text.
 #![tactic(auto)]
+
+mod weights;
+
+pub use weights::Offer;

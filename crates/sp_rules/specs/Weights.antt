@@ -1,0 +1,146 @@
+-- The weights of links at one node: of each end of each edge the last update that counts, and for each neighbour which one goes next.
+--
+--     row 2e       the lower end of edge e
+--     row 2e + 1   its higher end
+use Rattle.std.specs.Prelude.{ℕ, ◌==◌, ◌+◌, ◌*◌, nat_lt, nat_le, max, List, map, length, replicate, Option, Some, None, is_some, slice_get, slice_set, if◌then◌else◌}
+use Rattle.std.specs.Option.{option_and_then}
+use Rattle.sp_base.specs.Cursor.{next_after}
+use Rattle.sp_msg.specs.declared.body.Body.{Body}
+use Rattle.sp_msg.specs.declared.body.Body.TheVariants as bodies
+use Rattle.sp_msg.specs.declared.body.WeightBody.{WeightBody}
+use Rattle.sp_msg.specs.declared.kept.Kept.{Kept}
+use Rattle.sp_topology.specs.declared.topology.Edge.{Edge}
+use Rattle.sp_topology.specs.declared.topology.Topology.{Topology}
+use Rattle.sp_rules.specs.declared.weights.Offer.{Offer}
+use Rattle.sp_rules.specs.declared.weights.Offer.TheVariants as offers
+
+-- A row for each end of each edge, and for each place of a node the row that went to it last
+pub record WeightState : Type 0 where
+  pub edges : List Edge
+  pub rows : List (Option Kept)
+  pub cycles : List (Option ℕ)
+
+-- no update is held, and none went
+abbrev pub start : Topology → WeightState
+start t = record { edges = t.edges; rows = replicate (2 * length t.edges) None; cycles = replicate (length t.nodes) None }
+
+-- ---- rows
+
+-- the row of an end of this edge
+abbrev pub row_of : ℕ → Edge → ℕ → Option ℕ
+row_of edge e end = if e.low.0 == end then Some (2 * edge) else if e.high.0 == end then Some (2 * edge + 1) else None
+
+-- the same, where the edge may not be there
+abbrev pub row_if : ℕ → Option Edge → ℕ → Option ℕ
+row_if edge None end = None
+row_if edge (Some e) end = row_of edge e end
+
+-- the row of an end of an edge. None where there is no such edge, or this is no end of it
+abbrev pub row_in : List Edge → ℕ → ℕ → Option ℕ
+row_in edges edge end = row_if edge (slice_get edges edge) end
+
+-- what a row holds
+abbrev pub held_in : List (Option Kept) → ℕ → Option Kept
+held_in rows row = option_and_then (λ held. held) (slice_get rows row)
+
+-- the number and the weight that a message says. Rows hold updates alone
+abbrev pub seq_said : Body → ℕ
+seq_said (bodies.Weight w) = w.seq
+seq_said _ = 0
+
+abbrev pub weight_said : Body → ℕ
+weight_said (bodies.Weight w) = w.weight
+weight_said _ = 0
+
+-- the number of the update that is held, 0 where none is
+abbrev pub seq_of : Option Kept → ℕ
+seq_of None = 0
+seq_of (Some kept) = seq_said kept.body
+
+-- the weight of the update that is held, 0 where none is
+abbrev pub weight_of : Option Kept → ℕ
+weight_of None = 0
+weight_of (Some kept) = weight_said kept.body
+
+-- ---- updates
+
+-- the answer to an update of this row, where it has one
+abbrev pub offer_at : Option ℕ → ℕ → List (Option Kept) → WeightBody → Offer
+offer_at None least rows u = offers.Foreign
+offer_at (Some row) least rows u =
+    if nat_lt u.weight least then offers.Low least
+    else if nat_le u.seq (seq_of (held_in rows row)) then offers.Old (seq_of (held_in rows row))
+    else offers.New
+
+-- the answer to an update of this edge, where it is there
+abbrev pub offer_on : Option Edge → List (Option Kept) → WeightBody → Offer
+offer_on None rows u = offers.Foreign
+offer_on (Some e) rows u = offer_at (row_of u.edge.0 e u.origin.0) e.weight rows u
+
+-- the answer to an update: the first that applies
+abbrev pub offer : WeightState → WeightBody → Offer
+offer s u = offer_on (slice_get s.edges u.edge.0) s.rows u
+
+-- the answer to a message. Only an update of a weight is one
+abbrev pub offer_of : WeightState → Body → Offer
+offer_of s (bodies.Weight u) = offer s u
+offer_of s _ = offers.Foreign
+
+-- the row that a message is for
+abbrev pub row_for : List Edge → Body → Option ℕ
+row_for edges (bodies.Weight u) = row_in edges u.edge.0 u.origin.0
+row_for edges _ = None
+
+-- this message in its row, and all other rows as they were
+abbrev pub rows_with : Option ℕ → List (Option Kept) → Kept → List (Option Kept)
+rows_with None rows kept = rows
+rows_with (Some row) rows kept = slice_set rows row (Some kept)
+
+-- the update is held
+abbrev pub held : WeightState → Kept → WeightState
+held s kept = record s { rows = rows_with (row_for s.edges kept.body) s.rows kept }
+
+-- ---- weights
+
+abbrev pub minimum_of : Option Edge → ℕ
+minimum_of None = 0
+minimum_of (Some e) = e.weight
+
+-- the administrator's minimum of an edge
+abbrev pub minimum : WeightState → ℕ → ℕ
+minimum s edge = minimum_of (slice_get s.edges edge)
+
+-- the greatest of the minimum and the weights that are held of both ends
+abbrev pub effective : WeightState → ℕ → ℕ
+effective s edge = max (minimum s edge) (max (weight_of (held_in s.rows (2 * edge))) (weight_of (held_in s.rows (2 * edge + 1))))
+
+-- the number of the next update of a row
+abbrev pub seq_after : List (Option Kept) → Option ℕ → ℕ
+seq_after rows None = 1
+seq_after rows (Some row) = seq_of (held_in rows row) + 1
+
+-- the number of the next update of an end of an edge, which is 1 where there is no such end
+abbrev pub next_seq : WeightState → ℕ → ℕ → ℕ
+next_seq s edge end = seq_after s.rows (row_in s.edges edge end)
+
+-- ---- the cycle of a link
+
+-- the row that went last to the node in this place
+abbrev pub cycle_at : WeightState → ℕ → Option ℕ
+cycle_at s v = option_and_then (λ last. last) (slice_get s.cycles v)
+
+-- the row that goes next: the one after the last, among those that hold an update
+abbrev pub next_row : WeightState → ℕ → Option ℕ
+next_row s v = next_after (cycle_at s v) (map is_some s.rows)
+
+-- the update that goes next to the node in this place
+abbrev pub next : WeightState → ℕ → Option Kept
+next s v = option_and_then (held_in s.rows) (next_row s v)
+
+abbrev pub cycles_with : List (Option ℕ) → ℕ → Option ℕ → List (Option ℕ)
+cycles_with cycles v None = cycles
+cycles_with cycles v (Some row) = slice_set cycles v (Some row)
+
+-- it went. Nothing changes where none is held
+abbrev pub moved : WeightState → ℕ → WeightState
+moved s v = record s { cycles = cycles_with s.cycles v (next_row s v) }
