@@ -1,0 +1,40 @@
+-- The rows of the weights stay sound: at the start, and where an update is put into one.
+use Rattle.std.proofs.Common.{◌≡◌, ℕ, ◌*◌, ◌≤◌, zero, suc, Bool, true, false, List, ◌∷◌, length, map, set, replicate, Option, Some, None, refl, sym, ap, ◌∙◌, arith}
+use Rattle.std.specs.Prelude.{is_some}
+use Rattle.std.proofs.lemmas.List.{length-replicate, length-set, map-set}
+use Rattle.std.proofs.lemmas.List.Elements.{All-replicate, All-set}
+use Rattle.sp_base.specs.declared.limits.TheConstants.{MAX_SEQ}
+use Rattle.sp_msg.specs.Bodies.{HasGoodFields}
+use Rattle.sp_msg.specs.declared.body.Body.{Body}
+use Rattle.sp_msg.specs.declared.body.Body.TheVariants as bodies
+use Rattle.sp_msg.specs.declared.kept.Kept.{Kept}
+use Rattle.sp_topology.specs.declared.topology.Edge.{Edge}
+use Rattle.sp_rules.specs.Weights.{seq_of, seq_said}
+use Rattle.sp_weights.specs.Sound.{IsSound}
+
+-- rows that hold nothing aren't active
+pub none_active : (n : ℕ) → let nothing : Option Kept = None in replicate n false ≡ map is_some (replicate n nothing)
+none_active zero = refl
+none_active (suc n) = ap (λ rest. false ∷ rest) (none_active n)
+
+pub sound_at_start : (edges : List Edge) (rows : List (Option Kept)) (active : List Bool) (count : ℕ) → count ≡ 2 * length edges → rows ≡ replicate count None → active ≡ replicate count false → IsSound edges rows active
+sound_at_start edges rows active count enough none idle = record {
+  each_end_has_a_row = ap length none ∙ length-replicate count None ∙ enough;
+  active_rows = idle ∙ none_active count ∙ ap (λ held. map is_some held) (sym none);
+  numbers = rw none (All-replicate (λ held. seq_of held ≤ MAX_SEQ) count None (omega arith));
+}
+
+-- a message with good fields says a number that may be
+pub seq_in_range : (body : Body) → HasGoodFields body → seq_said body ≤ MAX_SEQ
+seq_in_range (bodies.Prio p) good = omega arith
+seq_in_range (bodies.Rel r) good = omega arith
+seq_in_range (bodies.Ack a) good = omega arith
+seq_in_range (bodies.Weight w) good = good.1.1.0.1
+
+-- a message with good fields is put into a row
+pub sound_with : (edges : List Edge) (rows : List (Option Kept)) (active : List Bool) (row : ℕ) (kept : Kept) → HasGoodFields kept.body → IsSound edges rows active → IsSound edges (set rows row (Some kept)) (set active row true)
+sound_with edges rows active row kept good sound = record {
+  each_end_has_a_row = length-set rows row (Some kept) ∙ sound.each_end_has_a_row;
+  active_rows = ap (λ flags. set flags row true) sound.active_rows ∙ sym (map-set is_some rows row (Some kept));
+  numbers = All-set (λ held. seq_of held ≤ MAX_SEQ) rows row (Some kept) (seq_in_range kept.body good) sound.numbers;
+}
