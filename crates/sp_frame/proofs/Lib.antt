@@ -1,0 +1,5 @@
+pub mod GrammarLemmas
+pub mod HeadLemmas
+pub mod LengthLemmas
+pub mod ObjectLemmas
+pub mod SectionLemmas

@@ -1,0 +1,11 @@
+pub mod Frames
+pub mod Grammar
+pub mod Laws
+pub mod Objects
+pub mod Prioritized
+pub mod Ranges
+pub mod Reliable
+pub mod Sections
+pub mod Views
+pub mod Weights
+pub mod Writing

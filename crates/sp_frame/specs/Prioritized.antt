@@ -1,0 +1,23 @@
+-- The priority section of a frame: up to which of its link numbers the neighbour was heard, and messages with link numbers of their own.
+--
+--     acknowledged link number 8 | count 1 | messages, each: link number 8, object
+use Rattle.std.specs.Prelude.{ℕ, List, ◌++◌, Result}
+use Rattle.byteorder.specs.Endian.{big_bytes}
+use Rattle.sp_msg.specs.declared.kept.Kept.{Kept}
+use Rattle.sp_frame.specs.Grammar.{◌⊗◌, counted, counted_bytes, number}
+use Rattle.sp_frame.specs.Objects.{most, object, object_bytes}
+use Rattle.sp_frame.specs.declared.kind.Kind.TheVariants as kinds
+use Rattle.sp_frame.specs.declared.refused.SectionRefused.{SectionRefused}
+
+-- a link number and the message under it
+unfoldable pub numbered : ℕ → List ℕ → Result ((ℕ × Kept) × List ℕ) SectionRefused
+numbered len bytes = (number 8 ⊗ object kinds.Prio len) bytes
+
+unfoldable pub numbered_bytes : ℕ × Kept → List ℕ
+numbered_bytes message = big_bytes 8 message.0 ++ object_bytes message.1
+
+unfoldable pub prios : ℕ → List ℕ → Result (List (ℕ × Kept) × List ℕ) SectionRefused
+prios len bytes = counted (numbered len) (most kinds.Prio) bytes
+
+unfoldable pub prios_bytes : List (ℕ × Kept) → List ℕ
+prios_bytes messages = counted_bytes numbered_bytes messages
