@@ -2,6 +2,8 @@
 //! They stand on ids, messages, the topology and frames, never on schedules, journals or text.
 #![tactic(auto)]
 
+mod link;
 mod weights;
 
+pub use link::LinkAnswer;
 pub use weights::Offer;
