@@ -1,9 +1,7 @@
-//! The formats held against values that were made outside the project.
+//! Messages and texts held against values that were made outside the project.
 #![tactic(auto)]
 
 #[cfg(test)]
 mod bodies;
 #[cfg(test)]
 mod texts;
-#[cfg(test)]
-mod topologies;

@@ -1,4 +1,4 @@
-//! Keys of one tree and of two levels held against RFC 8554 and Bouncy Castle 1.72, and what is not a signature.
+//! Keys of one tree held against RFC 8554 and Bouncy Castle 1.72, and what is not a signature, of one tree and of two levels.
 #![tactic(auto)]
 
 #[cfg(test)]
@@ -9,5 +9,3 @@ mod no_signatures;
 mod one_tree;
 #[cfg(test)]
 mod signing;
-#[cfg(test)]
-mod two_levels;

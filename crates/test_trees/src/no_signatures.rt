@@ -1,6 +1,6 @@
 // What is not a signature, of one tree and of two levels: good signatures and keys with a number changed.
 use crate::made_by_others::{ID, MESSAGE, SEED, ZEROS};
-use crate::signing::{cut, next_of_signer, next_of_tree};
+use crate::signing::{cut, next_of_tree};
 use sp_hss::{LmsParam, Signer};
 use sp_lms::LmsKey;
 use sp_ots::OtsParam;
@@ -9,7 +9,7 @@ use std::process::Abort;
 use std::test::Fail;
 
 /// Where the one-time signature of w = 4 ends in the signature of a tree.
-const BEHIND: usize = 4 + 2180;
+const PATH: usize = 4 + 2180;
 
 /// Where the lower tree's key stands in a signature of two levels of height 5.
 const LOWER_KEY: usize = 4 + 2348;
@@ -21,9 +21,9 @@ const TREE_SIGNATURES: [(usize, u32); 7] = [
     (0, 1),
     (4, 4),
     (4, 5),
-    (BEHIND, 6),
-    (BEHIND, 8),
-    (BEHIND + 4, 0),
+    (PATH, 6),
+    (PATH, 8),
+    (PATH + 4, 0),
 ];
 
 /// The same for the key of that tree: two other heights, two other w, and the last bytes of another root.
@@ -51,9 +51,9 @@ fn with_number(
     number: u32,
 ) -> Result<Vec<u8>, AllocError> {
     let mut changed = bytes.to_vec(alloc)?;
-    let behind = place.saturating_add(4);
-    if behind - place == 4 && behind <= changed.len() {
-        changed[place..behind].copy_from_slice(&number.to_be_bytes());
+    let end = place.saturating_add(4);
+    if end - place == 4 && end <= changed.len() {
+        changed[place..end].copy_from_slice(&number.to_be_bytes());
     }
     Ok(changed)
 }
@@ -108,11 +108,18 @@ fn a_key_of_a_tree_that_is_changed_has_no_signature(rt: HostRuntime) -> Result<(
     })
 }
 
+/// The signature of the message by a signer of two levels.
+fn signed(alloc: Global, signer: &mut Signer) -> Result<Vec<u8>, Fail> {
+    let mut signature = vec![in alloc; 0; signer.signature_len()]?;
+    signer.sign(&MESSAGE, &mut signature)?;
+    Ok(signature)
+}
+
 #[test]
 fn two_levels_sign_nothing_that_is_changed(rt: HostRuntime) -> Result<(), Fail> {
     let mut signer = Signer::make(rt.alloc(), LmsParam::H5, ZEROS, 0, 1024)?;
     let public = signer.public();
-    let good = next_of_signer(rt.alloc(), &mut signer)??;
+    let good = signed(rt.alloc(), &mut signer)?;
     assert!(rt; !sp_hss::verify(&public, &MESSAGE[..14], &good));
     only_good(&rt, rt.alloc(), &good, &SIGNATURES, |other| {
         sp_hss::verify(&public, &MESSAGE, other)
@@ -123,13 +130,13 @@ fn two_levels_sign_nothing_that_is_changed(rt: HostRuntime) -> Result<(), Fail> 
 fn a_key_of_two_levels_that_is_changed_has_no_signature(rt: HostRuntime) -> Result<(), Fail> {
     let mut signer = Signer::make(rt.alloc(), LmsParam::H5, ZEROS, 0, 1024)?;
     let public = signer.public();
-    let good = next_of_signer(rt.alloc(), &mut signer)??;
+    let good = signed(rt.alloc(), &mut signer)?;
     only_good(&rt, rt.alloc(), &public, &KEYS, |other| {
         sp_hss::verify(other, &MESSAGE, &good)
     })
 }
 
-/// A key of one level and its first signature: those of a tree, each behind a number.
+/// A key of one level and its first signature: those of a tree, each after a number.
 fn one_level(alloc: Global) -> Result<(Vec<u8>, Vec<u8>), Fail> {
     let mut key = LmsKey::make(alloc, LmsParam::H5, OtsParam::W4, ID, SEED)?;
     let mut public = 1u32.to_be_bytes().to_vec(alloc)?;

@@ -1,6 +1,5 @@
 // Signing with memory of the test's own.
 use crate::made_by_others::MESSAGE;
-use sp_hss::{HssRefused, Signer};
 use sp_lms::{LmsKey, LmsRefused};
 use std::alloc::Global;
 use std::process::Abort;
@@ -13,18 +12,6 @@ pub(crate) fn next_of_tree(
 ) -> Result<Result<Vec<u8>, LmsRefused>, Fail> {
     let mut signature = vec![in alloc; 0; key.signature_len()]?;
     match key.sign(&MESSAGE, &mut signature) {
-        Ok(()) => Ok(Ok(signature)),
-        Err(refused) => Ok(Err(refused)),
-    }
-}
-
-/// The next signature of the message by a signer, or why there is none.
-pub(crate) fn next_of_signer(
-    alloc: Global,
-    signer: &mut Signer,
-) -> Result<Result<Vec<u8>, HssRefused>, Fail> {
-    let mut signature = vec![in alloc; 0; signer.signature_len()]?;
-    match signer.sign(&MESSAGE, &mut signature) {
         Ok(()) => Ok(Ok(signature)),
         Err(refused) => Ok(Err(refused)),
     }
@@ -43,11 +30,4 @@ pub(crate) fn skip_to(rt: &impl Abort, key: &mut LmsKey, q: u32) {
     assert!(rt; key.used() <= q);
     assert!(rt; q <= key.total());
     key.skip_to(q);
-}
-
-/// Reserves the indexes below a bound.
-pub(crate) fn extend(rt: &impl Abort, signer: &mut Signer, upto: u64) {
-    assert!(rt; signer.bound() <= upto);
-    assert!(rt; upto <= signer.total());
-    signer.extend(upto);
 }

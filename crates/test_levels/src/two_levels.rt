@@ -1,6 +1,5 @@
 // Signers of two levels: their indexes, bounds and lower trees, against Bouncy Castle 1.72.
-use crate::made_by_others::{MESSAGE, ZEROS};
-use crate::signing::{extend, next_of_signer};
+use crate::signing::{MESSAGE, ZEROS, extend, next_of_signer};
 use hex::FromHex;
 use sha2::{Digest, Sha256};
 use sp_hss::{HssRefused, LmsParam, Signer, verify};

@@ -1,0 +1,5 @@
+//! The topology's documents and drafts held against those of another program.
+#![tactic(auto)]
+
+#[cfg(test)]
+mod topologies;
