@@ -1,0 +1,5 @@
+//! Lines, words, numbers and hexadecimal held against values that were made outside the project.
+#![tactic(auto)]
+
+#[cfg(test)]
+mod texts;
