@@ -1,2 +1,5 @@
 pub mod Padding
 pub mod Windows
+pub mod Rotations
+pub mod ChMaj
+pub mod EachLane

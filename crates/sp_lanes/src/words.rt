@@ -7,7 +7,9 @@
 //     word 1      block 0    block 1    block 2    block 3
 //      ...
 //
-// So an operation on vectors is the operation of the standard on each block.
+// So an operation on vectors is the operation of the standard on each block. A vector has no rotation of its own, so each costs three
+// operations: the functions are written with as few rotations as give the same words, one within another, and Ch and Maj with as few
+// operations.
 ghost use Rattle.std.specs.Prelude.{◌≡◌, ◌<◌, ℕ, List, map};
 ghost use Rattle.std.specs.Int.{w32, rotate_right};
 ghost use Rattle.sha2.specs.Sha256.{big_sigma0, big_sigma1, ch, maj, small_sigma0, small_sigma1};
@@ -32,28 +34,28 @@ fn rotate_right(x: Words, by: u32) -> Words
 pub(crate) fn big_sigma0(x: Words) -> Words
     ensures { result ≡ map big_sigma0 x }
 {
-    rotate_right(x, 2) ^ rotate_right(x, 13) ^ rotate_right(x, 22)
+    rotate_right(x ^ rotate_right(x ^ rotate_right(x, 9), 11), 2)
 }
 
 #[inline(always)]
 pub(crate) fn big_sigma1(x: Words) -> Words
     ensures { result ≡ map big_sigma1 x }
 {
-    rotate_right(x, 6) ^ rotate_right(x, 11) ^ rotate_right(x, 25)
+    rotate_right(x ^ rotate_right(x ^ rotate_right(x, 14), 5), 6)
 }
 
 #[inline(always)]
 pub(crate) fn small_sigma0(x: Words) -> Words
     ensures { result ≡ map small_sigma0 x }
 {
-    rotate_right(x, 7) ^ rotate_right(x, 18) ^ (x >> 3)
+    rotate_right(x ^ rotate_right(x, 11), 7) ^ (x >> 3)
 }
 
 #[inline(always)]
 pub(crate) fn small_sigma1(x: Words) -> Words
     ensures { result ≡ map small_sigma1 x }
 {
-    rotate_right(x, 17) ^ rotate_right(x, 19) ^ (x >> 10)
+    rotate_right(x ^ rotate_right(x, 2), 17) ^ (x >> 10)
 }
 
 #[inline(always)]
@@ -61,7 +63,7 @@ pub(crate) fn ch(x: Words, y: Words, z: Words) -> Words
     ensures { (bs : List (List ℕ)) (f g h : List ℕ → ℕ) → x ≡ map f bs → y ≡ map g bs → z ≡ map h bs
         → result ≡ map (λ b. ch (f b) (g b) (h b)) bs }
 {
-    (x & y) ^ (!x & z)
+    z ^ (x & (y ^ z))
 }
 
 #[inline(always)]
@@ -69,5 +71,5 @@ pub(crate) fn maj(x: Words, y: Words, z: Words) -> Words
     ensures { (bs : List (List ℕ)) (f g h : List ℕ → ℕ) → x ≡ map f bs → y ≡ map g bs → z ≡ map h bs
         → result ≡ map (λ b. maj (f b) (g b) (h b)) bs }
 {
-    (x & y) ^ (x & z) ^ (y & z)
+    y ^ ((x ^ y) & (y ^ z))
 }

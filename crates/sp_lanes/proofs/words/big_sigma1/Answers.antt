@@ -1,10 +1,15 @@
-use Rattle.std.proofs.Common.{ℕ, w32, bit_xor}
+use Rattle.std.proofs.Common.{ℕ, w32, bit_xor, ◌∙◌, arith}
 use Rattle.std.specs.Int.{rotate_right}
-use Rattle.std.proofs.lemmas.Simd.{zip2_of_maps}
+use Rattle.sha2.specs.Sha256.{big_sigma1}
+use Rattle.sp_lanes.proofs.EachLane.{on_each_lane, turned_with}
+use Rattle.sp_lanes.proofs.Rotations.{rotated_three}
 use Rattle.sp_lanes.proofs.words.big_sigma1.Goals as goal
 
 pub returns : goal.returns
 returns c =
     let turned : ℕ → ℕ → ℕ = λ by n. rotate_right w32 n by in
-    zip2_of_maps bit_xor (λ n. bit_xor (turned 6 n) (turned 11 n)) (turned 25) c.args.x
-    (zip2_of_maps bit_xor (turned 6) (turned 11) c.args.x c.rotate_right.ensures c.rotate_right-2.ensures) c.rotate_right-3.ensures
+    let inner = turned_with c.args.x c.rotate_right.result c.rotate_right-2.result (turned 14) 5 c.rotate_right.ensures c.rotate_right-2.ensures in
+    let outer = turned_with c.args.x c.rotate_right-2.result c.rotate_right-3.result (λ n. turned 5 (bit_xor n (turned 14 n))) 6 inner c.rotate_right-3.ensures in
+    outer
+    ∙ on_each_lane (λ n. turned 6 (bit_xor n (turned 5 (bit_xor n (turned 14 n))))) big_sigma1 c.args.x
+    (λ n fits. rotated_three 32 n 6 5 14 (omega arith) fits) c.fits-x.1
