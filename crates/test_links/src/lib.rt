@@ -9,3 +9,5 @@ mod links;
 mod sections;
 #[cfg(test)]
 mod sections_rows;
+#[cfg(test)]
+mod stories;

@@ -13,16 +13,17 @@ const KEY: &str = "281af100d4b1e63cad7c11897b0440500bef02a76c14e9b589b3c99d2d28e
 
 /// A new link of node 1 to node 2.
 pub fn link() -> Result<Link, Fail> {
-    Ok(Link::new(
-        NodeId(1),
-        NodeId(2),
-        1,
-        <[u8; 32] as FromHex>::from_hex(KEY)?,
-    ))
+    link_between(1, 2)
+}
+
+/// A new link of a node to its neighbour, both in their first life.
+pub fn link_between(me: u8, peer: u8) -> Result<Link, Fail> {
+    let key = <[u8; 32] as FromHex>::from_hex(KEY)?;
+    Ok(Link::new(NodeId(me), NodeId(peer), 1, key))
 }
 
 /// What the link says of a datagram, in words.
-fn answer(alloc: Global, link: &mut Link, bytes: &[u8]) -> Result<String, Fail> {
+pub fn answer(alloc: Global, link: &mut Link, bytes: &[u8]) -> Result<String, Fail> {
     let frame = match Frame::open(bytes) {
         Ok(frame) => frame,
         Err(FrameRefused::TooLong) => return Ok("toolong".to_string(alloc)?),
@@ -43,7 +44,7 @@ fn answer(alloc: Global, link: &mut Link, bytes: &[u8]) -> Result<String, Fail> 
 }
 
 /// What is known of the neighbour.
-fn known(link: &Link) -> (u64, u64, (u64, u64)) {
+pub fn known(link: &Link) -> (u64, u64, (u64, u64)) {
     (link.peer_boot, link.sent, link.seen)
 }
 

@@ -99,7 +99,7 @@ fn sealed(alloc: Global, counter: u64, sections: &[u8]) -> Result<Bytes, Fail> {
 }
 
 /// What the sections of a frame are, in words.
-fn answer(frame: &Frame<'_>) -> &'static str {
+pub fn sections_answer(frame: &Frame<'_>) -> &'static str {
     match frame.sections(SIGNATURE_LEN) {
         Ok(_) => "fresh",
         Err(SectionRefused::Cut) => "section cut",
@@ -126,27 +126,31 @@ fn each_frame_has_its_digest_and_its_answer(rt: HostRuntime) -> Result<(), Fail>
         );
         let frame = Frame::open(bytes.as_slice())?;
         assert_eq!(rt; link()?.accept(&frame), LinkAnswer::Fresh, "{why}");
-        assert_eq!(rt; answer(&frame), word, "{why}");
+        assert_eq!(rt; sections_answer(&frame), word, "{why}");
     }
     Ok(())
+}
+
+/// The words of the row of all sections.
+fn all_sections() -> Option<&'static str> {
+    let mut found = None;
+    for row in rows().lines() {
+        if row.starts_with("fresh|all sections|") {
+            found = row.rsplit('|').next();
+        }
+    }
+    found
 }
 
 #[test]
 fn each_cut_of_all_sections_is_cut(rt: HostRuntime) -> Result<(), Fail> {
     let alloc = rt.alloc();
-    let words = rows()
-        .lines()
-        .nth(8)
-        .ok_or("no row")?
-        .rsplit('|')
-        .next()
-        .ok_or("no sections")?;
-    let sections = sections_of(&rt, alloc, words)?;
+    let sections = sections_of(&rt, alloc, all_sections().ok_or("no row")?)?;
     let sections = decode(alloc, sections.as_str())?;
     for len in 0..sections.len() {
         let bytes = sealed(alloc, 1, &sections[..len])?;
         let frame = Frame::open(bytes.as_slice())?;
-        assert_eq!(rt; answer(&frame), "section cut", "{len}");
+        assert_eq!(rt; sections_answer(&frame), "section cut", "{len}");
     }
     Ok(())
 }
@@ -155,7 +159,7 @@ fn each_cut_of_all_sections_is_cut(rt: HostRuntime) -> Result<(), Fail> {
 const BITS: [u8; 8] = [1, 2, 4, 8, 16, 32, 64, 128];
 
 /// Turns a bit of the byte at the place over.
-fn turn_over(bytes: &mut [u8], place: usize, bit: u8) {
+pub fn turn_over(bytes: &mut [u8], place: usize, bit: u8) {
     if let Some(byte) = bytes.get_mut(place) {
         *byte ^= bit;
     }

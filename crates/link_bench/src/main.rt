@@ -1,0 +1,34 @@
+//! Measures frames and links: a frame that is opened, accepted and read beside its tag alone, and one that is written beside a copy.
+//!
+//! Without words each work is done once, and its result is printed. With the word COUNT each work is done that many times a round,
+//! and the least time of a round is printed.
+#![tactic(auto)]
+
+mod frames;
+mod works;
+
+use std::env::Env;
+use std::{env, io};
+
+/// The count that the words say, or None where there are no words.
+fn count(rt: &(impl Env + Alloc)) -> io::Result<Option<u32>> {
+    let mut count = None;
+    for word in env::args(rt)?.skip(1) {
+        let Ok(number) = word.as_str().parse::<u32>() else {
+            return Err(io::ErrorKind::InvalidInput.into());
+        };
+        count = Some(number);
+    }
+    Ok(count)
+}
+
+fn main(rt: HostRuntime) -> io::Result<()> {
+    let count = count(&rt)?;
+    for number in 0..works::WORKS {
+        match count {
+            None => works::show(&rt, number)?,
+            Some(count) => works::measure(&rt, number, count)?,
+        }
+    }
+    Ok(())
+}
