@@ -1,5 +1,7 @@
-//! Link weights held against rows that were made outside the project.
+//! Configurations and drafts held against rows that were made outside the project.
 #![tactic(auto)]
 
 #[cfg(test)]
-mod weights;
+mod configurations;
+#[cfg(test)]
+mod drafts;

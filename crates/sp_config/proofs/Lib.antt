@@ -1,0 +1,5 @@
+pub mod DigitLemmas
+pub mod GoodLemmas
+pub mod GraphLemmas
+pub mod TableLemmas
+pub mod WalkLemmas

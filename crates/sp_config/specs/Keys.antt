@@ -1,0 +1,81 @@
+-- The keys of each kind of table, in the order in which they are judged: its name, whether it may be absent, what its value may be.
+use Rattle.std.specs.Prelude.{ℕ, ◌-◌, ◌^◌, Bool, true, false, List, [], ◌∷◌, ◌++◌, codes}
+use Rattle.sp_base.specs.declared.limits.TheConstants.{MAX_BUFFER, MAX_NODES, MAX_STORE}
+use Rattle.sp_config.specs.declared.keys.Form.{Form}
+use Rattle.sp_config.specs.declared.keys.Form.TheVariants as forms
+use Rattle.sp_config.specs.declared.keys.Key.{Key}
+use Rattle.sp_config.specs.declared.keys.Key.TheVariants.{Must, May}
+use Rattle.sp_config.specs.declared.keys.Shape.{Shape}
+use Rattle.sp_config.specs.declared.keys.Shape.TheVariants.{Number, Height, Index, Digits, AnyDigits, Tables}
+
+-- a row of a table of keys
+pub record Row : Type 0 where
+  pub name : List ℕ
+  pub optional : Bool
+  pub shape : Shape
+
+abbrev pub must : List ℕ → Shape → Row
+must name shape = record { name = name; optional = false; shape = shape }
+
+abbrev pub may : List ℕ → Shape → Row
+may name shape = record { name = name; optional = true; shape = shape }
+
+abbrev pub row_of : Key → Row
+row_of (Must name shape) = must name.now shape
+row_of (May name shape) = may name.now shape
+
+-- who a daemon is, and where it listens
+abbrev pub own_keys : List Row
+own_keys =
+    must (codes "node") (Number 1 MAX_NODES)
+    ∷ must (codes "seed") (Digits 32)
+    ∷ must (codes "admin") (Digits 60)
+    ∷ must (codes "topology") AnyDigits
+    ∷ must (codes "port") (Number 1 (2 ^ 16 - 1))
+    ∷ must (codes "client_port") (Number 1 (2 ^ 16 - 1))
+    ∷ []
+
+-- where its counts go on, its bounds, and its neighbours
+abbrev pub running_keys : List Row
+running_keys =
+    must (codes "boot") (Number 1 (2 ^ 63 - 1))
+    ∷ must (codes "first_index") Index
+    ∷ may (codes "buffer") (Number 1 MAX_BUFFER)
+    ∷ may (codes "store") (Number 1 MAX_STORE)
+    ∷ may (codes "peer") Tables
+    ∷ []
+
+abbrev pub config_keys : List Row
+config_keys = own_keys ++ running_keys
+
+abbrev pub peer_keys : List Row
+peer_keys = must (codes "id") (Number 1 MAX_NODES) ∷ must (codes "port") (Number 1 (2 ^ 16 - 1)) ∷ must (codes "key") (Digits 32) ∷ []
+
+abbrev pub draft_keys : List Row
+draft_keys =
+    must (codes "version") (Number 0 (2 ^ 32 - 1))
+    ∷ must (codes "height") Height
+    ∷ must (codes "admin_seed") (Digits 32)
+    ∷ must (codes "admin_index") Index
+    ∷ must (codes "node") Tables
+    ∷ must (codes "edge") Tables
+    ∷ []
+
+abbrev pub node_keys : List Row
+node_keys = must (codes "id") (Number 1 MAX_NODES) ∷ must (codes "seed") (Digits 32) ∷ []
+
+abbrev pub edge_keys : List Row
+edge_keys = must (codes "a") (Number 0 255) ∷ must (codes "b") (Number 0 255) ∷ must (codes "weight") (Number 0 (2 ^ 32 - 1)) ∷ []
+
+abbrev pub keys_of : Form → List Row
+keys_of forms.Config = config_keys
+keys_of forms.Peer = peer_keys
+keys_of forms.Draft = draft_keys
+keys_of forms.Node = node_keys
+keys_of forms.Edge = edge_keys
+
+-- the arrays of tables in a table, each with the kind of its tables
+abbrev pub arrays_of : Form → List (List ℕ × Form)
+arrays_of forms.Config = (codes "peer", forms.Peer) ∷ []
+arrays_of forms.Draft = (codes "node", forms.Node) ∷ (codes "edge", forms.Edge) ∷ []
+arrays_of _ = []

@@ -1,0 +1,5 @@
+pub mod Keys
+pub mod Values
+pub mod Walks
+pub mod Readings
+pub mod Good

@@ -1,0 +1,87 @@
+-- The value at a key of a table: as a number, as a text, as bytes, as the tables of an array; and whether it is what the key's row wants.
+use Rattle.std.specs.Prelude.{ℕ, ℤ, pos, negsuc, nat_le, ◌==◌, ◌/◌, ◌%◌, ◌&&◌, ◌||◌, Bool, true, false, List, [], ◌∷◌, length, Option, Some, None, option_and_then, unwrap_or, Result, Ok, Err}
+use Rattle.std.specs.List.{list_all}
+use Rattle.hex.specs.Hex.{decode_of}
+use Rattle.toml.specs.Data.{Data, string, integer, array, table, Items, no_items, item, Members, get_member, as_array, as_integer, as_str}
+use Rattle.sp_config.specs.declared.keys.Shape.{Shape}
+use Rattle.sp_config.specs.declared.keys.Shape.TheVariants.{Number, Height, Index, Digits, AnyDigits, Tables}
+
+-- ---- what a value may be
+
+-- a lower-case hexadecimal digit (RFC 4648, section 8, in lower case)
+abbrev pub is_digit : ℕ → Bool
+is_digit c = (nat_le 48 c && nat_le c 57) || (nat_le 97 c && nat_le c 102)
+
+-- the digits of whole bytes
+abbrev pub are_digits : List ℕ → Bool
+are_digits text = list_all is_digit text && (length text % 2 == 0)
+
+abbrev pub is_within : ℕ → ℕ → ℤ → Bool
+is_within low high (pos n) = nat_le low n && nat_le n high
+is_within low high (negsuc n) = false
+
+abbrev pub is_height : ℤ → Bool
+is_height (pos n) = (n == 5) || (n == 10)
+is_height (negsuc n) = false
+
+abbrev pub is_table : Data → Bool
+is_table (table ms) = true
+is_table _ = false
+
+abbrev pub are_tables : Items → Bool
+are_tables no_items = true
+are_tables (item d ds) = is_table d && are_tables ds
+
+-- the value is of this shape, where an index is at most the bound
+abbrev pub fits : ℕ → Shape → Data → Bool
+fits bound (Number low high) (integer z) = is_within low high z
+fits bound Height (integer z) = is_height z
+fits bound Index (integer z) = is_within 0 bound z
+fits bound (Digits n) (string text) = are_digits text && (length text / 2 == n)
+fits bound AnyDigits (string text) = are_digits text
+fits bound Tables (array ds) = are_tables ds
+fits bound _ _ = false
+
+-- ---- what it says
+
+abbrev pub natural : ℤ → ℕ
+natural (pos n) = n
+natural (negsuc n) = 0
+
+abbrev pub number_of : Option ℤ → ℕ
+number_of None = 0
+number_of (Some z) = natural z
+
+abbrev pub number_at : List ℕ → Members → ℕ
+number_at key ms = number_of (option_and_then as_integer (get_member key ms))
+
+-- this number where the key is absent
+abbrev pub number_or : ℕ → Option Data → ℕ
+number_or absent None = absent
+number_or absent (Some d) = number_of (as_integer d)
+
+abbrev pub text_at : List ℕ → Members → List ℕ
+text_at key ms = unwrap_or (option_and_then as_str (get_member key ms)) []
+
+abbrev pub bytes_or_none : {E : Type 0} → Result (List ℕ) E → List ℕ
+bytes_or_none (Ok bytes) = bytes
+bytes_or_none (Err e) = []
+
+-- the bytes that hexadecimal digits say. Another text says no bytes
+abbrev pub bytes_of : List ℕ → List ℕ
+bytes_of text = bytes_or_none (decode_of text)
+
+abbrev pub bytes_at : List ℕ → Members → List ℕ
+bytes_at key ms = bytes_of (text_at key ms)
+
+abbrev pub items_at : List ℕ → Members → Items
+items_at key ms = unwrap_or (option_and_then as_array (get_member key ms)) no_items
+
+-- the tables among the values of an array, in their order
+abbrev pub tables_of : Items → List Members
+tables_of no_items = []
+tables_of (item (table ms) ds) = ms ∷ tables_of ds
+tables_of (item _ ds) = tables_of ds
+
+abbrev pub tables_at : List ℕ → Members → List Members
+tables_at key ms = tables_of (items_at key ms)

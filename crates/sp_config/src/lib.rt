@@ -1,0 +1,16 @@
+//! An operator's configuration and an administrator's draft of a topology, read from TOML: the values that they say, or the one key or
+//! kind at fault, always the same one.
+#![tactic(auto)]
+
+mod config;
+mod digits;
+mod draft;
+mod keys;
+mod refused;
+mod steps;
+mod values;
+mod walks;
+
+pub use config::{Config, Peer, read_config};
+pub use draft::{Draft, DraftEdge, DraftNode, read_draft};
+pub use refused::ConfigRefused;
