@@ -1,50 +1,53 @@
-// The messages base + 1 to have of a flow, in order. All memory is taken at the start.
+// The messages base + 1 to have of a flow, in order, whatever a message is. All memory is taken at the start.
 ghost use Rattle.std.specs.Prelude.{◌≡◌, ◌==◌, ◌+◌, ◌-◌, ◌^◌, ◌<◌, ◌≤◌, ◌↔◌, List, IfOk, OnOk, OnErr, IfErr, IsErr, drop, length, vec_capacity};
 ghost use Rattle.std.specs.Option.{option_copied};
 ghost use Rattle.sp_base.specs.Position.{IsPosition, kept, acknowledged, message_of, empty_buffer};
 
-use sp_base::{Bytes, Memory, push_in_room};
+use sp_base::{Memory, push_in_room};
+use sp_msg::Kept;
 use std::alloc::Global;
 use std::marker::Model;
 
 /// The messages of a flow that this node has and that aren't acknowledged.
 #[derive(Debug, Drop)]
-pub struct FlowBuf {
+pub struct FlowBuffer<T> {
     bound: u16,
     base: u64,
-    items: Vec<Bytes>,
+    items: Vec<T>,
 }
+
+/// The same, of signed messages.
+pub type FlowBuf = FlowBuffer<Kept>;
 
 /// A message was refused: the buffer holds as many as it may.
 #[derive(Debug, Drop)]
-pub struct Full {
+pub struct Full<T> {
     /// All messages up to this number are acknowledged.
     pub base: u64,
     /// All messages up to this number are here or acknowledged.
     pub have: u64,
     /// The message that was refused.
-    pub back: Bytes,
+    pub back: T,
 }
 
-impl Model for FlowBuf {
-    ghost use Rattle.std.specs.Prelude.{List, ◌+◌, length, vec_capacity};
-    ghost use Rattle.std.specs.Prelude.{ℕ};
+impl<T> Model for FlowBuffer<T> {
+    ghost use Rattle.std.specs.Prelude.{◌+◌, length, vec_capacity};
     ghost use Rattle.sp_base.specs.Position.{Buffer};
     ghost use Rattle.sp_flow.specs.Sound.{IsSound};
 
-    ghost Value = { Buffer (List ℕ) };
+    ghost Value = { Buffer T };
 
     ghost view = { λ b. record { bound = b.bound; at = record { base = b.base; have = b.base + length b.items.items; list = b.items.items } } };
 
     ghost invariant = { λ b. IsSound b.bound b.base (length b.items.items) (vec_capacity b.items) };
 }
 
-impl FlowBuf {
+impl<T: Drop> FlowBuffer<T> {
     /// An empty buffer for at most `bound` messages.
-    pub fn new(alloc: Global, bound: u16) -> Result<FlowBuf, Memory>
+    pub fn new(alloc: Global, bound: u16) -> Result<FlowBuffer<T>, Memory>
         ensures { IfOk result (λ buffer. buffer ≡ empty_buffer bound) }
     {
-        Ok(FlowBuf {
+        Ok(FlowBuffer {
             bound,
             base: 0,
             items: Vec::with_capacity(alloc, bound as usize)?,
@@ -82,21 +85,21 @@ impl FlowBuf {
     }
 
     /// Takes message have + 1. Where the buffer is full nothing changes, and the message comes back.
-    pub fn push(&mut self, payload: Bytes) -> Result<(), Full>
+    pub fn push(&mut self, message: T) -> Result<(), Full<T>>
         requires { self.old.at.have < 2 ^ 63 - 1 }
-        ensures ok { OnOk result (self.new ≡ record { bound = self.old.bound; at = kept self.old.at payload }) }
+        ensures ok { OnOk result (self.new ≡ record { bound = self.old.bound; at = kept self.old.at message }) }
         ensures full { IsErr result ↔ (self.old.at.have - self.old.at.base ≡ self.old.bound) }
-        ensures back { IfErr result (λ full. full ≡ record { base = self.old.at.base; have = self.old.at.have; back = payload }) }
+        ensures back { IfErr result (λ full. full ≡ record { base = self.old.at.base; have = self.old.at.have; back = message }) }
         ensures err { OnErr result (self.new ≡ self.old) }
     {
         if self.is_full() {
             return Err(Full {
                 base: self.base(),
                 have: self.have(),
-                back: payload,
+                back: message,
             });
         }
-        push_in_room(&mut self.items, payload);
+        push_in_room(&mut self.items, message);
         Ok(())
     }
 
@@ -113,7 +116,7 @@ impl FlowBuf {
     }
 
     /// The message of this number. None exactly where it isn't above `base` and at most `have`.
-    pub fn get(&self, seq: u64) -> Option<&Bytes>
+    pub fn get(&self, seq: u64) -> Option<&T>
         ensures { option_copied result ≡ message_of self.now.at seq }
     {
         if seq <= self.base {
@@ -123,13 +126,13 @@ impl FlowBuf {
     }
 }
 
-/// Drops so many items from the front.
-fn drop_first(items: &mut Vec<Bytes>, count: usize)
+/// Drops so many items from the front, and moves the others once.
+fn drop_first<T: Drop>(items: &mut Vec<T>, count: usize)
     requires { count ≤ length items.old.items }
     ensures items { items.new.items ≡ drop count items.old.items }
     ensures capacity { vec_capacity items.new ≡ vec_capacity items.old }
 {
-    'front: for _ in 0..count {
-        let _ = items.remove(0);
-    }
+    let left = items.len() - count;
+    items.rotate_left(count);
+    items.truncate(left);
 }

@@ -3,4 +3,4 @@
 
 mod flow_buf;
 
-pub use flow_buf::{FlowBuf, Full};
+pub use flow_buf::{FlowBuf, FlowBuffer, Full};

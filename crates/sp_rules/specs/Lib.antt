@@ -1,2 +1,4 @@
+pub mod Flow
 pub mod Link
+pub mod Rel
 pub mod Weights

@@ -3,7 +3,9 @@
 #![tactic(auto)]
 
 mod link;
+mod rel;
 mod weights;
 
 pub use link::LinkAnswer;
+pub use rel::{AckJudged, RelJudged, RelRefused};
 pub use weights::Offer;

@@ -7,7 +7,7 @@ ghost use Rattle.sp_world.specs.Judged.{IsJudged};
 use crate::rel_peers::{RelPeer, RelPeers};
 use sp_base::{Bytes, Flow, Listed, Memory, NodeId, push_in_room};
 use sp_first::FrameValue;
-use sp_flow::FlowBuf;
+use sp_flow::FlowBuffer;
 use sp_journal::{AnswerWord, Effect, Effects, Reply};
 use std::alloc::Global;
 use std::marker::Model;
@@ -18,7 +18,7 @@ pub struct Rel {
     ends: Flow,
     is_active: bool,
     /// What waits here for its acknowledgement. At the destination it stays empty.
-    buffer: FlowBuf,
+    buffer: FlowBuffer<Bytes>,
     /// How many messages were delivered here.
     passed: u64,
     /// What was delivered here and not yet taken by a client.
@@ -65,7 +65,7 @@ impl Rel {
         Ok(Rel {
             ends,
             is_active: false,
-            buffer: FlowBuf::new(alloc, bound)?,
+            buffer: FlowBuffer::new(alloc, bound)?,
             passed: 0,
             inbox: Vec::with_capacity(alloc, bound as usize)?,
             peers: RelPeers::new(alloc, neighbours)?,

@@ -1,0 +1,6 @@
+pub mod DueLemmas
+pub mod FlowLemmas
+pub mod SeatLemmas
+pub mod SoundLemmas
+pub mod Standing
+pub mod TableLemmas
