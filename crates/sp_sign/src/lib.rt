@@ -3,11 +3,13 @@
 #![tactic(auto)]
 
 mod blank;
+mod checker;
 mod checking;
 mod refused;
 mod signer;
 
 pub use blank::Blank;
+pub use checker::Checker;
 pub use checking::{check, check_topology};
 pub use refused::SignRefused;
 pub use signer::NodeSigner;
