@@ -1,4 +1,10 @@
+pub mod Choices
 pub mod Flow
 pub mod Link
+pub mod Prio
+pub mod PrioPeer
 pub mod Rel
+pub mod Store
+pub mod Told
 pub mod Weights
+pub mod Window

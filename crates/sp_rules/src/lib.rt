@@ -3,9 +3,15 @@
 #![tactic(auto)]
 
 mod link;
+mod prio;
 mod rel;
+mod store;
 mod weights;
+mod window;
 
 pub use link::LinkAnswer;
+pub use prio::{Neighbour, PrioJudged};
 pub use rel::{AckJudged, RelJudged, RelRefused};
+pub use store::{Entry, IDS, Put};
 pub use weights::Offer;
+pub use window::WINDOW;

@@ -1,0 +1,3 @@
+pub mod MappedLemmas
+pub mod RowLemmas
+pub mod TellLemmas

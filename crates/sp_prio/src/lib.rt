@@ -1,0 +1,14 @@
+//! The priority part of a node: which messages are new, where they go, what a poll carries, and what leaves.
+#![tactic(auto)]
+
+mod field;
+mod parcel;
+mod peer;
+mod place;
+mod rows;
+mod table;
+mod windows;
+
+pub use parcel::Parcel;
+pub use sp_rules::{Entry, Neighbour, PrioJudged};
+pub use table::PrioTable;

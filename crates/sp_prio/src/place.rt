@@ -1,0 +1,104 @@
+// What goes into the store of a place and what leaves it, each with the effect that tells it.
+ghost use Rattle.std.specs.Prelude.{◌≡◌, ◌<◌, ◌≤◌, ◌^◌, ◌++◌, Some, length, replicate};
+ghost use Rattle.sp_rules.specs.Prio.{delivered};
+ghost use Rattle.sp_rules.specs.PrioPeer.{expired_effects, gone, put_effects, stored};
+ghost use Rattle.sp_rules.specs.Store.{expired_entries, less_expired, put};
+ghost use Rattle.sp_prio.specs.Answers.{evicted_in};
+ghost use Rattle.sp_rules.specs.Told.{told};
+
+use sp_msg::{Body, Effect, Effects, Kept, Why};
+use sp_rules::{Entry, Put};
+use sp_store::Store;
+
+/// Puts a message into the store of a place, and tells so, and which entry goes for it.
+pub fn put(store: &mut Store, place: u8, kept: Kept, out: &mut Effects)
+    requires last { store.old.last < 2 ^ 63 }
+    requires room { 2 ≤ out.old.room }
+    ensures store { store.new ≡ put store.old kept }
+    ensures told { out.new ≡ told out.old (put_effects place store.old kept) }
+{
+    tell_stored(place, store.last() + 1, &kept.body, out);
+    let answer = store.put(kept);
+    tell_evicted(place, &answer, out);
+}
+
+/// Delivers a message to the clients of this node: tells its payload, and puts the copy into the inbox, which is place 0.
+pub fn deliver(inbox: &mut Store, kept: Kept, mut copies: Vec<Kept>, out: &mut Effects)
+    requires copies { copies.items ≡ replicate 1 kept }
+    requires last { inbox.old.last < 2 ^ 63 }
+    requires room { 3 ≤ out.old.room }
+    ensures inbox { inbox.new ≡ put inbox.old kept }
+    ensures told { out.new ≡ told out.old (delivered kept.body ++ put_effects 0 inbox.old kept) }
+{
+    tell_delivered(kept.body, out);
+    if let Some(copy) = copies.pop() {
+        put(inbox, 0, copy, out);
+    }
+}
+
+/// Tells that a message was delivered, with its payload.
+fn tell_delivered(body: Body, out: &mut Effects)
+    requires { 1 ≤ out.old.room }
+    ensures { out.new ≡ told out.old (delivered body) }
+{
+    if let Body::Prio(prio) = body {
+        out.push(Effect::DeliveredPrio {
+            src: prio.src,
+            seq: prio.seq,
+            payload: prio.payload,
+        });
+    }
+}
+
+/// Tells that a message went into a place.
+fn tell_stored(place: u8, id: u64, body: &Body, out: &mut Effects)
+    requires { 1 ≤ out.old.room }
+    ensures { out.new ≡ told out.old (stored place id body.now) }
+{
+    if let Body::Prio(prio) = body {
+        out.push(Effect::Stored {
+            place,
+            id,
+            src: prio.src,
+            seq: prio.seq,
+            prio: prio.prio,
+        });
+    }
+}
+
+/// Tells that an entry was evicted, where one was.
+fn tell_evicted(place: u8, answer: &Put, out: &mut Effects)
+    requires { 1 ≤ out.old.room }
+    ensures { out.new ≡ told out.old (gone place Why.Evicted (evicted_in answer.now)) }
+{
+    if let Put::StoredAfter { evicted, .. } = answer {
+        tell_gone(place, evicted, Why::Evicted, out);
+    }
+}
+
+/// Tells that an entry left a place.
+pub fn tell_gone(place: u8, entry: &Entry, why: Why, out: &mut Effects)
+    requires { 1 ≤ out.old.room }
+    ensures { out.new ≡ told out.old (gone place why (Some entry.now)) }
+{
+    out.push(Effect::Gone {
+        place,
+        id: entry.id,
+        why,
+    });
+}
+
+/// Takes out all entries whose expiry is before this time, the oldest first, and tells of each.
+pub fn expire(store: &mut Store, place: u8, now: u64, out: &mut Effects)
+    requires { length (expired_entries store.old now) ≤ out.old.room }
+    ensures store { store.new ≡ less_expired store.old now }
+    ensures told { out.new ≡ told out.old (expired_effects place store.old now) }
+{
+    'entries: while let Some(entry) = store.expire(now) {
+        out.push(Effect::Gone {
+            place,
+            id: entry.id,
+            why: Why::Expired,
+        });
+    }
+}

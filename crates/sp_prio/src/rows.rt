@@ -1,0 +1,115 @@
+// The rows of all neighbours: what is done with one, and what is done with each.
+ghost use Rattle.std.specs.Prelude.{◌≡◌, ◌<◌, ◌≤◌, ◌+◌, ◌*◌, ◌^◌, ◌↔◌, All, IfOk, IfSome, IsTrue, count_by, if◌then◌else◌, length, map, position, replicate, sum_by};
+ghost use Rattle.std.specs.List.{flat_map};
+ghost use Rattle.sp_rules.specs.Prio.{is_peer};
+ghost use Rattle.sp_rules.specs.PrioPeer.{expired, expired_effects, given, given_effects, goes_to, new_peer};
+ghost use Rattle.sp_rules.specs.Store as stores;
+ghost use Rattle.sp_rules.specs.Told.{told};
+ghost use Rattle.sp_rules.specs.declared.store.TheConstants.{IDS};
+
+use crate::peer::Peer;
+use sp_base::{Memory, NodeId};
+use sp_msg::{Body, Effects, Kept};
+use sp_rules::Neighbour;
+use std::alloc::Global;
+
+/// A row for each neighbour, with an empty store.
+pub fn peers_of(alloc: Global, neighbours: &[Neighbour], capacity: u16) -> Result<Vec<Peer>, Memory>
+    ensures { IfOk result (λ peers. peers.items ≡ map (new_peer capacity) neighbours.now) }
+{
+    let mut peers = Vec::with_capacity(alloc, neighbours.len())?;
+    'neighbours: for neighbour in neighbours {
+        peers.push(Peer::new(alloc, *neighbour, capacity)?)?;
+    }
+    Ok(peers)
+}
+
+/// The place of a neighbour's row.
+pub fn place_of(peers: &[Peer], v: NodeId) -> Option<usize>
+    ensures place { result ≡ position (is_peer v.0) peers.now }
+    ensures within { IfSome result (λ place. place < length peers.now) }
+{
+    peers.iter().position(|peer| peer.is(v))
+}
+
+/// Whether each row's store has an id left for one more.
+pub fn have_ids(peers: &[Peer]) -> bool
+    ensures { IsTrue result ↔ All (λ q. q.store.last < 2 ^ 63) peers.now }
+{
+    peers.iter().all(|peer| peer.has_id())
+}
+
+/// To how many neighbours a message goes.
+pub fn count_to(peers: &[Peer], body: &Body, came: Option<NodeId>) -> usize
+    ensures { result ≡ count_by (goes_to body.now came) peers.now }
+{
+    peers.iter().filter(|peer| peer.goes_to(body, came)).count()
+}
+
+/// Puts a copy of a message into the store of each neighbour that it goes to, and tells so.
+pub fn spread(
+    peers: &mut Vec<Peer>,
+    kept: &Kept,
+    came: Option<NodeId>,
+    mut copies: Vec<Kept>,
+    out: &mut Effects,
+)
+    requires copies { copies.items ≡ replicate (count_by (goes_to kept.now.body came) peers.old.items) kept.now }
+    requires stores { All (λ q. q.store.last < 2 ^ 63) peers.old.items }
+    requires room { 2 * length peers.old.items ≤ out.old.room }
+    ensures peers { peers.new.items ≡ map (given kept.now came) peers.old.items }
+    ensures told { out.new ≡ told out.old (flat_map (given_effects kept.now came) peers.old.items) }
+{
+    'peers: for place in 0..peers.len() {
+        give(&mut peers[place], kept, came, &mut copies, out);
+    }
+}
+
+/// Puts a copy of a message into the store of a neighbour, where it goes there.
+fn give(
+    peer: &mut Peer,
+    kept: &Kept,
+    came: Option<NodeId>,
+    copies: &mut Vec<Kept>,
+    out: &mut Effects,
+)
+    requires alike { copies.old.items ≡ replicate (length copies.old.items) kept.now }
+    requires enough { (if goes_to kept.now.body came peer.old then 1 else 0) ≤ length copies.old.items }
+    requires last { peer.old.store.last < 2 ^ 63 }
+    requires room { 2 ≤ out.old.room }
+    ensures peer { peer.new ≡ given kept.now came peer.old }
+    ensures told { out.new ≡ told out.old (given_effects kept.now came peer.old) }
+    ensures alike { copies.new.items ≡ replicate (length copies.new.items) kept.now }
+    ensures fewer { length copies.new.items + (if goes_to kept.now.body came peer.old then 1 else 0) ≡ length copies.old.items }
+{
+    if !peer.goes_to(&kept.body, came) {
+        return;
+    }
+    if let Some(copy) = copies.pop() {
+        peer.give(copy, out);
+    }
+}
+
+/// How many entries of all rows have an expiry before this time.
+pub fn expiring_in(peers: &[Peer], now: u64) -> usize
+    requires { length peers.now ≤ IDS }
+    ensures count { result ≡ sum_by (λ q. length (stores.expired_entries q.store now)) peers.now }
+    ensures few { result < 2 ^ 32 }
+{
+    let mut count = 0;
+    'peers: for peer in peers {
+        count += peer.expiring(now);
+    }
+    count
+}
+
+/// Takes all entries out of all rows whose expiry is before this time, and tells of each.
+pub fn expire_peers(peers: &mut Vec<Peer>, now: u64, out: &mut Effects)
+    requires { sum_by (λ q. length (stores.expired_entries q.store now)) peers.old.items ≤ out.old.room }
+    ensures peers { peers.new.items ≡ map (λ q. expired q now) peers.old.items }
+    ensures told { out.new ≡ told out.old (flat_map (λ q. expired_effects q.peer q.store now) peers.old.items) }
+{
+    'peers: for place in 0..peers.len() {
+        peers[place].expire(now, out);
+    }
+}

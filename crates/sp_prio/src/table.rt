@@ -1,0 +1,274 @@
+// The table of the priority part. Every call is judged first, its memory taken next, and changes come last.
+ghost use Rattle.std.specs.Prelude.{◌≡◌, ◌<◌, ◌≤◌, ◌+◌, ◌*◌, ◌^◌, ◌↔◌, All, IfOk, IsTrue, length, option_map, replicate};
+ghost use Rattle.sp_msg.specs.Bodies.{HasGoodFields};
+ghost use Rattle.sp_msg.specs.Views.{as_body};
+ghost use Rattle.sp_rules.specs.Prio.{acked, acked_effects, admit_prio, carried, expired, expired_effects, expiring, heard, judge, judge_fields, judge_prio, marked, next_prio, peer_in, places, prio_effects, spread, start, taken};
+ghost use Rattle.sp_rules.specs.Store.{oldest};
+ghost use Rattle.sp_rules.specs.Told.{told};
+ghost use Rattle.sp_rules.specs.declared.store.TheConstants.{IDS};
+
+use crate::field::{dst_of, next_after_own, seq_of, src_of};
+use crate::peer::Peer;
+use crate::rows::{count_to, expire_peers, expiring_in, have_ids, peers_of, place_of, spread};
+use crate::windows::{is_node, mark, seen_in, windows_of};
+use crate::{Parcel, place};
+use sp_base::{Memory, NodeId};
+use sp_dedup::Window;
+use sp_msg::{Body, BodyRef, Effects, Kept, Prio};
+use sp_rules::{Entry, Neighbour, PrioJudged};
+use sp_store::Store;
+use std::alloc::Global;
+use std::marker::Model;
+
+/// The priority part of a node: an inbox and a store for each neighbour, and a window for each node.
+#[derive(Debug, Drop)]
+pub struct PrioTable {
+    me: NodeId,
+    nodes: Vec<NodeId>,
+    inbox: Store,
+    peers: Vec<Peer>,
+    windows: Vec<Window>,
+    next: u64,
+}
+
+impl Model for PrioTable {
+    ghost use Rattle.sp_rules.specs.Prio.{PrioState};
+    ghost use Rattle.sp_prio.specs.Sound.{IsSound};
+
+    ghost Value = { PrioState };
+
+    ghost view = { λ t. record { me = t.me.0; nodes = t.nodes.items; inbox = t.inbox; peers = t.peers.items; windows = t.windows.items; next = t.next } };
+
+    ghost invariant = { λ t. IsSound t.nodes.items t.peers.items t.windows.items };
+}
+
+impl PrioTable {
+    /// Nothing was stored, seen or sent. It takes all memory of the stores.
+    pub fn new(
+        alloc: Global,
+        me: NodeId,
+        nodes: &[NodeId],
+        neighbours: &[Neighbour],
+        store: u16,
+    ) -> Result<PrioTable, Memory>
+        requires { length neighbours.now ≤ IDS }
+        ensures { IfOk result (λ table. table ≡ start me.0 nodes.now neighbours.now store) }
+    {
+        let nodes = Vec::from_slice(alloc, nodes)?;
+        let inbox = Store::new(alloc, store)?;
+        let peers = peers_of(alloc, neighbours, store)?;
+        let windows = windows_of(alloc, nodes.len())?;
+        Ok(PrioTable {
+            me,
+            nodes,
+            inbox,
+            peers,
+            windows,
+            next: 1,
+        })
+    }
+
+    /// What becomes of a message when it comes, before its signature is looked at: the first answer that applies.
+    pub fn judge(&self, body: &Prio, now: u64) -> PrioJudged
+        ensures { result ≡ judge self.now body.now now }
+    {
+        self.judge_fields(body.src, body.dst, body.seq, body.expiry, now)
+    }
+
+    /// The same of a borrowed message. One of another kind has no end that is right.
+    pub fn judge_ref(&self, body: &BodyRef<'_>, now: u64) -> PrioJudged
+        ensures { result ≡ judge_prio self.now (as_body body.now) now }
+    {
+        match body {
+            BodyRef::Prio(prio) => {
+                self.judge_fields(prio.src, prio.dst, prio.seq, prio.expiry, now)
+            }
+            _ => PrioJudged::BadEnd,
+        }
+    }
+
+    /// The message with a copy for each place that it goes into, from a neighbour or from this node itself.
+    pub fn parcel(&self, alloc: Global, kept: &Kept, came: Option<NodeId>) -> Result<Parcel, Memory>
+        ensures { IfOk result (λ parcel. parcel ≡ record { kept = kept.now; came = came; copies = places self.now kept.now.body came }) }
+    {
+        Parcel::new(alloc, kept, came, self.places(&kept.body, came))
+    }
+
+    /// How many neighbours there are.
+    pub fn neighbours(&self) -> usize
+        ensures count { result ≡ length self.now.peers }
+        ensures few { result ≤ IDS }
+    {
+        self.peers.len()
+    }
+
+    /// Whether each place has an id left for one more.
+    pub fn has_ids(&self) -> bool
+        ensures { IsTrue result ↔ ((self.now.inbox.last < 2 ^ 63) × All (λ q. q.store.last < 2 ^ 63) self.now.peers) }
+    {
+        self.inbox.last() < 1 << 63 && have_ids(&self.peers)
+    }
+
+    /// Whether a link number to a neighbour is left for one more.
+    #[tactic(auto, using(sp_base::proofs::RowLemmas::placed))]
+    pub fn has_number(&self, v: NodeId) -> bool
+        ensures { IsTrue result ↔ ((peer_in self.now v.0).number < 2 ^ 63) }
+    {
+        match place_of(&self.peers, v) {
+            Some(place) => self.peers[place].has_number(),
+            None => true,
+        }
+    }
+
+    /// Marks a message as seen and puts it into its places, and tells so. One from nowhere is this node's own, and uses up its number.
+    pub fn admit(&mut self, parcel: Parcel, out: &mut Effects)
+        requires copies { parcel.copies ≡ places self.old parcel.kept.body parcel.came }
+        requires fields { HasGoodFields parcel.kept.body }
+        requires inbox { self.old.inbox.last < 2 ^ 63 }
+        requires stores { All (λ q. q.store.last < 2 ^ 63) self.old.peers }
+        requires room { 2 * length self.old.peers + 3 ≤ out.old.room }
+        ensures table { self.new ≡ admit_prio self.old parcel.kept parcel.came }
+        ensures told { out.new ≡ told out.old (prio_effects self.old parcel.kept parcel.came) }
+    {
+        let (kept, came, copies) = parcel.into_parts();
+        self.mark(&kept.body, came);
+        self.spread(kept, came, copies, out);
+    }
+
+    /// What a poll of a neighbour carries, with its link number. None exactly where nothing waits for it.
+    #[tactic(auto, using(sp_base::proofs::RowLemmas::placed, crate::proofs::RowLemmas::nothing_waits))]
+    pub fn slot_for(&self, v: NodeId) -> Option<(u64, &Entry)>
+        ensures { option_map (λ p. (p.0, p.1.now)) result ≡ next_prio self.now v.0 }
+    {
+        match place_of(&self.peers, v) {
+            Some(place) => self.peers[place].next(),
+            None => None,
+        }
+    }
+
+    /// Puts what a poll of a neighbour carries in flight. Nothing changes where it is already, or nothing waits.
+    #[tactic(auto, using(sp_base::proofs::RowLemmas::placed, crate::proofs::RowLemmas::nothing_waits))]
+    pub fn carry(&mut self, v: NodeId)
+        requires { (peer_in self.old v.0).number < 2 ^ 63 }
+        ensures { self.new ≡ carried self.old v.0 }
+    {
+        if let Some(place) = place_of(&self.peers, v) {
+            self.peers[place].carry();
+        }
+    }
+
+    /// A neighbour acknowledged all link numbers up to this one.
+    #[tactic(auto, using(sp_base::proofs::RowLemmas::placed, crate::proofs::RowLemmas::nothing_waits))]
+    pub fn acked(&mut self, v: NodeId, number: u64, out: &mut Effects)
+        requires { 1 ≤ out.old.room }
+        ensures table { self.new ≡ acked self.old v.0 number }
+        ensures told { out.new ≡ told out.old (acked_effects self.old v.0 number) }
+    {
+        if let Some(place) = place_of(&self.peers, v) {
+            self.peers[place].acked(number, out);
+        }
+    }
+
+    /// A message of a neighbour came under this link number, and was new or seen.
+    #[tactic(auto, using(sp_base::proofs::RowLemmas::placed, crate::proofs::RowLemmas::nothing_waits))]
+    pub fn heard(&mut self, v: NodeId, number: u64)
+        ensures { self.new ≡ heard self.old v.0 number }
+    {
+        if let Some(place) = place_of(&self.peers, v) {
+            self.peers[place].hear(number);
+        }
+    }
+
+    /// The greatest link number that came from a neighbour: what this node acknowledges to it.
+    #[tactic(auto, using(sp_base::proofs::RowLemmas::placed, crate::proofs::RowLemmas::nothing_waits))]
+    pub fn heard_of(&self, v: NodeId) -> u64
+        ensures { result ≡ (peer_in self.now v.0).heard }
+    {
+        match place_of(&self.peers, v) {
+            Some(place) => self.peers[place].heard(),
+            None => 0,
+        }
+    }
+
+    /// How many entries of all places have an expiry before this time.
+    pub fn expiring(&self, now: u64) -> usize
+        ensures { result ≡ expiring self.now now }
+    {
+        self.inbox.expiring(now) + expiring_in(&self.peers, now)
+    }
+
+    /// Takes out all entries whose expiry is before this time, and tells of each.
+    pub fn expire(&mut self, now: u64, out: &mut Effects)
+        requires { expiring self.old now ≤ out.old.room }
+        ensures table { self.new ≡ expired self.old now }
+        ensures told { out.new ≡ told out.old (expired_effects self.old now) }
+    {
+        place::expire(&mut self.inbox, 0, now, out);
+        expire_peers(&mut self.peers, now, out);
+    }
+
+    /// The number of this node's next own message.
+    pub fn next_seq(&self) -> u64
+        ensures { result ≡ self.now.next }
+    {
+        self.next
+    }
+
+    /// Takes the oldest message of the inbox. None exactly where it is empty.
+    pub fn take(&mut self) -> Option<Entry>
+        ensures entry { result ≡ oldest self.old.inbox }
+        ensures table { self.new ≡ taken self.old }
+    {
+        self.inbox.oldest()
+    }
+
+    fn judge_fields(&self, src: NodeId, dst: NodeId, seq: u64, expiry: u64, now: u64) -> PrioJudged
+        ensures { result ≡ judge_fields self.now src.0 dst.0 seq expiry now }
+    {
+        if !is_node(&self.nodes, src.0) || !is_node(&self.nodes, dst.0) || src.0 == dst.0 {
+            return PrioJudged::BadEnd;
+        }
+        if expiry < now {
+            return PrioJudged::Expired;
+        }
+        if src.0 == self.me.0 || seen_in(&self.windows, &self.nodes, src.0, seq) {
+            return PrioJudged::Seen;
+        }
+        PrioJudged::New
+    }
+
+    /// Marks the number of a message in the window of its source. An own message uses up its number.
+    fn mark(&mut self, body: &Body, came: Option<NodeId>)
+        requires { HasGoodFields body.now }
+        ensures { self.new ≡ marked self.old body.now came }
+    {
+        mark(&mut self.windows, &self.nodes, src_of(body), seq_of(body));
+        self.next = next_after_own(self.next, body, came);
+    }
+
+    /// Puts a message into its places, a copy into each, and tells so.
+    fn spread(&mut self, kept: Kept, came: Option<NodeId>, copies: Vec<Kept>, out: &mut Effects)
+        requires copies { copies.items ≡ replicate (places self.old kept.body came) kept }
+        requires inbox { self.old.inbox.last < 2 ^ 63 }
+        requires stores { All (λ q. q.store.last < 2 ^ 63) self.old.peers }
+        requires room { 2 * length self.old.peers + 3 ≤ out.old.room }
+        ensures table { self.new ≡ spread self.old kept came }
+        ensures told { out.new ≡ told out.old (prio_effects self.old kept came) }
+    {
+        if dst_of(&kept.body) == self.me.0 {
+            place::deliver(&mut self.inbox, kept, copies, out);
+        } else {
+            spread(&mut self.peers, &kept, came, copies, out);
+        }
+    }
+
+    /// Into how many places a message goes.
+    fn places(&self, body: &Body, came: Option<NodeId>) -> usize
+        ensures { result ≡ places self.now body.now came }
+    {
+        if dst_of(body) == self.me.0 {
+            return 1;
+        }
+        count_to(&self.peers, body, came)
+    }
+}

@@ -1,0 +1,114 @@
+// Which entry goes and which is served: entries are counted for all sources in one pass, and chosen among one source's in another.
+ghost use Rattle.std.specs.Prelude.{◌≡◌, ℕ, ◌<◌, ◌≤◌, IfSome, IsSome, Some, length, map, option_map, slice_get, slice_index, sum};
+ghost use Rattle.std.specs.Option.{option_and_then};
+ghost use Rattle.sp_rules.specs.Store.{count_of, fullest, has_entries, ids, victim};
+ghost use Rattle.sp_store.specs.Wanted.{choice, comes_before, goes_before, next_choice};
+
+use crate::said::{priority, source};
+use sp_base::Cursor;
+use sp_rules::{Entry, IDS};
+
+/// Which of a source's entries is wanted: of those the oldest.
+#[derive(Clone, Copy, Debug)]
+pub enum Wanted {
+    LowestPriority,
+    HighestPriority,
+}
+
+/// The place of the entry that goes. None where there is no entry.
+pub fn victim(entries: &[Entry]) -> Option<usize>
+    ensures place { option_and_then (slice_get entries.now) result ≡ victim entries.now }
+    ensures within { IfSome result (λ place. place < length entries.now) }
+    ensures some { 0 < length entries.now → IsSome result }
+{
+    let counts = counts(entries);
+    let src = fullest(entries, &counts);
+    chosen(entries, src, Wanted::LowestPriority)
+}
+
+/// The place of the entry that is served next. None where there is no entry.
+pub fn next(entries: &[Entry], cursor: &Cursor) -> Option<usize>
+    ensures place { option_and_then (slice_get entries.now) result ≡ next_choice entries.now cursor.now }
+    ensures within { IfSome result (λ place. place < length entries.now) }
+{
+    let active = active(entries);
+    match cursor.next(active.as_slice()) {
+        Some(src) => chosen(entries, src, Wanted::HighestPriority),
+        None => None,
+    }
+}
+
+/// How many entries each source has.
+fn counts(entries: &[Entry]) -> [usize; 256]
+    ensures each { (id : ℕ) → id < IDS → slice_index result id ≡ count_of entries.now id }
+    ensures all { sum result ≡ length entries.now }
+{
+    let mut counts = [0; IDS];
+    'entries: for entry in entries {
+        counts[source(entry) as usize] += 1;
+    }
+    counts
+}
+
+/// The source with most entries, the lowest of those that have most.
+fn fullest(entries: &[Entry], counts: &[usize; 256]) -> usize
+    requires each { (id : ℕ) → id < IDS → slice_index counts.now id ≡ count_of entries.now id }
+    requires all { sum counts.now ≡ length entries.now }
+    ensures source { Some result ≡ fullest entries.now }
+    ensures some { 0 < length entries.now → 0 < count_of entries.now result }
+{
+    let mut most = 0;
+    'ids: for id in 1..IDS {
+        if counts[id] > counts[most] {
+            most = id;
+        }
+    }
+    most
+}
+
+/// Which ids are those of sources with entries.
+fn active(entries: &[Entry]) -> [bool; 256]
+    ensures { result ≡ map (has_entries entries.now) ids }
+{
+    let mut active = [false; IDS];
+    'entries: for entry in entries {
+        active[source(entry) as usize] = true;
+    }
+    active
+}
+
+/// The place of the wanted one among a source's entries. None where the source has none.
+fn chosen(entries: &[Entry], src: usize, wanted: Wanted) -> Option<usize>
+    ensures place { option_and_then (slice_get entries.now) result ≡ choice wanted entries.now src }
+    ensures within { IfSome result (λ place. place < length entries.now) }
+{
+    let mut best: Option<usize> = None;
+    'entries: for (place, entry) in entries.iter().enumerate() {
+        if source(entry) as usize == src && is_better(entries, wanted, place, best) {
+            best = Some(place);
+        }
+    }
+    best
+}
+
+/// Whether the entry of a place goes before the best so far.
+fn is_better(entries: &[Entry], wanted: Wanted, place: usize, best: Option<usize>) -> bool
+    requires place { place < length entries.now }
+    requires best { IfSome best (λ other. other < length entries.now) }
+    ensures { result ≡ comes_before wanted (slice_get entries.now place) (option_and_then (slice_get entries.now) best) }
+{
+    match best {
+        None => true,
+        Some(other) => goes_before(wanted, &entries[place], &entries[other]),
+    }
+}
+
+/// Whether an entry is wanted before another.
+fn goes_before(wanted: Wanted, entry: &Entry, other: &Entry) -> bool
+    ensures { result ≡ goes_before wanted entry.now other.now }
+{
+    match wanted {
+        Wanted::LowestPriority => priority(entry) < priority(other),
+        Wanted::HighestPriority => priority(entry) > priority(other),
+    }
+}

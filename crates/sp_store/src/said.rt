@@ -1,0 +1,36 @@
+// What the message of an entry says. Stores hold priority messages; any other says 0.
+ghost use Rattle.std.specs.Prelude.{◌≡◌};
+ghost use Rattle.sp_rules.specs.Store.{expiry, priority, source};
+
+use sp_msg::Body;
+use sp_rules::Entry;
+
+/// The id of the source.
+pub fn source(entry: &Entry) -> u8
+    ensures { result ≡ source entry.now }
+{
+    match &entry.kept.body {
+        Body::Prio(prio) => prio.src.0,
+        _ => 0,
+    }
+}
+
+/// The priority, of which the greatest goes first.
+pub fn priority(entry: &Entry) -> u8
+    ensures { result ≡ priority entry.now }
+{
+    match &entry.kept.body {
+        Body::Prio(prio) => prio.prio,
+        _ => 0,
+    }
+}
+
+/// The last moment at which the message counts.
+pub fn expiry(entry: &Entry) -> u64
+    ensures { result ≡ expiry entry.now }
+{
+    match &entry.kept.body {
+        Body::Prio(prio) => prio.expiry,
+        _ => 0,
+    }
+}
