@@ -135,7 +135,7 @@ impl PrioTable {
         self.spread(kept, came, copies, out);
     }
 
-    /// What a poll of a neighbour carries, with its link number. None exactly where nothing waits for it.
+    /// What a poll of a neighbour carries, with its link number: what is in flight, or else the entry that is served next.
     #[tactic(auto, using(sp_base::proofs::RowLemmas::placed, crate::proofs::RowLemmas::nothing_waits))]
     pub fn slot_for(&self, v: NodeId) -> Option<(u64, &Entry)>
         ensures { option_map (λ p. (p.0, p.1.now)) result ≡ next_prio self.now v.0 }

@@ -66,7 +66,7 @@ impl Store {
     }
 
     /// The entry that is served next: of the source that comes after the last one in the cycle of ids, the one of highest priority, and
-    /// the oldest of those. None exactly where the store is empty.
+    /// the oldest of those.
     pub fn next_for(&self, cursor: &Cursor) -> Option<&Entry>
         ensures { option_copied result ≡ next_entry self.now cursor.now }
     {
