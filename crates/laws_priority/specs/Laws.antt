@@ -1,6 +1,6 @@
 -- What a window sees, and what a full store leaves.
-use Rattle.std.specs.Prelude.{ℕ, ◌≡◌, ◌≢◌, ◌≤◌, ◌<◌, ◌+◌, ◌-◌, ◌/◌, nat_le, true, ◌||◌, List, All, AllPairs, length, Some}
-use Rattle.sp_rules.specs.Store.{count_of, source, sources, victim, without}
+use Rattle.std.specs.Prelude.{ℕ, ◌≡◌, ◌≢◌, ◌≤◌, ◌<◌, ◌+◌, ◌-◌, ◌/◌, nat_le, true, ◌||◌, ◌↔◌, List, [], All, AllPairs, length, Option, Some, None}
+use Rattle.sp_rules.specs.Store.{Store, count_of, next_entry, source, sources, victim, without}
 use Rattle.sp_rules.specs.Window.{greatest, is_in, is_seen, window_of, with_mark}
 use Rattle.sp_rules.specs.declared.store.Entry.{Entry}
 use Rattle.sp_rules.specs.declared.store.TheConstants.{IDS}
@@ -25,3 +25,7 @@ pub record AreEntries (es : List Entry) : Type 0 where
 abbrev pub FairShares : Type 0
 FairShares = (es : List Entry) (v : Entry) → AreEntries es → victim es ≡ Some v →
     (length es - 1) / length (sources es) ≤ count_of (without (Some v) es) (source v)
+
+-- no entry is next in turn exactly where the store is empty
+abbrev pub AnEntryIsNext : Type 0
+AnEntryIsNext = (s : Store) (last : Option ℕ) → All (λ e. source e < IDS) s.entries → (next_entry s last ≡ None) ↔ (s.entries ≡ [])

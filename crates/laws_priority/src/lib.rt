@@ -1,7 +1,7 @@
 //! The laws of windows and stores: a number of a source is new at most once, and a full store leaves each source its share.
 #![tactic(auto)]
 
-ghost use Rattle.laws_priority.specs.Laws.{FairShares, MarkedIsSeen, SeenStaysSeen, WindowSeesItsMarks};
+ghost use Rattle.laws_priority.specs.Laws.{AnEntryIsNext, FairShares, MarkedIsSeen, SeenStaysSeen, WindowSeesItsMarks};
 
 /// A law: the window that any list of marks leaves sees a number exactly where it is one of them, or at least 1,024 below the greatest.
 pub fn a_window_sees_its_marks_and_all_numbers_far_below()
@@ -21,4 +21,9 @@ pub fn what_is_seen_stays_seen()
 /// A law: where one entry more than the capacity C of a store comes from k sources and the victim goes, its source keeps at least C / k.
 pub fn a_full_store_leaves_fair_shares()
     ensures { FairShares }
+{}
+
+/// A law: whatever was served last, an entry of a store is next in turn, and none is exactly where the store is empty.
+pub fn an_entry_is_next_unless_the_store_is_empty()
+    ensures { AnEntryIsNext }
 {}
