@@ -13,8 +13,9 @@ use Rattle.sp_schedule.specs.declared.event.Event.{Event}
 use Rattle.sp_schedule.specs.declared.event.Event.TheVariants as events
 use Rattle.sp_base.specs.Finds.{Finds}
 use Rattle.sp_schedule.specs.Ranges.{InRange, IsHop, polls}
-use Rattle.sp_schedule.specs.Spelling.{Word, event_words}
-use Rattle.sp_schedule.proofs.FieldLemmas.{one_number, other_name}
+use Rattle.sp_schedule.specs.Spelling.{event_words}
+use Rattle.sp_text.specs.Spelling.{Word}
+use Rattle.sp_text.proofs.FieldLemmas.{one_number, other_name}
 
 -- a word has two digits for each byte, or is a dash
 pub length-hex_word : (bytes : List ℕ) → (length (hex_word bytes) ≡ 2 * length bytes) ⊎ (length bytes ≡ 0) × (length (hex_word bytes) ≡ 1)

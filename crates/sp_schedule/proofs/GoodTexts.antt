@@ -12,7 +12,8 @@ use Rattle.sp_schedule.specs.declared.stage.Stage.{Stage}
 use Rattle.sp_schedule.specs.declared.stage.Stage.TheVariants as stages
 use Rattle.sp_schedule.specs.declared.stage.Ending.{Ending}
 use Rattle.sp_schedule.specs.declared.stage.Ending.TheVariants as endings
-use Rattle.sp_schedule.specs.Spelling.{Word, schedule_lines, schedule_text}
+use Rattle.sp_schedule.specs.Spelling.{schedule_lines, schedule_text}
+use Rattle.sp_text.specs.Spelling.{Word}
 use Rattle.sp_schedule.specs.Leads.{Leads}
 use Rattle.sp_schedule.specs.Readings.{All_good, Bad_line, Begins, EndsAt, No_end, No_newline, lines_text}
 use Rattle.sp_schedule.specs.Laws.{GoodTextsAreReadWhole}

@@ -1,6 +1,5 @@
 pub mod CountLemmas
-pub mod FieldLemmas
-pub mod EdgeLemmas
+pub mod NodeLines
 pub mod EventLemmas
 pub mod ReadLemmas
 pub mod StageLemmas

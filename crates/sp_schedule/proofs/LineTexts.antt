@@ -8,7 +8,8 @@ use Rattle.sp_text.specs.Spelling.{words_of}
 use Rattle.sp_text.proofs.LineLemmas.{BeginsWithLine_unique}
 use Rattle.sp_text.proofs.Separators.{IsInOneLine-join}
 use Rattle.sp_text.proofs.WordLemmas.{join-words_of, words_of-join}
-use Rattle.sp_schedule.specs.Spelling.{Word, line_text}
+use Rattle.sp_text.specs.Spelling.{Word}
+use Rattle.sp_graph.specs.Spelling.{line_text}
 use Rattle.sp_schedule.specs.Readings.{lines_text}
 use Rattle.sp_schedule.proofs.Spelled.{IsSpelled, words_apart, words_in_line}
 

@@ -13,7 +13,7 @@ use Rattle.sp_schedule.specs.declared.stage.Ending.TheVariants as endings
 use Rattle.sp_schedule.specs.declared.stage.Reading.{Reading}
 use Rattle.sp_schedule.specs.declared.lead.Lead.{Lead}
 use Rattle.sp_schedule.specs.declared.lead.Lead.TheVariants as leads
-use Rattle.sp_schedule.specs.Spelling.{Word}
+use Rattle.sp_text.specs.Spelling.{Word}
 use Rattle.sp_schedule.specs.Judged.{IsLead}
 use Rattle.sp_schedule.specs.Readings.{All_good, Bad_line, Begins, EndsAt, IsEnd, IsReading, Long_line, No_end, No_newline, None_read, One_more, Too_big, bad_kind, lines_text}
 

@@ -9,10 +9,13 @@ use Rattle.sp_topology.specs.declared.topology.Edge.{Edge}
 use Rattle.sp_schedule.specs.declared.scenario.Scenario.{Scenario}
 use Rattle.sp_schedule.specs.declared.event.Event.{Event}
 use Rattle.sp_schedule.specs.declared.stage.Stage.TheVariants as stages
-use Rattle.sp_schedule.specs.Ranges.{AreInRange, IsScenario, IsWeight, None_yet, One_more}
-use Rattle.sp_schedule.specs.Spelling.{begin_words, bounds_words, edge_words, end_words, event_words, header_lines, height_words, nodes_words, schedule_lines, seed_words, version_words}
-use Rattle.sp_schedule.specs.Leads.{IsLower, IsNextEdge, Leads, last_edge}
-use Rattle.sp_schedule.proofs.EdgeLemmas.{IsLineFrom, first_of_line, line_start}
+use Rattle.sp_schedule.specs.Ranges.{AreInRange, IsScenario, None_yet, One_more}
+use Rattle.sp_graph.specs.Edges.{IsWeight}
+use Rattle.sp_schedule.specs.Spelling.{begin_words, bounds_words, end_words, event_words, header_lines, height_words, schedule_lines, seed_words, version_words}
+use Rattle.sp_graph.specs.Spelling.{edge_words, nodes_words}
+use Rattle.sp_schedule.specs.Leads.{Leads}
+use Rattle.sp_graph.specs.Edges.{IsLower, IsNextEdge, last_edge}
+use Rattle.sp_schedule.proofs.NodeLines.{IsLineFrom, first_of_line, line_start}
 use Rattle.sp_schedule.proofs.Walks.{Walk, one_step, walk_on}
 
 -- ---- edges
@@ -44,7 +47,7 @@ edges_walk s front [] low above ends weights line = rw (append-nil front) refl
 edges_walk s front (e ∷ back) low above ends weights line =
     let first = first_of_line e back low s.graph.nodes line in
     let at = first.0 in
-    let next : IsNextEdge (with_edges s front) e = record {
+    let next : IsNextEdge (with_edges s front).graph e = record {
       ends = (omega arith, omega arith, omega arith);
       weight = All-head IsWeight e back weights;
       ascends = ascends (last_edge front) low e at.1 ends;

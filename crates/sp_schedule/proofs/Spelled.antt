@@ -17,7 +17,8 @@ use Rattle.sp_schedule.specs.declared.event.Event.TheVariants as events
 use Rattle.sp_schedule.specs.declared.stage.Stage.{Stage}
 use Rattle.sp_schedule.specs.declared.stage.Stage.TheVariants as stages
 use Rattle.sp_schedule.specs.Ranges.{InRange}
-use Rattle.sp_schedule.specs.Spelling.{Word, event_words, height_of}
+use Rattle.sp_schedule.specs.Spelling.{event_words, height_of}
+use Rattle.sp_text.specs.Spelling.{Word}
 use Rattle.sp_schedule.specs.Leads.{Leads}
 use Rattle.sp_schedule.proofs.CountLemmas.{polls_below}
 use Rattle.sp_schedule.proofs.StageLemmas.{AreGood}

@@ -8,8 +8,9 @@ use Rattle.sp_text.specs.Spelling.{words_of}
 use Rattle.sp_schedule.specs.declared.scenario.Scenario.{Scenario}
 use Rattle.sp_schedule.specs.declared.stage.Stage.{Stage}
 use Rattle.sp_schedule.specs.declared.stage.Stage.TheVariants as stages
-use Rattle.sp_schedule.specs.Ranges.{AreBounds, AreInRange, IsScenario, IsWeight, None_yet, One_more}
-use Rattle.sp_schedule.specs.Spelling.{Word}
+use Rattle.sp_schedule.specs.Ranges.{AreBounds, AreInRange, IsScenario, None_yet, One_more}
+use Rattle.sp_graph.specs.Edges.{IsWeight}
+use Rattle.sp_text.specs.Spelling.{Word}
 use Rattle.sp_schedule.specs.Leads.{Leads}
 use Rattle.sp_schedule.specs.Readings.{Begins, None_read, One_more as One_more_line, IsGoodStage}
 

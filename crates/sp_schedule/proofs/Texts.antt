@@ -8,7 +8,9 @@ use Rattle.sp_schedule.specs.declared.scenario.Scenario.{Scenario}
 use Rattle.sp_schedule.specs.declared.event.Event.{Event}
 use Rattle.sp_schedule.specs.declared.stage.Stage.{Stage}
 use Rattle.sp_schedule.specs.declared.stage.Stage.TheVariants as stages
-use Rattle.sp_schedule.specs.Spelling.{Word, bounds_words, edge_words, end_words, event_words, header_lines, height_words, line_text, nodes_words, schedule_lines, schedule_text, seed_words, version_words}
+use Rattle.sp_schedule.specs.Spelling.{bounds_words, end_words, event_words, header_lines, height_words, schedule_lines, schedule_text, seed_words, version_words}
+use Rattle.sp_text.specs.Spelling.{Word}
+use Rattle.sp_graph.specs.Spelling.{edge_words, line_text, nodes_words}
 use Rattle.sp_schedule.specs.Leads.{Leads}
 use Rattle.sp_schedule.specs.Readings.{Begins, None_read, One_more, lines_text}
 

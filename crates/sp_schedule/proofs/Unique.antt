@@ -15,11 +15,13 @@ use Rattle.sp_schedule.specs.declared.event.Event.TheVariants as events
 use Rattle.sp_schedule.specs.declared.stage.Stage.{Stage}
 use Rattle.sp_schedule.specs.declared.stage.Stage.TheVariants as stages
 use Rattle.sp_schedule.specs.Ranges.{AreBounds, InRange}
-use Rattle.sp_schedule.specs.Spelling.{Word, bounds_words, end_words, event_words, height_words}
-use Rattle.sp_schedule.specs.Leads.{IsNextEdge, Leads}
+use Rattle.sp_schedule.specs.Spelling.{bounds_words, end_words, event_words, height_words}
+use Rattle.sp_text.specs.Spelling.{Word}
+use Rattle.sp_schedule.specs.Leads.{Leads}
+use Rattle.sp_graph.specs.Edges.{IsNextEdge}
 use Rattle.sp_schedule.proofs.CountLemmas.{polls_below}
-use Rattle.sp_schedule.proofs.EdgeLemmas.{IsSmall, one_edge}
-use Rattle.sp_schedule.proofs.FieldLemmas.{one_number, other_name}
+use Rattle.sp_graph.proofs.EdgeLemmas.{IsSmall, one_edge}
+use Rattle.sp_text.proofs.FieldLemmas.{one_number, other_name}
 use Rattle.sp_schedule.proofs.StageLemmas.{AreGood}
 
 -- ---- one value for each line
@@ -56,7 +58,7 @@ one_node a b small_a small_b same =
     let node : ℕ → NodeId = λ n. record { 0 = n } in
     ap node (same_number a.0 b.0 small_a small_b same)
 
-small_edge : (s : Scenario) (e : Edge) → s.graph.nodes ≤ MAX_NODES → IsNextEdge s e → IsSmall e
+small_edge : (s : Scenario) (e : Edge) → s.graph.nodes ≤ MAX_NODES → IsNextEdge s.graph e → IsSmall e
 small_edge s e few right =
     let ends = right.ends in
     let weight = right.weight in

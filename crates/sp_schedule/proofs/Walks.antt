@@ -6,7 +6,7 @@ use Rattle.std.proofs.lemmas.List.Elements.{All-cons, All-nil}
 use Rattle.sp_text.specs.Spelling.{words_of}
 use Rattle.sp_schedule.specs.declared.stage.Stage.{Stage}
 use Rattle.sp_schedule.specs.declared.stage.Stage.TheVariants as stages
-use Rattle.sp_schedule.specs.Spelling.{Word}
+use Rattle.sp_text.specs.Spelling.{Word}
 use Rattle.sp_schedule.specs.Leads.{Leads}
 use Rattle.sp_schedule.specs.Readings.{Begins, None_read, One_more}
 use Rattle.sp_schedule.proofs.StageLemmas.{AreGood, good_on}

@@ -4,7 +4,7 @@ use Rattle.sp_schedule.specs.declared.stage.Stage.{Stage}
 use Rattle.sp_schedule.specs.declared.lead.Lead.{Lead}
 use Rattle.sp_schedule.specs.declared.lead.Lead.TheVariants as leads
 use Rattle.sp_schedule.specs.Leads.{Leads}
-use Rattle.sp_schedule.specs.Spelling.{Word}
+use Rattle.sp_text.specs.Spelling.{Word}
 
 -- a good line leads on, and a bad one leads nowhere and changes nothing
 abbrev pub IsLead : Stage → List Word → Lead → Type 0

@@ -1,34 +1,25 @@
 -- A line at its stage: what it says, and where the next line stands.
-use Rattle.std.specs.Prelude.{ℕ, ◌≡◌, ◌-◌, ◌<◌, ◌≤◌, ◌⊎◌, List, [], ◌∷◌, ◌++◌, length, slice_get, Option, IfSome}
+use Rattle.std.specs.Prelude.{ℕ, ◌≡◌, ◌<◌, ◌≤◌, ◌⊎◌, List, [], ◌∷◌, ◌++◌, length}
 use Rattle.sp_base.specs.declared.limits.TheConstants.{MAX_EVENTS, MAX_NODES}
 use Rattle.sp_base.specs.Spelling.{AreBytes}
 use Rattle.sp_base.specs.declared.id.Limits.{Limits}
 use Rattle.sp_topology.specs.declared.topology.LmsHeight.{LmsHeight}
 use Rattle.sp_topology.specs.declared.topology.Edge.{Edge}
+use Rattle.sp_graph.specs.Edges as graphs
+use Rattle.sp_graph.specs.Edges.{IsNextEdge}
+use Rattle.sp_graph.specs.Spelling.{edge_words, nodes_words}
 use Rattle.sp_schedule.specs.declared.scenario.Scenario.{Scenario}
 use Rattle.sp_schedule.specs.declared.event.Event.{Event}
 use Rattle.sp_schedule.specs.declared.stage.Stage.{Stage}
 use Rattle.sp_schedule.specs.declared.stage.Stage.TheVariants as stages
-use Rattle.sp_schedule.specs.Ranges.{AreBounds, IsWeight, IsLine, InRange}
-use Rattle.sp_schedule.specs.Spelling.{Word, version_words, seed_words, height_words, bounds_words, nodes_words, edge_words, begin_words, event_words, end_words}
+use Rattle.sp_schedule.specs.Ranges.{AreBounds, IsLine, InRange}
+use Rattle.sp_text.specs.Spelling.{Word}
+use Rattle.sp_schedule.specs.Spelling.{version_words, seed_words, height_words, bounds_words, begin_words, event_words, end_words}
 
 -- ---- edges
 
--- the first edge stands before the second in the order of their ends
-abbrev pub IsLower : Edge → Edge → Type 0
-IsLower f e = (f.low.0 < e.low.0) ⊎ ((f.low.0 ≡ e.low.0) × (f.high.0 < e.high.0))
-
-abbrev pub last_edge : List Edge → Option Edge
-last_edge edges = slice_get edges (length edges - 1)
-
--- the edge joins two nodes, the lower one first, and stands after the edges so far
-pub record IsNextEdge (s : Scenario) (e : Edge) : Type 0 where
-  pub ends : (1 ≤ e.low.0) × (e.low.0 < e.high.0) × (e.high.0 ≤ s.graph.nodes)
-  pub weight : IsWeight e
-  pub ascends : IfSome (last_edge s.graph.edges) (λ f. IsLower f e)
-
 abbrev pub with_edge : Scenario → Edge → Scenario
-with_edge s e = record { seed = s.seed; height = s.height; limits = s.limits; graph = record { nodes = s.graph.nodes; edges = s.graph.edges ++ e ∷ [] } }
+with_edge s e = record { seed = s.seed; height = s.height; limits = s.limits; graph = graphs.with_edge s.graph e }
 
 -- ---- what each line says
 
@@ -57,7 +48,7 @@ pub record SaysNodes (seed : List ℕ) (height : LmsHeight) (limits : Limits) (w
 
 pub record SaysEdge (s : Scenario) (words : List Word) (next : Stage) : Type 0 where
   pub edge : Edge
-  pub in_range : IsNextEdge s edge
+  pub in_range : IsNextEdge s.graph edge
   pub spelled : words ≡ edge_words edge
   pub next_place : next ≡ stages.Edges (with_edge s edge)
 

@@ -1,9 +1,10 @@
 -- Which scenarios and events a schedule may have. The nodes stand in a line, and one reliable flow goes from the first to the last.
 use Rattle.std.specs.Prelude.{ℕ, ◌≡◌, ◌+◌, ◌-◌, ◌≤◌, ◌==◌, ◌&&◌, ◌⊎◌, Bool, false, List, [], ◌∷◌, ◌++◌, length, map, filter, All, zero, suc}
-use Rattle.sp_base.specs.declared.limits.TheConstants.{MAX_BUFFER, MAX_NODES, MAX_PAYLOAD_BYTES, MAX_STORE, MAX_WEIGHT}
+use Rattle.sp_base.specs.declared.limits.TheConstants.{MAX_BUFFER, MAX_NODES, MAX_PAYLOAD_BYTES, MAX_STORE}
 use Rattle.sp_base.specs.Spelling.{AreBytes}
 use Rattle.sp_base.specs.declared.id.Limits.{Limits}
 use Rattle.sp_topology.specs.declared.topology.Edge.{Edge}
+use Rattle.sp_graph.specs.Edges.{IsWeight}
 use Rattle.sp_schedule.specs.declared.scenario.Scenario.{Scenario}
 use Rattle.sp_schedule.specs.declared.event.Event.{Event}
 use Rattle.sp_schedule.specs.declared.event.Event.TheVariants as events
@@ -26,9 +27,6 @@ IsLine s = ends_of s.graph.edges ≡ line_from 1 (s.graph.nodes - 1)
 pub record AreBounds (limits : Limits) : Type 0 where
   pub buffer : (1 ≤ limits.buffer) × (limits.buffer ≤ MAX_BUFFER)
   pub store : (1 ≤ limits.store) × (limits.store ≤ MAX_STORE)
-
-abbrev pub IsWeight : Edge → Type 0
-IsWeight e = (1 ≤ e.weight) × (e.weight ≤ MAX_WEIGHT)
 
 pub record IsScenario (s : Scenario) : Type 0 where
   pub seed : (length s.seed ≡ 32) × AreBytes s.seed

@@ -13,20 +13,17 @@
 --     pass U V NUMBER
 --     end
 use Rattle.std.specs.Prelude.{ℕ, List, [], ◌∷◌, ◌++◌, map, codes}
-use Rattle.std.specs.List.{flat_map, join_with_byte}
+use Rattle.std.specs.List.{flat_map}
 use Rattle.std.specs.Fmt.{decimal}
 use Rattle.hex.specs.Hex.{encode_lower}
-use Rattle.sp_text.specs.Spelling.{hex_word}
+use Rattle.sp_text.specs.Spelling.{Word, hex_word}
 use Rattle.sp_base.specs.declared.id.Limits.{Limits}
 use Rattle.sp_topology.specs.declared.topology.LmsHeight.{LmsHeight}
 use Rattle.sp_topology.specs.declared.topology.LmsHeight.TheVariants.{Five, Ten}
-use Rattle.sp_topology.specs.declared.topology.Edge.{Edge}
+use Rattle.sp_graph.specs.Spelling.{edge_words, line_text, nodes_words}
 use Rattle.sp_schedule.specs.declared.scenario.Scenario.{Scenario}
 use Rattle.sp_schedule.specs.declared.event.Event.{Event}
 use Rattle.sp_schedule.specs.declared.event.Event.TheVariants as events
-
-abbrev pub Word : Type 0
-Word = List ℕ
 
 abbrev pub height_of : LmsHeight → ℕ
 height_of Five = 5
@@ -45,12 +42,6 @@ height_words height = codes "height" ∷ decimal (height_of height) ∷ []
 
 abbrev pub bounds_words : Limits → List Word
 bounds_words limits = codes "bounds" ∷ decimal limits.buffer ∷ decimal limits.store ∷ []
-
-abbrev pub nodes_words : ℕ → List Word
-nodes_words nodes = codes "nodes" ∷ decimal nodes ∷ []
-
-abbrev pub edge_words : Edge → List Word
-edge_words e = codes "edge" ∷ decimal e.low.0 ∷ decimal e.high.0 ∷ decimal e.weight ∷ []
 
 abbrev pub begin_words : List Word
 begin_words = codes "begin" ∷ []
@@ -72,10 +63,6 @@ header_lines s =
 
 abbrev pub schedule_lines : Scenario → List Event → List (List Word)
 schedule_lines s es = header_lines s ++ (map event_words es ++ end_words ∷ [])
-
--- the words one space apart, and a newline
-abbrev pub line_text : List Word → List ℕ
-line_text words = join_with_byte 32 words ++ 10 ∷ []
 
 unfoldable pub schedule_text : Scenario → List Event → List ℕ
 schedule_text s es = flat_map line_text (schedule_lines s es)

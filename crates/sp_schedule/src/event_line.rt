@@ -8,10 +8,9 @@ ghost use Rattle.sp_base.specs.Finds.{Finds};
 ghost use Rattle.sp_schedule.specs.Ranges.{InRange, IsHop, polls};
 ghost use Rattle.sp_schedule.specs.Spelling.{end_words, event_words};
 
-use crate::words::{fields, is_number, node_in, number_in};
 use crate::{Event, Scenario, Timeline};
 use sp_base::{Bytes, MAX_PAYLOAD_BYTES, Memory, NodeId};
-use sp_text::hex_word_bytes;
+use sp_text::{fields, hex_word_bytes, is_number, node_in, number_in};
 use std::alloc::Global;
 
 /// The event of a line, where it may come after those before it. None exactly where the line is of no such event.

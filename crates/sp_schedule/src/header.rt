@@ -5,12 +5,12 @@ ghost use Rattle.sp_base.specs.declared.limits.TheConstants.{MAX_NODES};
 ghost use Rattle.sp_base.specs.Spelling.{AreBytes};
 ghost use Rattle.sp_base.specs.Finds.{Finds};
 ghost use Rattle.sp_schedule.specs.Ranges.{AreBounds};
-ghost use Rattle.sp_schedule.specs.Spelling.{version_words, seed_words, height_words, bounds_words, nodes_words, begin_words};
+ghost use Rattle.sp_schedule.specs.Spelling.{version_words, seed_words, height_words, bounds_words, begin_words};
+ghost use Rattle.sp_graph.specs.Spelling.{nodes_words};
 
 use crate::LmsHeight;
-use crate::words::{fields, is_number, is_word, number_in};
 use sp_base::{Limits, MAX_BUFFER, MAX_NODES, MAX_STORE};
-use sp_text::hex_array;
+use sp_text::{fields, hex_array, is_number, is_word, number_in};
 
 /// Whether the line is `schedule 1`.
 pub fn is_version(words: &[&[u8]]) -> bool

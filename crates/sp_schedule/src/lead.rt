@@ -4,11 +4,12 @@ ghost use Rattle.sp_text.specs.Spelling.{words_of};
 ghost use Rattle.sp_schedule.specs.Judged.{IsLead};
 ghost use Rattle.sp_schedule.specs.Leads.{with_edge};
 
-use crate::edge_line::{edge, is_line};
 use crate::event_line::{event, is_end};
 use crate::header::{bounds, height, is_begin, is_version, nodes, seed};
+use crate::node_line::is_line;
 use crate::{Edge, Graph, LmsHeight, Scenario, Stage, Timeline};
 use sp_base::{Limits, Listed, MAX_EVENTS, Memory};
+use sp_graph::edge;
 use sp_text::split_at_spaces;
 use std::alloc::Global;
 
@@ -120,7 +121,7 @@ fn after_bounds(
 fn after_edges(alloc: Global, scenario: Scenario, words: &[&[u8]]) -> Result<Lead, Memory>
     ensures { IfOk result (IsLead (Stage.Edges scenario) (map (λ w. w.now) words.now)) }
 {
-    if let Some(edge) = edge(&scenario, words) {
+    if let Some(edge) = edge(&scenario.graph, words) {
         return Ok(Lead::To(Stage::Edges(with_edge(scenario, edge)?)));
     }
     if is_begin(words) && is_line(&scenario) {

@@ -6,3 +6,4 @@ pub mod LineLemmas
 pub mod NextLine
 pub mod Separators
 pub mod WordLemmas
+pub mod FieldLemmas

@@ -3,6 +3,9 @@ use Rattle.std.specs.Prelude.{ℕ, ◌≡◌, ◌≢◌, ◌<◌, ◌⊎◌, ◌
 use Rattle.std.specs.List.{join_with_byte, slice_split}
 use Rattle.hex.specs.Hex.{encode_lower}
 
+abbrev pub Word : Type 0
+Word = List ℕ
+
 -- bytes in lower case, two digits each, and a dash for none
 abbrev pub hex_word : List ℕ → List ℕ
 hex_word [] = codes "-"

@@ -1,0 +1,34 @@
+-- A graph as text: lines of words, one space between two words, and a newline after each line.
+--
+--     graph 1
+--     nodes N             the nodes are 1 to N
+--     edge A B W          one line for each edge, with its weight
+--     end
+use Rattle.std.specs.Prelude.{ℕ, List, [], ◌∷◌, ◌++◌, map, codes}
+use Rattle.std.specs.List.{flat_map, join_with_byte}
+use Rattle.std.specs.Fmt.{decimal}
+use Rattle.sp_text.specs.Spelling.{Word}
+use Rattle.sp_topology.specs.declared.topology.Edge.{Edge}
+use Rattle.sp_graph.specs.declared.graph.Graph.{Graph}
+
+abbrev pub version_words : List Word
+version_words = codes "graph" ∷ codes "1" ∷ []
+
+abbrev pub nodes_words : ℕ → List Word
+nodes_words nodes = codes "nodes" ∷ decimal nodes ∷ []
+
+abbrev pub edge_words : Edge → List Word
+edge_words e = codes "edge" ∷ decimal e.low.0 ∷ decimal e.high.0 ∷ decimal e.weight ∷ []
+
+abbrev pub end_words : List Word
+end_words = codes "end" ∷ []
+
+-- the words one space apart, and a newline
+abbrev pub line_text : List Word → List ℕ
+line_text words = join_with_byte 32 words ++ 10 ∷ []
+
+abbrev pub graph_lines : Graph → List (List Word)
+graph_lines g = version_words ∷ nodes_words g.nodes ∷ (map edge_words g.edges ++ end_words ∷ [])
+
+unfoldable pub graph_text : Graph → List ℕ
+graph_text g = flat_map line_text (graph_lines g)

@@ -1,0 +1,17 @@
+pub mod Raised
+pub mod GrowLemmas
+pub mod GrowSteps
+pub mod AugmentLemmas
+pub mod RouteLemmas
+pub mod WalkLemmas
+pub mod LaneLists
+pub mod WalksLemmas
+pub mod FlowLemmas
+pub mod Shapes
+pub mod ArcsOnce
+pub mod PathLemmas
+pub mod Sets
+pub mod Searches
+pub mod PartLists
+pub mod CertificateLemmas
+pub mod Ranges

@@ -1,0 +1,11 @@
+pub mod Lanes
+pub mod Trees
+pub mod Flows
+pub mod Routes
+pub mod Taken
+pub mod Parts
+pub mod Crossings
+pub mod Visits
+pub mod Searched
+pub mod Answers
+pub mod Cheapest
