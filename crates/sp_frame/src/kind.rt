@@ -1,7 +1,7 @@
 // The kind of the messages in a section.
-/// What kind of messages a section has.
+/// The kind of the messages that a section has.
 #[derive(Clone, Copy, Debug, PartialEq, Eq)]
-pub(crate) enum Kind {
+pub enum Kind {
     Weight,
     Prio,
     Ack,

@@ -14,6 +14,7 @@ mod writing;
 
 pub use frame::{Frame, HEAD_BYTES, MAX_FRAME_BYTES, MIN_FRAME_BYTES, TAG_BYTES};
 pub use head::Head;
+pub use kind::Kind;
 pub use laws::{a_frame_is_its_head_its_sections_and_its_tag, sections_have_one_spelling};
 pub use object::ObjectRef;
 pub use refused::{FrameRefused, SectionRefused};

@@ -1,4 +1,3 @@
-pub mod DueLemmas
 pub mod FlowLemmas
 pub mod SeatLemmas
 pub mod SoundLemmas

@@ -1,9 +1,9 @@
 -- The rows of flows and their flags: at the start, and where a row is put in the place of another.
-use Rattle.std.proofs.Common.{◌≡◌, ◌==◌, ◌<◌, ℕ, Bool, true, false, List, [], ◌∷◌, All, length, map, get_or, set, replicate, refl, sym, ap, ◌∙◌, subst, cond, ◌&&◌, Some}
+use Rattle.std.proofs.Common.{◌≡◌, ◌==◌, ◌<◌, ℕ, Bool, true, false, List, [], ◌∷◌, All, length, map, get_or, set, replicate, refl, sym, ap, ◌∙◌, subst, ◌&&◌, Some}
 use Rattle.std.specs.List.{position}
 use Rattle.std.proofs.lemmas.List.{map-set}
 use Rattle.std.proofs.Math.Seq.{map-set_same}
-use Rattle.std.proofs.lemmas.List.Elements.{All-get_or, All-head, All-map, All-set, All-tail}
+use Rattle.std.proofs.lemmas.List.Elements.{All-get_or, All-map, All-set}
 use Rattle.sp_base.specs.declared.id.Flow.{Flow}
 use Rattle.sp_base.specs.declared.id.NodeId.{NodeId}
 use Rattle.sp_rows.specs.Changes.{CanChange, changed}
@@ -14,7 +14,8 @@ use Rattle.sp_rules.specs.Flow.{FlowState, after_take, is_flow, no_flow, IsStand
 use Rattle.sp_rules.specs.Rel.{flow_in, is_due, put_flow}
 use Rattle.sp_rel.specs.Tables.{AreSound, IsSoundRow, idle_row, states}
 use Rattle.sp_rel.proofs.FlowLemmas.{place_within, put_there, read_there}
-use Rattle.sp_rel.proofs.Standing.{standing_at_start, standing_changed, standing_taken}
+use Rattle.sp_rel.proofs.Standing.{standing_changed}
+use Rattle.sp_rules.proofs.Standing.{standing_at_start, standing_taken}
 
 -- a row of this table in the place of another, with its flags
 pub sound_with : (me : NodeId) (bound : ℕ) (rows : List RowState) (active due : List Bool) (place : ℕ) (row : RowState)
@@ -142,12 +143,3 @@ flows_taken rows flow i row new at read is = sym (put_there rows flow i new at) 
 
 pub all_standing : (me : NodeId) (bound : ℕ) (rows : List RowState) → All (IsSoundRow me bound) rows → All (IsStanding me bound) (states rows)
 all_standing me bound rows sound = All-map (IsStanding me bound) (λ row. row.state) rows (λ k d within. (sound k d within).standing)
-
--- the row of a flow, or what stands for it, is standing
-pub standing_in : (me : NodeId) (bound : ℕ) (flows : List FlowState) (flow : Flow) → All (IsStanding me bound) flows → IsStanding me bound (flow_in flows flow)
-standing_in me bound [] flow all = standing_at_start me bound flow
-standing_in me bound (f ∷ flows) flow all = go (is_flow flow f) (standing_in me bound flows flow (All-tail (IsStanding me bound) f flows all))
-  where
-    go : (t : Bool) → IsStanding me bound (flow_in flows flow) → IsStanding me bound (cond t f (flow_in flows flow))
-    go true others = All-head (IsStanding me bound) f flows all
-    go false others = others

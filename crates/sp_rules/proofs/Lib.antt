@@ -1,2 +1,5 @@
 pub mod ChoiceLemmas
+pub mod FlowDue
+pub mod FlowJudged
+pub mod Standing
 pub mod WindowLemmas

@@ -2,7 +2,7 @@
 --
 --     1 .. base            base + 1 .. have     have + 1 ..
 --     all acknowledged     kept in the list     still to come
-use Rattle.std.specs.Prelude.{ℕ, ◌≡◌, ◌+◌, ◌-◌, ◌==◌, ◌&&◌, ◌≤◌, Bool, true, false, List, [], ◌∷◌, ◌++◌, length, drop, slice_get, Option, Some, None}
+use Rattle.std.specs.Prelude.{ℕ, ◌≡◌, ◌+◌, ◌-◌, ◌==◌, ◌&&◌, ◌≤◌, Bool, true, false, List, [], ◌∷◌, ◌++◌, length, drop, Option, Some, None}
 use Rattle.sp_base.specs.Position.{Position, IsPosition, start, kept, delivered, acknowledged}
 use Rattle.sp_base.specs.declared.id.Flow.{Flow}
 use Rattle.sp_base.specs.declared.id.NodeId.{NodeId}
@@ -50,6 +50,11 @@ abbrev pub number_said : Body → ℕ
 number_said (bodies.Rel r) = r.seq
 number_said (bodies.Ack a) = a.seq
 number_said _ = 0
+
+-- it is a reliable message
+abbrev pub IsReliable : Body → Type 0
+IsReliable (bodies.Rel r) = Unit {0}
+IsReliable _ = ⊥
 
 -- ---- what events make of a flow
 

@@ -1,3 +1,5 @@
+-- ---- the parts of a node
+pub mod Changes
 pub mod Choices
 pub mod Flow
 pub mod Link
@@ -8,3 +10,16 @@ pub mod Store
 pub mod Told
 pub mod Weights
 pub mod Window
+-- ---- a whole node
+pub mod Answers
+pub mod Arrivals
+pub mod Arts
+pub mod Handle
+pub mod Masks
+pub mod Node
+pub mod Parts
+pub mod Pieces
+pub mod Polls
+pub mod Sends
+pub mod Steps
+pub mod Ticks

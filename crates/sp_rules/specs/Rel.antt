@@ -6,7 +6,7 @@
 --
 -- Rows are only ever replaced, so each place stays that of its flow.
 use Rattle.std.specs.Prelude.{ℕ, ◌≡◌, ◌+◌, ◌==◌, Bool, not, ◌&&◌, nat_le, nat_lt, max, List, [], ◌∷◌, length, map, filter, Option, Some, None, Result, Ok, Err, slice_get, if◌then◌else◌}
-use Rattle.std.specs.List.{flat_map, list_any}
+use Rattle.std.specs.List.{All, flat_map, list_any}
 use Rattle.std.specs.Option.{option_and_then, option_map}
 use Rattle.sp_base.specs.Cursor.{next_after}
 use Rattle.sp_base.specs.Position.{message_of}
@@ -22,7 +22,7 @@ use Rattle.sp_msg.specs.declared.body.Body.TheVariants as bodies
 use Rattle.sp_msg.specs.declared.effect.Effect.{Effect}
 use Rattle.sp_msg.specs.declared.effect.Effect.TheVariants.{Delivered}
 use Rattle.sp_msg.specs.declared.kept.Kept.{Kept}
-use Rattle.sp_rules.specs.Flow.{FlowState, no_flow, ends, is_flow, is_full, flow_said, number_said, pushed, received, acknowledged_by, concluded, after_take}
+use Rattle.sp_rules.specs.Flow.{FlowState, IsStanding, no_flow, ends, is_flow, is_full, flow_said, number_said, pushed, received, acknowledged_by, concluded, after_take}
 use Rattle.sp_rules.specs.declared.rel.AckJudged.{AckJudged}
 use Rattle.sp_rules.specs.declared.rel.AckJudged.TheVariants as acks
 use Rattle.sp_rules.specs.declared.rel.RelJudged.{RelJudged}
@@ -294,3 +294,9 @@ oldest r src = slice_get (flow_in r.flows (flow_to_me r src)).inbox 0
 -- it left. Nothing changes where the inbox is empty
 abbrev pub took : RelState → NodeId → RelState
 took r src = with_flow r (flow_to_me r src) (after_take (flow_in r.flows (flow_to_me r src)))
+
+-- ---- what always holds
+
+-- each row is a flow's position with its messages, within the bound
+abbrev pub AreStanding : RelState → Type 0
+AreStanding r = All (IsStanding r.me r.bound) r.flows

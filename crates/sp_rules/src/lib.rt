@@ -2,16 +2,20 @@
 //! They stand on ids, messages, the topology and frames, never on schedules, journals or text.
 #![tactic(auto)]
 
+mod answers;
 mod link;
+mod node;
 mod prio;
 mod rel;
 mod store;
 mod weights;
 mod window;
 
+pub use answers::{AckAnswer, Item, PrioAnswer, RelAnswer, WeightAnswer};
 pub use link::LinkAnswer;
+pub use node::{LinkReply, MAX_CALLS, NodeRefused, Step, Taken, TickReply};
 pub use prio::{Neighbour, PrioJudged};
 pub use rel::{AckJudged, RelJudged, RelRefused};
 pub use store::{Entry, IDS, Put};
-pub use weights::Offer;
+pub use weights::{MAX_OWN_HEARD, Offer};
 pub use window::WINDOW;

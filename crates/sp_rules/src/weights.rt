@@ -1,5 +1,8 @@
 // What a node answers to an update of a link's weight.
 
+/// The greatest number of a node's own update that it takes from a neighbour. So its own next number keeps its range.
+pub const MAX_OWN_HEARD: u64 = 1 << 62;
+
 /// Whether an update of a weight is held, or why it isn't: the first that applies.
 #[derive(Clone, Copy, Debug, PartialEq, Eq)]
 pub enum Offer {

@@ -1,5 +1,5 @@
 use Rattle.std.proofs.Common.{ap, arith}
-use Rattle.sp_rel.proofs.SoundLemmas.{standing_in}
+use Rattle.sp_rules.proofs.Standing.{standing_in}
 use Rattle.sp_rel.proofs.flows.Flows.numbers.Goals as goal
 
 pub returns-in-Some-clause-sound : goal.returns-in-Some-clause-sound

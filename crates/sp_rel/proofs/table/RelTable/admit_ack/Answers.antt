@@ -1,10 +1,11 @@
 use Rattle.std.proofs.Common.{sym, subst}
 use Rattle.sp_base.specs.declared.id.Flow.{Flow}
-use Rattle.sp_rows.specs.Changes.{CanAcknowledge}
+use Rattle.sp_rules.specs.Changes.{CanAcknowledge}
 use Rattle.sp_rows.specs.Rows.{IsSeated}
 use Rattle.sp_rules.specs.Flow.{flow_said}
 use Rattle.sp_rules.specs.Rel.{RelState, flow_in}
-use Rattle.sp_rel.proofs.TableLemmas.{can_acknowledge, seat_fits}
+use Rattle.sp_rules.proofs.FlowJudged.{can_acknowledge}
+use Rattle.sp_rel.proofs.TableLemmas.{seat_fits}
 use Rattle.sp_rel.proofs.table.RelTable.admit_ack.Goals as goal
 
 pub change-requires-clause-can : goal.change-requires-clause-can

@@ -1,11 +1,12 @@
 use Rattle.std.proofs.Common.{◌≡◌, ap, arith, sym, subst, true, false}
 use Rattle.std.proofs.lemmas.Bool.Decides.{nat_tests}
 use Rattle.sp_base.specs.declared.id.Flow.{Flow}
-use Rattle.sp_rows.specs.Changes.{CanPush, CanReceive}
+use Rattle.sp_rules.specs.Changes.{CanPush, CanReceive}
 use Rattle.sp_rows.specs.Rows.{IsSeated}
 use Rattle.sp_rules.specs.Flow.{flow_said}
 use Rattle.sp_rules.specs.Rel.{RelState, flow_in, is_to}
-use Rattle.sp_rel.proofs.TableLemmas.{can_push, can_receive, seat_fits}
+use Rattle.sp_rules.proofs.FlowJudged.{can_push, can_receive}
+use Rattle.sp_rel.proofs.TableLemmas.{seat_fits}
 use Rattle.sp_rel.proofs.table.RelTable.admit_rel.Goals as goal
 
 pub change-requires-clause-can : goal.change-requires-clause-can

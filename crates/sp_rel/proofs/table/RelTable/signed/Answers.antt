@@ -1,10 +1,10 @@
 use Rattle.std.proofs.Common.{◌≡◌, ◌∙◌, sym, subst, true, false}
 use Rattle.std.specs.List.{All}
 use Rattle.sp_base.specs.declared.id.Flow.{Flow}
-use Rattle.sp_rows.specs.Changes.{CanConclude}
+use Rattle.sp_rules.specs.Changes.{CanConclude}
 use Rattle.sp_rules.specs.Flow.{IsStanding, flow_said}
 use Rattle.sp_rules.specs.Rel.{RelState, flow_in}
-use Rattle.sp_rel.proofs.DueLemmas.{can_conclude}
+use Rattle.sp_rules.proofs.FlowDue.{can_conclude}
 use Rattle.sp_rel.proofs.table.RelTable.signed.Goals as goal
 
 pub change-requires-clause-can : goal.change-requires-clause-can

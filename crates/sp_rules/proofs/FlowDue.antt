@@ -11,12 +11,11 @@ use Rattle.sp_base.specs.declared.id.NodeId.{NodeId}
 use Rattle.sp_msg.specs.Bodies.{HasGoodFields}
 use Rattle.sp_msg.specs.declared.body.Body.{Body}
 use Rattle.sp_msg.specs.declared.body.Body.TheVariants as bodies
-use Rattle.sp_rows.specs.Changes.{CanConclude}
+use Rattle.sp_rules.specs.Changes.{CanConclude}
 use Rattle.sp_rules.specs.Flow.{FlowState, IsStanding, ends, flow_said}
-use Rattle.sp_rules.specs.Rel.{RelState, ack_of, due, due_place, flow_at, flow_in, is_due}
-use Rattle.sp_rel.specs.Seated.{AreStanding}
-use Rattle.sp_rel.proofs.SoundLemmas.{standing_in}
-use Rattle.sp_rel.proofs.TableLemmas.{found_ends}
+use Rattle.sp_rules.specs.Rel.{AreStanding, RelState, ack_of, due, due_place, flow_at, flow_in, is_due}
+use Rattle.sp_rules.proofs.FlowJudged.{found_ends}
+use Rattle.sp_rules.proofs.Standing.{standing_in}
 
 -- ---- the place that a cycle gives is active
 
@@ -55,13 +54,15 @@ both_true : (a b : Bool) → (a && b) ≡ true → a ≡ true
 both_true true b e = refl
 both_true false b e = absurd (cc)
 
-due_at : (r : RelState) (place : ℕ) (f : FlowState) → due_place r ≡ Some place → slice_get r.flows place ≡ Some f → (f.dst.0 == r.me.0) ≡ true
-due_at r place f turn there =
+pub is_due_at : (r : RelState) (place : ℕ) (f : FlowState) → due_place r ≡ Some place → slice_get r.flows place ≡ Some f → is_due r.me f ≡ true
+is_due_at r place f turn there =
     let on = next_is_on r.signed place (map (is_due r.me) r.flows) turn in
     let flag : is_due r.me (get_or r.flows place f) ≡ true =
     sym (get_or-map (is_due r.me) r.flows place f false (omega (arith, on.within, length-map r.flows (is_due r.me)))) ∙ on.on in
-    let is : is_due r.me f ≡ true = ap (is_due r.me) (sym (get_or_from_slice_get r.flows place f f there)) ∙ flag in
-    both_true (f.dst.0 == r.me.0) (nat_lt f.at.base f.at.have) is
+    ap (is_due r.me) (sym (get_or_from_slice_get r.flows place f f there)) ∙ flag
+
+due_at : (r : RelState) (place : ℕ) (f : FlowState) → due_place r ≡ Some place → slice_get r.flows place ≡ Some f → (f.dst.0 == r.me.0) ≡ true
+due_at r place f turn there = both_true (f.dst.0 == r.me.0) (nat_lt f.at.base f.at.have) (is_due_at r place f turn there)
 
 ends_here : (r : RelState) (flow : Flow) → option_and_then (flow_at r.flows) (due_place r) ≡ Some flow → (flow.dst.0 == r.me.0) ≡ true
 ends_here r flow e = go (due_place r) refl e

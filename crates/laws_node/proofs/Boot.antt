@@ -1,0 +1,229 @@
+-- A node holds all that it keeps at the start of its life.
+use Rattle.std.proofs.Common.{◌≡◌, ◌<◌, ◌≤◌, ℕ, zero, suc, ◌+◌, ◌*◌, ◌^◌, ◌==◌, not, true, List, [], ◌∷◌, ◌++◌, length, map, filter, replicate, Option, Some, None, refl, sym, ap, ◌∙◌, subst, arith}
+use Rattle.std.specs.Prelude.{IfSome, IsTrue, zip}
+use Rattle.std.specs.List.{All, AllPairs, flat_map}
+use Rattle.std.proofs.lemmas.Bool.Decides.{nat_tests}
+use Rattle.std.proofs.lemmas.List.Concat.{flat_map-cons}
+use Rattle.std.proofs.lemmas.List.Elements.{All-cons, All-head, All-nil, All-tail}
+use Rattle.std.proofs.lemmas.List.Kept.{AllPairs-cons, AllPairs-filter}
+use Rattle.sp_base.specs.declared.id.EdgeId.{EdgeId}
+use Rattle.sp_base.specs.declared.id.Flow.{Flow}
+use Rattle.sp_base.specs.declared.id.NodeId.{NodeId}
+use Rattle.sp_base.specs.declared.limits.TheConstants.{MAX_NODES}
+use Rattle.sp_msg.specs.declared.kept.Kept.{Kept}
+use Rattle.sp_rules.specs.Flow.{ends, no_flow}
+use Rattle.sp_rules.specs.Node.{booted, link_of}
+use Rattle.sp_rules.specs.Parts.{Fixed, as_neighbour, is_signed, neighbours_of, nodes_of}
+use Rattle.sp_rules.specs.PrioPeer.{new_peer}
+use Rattle.sp_rules.specs.Rel.{flows_from, pairs_of}
+use Rattle.sp_rules.specs.Weights.{held_in}
+use Rattle.sp_rules.specs.declared.prio.Neighbour.{Neighbour}
+use Rattle.sp_topology.specs.Neighbours.{neighbour, neighbours_from, other_end}
+use Rattle.sp_topology.specs.Ranges.{AreEdges, AreNodes, has_id, ids_of}
+use Rattle.sp_topology.specs.declared.topology.Edge.{Edge}
+use Rattle.sp_topology.specs.declared.topology.LmsHeight.{LmsHeight}
+use Rattle.sp_topology.specs.declared.topology.NodeKey.{NodeKey}
+use Rattle.laws_node.specs.Flows.{Differ, FlowHolds}
+use Rattle.laws_node.specs.Laws.{BootKeeps}
+use Rattle.laws_node.specs.Nodes.{LinkHolds, sizes_of}
+use Rattle.laws_node.specs.Sizes.{IsNode, Sizes}
+use Rattle.laws_node.specs.Stores.{EntryHolds, PrioPeerHolds}
+use Rattle.laws_node.specs.Updates.{UpdateHolds}
+use Rattle.laws_node.proofs.Flows.{no_flow_holds}
+use Rattle.laws_node.proofs.Lost.{all_filter}
+use Rattle.laws_node.proofs.Priority.{all_map, peer_more}
+use Rattle.laws_node.proofs.Tables.{all_weaker, cond_either, or_where}
+
+-- ---- the nodes
+
+abbrev Other : NodeId → NodeId → Type 0
+Other u v = ¬ (u ≡ v)
+
+nodes_hold : (height : LmsHeight) (before : ℕ) (nodes : List NodeKey) → AreNodes height before nodes → All IsNode (map (λ n. n.id) nodes)
+nodes_hold height before [] are = All-nil IsNode
+nodes_hold height before (n ∷ nodes) are =
+    All-cons IsNode n.id (map (λ m. m.id) nodes) (omega (arith, are.0.0), are.0.1) (nodes_hold height n.id.0 nodes are.2)
+
+above : (height : LmsHeight) (before : ℕ) (nodes : List NodeKey) → AreNodes height before nodes → All (λ (u : NodeId). before < u.0) (map (λ n. n.id) nodes)
+above height before [] are = All-nil (λ (u : NodeId). before < u.0)
+above height before (n ∷ nodes) are =
+    All-cons (λ (u : NodeId). before < u.0) n.id (map (λ m. m.id) nodes) are.0.0
+    (all_weaker (λ (u : NodeId). n.id.0 < u.0) (λ (u : NodeId). before < u.0) (map (λ m. m.id) nodes) (λ u far. omega (arith, far, are.0.0))
+    (above height n.id.0 nodes are.2))
+
+nodes_once : (height : LmsHeight) (before : ℕ) (nodes : List NodeKey) → AreNodes height before nodes → AllPairs Other (map (λ n. n.id) nodes)
+nodes_once height before [] are = λ i j d below within. absurd (omega (arith, within))
+nodes_once height before (n ∷ nodes) are =
+    AllPairs-cons Other n.id (map (λ m. m.id) nodes)
+    (all_weaker (λ (u : NodeId). n.id.0 < u.0) (Other n.id) (map (λ m. m.id) nodes) (λ u far same. omega (arith, far, ap (λ (w : NodeId). w.0) same))
+    (above height n.id.0 nodes are.2))
+    (nodes_once height n.id.0 nodes are.2)
+
+-- ---- the flows
+
+pairs_tail : {X : Type 0} (R : X → X → Type 0) (x : X) (xs : List X) → AllPairs R (x ∷ xs) → AllPairs R xs
+pairs_tail R x xs h = λ i j d below within. h (suc i) (suc j) d (omega (arith, below)) (omega (arith, within))
+
+pairs_head : {X : Type 0} (R : X → X → Type 0) (x : X) (xs : List X) → AllPairs R (x ∷ xs) → All (R x) xs
+pairs_head R x xs h = λ j d within. h 0 (suc j) d (omega arith) (omega (arith, within))
+
+all_join : {X : Type 0} (P : X → Type 0) (xs ys : List X) → All P xs → All P ys → All P (xs ++ ys)
+all_join P [] ys p q = q
+all_join P (x ∷ xs) ys p q = All-cons P x (xs ++ ys) (All-head P x xs p) (all_join P xs ys (All-tail P x xs p) q)
+
+pairs_join : {X : Type 0} (R : X → X → Type 0) (xs ys : List X) → AllPairs R xs → AllPairs R ys → All (λ x. All (R x) ys) xs → AllPairs R (xs ++ ys)
+pairs_join R [] ys one two across = two
+pairs_join R (x ∷ xs) ys one two across =
+    AllPairs-cons R x (xs ++ ys) (all_join (R x) xs ys (pairs_head R x xs one) (All-head (λ z. All (R z) ys) x xs across))
+    (pairs_join R xs ys (pairs_tail R x xs one) two (All-tail (λ z. All (R z) ys) x xs across))
+
+flow_to : NodeId → NodeId → Flow
+flow_to src dst = record { src = src; dst = dst }
+
+from_once : (src : NodeId) (dsts : List NodeId) → AllPairs Other dsts → AllPairs Differ (map (λ dst. record { src = src; dst = dst }) dsts)
+from_once src [] once = λ i j d below within. absurd (omega (arith, within))
+from_once src (v ∷ dsts) once =
+    AllPairs-cons Differ (record { src = src; dst = v }) (map (λ dst. record { src = src; dst = dst }) dsts)
+    (all_map (Other v) (Differ (record { src = src; dst = v })) (λ dst. record { src = src; dst = dst }) (λ u other same. other (ap (λ (f : Flow). f.dst) same)) dsts
+    (pairs_head Other v dsts once))
+    (from_once src dsts (pairs_tail Other v dsts once))
+
+has_src : (src : NodeId) (nodes : List NodeId) → All (λ (f : Flow). f.src ≡ src) (flows_from src nodes)
+has_src src nodes = go (filter (λ dst. not (dst.0 == src.0)) nodes)
+  where
+    go : (dsts : List NodeId) → All (λ (f : Flow). f.src ≡ src) (map (λ dst. record { src = src; dst = dst }) dsts)
+    go [] = All-nil (λ (f : Flow). f.src ≡ src)
+    go (v ∷ dsts) = All-cons (λ (f : Flow). f.src ≡ src) (record { src = src; dst = v }) (map (λ dst. record { src = src; dst = dst }) dsts) refl (go dsts)
+
+other_srcs : (src : NodeId) (nodes srcs : List NodeId) → All (Other src) srcs → All (λ (f : Flow). ¬ (src ≡ f.src)) (flat_map (λ s. flows_from s nodes) srcs)
+other_srcs src nodes [] others = All-nil (λ (f : Flow). ¬ (src ≡ f.src))
+other_srcs src nodes (s ∷ srcs) others =
+    subst (All (λ (f : Flow). ¬ (src ≡ f.src))) (sym (flat_map-cons (λ t. flows_from t nodes) s srcs))
+    (all_join (λ (f : Flow). ¬ (src ≡ f.src)) (flows_from s nodes) (flat_map (λ t. flows_from t nodes) srcs)
+    (all_weaker (λ (f : Flow). f.src ≡ s) (λ (f : Flow). ¬ (src ≡ f.src)) (flows_from s nodes)
+    (λ f is same. All-head (Other src) s srcs others (same ∙ is)) (has_src s nodes))
+    (other_srcs src nodes srcs (All-tail (Other src) s srcs others)))
+
+flows_once : (nodes srcs : List NodeId) → AllPairs Other nodes → AllPairs Other srcs → AllPairs Differ (flat_map (λ s. flows_from s nodes) srcs)
+flows_once nodes [] once each = λ i j d below within. absurd (omega (arith, within))
+flows_once nodes (s ∷ srcs) once each =
+    subst (AllPairs Differ) (sym (flat_map-cons (λ t. flows_from t nodes) s srcs))
+    (pairs_join Differ (flows_from s nodes) (flat_map (λ t. flows_from t nodes) srcs)
+    (from_once s (filter (λ dst. not (dst.0 == s.0)) nodes) (AllPairs-filter Other (λ dst. not (dst.0 == s.0)) nodes once))
+    (flows_once nodes srcs once (pairs_tail Other s srcs each))
+    (all_weaker (λ (f : Flow). f.src ≡ s) (λ (f : Flow). All (Differ f) (flat_map (λ t. flows_from t nodes) srcs)) (flows_from s nodes)
+    (λ f is. all_weaker (λ (g : Flow). ¬ (s ≡ g.src)) (Differ f) (flat_map (λ t. flows_from t nodes) srcs)
+    (λ g other same. other (sym is ∙ ap (λ (e : Flow). e.src) same))
+    (other_srcs s nodes srcs (pairs_head Other s srcs each)))
+    (has_src s nodes)))
+
+flows_in_range : (nodes srcs : List NodeId) → All IsNode nodes → All IsNode srcs → All (λ (f : Flow). IsNode f.src × IsNode f.dst) (flat_map (λ s. flows_from s nodes) srcs)
+flows_in_range nodes [] all each = All-nil (λ (f : Flow). IsNode f.src × IsNode f.dst)
+flows_in_range nodes (s ∷ srcs) all each =
+    subst (All (λ (f : Flow). IsNode f.src × IsNode f.dst)) (sym (flat_map-cons (λ t. flows_from t nodes) s srcs))
+    (all_join (λ (f : Flow). IsNode f.src × IsNode f.dst) (flows_from s nodes) (flat_map (λ t. flows_from t nodes) srcs)
+    (all_map IsNode (λ (f : Flow). IsNode f.src × IsNode f.dst) (λ dst. record { src = s; dst = dst }) (λ v is. (All-head IsNode s srcs each, is))
+    (filter (λ dst. not (dst.0 == s.0)) nodes) (all_filter IsNode (λ dst. not (dst.0 == s.0)) nodes all))
+    (flows_in_range nodes srcs all (All-tail IsNode s srcs each)))
+
+same_ends : (flows : List Flow) → map ends (map no_flow flows) ≡ flows
+same_ends [] = refl
+same_ends (f ∷ flows) = ap (λ (fs : List Flow). f ∷ fs) (same_ends flows)
+
+-- ---- the links
+
+small_id : (height : LmsHeight) (before : ℕ) (nodes : List NodeKey) (id : ℕ) → AreNodes height before nodes → has_id id (ids_of nodes) ≡ true → id ≤ MAX_NODES
+small_id height before [] id are e = absurd (cc)
+small_id height before (n ∷ nodes) id are e =
+    or_where (n.id.0 == id) (has_id id (ids_of nodes)) (λ is. let same : n.id.0 ≡ id = grind (arith, nat_tests, is) in omega (arith, same, are.0.1))
+    (small_id height n.id.0 nodes id are.2) e
+
+abbrev SmallId : NodeId × EdgeId → Type 0
+SmallId n = n.0.0 ≤ MAX_NODES
+
+neighbours_small : (ids : List ℕ) → ((id : ℕ) → has_id id ids ≡ true → id ≤ MAX_NODES) → (me place : ℕ) (before : ℕ × ℕ) (edges : List Edge)
+    → AreEdges ids before edges → All SmallId (neighbours_from me place edges)
+neighbours_small ids small me place before [] are = All-nil SmallId
+neighbours_small ids small me place before (e ∷ edges) are =
+    all_join SmallId (neighbour place (other_end me e)) (neighbours_from me (place + 1) edges) (one (other_end me e) (end_small me))
+    (neighbours_small ids small me (place + 1) _ edges are.2)
+  where
+    end_small : (me : ℕ) → IfSome (other_end me e) (λ (v : NodeId). v.0 ≤ MAX_NODES)
+    end_small me =
+        cond_either (λ (o : Option NodeId). IfSome o (λ (v : NodeId). v.0 ≤ MAX_NODES)) (e.low.0 == me) (Some e.high) _ (small e.high.0 are.0.high)
+        (cond_either (λ (o : Option NodeId). IfSome o (λ (v : NodeId). v.0 ≤ MAX_NODES)) (e.high.0 == me) (Some e.low) None (small e.low.0 are.0.low) tt)
+
+    one : (o : Option NodeId) → IfSome o (λ (v : NodeId). v.0 ≤ MAX_NODES) → All SmallId (neighbour place o)
+    one None is = All-nil SmallId
+    one (Some v) is = All-cons SmallId (v, record { 0 = place }) [] is (All-nil SmallId)
+
+links_hold : (f : Fixed) → IsNode f.me → f.boot < 2 ^ 64 → (ns : List (NodeId × EdgeId)) (keys : List (List ℕ)) → All SmallId ns
+    → All (LinkHolds 0) (map (link_of f) (zip ns keys))
+links_hold f me boot [] keys all = All-nil (LinkHolds 0)
+links_hold f me boot (n ∷ ns) [] all = All-nil (LinkHolds 0)
+links_hold f me boot (n ∷ ns) (key ∷ keys) all =
+    All-cons (LinkHolds 0) (link_of f (n, key)) (map (link_of f) (zip ns keys))
+    (record { me = omega (arith, me); peer = let small = All-head SmallId n ns all in omega (arith, small); boot = boot; peer_boot = omega arith; sent = omega arith })
+    (links_hold f me boot ns keys (All-tail SmallId n ns all))
+
+-- ---- the rest
+
+none_held : (P : ℕ → Kept → Type 0) (count row : ℕ) → IfSome (held_in (replicate count None) row) (P row)
+none_held P zero row = tt
+none_held P (suc count) zero = tt
+none_held P (suc count) (suc row) = none_held (λ i. P (suc i)) count row
+
+peers_hold : (k : Sizes) (ns : List Neighbour) → All (PrioPeerHolds k 0 0) (map (new_peer k.store) ns)
+peers_hold k [] = All-nil (PrioPeerHolds k 0 0)
+peers_hold k (n ∷ ns) =
+    All-cons (PrioPeerHolds k 0 0) (new_peer k.store n) (map (new_peer k.store) ns) (record {
+      store = record { last = omega arith; bounded = omega arith; capacity = omega arith; entries = All-nil (EntryHolds k 0) };
+      number = omega arith;
+      heard = omega arith;
+    }) (peers_hold k ns)
+
+pub boot_keeps : BootKeeps
+boot_keeps arts f signer keys buffer store boots =
+    let t = f.topology in
+    let n = booted f signer keys buffer store in
+    let k = sizes_of (λ o. IsTrue (is_signed arts n.fixed o)) n in
+    let nodes = nodes_hold t.height 0 t.nodes boots.topology.nodes in
+    let once = nodes_once t.height 0 t.nodes boots.topology.nodes in
+    let pairs = pairs_of (nodes_of t) in
+    record {
+      fixed = record {
+        me = refl;
+        edges = refl;
+        is_node = boots.me;
+        boot = boots.boot;
+        topology = boots.topology;
+        signature_len = refl;
+        short = boots.short;
+      };
+      now = omega arith;
+      calls = omega arith;
+      links = links_hold f boots.me boots.boot (neighbours_of f) keys
+          (neighbours_small (ids_of t.nodes) (λ id. small_id t.height 0 t.nodes id boots.topology.nodes) f.me.0 0 (0, 0) t.edges boots.topology.graph.are_edges);
+      signer = boots.signer;
+      parts = record {
+        weights = record { edges = refl; rows = λ row. none_held (UpdateHolds k signer.index) (2 * length t.edges) row };
+        prio = record {
+          me = refl;
+          nodes = nodes;
+          capacity = refl;
+          inbox = record { last = omega arith; bounded = omega arith; capacity = omega arith; entries = All-nil (EntryHolds k 0) };
+          peers = all_weaker (PrioPeerHolds k 0 0) (PrioPeerHolds k 0 _) (map (new_peer store) (map as_neighbour (neighbours_of f)))
+              (λ q. peer_more k 0 0 0 _ q (omega arith) (omega arith)) (peers_hold k (map as_neighbour (neighbours_of f)));
+          least = omega arith;
+          next = omega arith;
+        };
+        rel = record {
+          me = refl;
+          bound = refl;
+          nodes = nodes;
+          flows = all_map (λ (fl : Flow). IsNode fl.src × IsNode fl.dst) (FlowHolds k signer.index) no_flow (λ fl both. no_flow_holds k signer.index fl both.0 both.1) pairs
+              (flows_in_range (nodes_of t) (nodes_of t) nodes nodes);
+          once = subst (AllPairs Differ) (sym (same_ends pairs)) (flows_once (nodes_of t) (nodes_of t) once once);
+        };
+      };
+    }

@@ -1,0 +1,14 @@
+pub mod Boot
+pub mod Flows
+pub mod Frames
+pub mod Handles
+pub mod Links
+pub mod Lost
+pub mod Masks
+pub mod Own
+pub mod Priority
+pub mod Reliable
+pub mod Steps
+pub mod Tables
+pub mod Updates
+pub mod Worked

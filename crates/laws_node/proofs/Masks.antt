@@ -1,0 +1,78 @@
+-- The mask of an own message names edges alone, so it has room in its field.
+use Rattle.std.proofs.Common.{◌≡◌, ◌<◌, ◌≤◌, ℕ, zero, suc, ◌+◌, ◌*◌, ◌-◌, ◌^◌, ◌/◌, ◌%◌, false, List, [], ◌∷◌, length, Ok, refl, sym, ap, ◌∙◌, subst, arith}
+use Rattle.std.proofs.Math.Nat.{pow-suc}
+use Rattle.std.specs.Int.{bit_at}
+use Rattle.std.proofs.lemmas.Bool.Decides.{nat_tests}
+use Rattle.std.proofs.lemmas.Nat.Bits.{bit_at-lt, bit_at-suc, bit_at_lowest}
+use Rattle.std.proofs.lemmas.Option.{slice_get_past}
+use Rattle.sp_base.specs.declared.id.NodeId.{NodeId}
+use Rattle.sp_base.specs.declared.limits.TheConstants.{MAX_EDGES}
+use Rattle.sp_graph.specs.declared.graph.Graph.{Graph}
+use Rattle.sp_msg.specs.Views.{names_edge}
+use Rattle.sp_rules.specs.Masks.{IsChoice, IsMaskOf, all_edges, graph_of, is_used, weighed}
+use Rattle.sp_rules.specs.Weights.{WeightState}
+use Rattle.sp_topology.specs.declared.topology.Edge.{Edge}
+use Rattle.sp_topology.specs.declared.topology.Topology.{Topology}
+
+doubled : (k : ℕ) → 2 ^ suc k ≡ 2 ^ k * 2
+doubled k = pow-suc 2 k
+
+positive : (k : ℕ) → 1 ≤ 2 ^ k
+positive zero = omega arith
+positive (suc k) = let rest = positive k in omega (arith, rest, doubled k)
+
+below_its_power : (n : ℕ) → n < 2 ^ n
+below_its_power zero = omega arith
+below_its_power (suc n) = let rest = below_its_power n in omega (arith, rest, doubled n)
+
+-- a number without a bit from k on is below 2^k
+small : (m n k : ℕ) → n < 2 ^ m → ((i : ℕ) → k ≤ i → bit_at n i ≡ 0) → n < 2 ^ k
+small zero n k below none = omega (arith, below, positive k)
+small (suc m) n zero below none =
+    let half : n / 2 < 2 ^ m = omega (arith, below, doubled m) in
+    let rest = small m (n / 2) zero half (λ i from. sym (bit_at-suc n i) ∙ none (suc i) (omega arith)) in
+    let low : n % 2 ≡ 0 = sym (bit_at_lowest n) ∙ none 0 (omega arith) in
+    omega (arith, rest, low)
+small (suc m) n (suc k) below none =
+    let half : n / 2 < 2 ^ m = omega (arith, below, doubled m) in
+    let rest = small m (n / 2) k half (λ i from. sym (bit_at-suc n i) ∙ none (suc i) (omega (arith, from))) in
+    omega (arith, rest, doubled k)
+
+-- more edges, more room
+powers : (j k : ℕ) → 2 ^ j ≤ 2 ^ (j + k)
+powers j zero = let same : j + 0 ≡ j = omega arith in rw same (omega arith)
+powers j (suc k) =
+    let same : j + suc k ≡ suc (j + k) = omega arith in
+    let rest = powers j k in
+    rw same (omega (arith, rest, doubled (j + k)))
+
+no_bit : (n i : ℕ) → names_edge n i ≡ false → bit_at n i ≡ 0
+no_bit n i e = grind (arith, nat_tests, bit_at-lt n i)
+
+-- no edge stands after the last
+past_none : (g : Graph) (paths : List (List NodeId)) (mask : ℕ) → IsMaskOf g paths mask → (i : ℕ) → length g.edges ≤ i → bit_at mask i ≡ 0
+past_none g paths mask is i from =
+    no_bit mask i (is i ∙ ap (is_used paths) (slice_get_past g.edges i from))
+
+length_weighed : (w : WeightState) (place : ℕ) (edges : List Edge) → length (weighed w place edges) ≡ length edges
+length_weighed w place [] = refl
+length_weighed w place (e ∷ edges) = ap suc (length_weighed w (place + 1) edges)
+
+-- the mask that was chosen has room in its field
+pub mask_small : (t : Topology) (w : WeightState) (s d : NodeId) (count mask : ℕ) → length t.edges ≤ MAX_EDGES
+    → IsChoice (graph_of t w) s d count (Ok mask) → mask < 2 ^ MAX_EDGES
+mask_small t w s d count mask few is =
+    let long = length_weighed w 0 t.edges in
+    let room : 2 ^ length (weighed w 0 t.edges) ≤ 2 ^ MAX_EDGES =
+    let more = powers (length (weighed w 0 t.edges)) (MAX_EDGES - length (weighed w 0 t.edges)) in
+    let same : length (weighed w 0 t.edges) + (MAX_EDGES - length (weighed w 0 t.edges)) ≡ MAX_EDGES = omega (arith, few, long) in
+    subst (λ (n : ℕ). 2 ^ length (weighed w 0 t.edges) ≤ 2 ^ n) same more in
+    go count is room
+  where
+    go : (count : ℕ) → IsChoice (graph_of t w) s d count (Ok mask) → 2 ^ length (weighed w 0 t.edges) ≤ 2 ^ MAX_EDGES → mask < 2 ^ MAX_EDGES
+    go zero is room =
+        let same : mask ≡ all_edges (weighed w 0 t.edges) = cc in
+        omega (arith, same, room, positive (length (weighed w 0 t.edges)))
+    go (suc more) is room =
+        let below = small mask mask (length (weighed w 0 t.edges)) (below_its_power mask) (past_none (graph_of t w) is.paths mask is.mask_of) in
+        omega (arith, below, room)

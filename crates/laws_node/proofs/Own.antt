@@ -1,0 +1,182 @@
+-- What a node signs itself is in its ranges, and is valid.
+use Rattle.std.proofs.Common.{◌≡◌, ◌<◌, ◌≤◌, ℕ, ◌+◌, ◌^◌, ◌==◌, ◌||◌, not, nat_lt, Bool, true, false, List, length, Option, Some, None, Result, Ok, Err, refl, sym, ap, ◌∙◌, subst, arith, cond}
+use Rattle.std.specs.Prelude.{IsTrue}
+use Rattle.std.proofs.lemmas.Bool.Decides.{nat_tests}
+use Rattle.sp_base.specs.Cursor.{or_else}
+use Rattle.sp_base.specs.declared.id.Flow.{Flow}
+use Rattle.sp_base.specs.declared.id.NodeId.{NodeId}
+use Rattle.sp_base.specs.declared.limits.TheConstants.{MAX_EDGES, MAX_PAYLOAD_BYTES, MAX_WEIGHT}
+use Rattle.sp_msg.specs.Bodies.{HasGoodFields, encoded}
+use Rattle.sp_msg.specs.Views.{signer_of}
+use Rattle.sp_msg.specs.declared.body.Body.{Body}
+use Rattle.sp_msg.specs.declared.body.Body.TheVariants as bodies
+use Rattle.sp_msg.specs.declared.kept.Kept.{Kept}
+use Rattle.sp_msg.specs.declared.refused.SendRefused.{SendRefused}
+use Rattle.sp_msg.specs.declared.refused.SendRefused.TheVariants as refusals
+use Rattle.sp_rules.proofs.FlowJudged.{both_nodes, found_ends, room_is}
+use Rattle.sp_rules.specs.Arts.{Arts}
+use Rattle.sp_rules.specs.Masks.{IsChoice, graph_of}
+use Rattle.sp_rules.specs.Node.{NodeState, Signer, signed_now}
+use Rattle.sp_rules.specs.Parts.{edge_to, is_signed, is_signed_by}
+use Rattle.sp_rules.specs.Prio.{is_node}
+use Rattle.sp_rules.specs.Rel.{IsNextOwn, flow_in, own_flow, room}
+use Rattle.sp_rules.specs.Sends.{PrioSend, edge_or, mask_in, no_paths, no_room, prio_body, prio_refusal, rel_body, rel_refusal, send_prio_refusal, signer_refusal, weight_body, weight_refusal, weight_refusal_at}
+use Rattle.sp_rules.specs.Weights.{minimum, next_seq, row_for, row_in}
+use Rattle.sp_rules.specs.declared.rel.RelRefused.{RelRefused}
+use Rattle.sp_rules.specs.declared.rel.RelRefused.TheVariants as rels
+use Rattle.sp_rules.specs.declared.weights.TheConstants.{MAX_OWN_HEARD}
+use Rattle.sp_topology.specs.Neighbours.{joins}
+use Rattle.sp_topology.specs.Keys.{key_of}
+use Rattle.sp_topology.specs.declared.topology.Edge.{Edge}
+use Rattle.laws_node.specs.Inputs.{ArtsFit, PrioSendFits}
+use Rattle.laws_node.specs.Nodes.{NodeHolds, SignerHolds}
+use Rattle.laws_node.specs.Sizes.{Fits, Sizes}
+use Rattle.laws_node.specs.Updates.{OwnUpTo}
+use Rattle.laws_node.proofs.Masks.{mask_small}
+use Rattle.laws_node.proofs.Reliable.{in_range, read}
+use Rattle.laws_node.proofs.Updates.{own_next_seq, own_row, place_within}
+
+-- ---- the signer goes on
+
+either : (o : Option SendRefused) (p : Option SendRefused) → or_else o p ≡ None → (o ≡ None) × (p ≡ None)
+either None p e = (refl, e)
+either (Some x) p e = absurd (cc)
+
+if_none : (t : Bool) (x : SendRefused) (o : Option SendRefused) → cond t (Some x) o ≡ None → (t ≡ false) × (o ≡ None)
+if_none true x o e = absurd (cc)
+if_none false x o e = (refl, e)
+
+pub free : (s : Signer) → SignerHolds s → signer_refusal s ≡ None → s.index < s.bound
+free s h e =
+    let one = if_none (s.index == s.total) (refusals.Spent s.index) _ e in
+    let two = if_none (s.index == s.bound) (refusals.NotReserved s.bound) None one.1 in
+    grind (arith, nat_tests, two.0, h.index)
+
+-- an own message is in its ranges and has its signature
+pub own_fits : (arts : Arts) (n : NodeState) (k : Sizes) (body : Body) → ArtsFit arts n.fixed n.signer.seed → n.fixed.signature_len ≡ k.signature_len
+    → ((o : Kept) → IsTrue (is_signed arts n.fixed o) → k.keeps o) → signer_of body ≡ n.fixed.me → HasGoodFields body → Fits k (signed_now arts n body)
+own_fits arts n k body arts_fit long trusts mine fields = record {
+  fields = fields;
+  long = arts_fit.long n.signer.index (encoded body) ∙ long;
+  holds = trusts (signed_now arts n body) (is_valid (key_of (signer_of body).0 n.fixed.topology.nodes)
+      (ap (λ (u : NodeId). key_of u.0 n.fixed.topology.nodes) mine ∙ arts_fit.is_mine));
+}
+  where
+    is_valid : (key : Option (List ℕ)) → key ≡ Some arts_fit.key → IsTrue (is_signed_by arts key (encoded body) (signed_now arts n body).signature)
+    is_valid key is = subst (λ (o : Option (List ℕ)). IsTrue (is_signed_by arts o (encoded body) (signed_now arts n body).signature)) (sym is)
+        (arts_fit.valid n.signer.index (encoded body))
+
+-- ---- a reliable message
+
+there_is_room : (r : Result ℕ RelRefused) → no_room r ≡ None → (number : ℕ) × (r ≡ Ok number)
+there_is_room (Ok number) e = (number, refl)
+there_is_room (Err rels.BadEnd) e = absurd (cc)
+there_is_room (Err (rels.Full base have)) e = absurd (cc)
+there_is_room (Err rels.Memory) e = absurd (cc)
+
+pub record RelSent (k : Sizes) (n : NodeState) (dst : NodeId) (payload : List ℕ) : Type 0 where
+  pub free : signer_refusal n.signer ≡ None
+  pub next : IsNextOwn n.parts.rel (rel_body n dst payload)
+  pub fields : HasGoodFields (rel_body n dst payload)
+
+pub rel_sent_fits : (k : Sizes) (n : NodeState) (dst : NodeId) (payload : List ℕ) → length payload ≤ MAX_PAYLOAD_BYTES → rel_refusal n dst ≡ None
+    → NodeHolds k n → RelSent k n dst payload
+rel_sent_fits k n dst payload short e h =
+    let r = n.parts.rel in
+    let both = either (no_room (room r dst)) (signer_refusal n.signer) e in
+    let number = there_is_room (room r dst) both.0 in
+    let facts = room_is r dst number.0 number.1 in
+    let nodes = both_nodes r (own_flow r dst) r.me dst facts.0 in
+    let me_too : r.me ≡ n.fixed.me = h.parts.rel.me ∙ sym h.fixed.me in
+    let to = in_range r.nodes dst h.parts.rel.nodes nodes.1 in
+    let from = in_range r.nodes r.me h.parts.rel.nodes nodes.0 in
+    let f = flow_in r.flows (own_flow r dst) in
+    let there = read k n.signer.index r.flows (own_flow r dst) from to h.parts.rel.flows in
+    let same : f.src.0 ≡ k.me.0 = ap (λ (e : Flow). e.src.0) (found_ends r.flows (own_flow r dst)) ∙ ap (λ (u : NodeId). u.0) h.parts.rel.me in
+    let own = there.own (is_same f.src.0 k.me.0 same) in
+    record {
+      free = both.1;
+      next = (sym me_too, number.1 ∙ ap (λ (q : ℕ). Ok q) facts.1);
+      fields = (h.fixed.is_node, (to, ((omega arith, omega (arith, own, h.signer.index, h.signer.bound, h.signer.total)), ((omega arith, short), tt))));
+    }
+  where
+    is_same : (a b : ℕ) → a ≡ b → (a == b) ≡ true
+    is_same a b e = grind (arith, nat_tests, e)
+
+-- ---- a priority message
+
+pub record PrioSent (n : NodeState) (m : PrioSend) (choice : Result ℕ ℕ) : Type 0 where
+  pub free : signer_refusal n.signer ≡ None
+  pub fields : HasGoodFields (prio_body n m (mask_in choice))
+
+split : (a b : Bool) → (a || not b) ≡ false → b ≡ true
+split true b e = absurd (cc)
+split false true e = refl
+split false false e = absurd (cc)
+
+mask_fits : (k : Sizes) (n : NodeState) (m : PrioSend) (choice : Result ℕ ℕ) → no_paths choice ≡ None → NodeHolds k n
+    → IsChoice (graph_of n.fixed.topology n.parts.weights) n.fixed.me m.dst m.paths choice → mask_in choice < 2 ^ MAX_EDGES
+mask_fits k n m (Ok mask) e h is = mask_small n.fixed.topology n.parts.weights n.fixed.me m.dst m.paths mask h.fixed.topology.graph.edge_count is
+mask_fits k n m (Err found) e h is = absurd (cc)
+
+pub prio_sent_fits : (k : Sizes) (n : NodeState) (m : PrioSend) (choice : Result ℕ ℕ) → PrioSendFits m → send_prio_refusal n m choice ≡ None
+    → IsChoice (graph_of n.fixed.topology n.parts.weights) n.fixed.me m.dst m.paths choice → NodeHolds k n → PrioSent n m choice
+prio_sent_fits k n m choice fits e is h =
+    let both = either (prio_refusal n m) (no_paths choice) e in
+    let one = if_none ((m.dst.0 == n.fixed.me.0) || not (is_node n.parts.prio.nodes m.dst.0)) refusals.BadEnd _ both.0 in
+    let two = if_none (nat_lt m.expiry n.now) (refusals.Expired n.now) (signer_refusal n.signer) one.1 in
+    let node = split (m.dst.0 == n.fixed.me.0) (is_node n.parts.prio.nodes m.dst.0) one.0 in
+    let to = in_range n.parts.prio.nodes m.dst h.parts.prio.nodes node in
+    let mask = mask_fits k n m choice both.1 h is in
+    record {
+      free = two.1;
+      fields = (
+        h.fixed.is_node,
+        (
+          to,
+          (
+            (h.parts.prio.least, omega (arith, h.parts.prio.next, h.signer.index, h.signer.bound, h.signer.total)),
+            ((fits.0, fits.1), (omega (arith, fits.2), ((omega arith, omega (arith, mask)), ((omega arith, fits.3), tt)))),
+          ),
+        ),
+      );
+    }
+
+-- ---- a weight
+
+pub record WeightSent (k : Sizes) (n : NodeState) (v : NodeId) (weight : ℕ) : Type 0 where
+  pub free : signer_refusal n.signer ≡ None
+  pub fields : HasGoodFields (weight_body n v weight)
+  pub row : ℕ
+  pub place : row_for k.edges (weight_body n v weight) ≡ Some row
+  pub own : OwnUpTo k.me (MAX_OWN_HEARD + (n.signer.index + 1)) (weight_body n v weight)
+
+pub weight_sent_fits : (k : Sizes) (n : NodeState) (v : NodeId) (weight : ℕ) → 1 ≤ weight → weight ≤ MAX_WEIGHT → weight_refusal n v weight ≡ None
+    → NodeHolds k n → WeightSent k n v weight
+weight_sent_fits k n v weight least most e h = go (edge_to n.fixed v) refl e
+  where
+    at : (edge : ℕ) → edge_to n.fixed v ≡ Some edge → signer_refusal n.signer ≡ None → WeightSent k n v weight
+    at edge is free =
+        let body = bodies.Weight (record { origin = n.fixed.me; edge = record { 0 = edge }; seq = next_seq n.parts.weights edge n.fixed.me.0; weight = weight }) in
+        let same : weight_body n v weight ≡ body =
+        ap (λ (o : Option ℕ). bodies.Weight (record { origin = n.fixed.me; edge = record { 0 = edge_or o }; seq = next_seq n.parts.weights (edge_or o) n.fixed.me.0; weight = weight })) is in
+        let number = subst (λ (u : NodeId). (1 ≤ next_seq n.parts.weights edge u.0) × (next_seq n.parts.weights edge u.0 ≤ MAX_OWN_HEARD + n.signer.index + 1)) (sym h.fixed.me)
+        (own_next_seq k n.signer.index edge n.parts.weights h.parts.weights) in
+        let row = own_row n.fixed.topology.edges edge n.fixed.me.0 v.0 is in
+        let within = place_within (joins n.fixed.me.0 v.0) n.fixed.topology.edges edge is in
+        record {
+          free = free;
+          fields = subst HasGoodFields (sym same) (
+            h.fixed.is_node,
+            ((omega arith, omega (arith, within, h.fixed.topology.graph.edge_count)), ((number.0, omega (arith, number.1, h.signer.index, h.signer.bound, h.signer.total)), ((least, most), tt))),
+          );
+          row = row.0;
+          place = subst (λ (b : Body). row_for k.edges b ≡ Some row.0) (sym same) (ap (λ (es : List Edge). row_in es edge n.fixed.me.0) (sym h.fixed.edges) ∙ row.1);
+          own = subst (OwnUpTo k.me (MAX_OWN_HEARD + (n.signer.index + 1))) (sym same) (λ mine. omega (arith, number.1));
+        }
+
+    go : (o : Option ℕ) → edge_to n.fixed v ≡ o → weight_refusal_at n o weight ≡ None → WeightSent k n v weight
+    go None is e = absurd (cc)
+    go (Some edge) is e =
+        let low = if_none (nat_lt weight (minimum n.parts.weights edge)) (refusals.Low (minimum n.parts.weights edge)) (signer_refusal n.signer) e in
+        at edge is low.1

@@ -1,0 +1,421 @@
+-- What each step of a node keeps: one lemma for each case.
+use Rattle.std.proofs.Common.{◌≡◌, ◌<◌, ◌≤◌, ℕ, ◌+◌, ◌^◌, ◌==◌, not, Bool, true, false, List, [], ◌∷◌, ◌++◌, length, map, Option, Some, None, Result, Ok, Err, refl, sym, ◌∙◌, subst, arith, cond}
+use Rattle.std.specs.Prelude.{IfSome, IsTrue}
+use Rattle.std.specs.List.{All}
+use Rattle.std.proofs.lemmas.Bool.Decides.{nat_tests}
+use Rattle.std.proofs.lemmas.List.Elements.{All-cons, All-head, All-tail}
+use Rattle.sp_base.specs.Spelling.{AreBytes}
+use Rattle.sp_base.specs.declared.id.NodeId.{NodeId}
+use Rattle.sp_frame.specs.Objects.{IsObject}
+use Rattle.sp_frame.specs.Ranges.{IsContents, IsNumbered, IsReport}
+use Rattle.sp_frame.specs.Reliable.{Report}
+use Rattle.sp_frame.specs.Sections.{Contents}
+use Rattle.sp_frame.specs.Views.{as_list}
+use Rattle.sp_frame.specs.declared.kind.Kind.{Kind}
+use Rattle.sp_frame.specs.declared.kind.Kind.TheVariants as kinds
+use Rattle.sp_frame.specs.declared.refused.SectionRefused.{SectionRefused}
+use Rattle.sp_msg.specs.declared.body.Ack.{Ack}
+use Rattle.sp_msg.specs.declared.body.Body.TheVariants as bodies
+use Rattle.sp_msg.specs.declared.kept.Kept.{Kept}
+use Rattle.sp_msg.specs.declared.refused.SendRefused.{SendRefused}
+use Rattle.sp_rules.specs.Arrivals.{arrival_at, handled, link_after, pieces_in, pieces_where, reply_at, sections_in}
+use Rattle.sp_rules.specs.Arts.{Arts}
+use Rattle.sp_rules.specs.Link.{advanced}
+use Rattle.sp_rules.specs.Masks.{IsChoice, graph_of}
+use Rattle.sp_rules.specs.Node.{NodeState, Signer, call_refusal, called, is_neighbour, kept_or, link_in, signed_now, signed_once, with_link}
+use Rattle.sp_rules.specs.Parts.{Fixed, Parts, is_signed, place_of}
+use Rattle.sp_rules.specs.Pieces.{Piece, PrioAckPiece, WeightPiece, AckPiece, RelPiece, pieces_of, prio_piece, slot_pieces}
+use Rattle.sp_rules.specs.Polls.{polled}
+use Rattle.sp_rules.specs.Prio.{admit_prio}
+use Rattle.sp_rules.specs.Rel.{due, pushed_in, settled}
+use Rattle.sp_rules.specs.Sends.{PrioSend, after_take_prio, after_take_rel, mask_in, own_prio, prio_body, rel_body, rel_refusal, send_prio_refusal, signer_refusal, weight_body, weight_refusal}
+use Rattle.sp_rules.specs.Steps.{Input, NodeStep, Output, Poll, Datagram, Tick, SendRel, SendPrio, SetWeight, TakeRel, TakePrio}
+use Rattle.sp_rules.specs.Ticks.{after_tick, at_time, settled_by, time_after}
+use Rattle.sp_rules.specs.Weights.{held}
+use Rattle.sp_rules.specs.declared.node.LinkReply.{LinkReply}
+use Rattle.sp_rules.specs.declared.node.LinkReply.TheVariants as replies
+use Rattle.sp_rules.specs.declared.node.NodeRefused.{NodeRefused}
+use Rattle.sp_rules.specs.declared.node.NodeRefused.TheVariants as refusals
+use Rattle.sp_rules.specs.declared.node.TheConstants.{MAX_CALLS}
+use Rattle.sp_base.specs.declared.limits.TheConstants.{MAX_PAYLOAD_BYTES, MAX_WEIGHT}
+use Rattle.laws_node.specs.Inputs.{ArtsFit, InputFits, PrioSendFits}
+use Rattle.laws_node.specs.Laws.{EachStepKeeps, ExtendKeeps}
+use Rattle.laws_node.specs.Nodes.{IsKept, NodeHolds, PartsHold, SignerHolds}
+use Rattle.laws_node.specs.Sizes.{Sizes, ids_after, most_messages}
+use Rattle.laws_node.proofs.Handles.{AllFit, InRange, PieceFits, all_hold, messages, messages_in}
+use Rattle.laws_node.proofs.Links.{advanced_holds, link_after_holds, with_link_holds}
+use Rattle.laws_node.proofs.Own.{free, own_fits, prio_sent_fits, rel_sent_fits, weight_sent_fits}
+use Rattle.laws_node.proofs.Priority.{carried_holds, expired_holds, prio_more, sent_holds, taken_holds}
+use Rattle.laws_node.proofs.Reliable.{due_fits, pushed_in_holds, rel_more, served_holds, settled_holds, took_holds}
+use Rattle.laws_node.proofs.Tables.{all_weaker}
+use Rattle.laws_node.proofs.Updates.{held_holds, moved_holds, weights_more}
+
+-- ---- the sizes of a node are those of the one before
+
+-- what is asked under arts
+abbrev sizes_with : Arts → Fixed → (buffer store : ℕ) → Sizes
+sizes_with arts f buffer store =
+    record { me = f.me; edges = f.topology.edges; signature_len = f.signature_len; buffer = buffer; store = store; keeps = λ o. IsTrue (is_signed arts f o) }
+
+abbrev sizes_in : Arts → NodeState → Sizes
+sizes_in arts n = sizes_with arts n.fixed n.parts.rel.bound n.parts.prio.inbox.capacity
+
+-- the same sizes are read off what was kept
+renamed : (arts : Arts) (f : Fixed) (buffer store : ℕ) (n : NodeState) → n.fixed ≡ f → NodeHolds (sizes_with arts f buffer store) n → IsKept arts n
+renamed arts f buffer store n same h =
+    subst (λ (c : ℕ). NodeHolds (sizes_with arts n.fixed n.parts.rel.bound c) n) (sym h.parts.prio.capacity)
+    (subst (λ (b : ℕ). NodeHolds (sizes_with arts n.fixed b store) n) (sym h.parts.rel.bound)
+    (subst (λ (g : Fixed). NodeHolds (sizes_with arts g buffer store) n) (sym same) h))
+
+-- ---- refusals
+
+or_kept : {R : Type 0} (arts : Arts) (old done : NodeState) (r : Option R) → IsKept arts old → (r ≡ None → IsKept arts done) → IsKept arts (kept_or r old done)
+or_kept arts old done (Some x) h new = h
+or_kept arts old done None h new = new refl
+
+if_none : (t : Bool) (x : NodeRefused) (o : Option NodeRefused) → cond t (Some x) o ≡ None → (t ≡ false) × (o ≡ None)
+if_none true x o e = absurd (cc)
+if_none false x o e = (refl, e)
+
+not_worn : (n : NodeState) (v : NodeId) → call_refusal n v ≡ None → n.calls ≤ MAX_CALLS → n.calls + 1 ≤ MAX_CALLS
+not_worn n v e most =
+    let one = if_none (not (is_neighbour n v)) refusals.NotNeighbour _ e in
+    let two = if_none (n.calls == MAX_CALLS) refusals.Worn None one.1 in
+    grind (arith, nat_tests, two.0, most)
+
+-- ---- a poll
+
+small_me : (k : Sizes) (n : NodeState) → NodeHolds k n → n.fixed.me.0 < 256
+small_me k n h = omega (arith, h.fixed.is_node)
+
+-- the parts after a poll or a datagram
+parts_called : (k : Sizes) (n : NodeState) (p : Parts) → PartsHold k (n.calls + 1) (ids_after n.calls n.signer.index) n.signer.index p
+    → PartsHold k (n.calls + 1) (ids_after (n.calls + 1) n.signer.index) n.signer.index p
+parts_called k n p h = record {
+  weights = h.weights;
+  prio = prio_more k (n.calls + 1) (n.calls + 1) (ids_after n.calls n.signer.index) (ids_after (n.calls + 1) n.signer.index) n.signer.index n.signer.index
+      p.prio (omega arith) (omega arith) (omega arith) h.prio;
+  rel = h.rel;
+}
+
+poll_keeps : (k : Sizes) (n : NodeState) (v : NodeId) → n.calls + 1 ≤ MAX_CALLS → NodeHolds k n
+    → NodeHolds k (called n (with_link n v (advanced (link_in n v))) (polled n.fixed n.parts v))
+poll_keeps k n v most h = record {
+  fixed = h.fixed;
+  now = h.now;
+  calls = most;
+  links = with_link_holds n n.calls v (advanced (link_in n v)) (small_me k n h) h.links (advanced_holds n.calls (link_in n v));
+  signer = h.signer;
+  parts = parts_called k n (polled n.fixed n.parts v) (record {
+    weights = moved_holds k n.signer.index n.parts.weights (place_of n.fixed v) h.parts.weights;
+    prio = carried_holds k n.calls (ids_after n.calls n.signer.index) n.signer.index n.parts.prio v.0 h.parts.prio;
+    rel = served_holds k n.signer.index n.parts.rel v h.parts.rel;
+  });
+}
+
+-- ---- a datagram
+
+all_pieces : (k : Sizes) (one : Kept → Piece) → ((o : Kept) → InRange k o → PieceFits k (one o)) → (os : List Kept) → All (InRange k) os → AllFit k (map one os)
+all_pieces k one fits [] all = tt
+all_pieces k one fits (o ∷ os) all = (fits o (All-head (InRange k) o os all), all_pieces k one fits os (All-tail (InRange k) o os all))
+
+join_fits : (k : Sizes) (ps qs : List Piece) → AllFit k ps → AllFit k qs → AllFit k (ps ++ qs)
+join_fits k [] qs one two = two
+join_fits k (p ∷ ps) qs one two = (one.0, join_fits k ps qs one.1 two)
+
+list_of : (k : Sizes) (o : Option Kept) → IfSome o (InRange k) → All (InRange k) (as_list o)
+list_of k None fits = λ i d within. absurd (omega (arith, within))
+list_of k (Some o) fits = All-cons (InRange k) o [] fits (λ i d within. absurd (omega (arith, within)))
+
+in_range : (k : Sizes) (kind : Kind) (len : ℕ) → len ≡ k.signature_len → (o : Kept) → IsObject kind len o → InRange k o
+in_range k kind len same o is = record { fields = is.fields; long = is.long ∙ same }
+
+prio_pieces : (k : Sizes) (len : ℕ) → len ≡ k.signature_len → (ms : List (ℕ × Kept)) → All (IsNumbered len) ms → AllFit k (map prio_piece ms)
+prio_pieces k len same [] all = tt
+prio_pieces k len same (m ∷ ms) all =
+    let first = All-head (IsNumbered len) m ms all in
+    ((first.number, in_range k kinds.Prio len same m.1 first.object), prio_pieces k len same ms (All-tail (IsNumbered len) m ms all))
+
+report_pieces : (k : Sizes) (len : ℕ) → len ≡ k.signature_len → (slot : Option Report) → IfSome slot (IsReport len) → AllFit k (slot_pieces slot)
+report_pieces k len same None is = tt
+report_pieces k len same (Some r) is = (
+  tt,
+  join_fits k (map (AckPiece r.flow) (as_list r.ack)) (map (RelPiece r.flow) r.rels)
+      (all_pieces k (AckPiece r.flow) (λ o fits. fits) (as_list r.ack) (list_of k r.ack (in_some r.ack is.ack)))
+      (all_pieces k (RelPiece r.flow) (λ o fits. fits) r.rels
+      (all_weaker (IsObject kinds.Rel len) (InRange k) r.rels (in_range k kinds.Rel len same) is.rels)),
+)
+  where
+    in_some : (o : Option Kept) → IfSome o (IsObject kinds.Ack len) → IfSome o (InRange k)
+    in_some None is = tt
+    in_some (Some o) is = in_range k kinds.Ack len same o is
+
+contents_fit : (k : Sizes) (len : ℕ) → len ≡ k.signature_len → (s : Contents) → IsContents len s → AllFit k (pieces_of s)
+contents_fit k len same s is =
+    join_fits k (map WeightPiece s.weights) _
+    (all_pieces k WeightPiece (λ o fits. fits) s.weights (all_weaker (IsObject kinds.Weight len) (InRange k) s.weights (in_range k kinds.Weight len same) is.weights))
+    (tt, join_fits k (map prio_piece s.prios) (slot_pieces s.slot) (prio_pieces k len same s.prios is.prios) (report_pieces k len same s.slot is.slot))
+
+-- how many priority messages are among them
+messages_both : (ps qs : List Piece) → messages (ps ++ qs) ≡ messages ps + messages qs
+messages_both [] qs = omega arith
+messages_both (p ∷ ps) qs = let rest = messages_both ps qs in omega (arith, rest)
+
+no_messages : (one : Kept → Piece) → ((o : Kept) → messages_in (one o) ≡ 0) → (os : List Kept) → messages (map one os) ≡ 0
+no_messages one none [] = refl
+no_messages one none (o ∷ os) = let rest = no_messages one none os in omega (arith, rest, none o)
+
+prio_messages : (ms : List (ℕ × Kept)) → messages (map prio_piece ms) ≡ length ms
+prio_messages [] = refl
+prio_messages (m ∷ ms) = let rest = prio_messages ms in omega (arith, rest)
+
+slot_messages : (slot : Option Report) → messages (slot_pieces slot) ≡ 0
+slot_messages None = refl
+slot_messages (Some r) =
+    let acks = no_messages (AckPiece r.flow) (λ o. refl) (as_list r.ack) in
+    let rels = no_messages (RelPiece r.flow) (λ o. refl) r.rels in
+    omega (arith, acks, rels, messages_both (map (AckPiece r.flow) (as_list r.ack)) (map (RelPiece r.flow) r.rels))
+
+few_messages : (len : ℕ) (s : Contents) → IsContents len s → messages (pieces_of s) ≤ most_messages
+few_messages len s is =
+    let weights = no_messages WeightPiece (λ o. refl) s.weights in
+    let prios = prio_messages s.prios in
+    let slot = slot_messages s.slot in
+    let inner = messages_both (map prio_piece s.prios) (slot_pieces s.slot) in
+    let outer = messages_both (map WeightPiece s.weights) (PrioAckPiece s.prio_ack ∷ (map prio_piece s.prios ++ slot_pieces s.slot)) in
+    omega (arith, weights, prios, slot, inner, outer, is.few_prios)
+
+-- pieces that fit, and few of them messages
+record FewFit (k : Sizes) (pieces : List Piece) : Type 0 where
+  fit : AllFit k pieces
+  few : messages pieces ≤ most_messages
+
+none_fit : (k : Sizes) → FewFit k []
+none_fit k = record { fit = tt; few = omega arith }
+
+sections_fit : (k : Sizes) (arts : Arts) (f : Fixed) (seed bytes : List ℕ) → ArtsFit arts f seed → AreBytes bytes → f.signature_len ≡ k.signature_len
+    → (s : Result Contents SectionRefused) → sections_in arts f bytes ≡ s → FewFit k (pieces_in s)
+sections_fit k arts f seed bytes fits are same (Ok s) is =
+    let contents = fits.sections bytes s are is in
+    record { fit = contents_fit k f.signature_len same s contents; few = few_messages f.signature_len s contents }
+sections_fit k arts f seed bytes fits are same (Err e) is = none_fit k
+
+where_fits : (k : Sizes) (pieces : List Piece) (reply : LinkReply) → FewFit k pieces → FewFit k (pieces_where reply pieces)
+where_fits k pieces replies.Fresh h = h
+where_fits k pieces replies.TooLong h = none_fit k
+where_fits k pieces (replies.Short short) h = none_fit k
+where_fits k pieces replies.Magic h = none_fit k
+where_fits k pieces replies.Version h = none_fit k
+where_fits k pieces replies.NotForMe h = none_fit k
+where_fits k pieces replies.BadTag h = none_fit k
+where_fits k pieces (replies.Learned boot) h = none_fit k
+where_fits k pieces (replies.Stale boot counter) h = none_fit k
+where_fits k pieces (replies.OtherTopology theirs) h = none_fit k
+where_fits k pieces (replies.Section refused) h = none_fit k
+
+parts_more : (k : Sizes) (numbers more ids further index : ℕ) (p : Parts) → numbers ≤ more → ids ≤ further → PartsHold k numbers ids index p
+    → PartsHold k more further index p
+parts_more k numbers more ids further index p one two h = record {
+  weights = h.weights;
+  prio = prio_more k numbers more ids further index index p.prio one two (omega arith) h.prio;
+  rel = h.rel;
+}
+
+datagram_keeps : (k : Sizes) (arts : Arts) (n : NodeState) (v : NodeId) (bytes : List ℕ) → ArtsFit arts n.fixed n.signer.seed → AreBytes bytes
+    → ((o : Kept) → IsTrue (is_signed arts n.fixed o) → k.keeps o) → n.calls + 1 ≤ MAX_CALLS → NodeHolds k n
+    → NodeHolds k (called n (with_link n v (link_after arts n v bytes)) (handled arts n v bytes).parts)
+datagram_keeps k arts n v bytes fits are trusts most h =
+    let pieces = where_fits k (pieces_in (sections_in arts n.fixed bytes)) (reply_at arts n v bytes)
+    (sections_fit k arts n.fixed n.signer.seed bytes fits are h.fixed.signature_len (sections_in arts n.fixed bytes) refl) in
+    let done = all_hold k arts (arrival_at n v) (record { me = h.fixed.me; signed = trusts }) n.calls (ids_after n.calls n.signer.index) n.signer.index n.parts
+    (pieces_where (reply_at arts n v bytes) (pieces_in (sections_in arts n.fixed bytes))) pieces.fit h.parts in
+    record {
+      fixed = h.fixed;
+      now = h.now;
+      calls = most;
+      links = with_link_holds n n.calls v (link_after arts n v bytes) (small_me k n h) h.links (link_after_holds arts n n.calls v bytes fits.heads are);
+      signer = h.signer;
+      parts = parts_more k n.calls (n.calls + 1) _ (ids_after (n.calls + 1) n.signer.index) n.signer.index (handled arts n v bytes).parts (omega arith)
+          (omega (arith, pieces.few)) done;
+    }
+
+-- ---- a signature was made
+
+signed_once_holds : (s : Signer) → s.index < s.bound → SignerHolds s → SignerHolds (record s { index = s.index + 1 })
+signed_once_holds s below h = record { index = omega (arith, below); bound = h.bound; total = h.total }
+
+rel_sent_keeps : (k : Sizes) (arts : Arts) (n : NodeState) (dst : NodeId) (payload : List ℕ) → ArtsFit arts n.fixed n.signer.seed
+    → length payload ≤ MAX_PAYLOAD_BYTES → ((o : Kept) → IsTrue (is_signed arts n.fixed o) → k.keeps o) → rel_refusal n dst ≡ None → NodeHolds k n
+    → NodeHolds k (signed_once n (record n.parts { rel = pushed_in n.parts.rel (signed_now arts n (rel_body n dst payload)) }))
+rel_sent_keeps k arts n dst payload fits short trusts e h =
+    let sent = rel_sent_fits k n dst payload short e h in
+    let own = own_fits arts n k (rel_body n dst payload) fits h.fixed.signature_len trusts refl sent.fields in
+    record {
+      fixed = h.fixed;
+      now = h.now;
+      calls = h.calls;
+      links = h.links;
+      signer = signed_once_holds n.signer (free n.signer h.signer sent.free) h.signer;
+      parts = record {
+        weights = weights_more k n.signer.index (n.signer.index + 1) n.parts.weights (omega arith) h.parts.weights;
+        prio = prio_more k n.calls n.calls (ids_after n.calls n.signer.index) (ids_after n.calls (n.signer.index + 1)) n.signer.index (n.signer.index + 1)
+            n.parts.prio (omega arith) (omega arith) (omega arith) h.parts.prio;
+        rel = pushed_in_holds k n.signer.index n.parts.rel (signed_now arts n (rel_body n dst payload)) sent.next own h.parts.rel;
+      };
+    }
+
+prio_sent_keeps : (k : Sizes) (arts : Arts) (n : NodeState) (m : PrioSend) (choice : Result ℕ ℕ) → ArtsFit arts n.fixed n.signer.seed
+    → PrioSendFits m → ((o : Kept) → IsTrue (is_signed arts n.fixed o) → k.keeps o) → send_prio_refusal n m choice ≡ None
+    → IsChoice (graph_of n.fixed.topology n.parts.weights) n.fixed.me m.dst m.paths choice → NodeHolds k n
+    → NodeHolds k (signed_once n (record n.parts { prio = admit_prio n.parts.prio (own_prio arts n m choice) None }))
+prio_sent_keeps k arts n m choice fits sizes trusts e is h =
+    let sent = prio_sent_fits k n m choice sizes e is h in
+    let own = own_fits arts n k (prio_body n m (mask_in choice)) fits h.fixed.signature_len trusts refl sent.fields in
+    record {
+      fixed = h.fixed;
+      now = h.now;
+      calls = h.calls;
+      links = h.links;
+      signer = signed_once_holds n.signer (free n.signer h.signer sent.free) h.signer;
+      parts = record {
+        weights = weights_more k n.signer.index (n.signer.index + 1) n.parts.weights (omega arith) h.parts.weights;
+        prio = prio_more k n.calls n.calls (ids_after n.calls n.signer.index + 1) (ids_after n.calls (n.signer.index + 1)) (n.signer.index + 1) (n.signer.index + 1)
+            _ (omega arith) (omega arith) (omega arith)
+            (sent_holds k n.calls (ids_after n.calls n.signer.index) n.signer.index n.parts.prio (own_prio arts n m choice) tt own refl h.parts.prio);
+        rel = rel_more k n.signer.index (n.signer.index + 1) n.parts.rel (omega arith) h.parts.rel;
+      };
+    }
+
+weight_sent_keeps : (k : Sizes) (arts : Arts) (n : NodeState) (v : NodeId) (weight : ℕ) → ArtsFit arts n.fixed n.signer.seed
+    → 1 ≤ weight → weight ≤ MAX_WEIGHT → ((o : Kept) → IsTrue (is_signed arts n.fixed o) → k.keeps o) → weight_refusal n v weight ≡ None → NodeHolds k n
+    → NodeHolds k (signed_once n (record n.parts { weights = held n.parts.weights (signed_now arts n (weight_body n v weight)) }))
+weight_sent_keeps k arts n v weight fits least most trusts e h =
+    let sent = weight_sent_fits k n v weight least most e h in
+    let own = own_fits arts n k (weight_body n v weight) fits h.fixed.signature_len trusts refl sent.fields in
+    record {
+      fixed = h.fixed;
+      now = h.now;
+      calls = h.calls;
+      links = h.links;
+      signer = signed_once_holds n.signer (free n.signer h.signer sent.free) h.signer;
+      parts = record {
+        weights = held_holds k n.signer.index (n.signer.index + 1) sent.row n.parts.weights (signed_now arts n (weight_body n v weight)) (omega arith)
+            (record { kind = tt; place = sent.place; fits = own; own = sent.own }) h.parts.weights;
+        prio = prio_more k n.calls n.calls (ids_after n.calls n.signer.index) (ids_after n.calls (n.signer.index + 1)) n.signer.index (n.signer.index + 1)
+            n.parts.prio (omega arith) (omega arith) (omega arith) h.parts.prio;
+        rel = rel_more k n.signer.index (n.signer.index + 1) n.parts.rel (omega arith) h.parts.rel;
+      };
+    }
+
+-- ---- a tick
+
+at_time_holds : (k : Sizes) (n : NodeState) (now : ℕ) → now < 2 ^ 64 → NodeHolds k n → NodeHolds k (at_time n now)
+at_time_holds k n now small h = record {
+  fixed = h.fixed;
+  now = omega (arith, small, h.now);
+  calls = h.calls;
+  links = h.links;
+  signer = h.signer;
+  parts = record {
+    weights = h.parts.weights;
+    prio = expired_holds k n.calls (ids_after n.calls n.signer.index) n.signer.index n.parts.prio (time_after n now) h.parts.prio;
+    rel = h.parts.rel;
+  };
+}
+
+settled_keeps : (k : Sizes) (arts : Arts) (n : NodeState) (ack : Ack) → ArtsFit arts n.fixed n.signer.seed
+    → ((o : Kept) → IsTrue (is_signed arts n.fixed o) → k.keeps o) → due n.parts.rel ≡ Some ack → signer_refusal n.signer ≡ None → NodeHolds k n
+    → NodeHolds k (signed_once n (record n.parts { rel = settled n.parts.rel (signed_now arts n (bodies.Ack ack)) }))
+settled_keeps k arts n ack fits trusts is e h =
+    let facts = due_fits k n.signer.index n.parts.rel ack is h.parts.rel in
+    let own = own_fits arts n k (bodies.Ack ack) fits h.fixed.signature_len trusts (facts.mine ∙ sym h.fixed.me) facts.fields in
+    record {
+      fixed = h.fixed;
+      now = h.now;
+      calls = h.calls;
+      links = h.links;
+      signer = signed_once_holds n.signer (free n.signer h.signer e) h.signer;
+      parts = record {
+        weights = weights_more k n.signer.index (n.signer.index + 1) n.parts.weights (omega arith) h.parts.weights;
+        prio = prio_more k n.calls n.calls (ids_after n.calls n.signer.index) (ids_after n.calls (n.signer.index + 1)) n.signer.index (n.signer.index + 1)
+            n.parts.prio (omega arith) (omega arith) (omega arith) h.parts.prio;
+        rel = rel_more k n.signer.index (n.signer.index + 1) _ (omega arith)
+            (settled_holds k n.signer.index n.parts.rel ack (signed_now arts n (bodies.Ack ack)) is refl own h.parts.rel);
+      };
+    }
+
+tick_keeps : (arts : Arts) (n : NodeState) (now : ℕ) → ArtsFit arts n.fixed n.signer.seed → now < 2 ^ 64 → IsKept arts n → IsKept arts (after_tick arts n now)
+tick_keeps arts n now fits small h = go (due n.parts.rel) refl (signer_refusal n.signer) refl
+  where
+    later : IsKept arts (at_time n now)
+    later = renamed arts n.fixed n.parts.rel.bound n.parts.prio.inbox.capacity (at_time n now) refl (at_time_holds (sizes_in arts n) n now small h)
+
+    go : (o : Option Ack) → due n.parts.rel ≡ o → (r : Option SendRefused) → signer_refusal n.signer ≡ r → IsKept arts (settled_by arts (at_time n now) o r)
+    go None is r e = later
+    go (Some ack) is (Some refusal) e = later
+    go (Some ack) is None e =
+        let m = at_time n now in
+        renamed arts m.fixed m.parts.rel.bound m.parts.prio.inbox.capacity _ refl (settled_keeps (sizes_in arts m) arts m ack fits (λ o right. right) is e later)
+
+-- ---- all cases
+
+trusting : (arts : Arts) (n : NodeState) (o : Kept) → IsTrue (is_signed arts n.fixed o) → (sizes_in arts n).keeps o
+trusting arts n o right = right
+
+step : (arts : Arts) (n : NodeState) (input : Input) (output : Output) (new : NodeState) → ArtsFit arts n.fixed n.signer.seed → InputFits input
+    → NodeStep arts n input output new → IsKept arts n → IsKept arts new
+step arts n (Poll v) output new fits input s h =
+    subst (IsKept arts) (sym s.1) (or_kept arts n _ (call_refusal n v) h
+    (λ e. renamed arts n.fixed n.parts.rel.bound n.parts.prio.inbox.capacity _ refl (poll_keeps (sizes_in arts n) n v (not_worn n v e h.calls) h)))
+step arts n (Datagram v bytes) output new fits input s h =
+    subst (IsKept arts) (sym s.1) (or_kept arts n _ (call_refusal n v) h
+    (λ e. renamed arts n.fixed n.parts.rel.bound n.parts.prio.inbox.capacity _ refl
+    (datagram_keeps (sizes_in arts n) arts n v bytes fits input (trusting arts n) (not_worn n v e h.calls) h)))
+step arts n (Tick now) output new fits input s h = subst (IsKept arts) (sym s.1) (tick_keeps arts n now fits input h)
+step arts n (SendRel dst payload) output new fits input s h =
+    subst (IsKept arts) (sym s.1) (or_kept arts n _ (rel_refusal n dst) h
+    (λ e. renamed arts n.fixed n.parts.rel.bound n.parts.prio.inbox.capacity _ refl
+    (rel_sent_keeps (sizes_in arts n) arts n dst payload fits input (trusting arts n) e h)))
+step arts n (SendPrio m) output new fits input s h =
+    subst (IsKept arts) (sym s.new_is) (or_kept arts n _ (send_prio_refusal n m s.choice) h
+    (λ e. renamed arts n.fixed n.parts.rel.bound n.parts.prio.inbox.capacity _ refl
+    (prio_sent_keeps (sizes_in arts n) arts n m s.choice fits input (trusting arts n) e s.is_choice h)))
+step arts n (SetWeight v weight) output new fits input s h =
+    subst (IsKept arts) (sym s.1) (or_kept arts n _ (weight_refusal n v weight) h
+    (λ e. renamed arts n.fixed n.parts.rel.bound n.parts.prio.inbox.capacity _ refl
+    (weight_sent_keeps (sizes_in arts n) arts n v weight fits input.0 input.1 (trusting arts n) e h)))
+step arts n (TakeRel src) output new fits input s h =
+    subst (IsKept arts) (sym s.1) (renamed arts n.fixed n.parts.rel.bound n.parts.prio.inbox.capacity (after_take_rel n src) refl (record {
+      fixed = h.fixed;
+      now = h.now;
+      calls = h.calls;
+      links = h.links;
+      signer = h.signer;
+      parts = record { weights = h.parts.weights; prio = h.parts.prio; rel = took_holds (sizes_in arts n) n.signer.index n.parts.rel src h.parts.rel };
+    }))
+step arts n TakePrio output new fits input s h =
+    subst (IsKept arts) (sym s.1) (renamed arts n.fixed n.parts.rel.bound n.parts.prio.inbox.capacity (after_take_prio n) refl (record {
+      fixed = h.fixed;
+      now = h.now;
+      calls = h.calls;
+      links = h.links;
+      signer = h.signer;
+      parts = record {
+        weights = h.parts.weights;
+        prio = taken_holds (sizes_in arts n) n.calls (ids_after n.calls n.signer.index) n.signer.index n.parts.prio h.parts.prio;
+        rel = h.parts.rel;
+      };
+    }))
+
+pub each_step_keeps : EachStepKeeps
+each_step_keeps = step
+
+pub extend_keeps : ExtendKeeps
+extend_keeps arts n upto above within h = record {
+  fixed = h.fixed;
+  now = h.now;
+  calls = h.calls;
+  links = h.links;
+  signer = record { index = omega (arith, above, h.signer.index); bound = within; total = h.signer.total };
+  parts = h.parts;
+}

@@ -1,0 +1,46 @@
+-- What is asked of the arts and of what comes to a node, so that what it keeps holds.
+use Rattle.std.specs.Prelude.{ℕ, ◌≡◌, ◌<◌, ◌≤◌, ◌^◌, IsTrue, List, Ok, Some, length}
+use Rattle.sp_base.specs.Spelling.{AreBytes}
+use Rattle.sp_base.specs.declared.limits.TheConstants.{MAX_PAYLOAD_BYTES, MAX_PRIORITY, MAX_WEIGHT}
+use Rattle.sp_frame.specs.Ranges.{IsContents, IsHead}
+use Rattle.sp_frame.specs.Sections.{Contents}
+use Rattle.sp_rules.specs.Arts.{Arts}
+use Rattle.sp_rules.specs.Node.{Signer}
+use Rattle.sp_rules.specs.Parts.{Fixed}
+use Rattle.sp_rules.specs.Sends.{PrioSend}
+use Rattle.sp_rules.specs.Steps.{Input, Poll, Datagram, Tick, SendRel, SendPrio, SetWeight, TakeRel, TakePrio}
+use Rattle.sp_topology.specs.Keys.{key_of}
+use Rattle.sp_topology.specs.Ranges.{IsTopology}
+use Rattle.laws_node.specs.Nodes.{SignerHolds}
+use Rattle.laws_node.specs.Sizes.{IsNode}
+
+-- the arts fit a node: signatures are of one length, and the own ones are valid; what is read of bytes is in its ranges
+pub record ArtsFit (arts : Arts) (f : Fixed) (seed : List ℕ) : Type 0 where
+  pub long : (index : ℕ) (message : List ℕ) → length (arts.sign f.topology.height seed index message) ≡ f.signature_len
+  pub key : List ℕ
+  pub is_mine : key_of f.me.0 f.topology.nodes ≡ Some key
+  pub valid : (index : ℕ) (message : List ℕ) → IsTrue (arts.valid key message (arts.sign f.topology.height seed index message))
+  pub heads : (bytes : List ℕ) → AreBytes bytes → IsHead (arts.head bytes)
+  pub sections : (bytes : List ℕ) (s : Contents) → AreBytes bytes → arts.sections f.signature_len bytes ≡ Ok s → IsContents f.signature_len s
+
+abbrev pub PrioSendFits : PrioSend → Type 0
+PrioSendFits m = (1 ≤ m.prio) × (m.prio ≤ MAX_PRIORITY) × (m.expiry < 2 ^ 64) × (length m.payload ≤ MAX_PAYLOAD_BYTES)
+
+-- what comes is in its ranges
+abbrev pub InputFits : Input → Type 0
+InputFits (Poll to) = Unit {0}
+InputFits (Datagram from bytes) = AreBytes bytes
+InputFits (Tick now) = now < 2 ^ 64
+InputFits (SendRel dst payload) = length payload ≤ MAX_PAYLOAD_BYTES
+InputFits (SendPrio message) = PrioSendFits message
+InputFits (SetWeight peer weight) = (1 ≤ weight) × (weight ≤ MAX_WEIGHT)
+InputFits (TakeRel src) = Unit {0}
+InputFits TakePrio = Unit {0}
+
+-- what a life begins with is in its ranges
+pub record Boots (f : Fixed) (s : Signer) : Type 0 where
+  pub me : IsNode f.me
+  pub boot : f.boot < 2 ^ 64
+  pub topology : IsTopology f.topology
+  pub short : f.signature_len < 65536
+  pub signer : SignerHolds s

@@ -1,0 +1,28 @@
+-- What each step of a node keeps.
+use Rattle.std.specs.Prelude.{ℕ, ◌≤◌, List}
+use Rattle.sp_base.specs.declared.id.NodeId.{NodeId}
+use Rattle.sp_frame.specs.Ranges.{IsContents}
+use Rattle.sp_rules.specs.Arts.{Arts}
+use Rattle.sp_rules.specs.Node.{NodeState, Signer, booted, extended}
+use Rattle.sp_rules.specs.Parts.{Fixed}
+use Rattle.sp_rules.specs.Polls.{contents_to}
+use Rattle.sp_rules.specs.Steps.{Input, NodeStep, Output}
+use Rattle.laws_node.specs.Inputs.{ArtsFit, Boots, InputFits}
+use Rattle.laws_node.specs.Nodes.{IsKept}
+
+-- whatever is called, and whatever arrives
+abbrev pub EachStepKeeps : Type 0
+EachStepKeeps = (arts : Arts) (old : NodeState) (input : Input) (output : Output) (new : NodeState)
+    → ArtsFit arts old.fixed old.signer.seed → InputFits input → NodeStep arts old input output new → IsKept arts old → IsKept arts new
+
+-- the start of a life
+abbrev pub BootKeeps : Type 0
+BootKeeps = (arts : Arts) (f : Fixed) (signer : Signer) (keys : List (List ℕ)) (buffer store : ℕ) → Boots f signer → IsKept arts (booted f signer keys buffer store)
+
+-- more indexes are reserved
+abbrev pub ExtendKeeps : Type 0
+ExtendKeeps = (arts : Arts) (n : NodeState) (upto : ℕ) → n.signer.bound ≤ upto → upto ≤ n.signer.total → IsKept arts n → IsKept arts (extended n upto)
+
+-- what a poll writes is in the ranges of a frame, so it is read back as it is
+abbrev pub FramesFit : Type 0
+FramesFit = (arts : Arts) (n : NodeState) (v : NodeId) → IsKept arts n → IsContents n.fixed.signature_len (contents_to n.fixed n.parts v)

@@ -1,0 +1,9 @@
+pub mod Acknowledgement
+pub mod Flows
+pub mod Inputs
+pub mod Laws
+pub mod Nodes
+pub mod Sizes
+pub mod Stores
+pub mod Story
+pub mod Updates

@@ -1,0 +1,64 @@
+-- What a node keeps after any steps: within its bounds, each thing in its place, in its ranges, and counted.
+use Rattle.std.specs.Prelude.{ℕ, ◌≡◌, ◌<◌, ◌≤◌, ◌^◌, IsTrue}
+use Rattle.std.specs.List.{All}
+use Rattle.sp_msg.specs.declared.kept.Kept.{Kept}
+use Rattle.sp_rules.specs.Arts.{Arts}
+use Rattle.sp_rules.specs.Link.{Link}
+use Rattle.sp_rules.specs.Node.{NodeState, Signer}
+use Rattle.sp_rules.specs.Parts.{Fixed, Parts, is_signed}
+use Rattle.sp_rules.specs.declared.node.TheConstants.{MAX_CALLS}
+use Rattle.sp_topology.specs.Ranges.{IsTopology}
+use Rattle.laws_node.specs.Flows.{RelHolds}
+use Rattle.laws_node.specs.Sizes.{IsNode, Sizes, ids_after, most_indexes}
+use Rattle.laws_node.specs.Stores.{PrioHolds}
+use Rattle.laws_node.specs.Updates.{WeightsHold}
+
+-- so many polls and datagrams were answered
+pub record LinkHolds (calls : ℕ) (l : Link) : Type 0 where
+  pub me : l.me.0 < 256
+  pub peer : l.peer.0 < 256
+  pub boot : l.boot < 2 ^ 64
+  pub peer_boot : l.peer_boot < 2 ^ 64
+  pub sent : l.sent ≤ calls
+
+pub record FixedHolds (k : Sizes) (f : Fixed) : Type 0 where
+  pub me : f.me ≡ k.me
+  pub edges : f.topology.edges ≡ k.edges
+  pub is_node : IsNode f.me
+  pub boot : f.boot < 2 ^ 64
+  pub topology : IsTopology f.topology
+  pub signature_len : f.signature_len ≡ k.signature_len
+  pub short : f.signature_len < 65536
+
+pub record SignerHolds (s : Signer) : Type 0 where
+  pub index : s.index ≤ s.bound
+  pub bound : s.bound ≤ s.total
+  pub total : s.total ≤ most_indexes
+
+pub record PartsHold (k : Sizes) (numbers ids index : ℕ) (p : Parts) : Type 0 where
+  pub weights : WeightsHold k index p.weights
+  pub prio : PrioHolds k numbers ids index p.prio
+  pub rel : RelHolds k index p.rel
+
+pub record NodeHolds (k : Sizes) (n : NodeState) : Type 0 where
+  pub fixed : FixedHolds k n.fixed
+  pub now : n.now < 2 ^ 64
+  pub calls : n.calls ≤ MAX_CALLS
+  pub links : All (LinkHolds n.calls) n.links
+  pub signer : SignerHolds n.signer
+  pub parts : PartsHold k n.calls (ids_after n.calls n.signer.index) n.signer.index n.parts
+
+-- the sizes of a node are read off what it keeps
+abbrev pub sizes_of : (Kept → Type 0) → NodeState → Sizes
+sizes_of keeps n = record {
+  me = n.fixed.me;
+  edges = n.fixed.topology.edges;
+  signature_len = n.fixed.signature_len;
+  buffer = n.parts.rel.bound;
+  store = n.parts.prio.inbox.capacity;
+  keeps = keeps;
+}
+
+-- all this, and each message that is kept bears its signer's valid signature
+abbrev pub IsKept : Arts → NodeState → Type 0
+IsKept arts n = NodeHolds (sizes_of (λ o. IsTrue (is_signed arts n.fixed o)) n) n

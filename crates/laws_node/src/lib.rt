@@ -1,0 +1,21 @@
+//! The laws of every step of a node: whatever is called and whatever arrives, what the node keeps stays within its bounds, in its ranges,
+//! signed and counted.
+#![tactic(auto)]
+
+ghost use Rattle.laws_node.specs.Acknowledgement.{AcknowledgementIsWorked};
+ghost use Rattle.laws_node.specs.Laws.{BootKeeps, EachStepKeeps, ExtendKeeps, FramesFit};
+
+/// A law: at the start of its life and after each step, a node holds at most as many messages of each flow and entries of each store as it
+/// may, each in its place and its ranges, with its signer's valid signature; ids and numbers are at most the calls and signatures made; and
+/// each frame that it makes is in the ranges of its grammar.
+pub fn each_step_keeps_what_a_node_keeps()
+    ensures boot { BootKeeps }
+    ensures step { EachStepKeeps }
+    ensures extend { ExtendKeeps }
+    ensures frames { FramesFit }
+{}
+
+/// A law: three nodes in a row hand on a message and its acknowledgement, and answer each event as the rules were worked out by hand.
+pub fn a_message_and_its_acknowledgement_are_worked_out()
+    ensures { AcknowledgementIsWorked }
+{}

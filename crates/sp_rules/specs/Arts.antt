@@ -1,0 +1,27 @@
+-- The arts that a node's rules stand on: what bytes say, and who may have made them. Rules speak of them by these functions alone, so no law
+-- of a node looks into the grammar of frames, into tags or into signatures.
+use Rattle.std.specs.Prelude.{ℕ, Bool, List, Result, nat_eq}
+use Rattle.std.specs.Cmp.Lexicographic.{pointwise}
+use Rattle.sp_frame.specs.Frames.{signed_part, tag_part}
+use Rattle.sp_frame.specs.Sections.{Contents}
+use Rattle.sp_frame.specs.declared.head.Head.{Head}
+use Rattle.sp_frame.specs.declared.refused.SectionRefused.{SectionRefused}
+use Rattle.sp_topology.specs.declared.topology.LmsHeight.{LmsHeight}
+
+pub record Arts : Type 0 where
+  -- the head of a frame
+  pub head : List ℕ → Head
+  -- the sections of a frame where signatures have this length, or the first thing that is wrong with them
+  pub sections : ℕ → List ℕ → Result Contents SectionRefused
+  -- the bytes of a frame before its tag
+  pub frame : Head → Contents → List ℕ
+  -- the tag of bytes under a key
+  pub tag : List ℕ → List ℕ → List ℕ
+  -- the signature of a message, by a seed with trees of this height, at an index
+  pub sign : LmsHeight → List ℕ → ℕ → List ℕ → List ℕ
+  -- whether under this key a message has this signature
+  pub valid : List ℕ → List ℕ → List ℕ → Bool
+
+-- whether the tag of a frame is that of all bytes before it
+abbrev pub is_right : Arts → List ℕ → List ℕ → Bool
+is_right arts key bytes = pointwise nat_eq (tag_part bytes) (arts.tag key (signed_part bytes))

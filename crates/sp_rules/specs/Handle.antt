@@ -1,0 +1,107 @@
+-- What a node does with the pieces of a fresh frame, one after another. An object changes what the node keeps exactly where it is new: where
+-- the rules of its part take it, and its signature is right.
+use Rattle.std.specs.Prelude.{ℕ, ◌==◌, ◌&&◌, nat_lt, Some, List, [], ◌∷◌, ◌++◌, if◌then◌else◌}
+use Rattle.sp_base.specs.declared.id.NodeId.{NodeId}
+use Rattle.sp_msg.specs.declared.body.Body.{Body}
+use Rattle.sp_msg.specs.declared.body.Body.TheVariants as bodies
+use Rattle.sp_msg.specs.declared.effect.Effect.{Effect}
+use Rattle.sp_msg.specs.declared.effect.Effect.TheVariants.{WeightHeld}
+use Rattle.sp_msg.specs.declared.kept.Kept.{Kept}
+use Rattle.sp_rules.specs.Answers.{ack_answer, is_new, prio_answer, rel_answer, weight_answer}
+use Rattle.sp_rules.specs.Arts.{Arts}
+use Rattle.sp_rules.specs.Parts.{Fixed, Parts, is_signed}
+use Rattle.sp_rules.specs.Pieces.{Piece, WeightPiece, PrioAckPiece, PrioPiece, ReportPiece, AckPiece, RelPiece}
+use Rattle.sp_rules.specs.Prio.{acked, acked_effects, admit_prio, heard, judge_prio, prio_effects}
+use Rattle.sp_rules.specs.Rel.{admit_ack, admit_rel, judge_ack_of, judge_rel_of, rel_effects, reported}
+use Rattle.sp_rules.specs.Weights.{WeightState, held, offer}
+use Rattle.sp_rules.specs.declared.answers.AckAnswer.{AckAnswer}
+use Rattle.sp_rules.specs.declared.answers.Item.{Item}
+use Rattle.sp_rules.specs.declared.answers.Item.TheVariants as items
+use Rattle.sp_rules.specs.declared.answers.PrioAnswer.{PrioAnswer}
+use Rattle.sp_rules.specs.declared.answers.PrioAnswer.TheVariants as prios
+use Rattle.sp_rules.specs.declared.answers.RelAnswer.{RelAnswer}
+use Rattle.sp_rules.specs.declared.answers.WeightAnswer.{WeightAnswer}
+use Rattle.sp_rules.specs.declared.weights.Offer.{Offer}
+use Rattle.sp_rules.specs.declared.weights.Offer.TheVariants as offers
+use Rattle.sp_rules.specs.declared.weights.TheConstants.{MAX_OWN_HEARD}
+
+-- where pieces come to, when, and from which neighbour
+pub record Arrival : Type 0 where
+  pub fixed : Fixed
+  pub now : ℕ
+  pub from : NodeId
+
+-- what is kept after pieces, each object with its answer, and what was caused, in order
+pub record Handled : Type 0 where
+  pub parts : Parts
+  pub answered : List (Kept × Item)
+  pub effects : List Effect
+
+-- a piece without an object
+abbrev pub quietly : Parts → List Effect → Handled
+quietly parts effects = record { parts = parts; answered = []; effects = effects }
+
+-- an object changes the parts from old to new, and causes effects, exactly where its answer is that it is new
+abbrev pub where_new : Item → Kept → Parts → Parts → List Effect → Handled
+where_new answer o old new effects = record {
+  parts = if is_new answer then new else old;
+  answered = (o, answer) ∷ [];
+  effects = if is_new answer then effects else [];
+}
+
+-- ---- updates of weights
+
+-- an own update under a number that this node never gave is foreign, so that the own next number keeps its range
+abbrev pub offer_to : NodeId → WeightState → Body → Offer
+offer_to me s (bodies.Weight u) = if (u.origin.0 == me.0) && nat_lt MAX_OWN_HEARD u.seq then offers.Foreign else offer s u
+offer_to me s _ = offers.Foreign
+
+abbrev pub weight_effects : Body → List Effect
+weight_effects (bodies.Weight u) = WeightHeld u.origin u.edge u.seq u.weight ∷ []
+weight_effects _ = []
+
+abbrev pub weight_handled : WeightAnswer → Kept → Parts → Handled
+weight_handled answer o p = where_new (items.Weight answer) o p (record p { weights = held p.weights o }) (weight_effects o.body)
+
+-- ---- priority messages
+
+-- the link number of a message counts as heard where the message is new, or was seen
+abbrev pub heard_where : PrioAnswer → NodeId → ℕ → Parts → Parts
+heard_where prios.New v number p = record p { prio = heard p.prio v.0 number }
+heard_where prios.Seen v number p = record p { prio = heard p.prio v.0 number }
+heard_where _ v number p = p
+
+abbrev pub heard_after : PrioAnswer → NodeId → ℕ → Handled → Handled
+heard_after answer v number h = record h { parts = heard_where answer v number h.parts }
+
+abbrev pub prio_handled : NodeId → PrioAnswer → ℕ → Kept → Parts → Handled
+prio_handled v answer number o p =
+    heard_after answer v number
+    (where_new (items.Prio answer) o p (record p { prio = admit_prio p.prio o (Some v) }) (prio_effects p.prio o (Some v)))
+
+-- ---- acknowledgements and reliable messages
+
+abbrev pub ack_handled : AckAnswer → Kept → Parts → Handled
+ack_handled answer o p = where_new (items.Ack answer) o p (record p { rel = admit_ack p.rel o }) []
+
+abbrev pub rel_handled : RelAnswer → Kept → Parts → Handled
+rel_handled answer o p = where_new (items.Rel answer) o p (record p { rel = admit_rel p.rel o }) (rel_effects p.rel o)
+
+-- ---- all pieces
+
+abbrev pub handle : Arts → Arrival → Parts → Piece → Handled
+handle arts at p (WeightPiece o) = weight_handled (weight_answer (is_signed arts at.fixed o) (offer_to at.fixed.me p.weights o.body)) o p
+handle arts at p (PrioAckPiece number) = quietly (record p { prio = acked p.prio at.from.0 number }) (acked_effects p.prio at.from.0 number)
+handle arts at p (PrioPiece number o) =
+    prio_handled at.from (prio_answer (is_signed arts at.fixed o) (judge_prio p.prio o.body at.now)) number o p
+handle arts at p (ReportPiece flow base have) = quietly (record p { rel = reported p.rel at.from flow base have }) []
+handle arts at p (AckPiece flow o) = ack_handled (ack_answer (is_signed arts at.fixed o) (judge_ack_of p.rel flow o.body)) o p
+handle arts at p (RelPiece flow o) = rel_handled (rel_answer (is_signed arts at.fixed o) (judge_rel_of p.rel flow o.body)) o p
+
+-- one after another: each piece meets what those before it left
+abbrev pub handle_all : Arts → Arrival → Parts → List Piece → Handled
+handle_all arts at p [] = quietly p []
+handle_all arts at p (piece ∷ pieces) =
+    let first = handle arts at p piece in
+    let others = handle_all arts at first.parts pieces in
+    record { parts = others.parts; answered = first.answered ++ others.answered; effects = first.effects ++ others.effects }

@@ -1,0 +1,62 @@
+-- The edges over which an own priority message goes: all of them, or those of the cheapest paths to its destination that share no node.
+-- Where several sets of paths cost the least, the node may take any: this is the one choice that the rules leave it.
+use Rattle.std.specs.Prelude.{ℕ, zero, suc, ◌≡◌, ◌+◌, ◌-◌, ◌^◌, ◌<◌, ◌≤◌, Bool, false, max, List, [], ◌∷◌, length, Option, None, Some, Result, Ok, Err, slice_get}
+use Rattle.std.specs.List.{list_any}
+use Rattle.sp_base.specs.declared.id.NodeId.{NodeId}
+use Rattle.sp_graph.specs.Disjoint.{Disjoint, Least}
+use Rattle.sp_graph.specs.Walks.{is_between, steps}
+use Rattle.sp_graph.specs.declared.graph.Graph.{Graph}
+use Rattle.sp_msg.specs.Views.{names_edge}
+use Rattle.sp_topology.specs.declared.topology.Edge.{Edge}
+use Rattle.sp_topology.specs.declared.topology.NodeKey.{NodeKey}
+use Rattle.sp_topology.specs.declared.topology.Topology.{Topology}
+use Rattle.sp_rules.specs.Weights.{WeightState, effective}
+
+-- ---- the graph that paths are sought in
+
+abbrev pub greatest_id : List NodeKey → ℕ
+greatest_id [] = 0
+greatest_id (n ∷ nodes) = max n.id.0 (greatest_id nodes)
+
+-- the edges with the weights that are in effect. The first has this place
+abbrev pub weighed : WeightState → ℕ → List Edge → List Edge
+weighed s place [] = []
+weighed s place (e ∷ edges) = record { low = e.low; high = e.high; weight = effective s place } ∷ weighed s (place + 1) edges
+
+-- the topology under these weights. Ids that no node has are nodes without an edge, on no path
+abbrev pub graph_of : Topology → WeightState → Graph
+graph_of t s = record { nodes = greatest_id t.nodes; edges = weighed s 0 t.edges }
+
+-- ---- masks
+
+abbrev pub all_edges : List Edge → ℕ
+all_edges edges = 2 ^ length edges - 1
+
+-- some path goes along the edge, either way
+abbrev pub is_used : List (List NodeId) → Option Edge → Bool
+is_used paths None = false
+is_used paths (Some e) = list_any (λ path. list_any (λ step. is_between step.0 step.1 e) (steps path)) paths
+
+-- the mask names exactly the edges of the paths
+abbrev pub IsMaskOf : Graph → List (List NodeId) → ℕ → Type 0
+IsMaskOf g paths mask = (edge : ℕ) → names_edge mask edge ≡ is_used paths (slice_get g.edges edge)
+
+-- the mask of so many paths that share no node, of which no others cost less
+pub record IsCheapestMask (g : Graph) (s t : NodeId) (count mask : ℕ) : Type 0 where
+  pub paths : List (List NodeId)
+  pub disjoint : Disjoint g s t count paths
+  pub least : Least g s t count paths
+  pub mask_of : IsMaskOf g paths mask
+
+-- there are found such paths, which are fewer than count, and no more
+pub record AreFewer (g : Graph) (s t : NodeId) (count found : ℕ) : Type 0 where
+  pub fewer : found < count
+  pub paths : List (List NodeId)
+  pub disjoint : Disjoint g s t found paths
+  pub no_more : (n : ℕ) (others : List (List NodeId)) → Disjoint g s t n others → n ≤ found
+
+-- so many paths were asked for, and none of them means all edges: the mask, or how many paths there are where those are fewer
+abbrev pub IsChoice : Graph → NodeId → NodeId → ℕ → Result ℕ ℕ → Type 0
+IsChoice g s t zero choice = choice ≡ Ok (all_edges g.edges)
+IsChoice g s t (suc more) (Ok mask) = IsCheapestMask g s t (suc more) mask
+IsChoice g s t (suc more) (Err found) = AreFewer g s t (suc more) found

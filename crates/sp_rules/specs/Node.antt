@@ -1,0 +1,97 @@
+-- One node: what it keeps from call to call. Nothing else of the world is in its rules.
+use Rattle.std.specs.Prelude.{ℕ, ◌==◌, ◌+◌, Bool, not, List, [], map, zip, Option, None, Some, if◌then◌else◌}
+use Rattle.std.specs.List.{list_any}
+use Rattle.sp_base.specs.Rows.{first_where, replace_where}
+use Rattle.sp_base.specs.declared.id.EdgeId.{EdgeId}
+use Rattle.sp_base.specs.declared.id.NodeId.{NodeId}
+use Rattle.sp_msg.specs.Bodies.{encoded}
+use Rattle.sp_msg.specs.declared.body.Body.{Body}
+use Rattle.sp_msg.specs.declared.kept.Kept.{Kept}
+use Rattle.sp_rules.specs.Arts.{Arts}
+use Rattle.sp_rules.specs.Link.{Link, new_link}
+use Rattle.sp_rules.specs.Parts.{Fixed, Parts, empty_parts, neighbours_of}
+use Rattle.sp_rules.specs.declared.node.NodeRefused.{NodeRefused}
+use Rattle.sp_rules.specs.declared.node.NodeRefused.TheVariants as refusals
+use Rattle.sp_rules.specs.declared.node.TheConstants.{MAX_CALLS}
+
+-- the seed of the node's key, the index of its next signature, the bound that it stops at, and how many indexes there are
+pub record Signer : Type 0 where
+  pub seed : List ℕ
+  pub index : ℕ
+  pub bound : ℕ
+  pub total : ℕ
+
+-- the time is the greatest that a tick gave. Calls are the polls and datagrams that were answered. Links ascend by their neighbours
+pub record NodeState : Type 0 where
+  pub fixed : Fixed
+  pub now : ℕ
+  pub calls : ℕ
+  pub links : List Link
+  pub signer : Signer
+  pub parts : Parts
+
+-- ---- the start
+
+-- the link to a neighbour, with the key of the edge to it
+abbrev pub link_of : Fixed → (NodeId × EdgeId) × List ℕ → Link
+link_of f n = new_link f.me n.0.0 f.boot n.1
+
+-- a node at the start of a life, with a key for each of its edges in their order
+abbrev pub booted : Fixed → Signer → List (List ℕ) → (buffer store : ℕ) → NodeState
+booted f signer keys buffer store = record {
+  fixed = f;
+  now = 0;
+  calls = 0;
+  links = map (link_of f) (zip (neighbours_of f) keys);
+  signer = signer;
+  parts = empty_parts f buffer store;
+}
+
+-- more indexes are reserved
+abbrev pub extended : NodeState → ℕ → NodeState
+extended n upto = record n { signer = record n.signer { bound = upto } }
+
+-- ---- links
+
+abbrev pub is_link : NodeId → Link → Bool
+is_link v l = l.peer.0 == v.0
+
+abbrev pub is_neighbour : NodeState → NodeId → Bool
+is_neighbour n v = list_any (is_link v) n.links
+
+abbrev pub link_in : NodeState → NodeId → Link
+link_in n v = first_where (is_link v) (new_link n.fixed.me v 0 []) n.links
+
+abbrev pub with_link : NodeState → NodeId → Link → List Link
+with_link n v l = replace_where (is_link v) l n.links
+
+-- why a poll or a datagram isn't answered: the first that applies
+abbrev pub call_refusal : NodeState → NodeId → Option NodeRefused
+call_refusal n v =
+    if not (is_neighbour n v) then Some refusals.NotNeighbour
+    else if n.calls == MAX_CALLS then Some refusals.Worn
+    else None
+
+-- a poll or a datagram was answered, and left these links and parts
+abbrev pub called : NodeState → List Link → Parts → NodeState
+called n links parts = record n { calls = n.calls + 1; links = links; parts = parts }
+
+-- ---- signatures
+
+-- a message with the signature of the next index
+abbrev pub signed_now : Arts → NodeState → Body → Kept
+signed_now arts n body = record {
+  body = body;
+  signature = arts.sign n.fixed.topology.height n.signer.seed n.signer.index (encoded body);
+}
+
+-- a signature was made, and left these parts
+abbrev pub signed_once : NodeState → Parts → NodeState
+signed_once n parts = record n { signer = record n.signer { index = n.signer.index + 1 }; parts = parts }
+
+-- ---- refusals
+
+-- what a step that may be refused leaves, or answers
+abbrev pub kept_or : {X Y : Type 0} → Option X → Y → Y → Y
+kept_or (Some refusal) refused done = refused
+kept_or None refused done = done

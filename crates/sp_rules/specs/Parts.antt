@@ -1,0 +1,75 @@
+-- What a node keeps for others: the weights of links, priority messages and reliable messages. And what stays as it is in one of its lives.
+use Rattle.std.specs.Prelude.{ℕ, ◌==◌, ◌+◌, Bool, false, List, [], ◌∷◌, map, position, Option, None, Some, if◌then◌else◌}
+use Rattle.sp_base.specs.declared.id.EdgeId.{EdgeId}
+use Rattle.sp_base.specs.declared.id.NodeId.{NodeId}
+use Rattle.sp_msg.specs.Bodies.{encoded}
+use Rattle.sp_msg.specs.Views.{signer_of}
+use Rattle.sp_msg.specs.declared.kept.Kept.{Kept}
+use Rattle.sp_topology.specs.Keys.{key_of}
+use Rattle.sp_topology.specs.Neighbours.{joins, neighbours_from}
+use Rattle.sp_topology.specs.declared.topology.NodeKey.{NodeKey}
+use Rattle.sp_topology.specs.declared.topology.Topology.{Topology}
+use Rattle.sp_rules.specs.Arts.{Arts}
+use Rattle.sp_rules.specs.Prio.{PrioState}
+use Rattle.sp_rules.specs.Prio as prio
+use Rattle.sp_rules.specs.Rel.{RelState}
+use Rattle.sp_rules.specs.Rel as rel
+use Rattle.sp_rules.specs.Weights.{WeightState}
+use Rattle.sp_rules.specs.Weights as weights
+use Rattle.sp_rules.specs.declared.prio.Neighbour.{Neighbour}
+
+-- this node, its boot number, the topology that it runs under, and how long all signatures are there
+pub record Fixed : Type 0 where
+  pub me : NodeId
+  pub boot : ℕ
+  pub topology : Topology
+  pub signature_len : ℕ
+
+pub record Parts : Type 0 where
+  pub weights : WeightState
+  pub prio : PrioState
+  pub rel : RelState
+
+-- ---- the topology as a node sees it
+
+abbrev pub nodes_of : Topology → List NodeId
+nodes_of t = map (λ n. n.id) t.nodes
+
+-- the neighbours, ascending, each with the edge to it
+abbrev pub neighbours_of : Fixed → List (NodeId × EdgeId)
+neighbours_of f = neighbours_from f.me.0 0 f.topology.edges
+
+-- the edge to another node. None where there is none
+abbrev pub edge_to : Fixed → NodeId → Option ℕ
+edge_to f v = position (joins f.me.0 v.0) f.topology.edges
+
+-- where a node stands among all nodes
+abbrev pub place_in : List NodeKey → NodeId → ℕ
+place_in [] v = 0
+place_in (n ∷ nodes) v = if n.id.0 == v.0 then 0 else place_in nodes v + 1
+
+abbrev pub place_of : Fixed → NodeId → ℕ
+place_of f v = place_in f.topology.nodes v
+
+-- ---- signatures
+
+abbrev pub is_signed_by : Arts → Option (List ℕ) → List ℕ → List ℕ → Bool
+is_signed_by arts None message signature = false
+is_signed_by arts (Some key) message signature = arts.valid key message signature
+
+-- an object's signer is a node, and its signature is valid under that node's key
+abbrev pub is_signed : Arts → Fixed → Kept → Bool
+is_signed arts f o = is_signed_by arts (key_of (signer_of o.body).0 f.topology.nodes) (encoded o.body) o.signature
+
+-- ---- the start
+
+abbrev pub as_neighbour : NodeId × EdgeId → Neighbour
+as_neighbour n = record { id = n.0; edge = n.1 }
+
+-- nothing is kept, with room for so many messages of each flow, and so many entries in each store
+abbrev pub empty_parts : Fixed → (buffer store : ℕ) → Parts
+empty_parts f buffer store = record {
+  weights = weights.start f.topology;
+  prio = prio.start f.me.0 (nodes_of f.topology) (map as_neighbour (neighbours_of f)) store;
+  rel = rel.start f.me (nodes_of f.topology) (map (λ n. n.0) (neighbours_of f)) buffer;
+}

@@ -1,0 +1,28 @@
+-- The sections of a frame as a list of pieces, in the order in which a node handles them:
+--
+--     weight updates | the acknowledged link number | priority messages | the report | its acknowledgement | its messages
+use Rattle.std.specs.Prelude.{ℕ, List, [], ◌∷◌, ◌++◌, map, Option, None, Some}
+use Rattle.sp_base.specs.declared.id.Flow.{Flow}
+use Rattle.sp_frame.specs.Reliable.{Report}
+use Rattle.sp_frame.specs.Sections.{Contents}
+use Rattle.sp_frame.specs.Views.{as_list}
+use Rattle.sp_msg.specs.declared.kept.Kept.{Kept}
+
+pub data Piece : Type 0 where
+  WeightPiece : (object : Kept) → Piece
+  -- the sender heard the priority messages of this node up to this link number
+  PrioAckPiece : (number : ℕ) → Piece
+  PrioPiece : (number : ℕ) (object : Kept) → Piece
+  ReportPiece : (flow : Flow) (base have : ℕ) → Piece
+  AckPiece : (flow : Flow) (object : Kept) → Piece
+  RelPiece : (flow : Flow) (object : Kept) → Piece
+
+abbrev pub prio_piece : ℕ × Kept → Piece
+prio_piece message = PrioPiece message.0 message.1
+
+abbrev pub slot_pieces : Option Report → List Piece
+slot_pieces None = []
+slot_pieces (Some r) = ReportPiece r.flow r.base r.have ∷ (map (AckPiece r.flow) (as_list r.ack) ++ map (RelPiece r.flow) r.rels)
+
+abbrev pub pieces_of : Contents → List Piece
+pieces_of s = map WeightPiece s.weights ++ (PrioAckPiece s.prio_ack ∷ (map prio_piece s.prios ++ slot_pieces s.slot))

@@ -1,0 +1,39 @@
+-- A poll: the next frame to a neighbour. It carries what is next in turn of each part, and moves each cycle by what it carried.
+use Rattle.std.specs.Prelude.{ℕ, List, ◌++◌, option_map}
+use Rattle.sp_base.specs.declared.id.NodeId.{NodeId}
+use Rattle.sp_frame.specs.Sections.{Contents}
+use Rattle.sp_frame.specs.Views.{as_list}
+use Rattle.sp_msg.specs.declared.kept.Kept.{Kept}
+use Rattle.sp_rules.specs.Arts.{Arts}
+use Rattle.sp_rules.specs.Link.{advanced, next_head}
+use Rattle.sp_rules.specs.Node.{NodeState, call_refusal, called, kept_or, link_in, with_link}
+use Rattle.sp_rules.specs.Parts.{Fixed, Parts, place_of}
+use Rattle.sp_rules.specs.Prio.{carried, next_prio, peer_in}
+use Rattle.sp_rules.specs.Rel.{served, slot_for}
+use Rattle.sp_rules.specs.Weights.{moved, next}
+use Rattle.sp_rules.specs.declared.store.Entry.{Entry}
+
+abbrev pub as_message : ℕ × Entry → ℕ × Kept
+as_message carried = (carried.0, carried.1.kept)
+
+abbrev pub contents_to : Fixed → Parts → NodeId → Contents
+contents_to f p v = record {
+  weights = as_list (next p.weights (place_of f v));
+  prio_ack = (peer_in p.prio v.0).heard;
+  prios = as_list (option_map as_message (next_prio p.prio v.0));
+  slot = slot_for p.rel v;
+}
+
+-- the parts after it went
+abbrev pub polled : Fixed → Parts → NodeId → Parts
+polled f p v = record { weights = moved p.weights (place_of f v); prio = carried p.prio v.0; rel = served p.rel v }
+
+-- the bytes of the frame before its tag
+abbrev pub untagged : Arts → NodeState → NodeId → List ℕ
+untagged arts n v = arts.frame (next_head (link_in n v) n.fixed.topology.version) (contents_to n.fixed n.parts v)
+
+abbrev pub frame_to : Arts → NodeState → NodeId → List ℕ
+frame_to arts n v = untagged arts n v ++ arts.tag (link_in n v).key (untagged arts n v)
+
+abbrev pub after_poll : NodeState → NodeId → NodeState
+after_poll n v = kept_or (call_refusal n v) n (called n (with_link n v (advanced (link_in n v))) (polled n.fixed n.parts v))

@@ -1,0 +1,155 @@
+-- What clients of a node ask for: messages, a weight of a link, and what waits for them. Each is refused by the first cause that applies, and
+-- then nothing changes. What is accepted is signed with the next index, and kept.
+use Rattle.std.specs.Prelude.{ℕ, ◌==◌, ◌+◌, nat_lt, not, ◌||◌, List, [], ◌∷◌, Option, None, Some, Result, Ok, Err, if◌then◌else◌}
+use Rattle.sp_base.specs.Cursor.{or_else}
+use Rattle.sp_base.specs.declared.id.NodeId.{NodeId}
+use Rattle.sp_msg.specs.Bodies.{encoded}
+use Rattle.sp_msg.specs.declared.body.Body.{Body}
+use Rattle.sp_msg.specs.declared.body.Body.TheVariants as bodies
+use Rattle.sp_msg.specs.declared.effect.Effect.{Effect}
+use Rattle.sp_msg.specs.declared.effect.Effect.TheVariants.{Signed}
+use Rattle.sp_msg.specs.declared.effect.Why.TheVariants.{Taken}
+use Rattle.sp_msg.specs.declared.kept.Kept.{Kept}
+use Rattle.sp_msg.specs.declared.refused.SendRefused.{SendRefused}
+use Rattle.sp_msg.specs.declared.refused.SendRefused.TheVariants as refusals
+use Rattle.sp_rules.specs.Arts.{Arts}
+use Rattle.sp_rules.specs.Handle.{weight_effects}
+use Rattle.sp_rules.specs.Node.{NodeState, Signer, kept_or, signed_now, signed_once}
+use Rattle.sp_rules.specs.Parts.{edge_to}
+use Rattle.sp_rules.specs.Prio.{admit_prio, is_node, prio_effects, taken}
+use Rattle.sp_rules.specs.PrioPeer.{gone}
+use Rattle.sp_rules.specs.Rel.{flow_in, own_flow, pushed_in, room, took}
+use Rattle.sp_rules.specs.Store.{oldest}
+use Rattle.sp_rules.specs.Weights.{held, minimum, next_seq}
+use Rattle.sp_rules.specs.declared.rel.RelRefused.{RelRefused}
+use Rattle.sp_rules.specs.declared.rel.RelRefused.TheVariants as rels
+
+-- the signer has used all indexes, or all that are reserved
+abbrev pub signer_refusal : Signer → Option SendRefused
+signer_refusal s = if s.index == s.total then Some (refusals.Spent s.index) else if s.index == s.bound then Some (refusals.NotReserved s.bound) else None
+
+-- ---- a reliable message
+
+abbrev pub no_room : Result ℕ RelRefused → Option SendRefused
+no_room (Ok number) = None
+no_room (Err rels.BadEnd) = Some refusals.BadEnd
+no_room (Err (rels.Full base have)) = Some (refusals.Full base have)
+no_room (Err rels.Memory) = Some refusals.Memory
+
+abbrev pub rel_refusal : NodeState → NodeId → Option SendRefused
+rel_refusal n dst = or_else (no_room (room n.parts.rel dst)) (signer_refusal n.signer)
+
+-- the number after the last of the flow
+abbrev pub rel_number : NodeState → NodeId → ℕ
+rel_number n dst = (flow_in n.parts.rel.flows (own_flow n.parts.rel dst)).at.have + 1
+
+abbrev pub rel_body : NodeState → NodeId → List ℕ → Body
+rel_body n dst payload = bodies.Rel (record { src = n.fixed.me; dst = dst; seq = rel_number n dst; payload = payload })
+
+abbrev pub after_send_rel : Arts → NodeState → NodeId → List ℕ → NodeState
+after_send_rel arts n dst payload =
+    kept_or (rel_refusal n dst) n (signed_once n (record n.parts { rel = pushed_in n.parts.rel (signed_now arts n (rel_body n dst payload)) }))
+
+-- ---- a priority message
+
+-- what a client asks for: over how many paths, 0 for all edges
+pub record PrioSend : Type 0 where
+  pub dst : NodeId
+  pub prio : ℕ
+  pub expiry : ℕ
+  pub paths : ℕ
+  pub payload : List ℕ
+
+abbrev pub prio_refusal : NodeState → PrioSend → Option SendRefused
+prio_refusal n m =
+    if (m.dst.0 == n.fixed.me.0) || not (is_node n.parts.prio.nodes m.dst.0) then Some refusals.BadEnd
+    else if nat_lt m.expiry n.now then Some (refusals.Expired n.now)
+    else signer_refusal n.signer
+
+abbrev pub prio_body : NodeState → PrioSend → ℕ → Body
+prio_body n m mask = bodies.Prio (record {
+  src = n.fixed.me;
+  dst = m.dst;
+  seq = n.parts.prio.next;
+  prio = m.prio;
+  expiry = m.expiry;
+  mask = mask;
+  payload = m.payload;
+})
+
+-- the paths that were asked for aren't there
+abbrev pub no_paths : Result ℕ ℕ → Option SendRefused
+no_paths (Ok mask) = None
+no_paths (Err found) = Some (refusals.NoPaths found)
+
+abbrev pub mask_in : Result ℕ ℕ → ℕ
+mask_in (Ok mask) = mask
+mask_in (Err found) = 0
+
+-- paths are sought only where nothing else refuses
+abbrev pub send_prio_refusal : NodeState → PrioSend → Result ℕ ℕ → Option SendRefused
+send_prio_refusal n m choice = or_else (prio_refusal n m) (no_paths choice)
+
+abbrev pub own_prio : Arts → NodeState → PrioSend → Result ℕ ℕ → Kept
+own_prio arts n m choice = signed_now arts n (prio_body n m (mask_in choice))
+
+abbrev pub after_send_prio : Arts → NodeState → PrioSend → Result ℕ ℕ → NodeState
+after_send_prio arts n m choice =
+    kept_or (send_prio_refusal n m choice) n (signed_once n (record n.parts { prio = admit_prio n.parts.prio (own_prio arts n m choice) None }))
+
+-- ---- the weight of a link
+
+abbrev pub weight_refusal_at : NodeState → Option ℕ → ℕ → Option SendRefused
+weight_refusal_at n None weight = Some refusals.BadEnd
+weight_refusal_at n (Some edge) weight =
+    if nat_lt weight (minimum n.parts.weights edge) then Some (refusals.Low (minimum n.parts.weights edge)) else signer_refusal n.signer
+
+abbrev pub weight_refusal : NodeState → NodeId → ℕ → Option SendRefused
+weight_refusal n v weight = weight_refusal_at n (edge_to n.fixed v) weight
+
+abbrev pub edge_or : Option ℕ → ℕ
+edge_or None = 0
+edge_or (Some edge) = edge
+
+-- the number after the last of this node's end
+abbrev pub weight_number : NodeState → NodeId → ℕ
+weight_number n v = next_seq n.parts.weights (edge_or (edge_to n.fixed v)) n.fixed.me.0
+
+abbrev pub weight_body : NodeState → NodeId → ℕ → Body
+weight_body n v weight = bodies.Weight (record {
+  origin = n.fixed.me;
+  edge = record { 0 = edge_or (edge_to n.fixed v) };
+  seq = weight_number n v;
+  weight = weight;
+})
+
+abbrev pub after_set_weight : Arts → NodeState → NodeId → ℕ → NodeState
+after_set_weight arts n v weight =
+    kept_or (weight_refusal n v weight) n
+    (signed_once n (record n.parts { weights = held n.parts.weights (signed_now arts n (weight_body n v weight)) }))
+
+-- ---- what an accepted message causes: it is signed, and then what its part tells
+
+abbrev pub signed_effect : Body → Effect
+signed_effect body = Signed (encoded body)
+
+abbrev pub rel_sent : NodeState → NodeId → List ℕ → List Effect
+rel_sent n dst payload = signed_effect (rel_body n dst payload) ∷ []
+
+abbrev pub prio_sent : Arts → NodeState → PrioSend → Result ℕ ℕ → List Effect
+prio_sent arts n m choice = signed_effect (prio_body n m (mask_in choice)) ∷ prio_effects n.parts.prio (own_prio arts n m choice) None
+
+abbrev pub weight_sent : NodeState → NodeId → ℕ → List Effect
+weight_sent n v weight = signed_effect (weight_body n v weight) ∷ weight_effects (weight_body n v weight)
+
+-- ---- a client takes what waits for it
+
+abbrev pub after_take_rel : NodeState → NodeId → NodeState
+after_take_rel n src = record n { parts = record n.parts { rel = took n.parts.rel src } }
+
+abbrev pub after_take_prio : NodeState → NodeState
+after_take_prio n = record n { parts = record n.parts { prio = taken n.parts.prio } }
+
+-- its entry leaves place 0
+abbrev pub take_prio_effects : NodeState → List Effect
+take_prio_effects n = gone 0 Taken (oldest n.parts.prio.inbox)

@@ -1,0 +1,111 @@
+-- One step of a node: what it answers to a call, what that causes, and what is left. There are eight cases.
+use Rattle.std.specs.Prelude.{ℕ, ◌≡◌, List, [], map, Option, None, Some, Result}
+use Rattle.sp_base.specs.declared.id.NodeId.{NodeId}
+use Rattle.sp_msg.specs.declared.effect.Effect.{Effect}
+use Rattle.sp_msg.specs.declared.kept.Kept.{Kept}
+use Rattle.sp_msg.specs.declared.refused.SendRefused.{SendRefused}
+use Rattle.sp_rules.specs.Arrivals.{after_datagram, handled, reply_at}
+use Rattle.sp_rules.specs.Arts.{Arts}
+use Rattle.sp_rules.specs.Masks.{IsChoice, graph_of}
+use Rattle.sp_rules.specs.Node.{NodeState, call_refusal}
+use Rattle.sp_rules.specs.Polls.{after_poll, frame_to}
+use Rattle.sp_rules.specs.Rel as rel
+use Rattle.sp_rules.specs.Sends.{PrioSend, after_send_prio, after_send_rel, after_set_weight, after_take_prio, after_take_rel, prio_sent, rel_number, rel_refusal, rel_sent, send_prio_refusal, take_prio_effects, weight_number, weight_refusal, weight_sent}
+use Rattle.sp_rules.specs.Store.{oldest}
+use Rattle.sp_rules.specs.Ticks.{after_tick, tick_effects, tick_reply}
+use Rattle.sp_rules.specs.declared.answers.Item.{Item}
+use Rattle.sp_rules.specs.declared.node.LinkReply.{LinkReply}
+use Rattle.sp_rules.specs.declared.node.NodeRefused.{NodeRefused}
+use Rattle.sp_rules.specs.declared.node.TickReply.{TickReply}
+use Rattle.sp_rules.specs.declared.store.Entry.{Entry}
+
+pub data Input : Type 0 where
+  Poll : (to : NodeId) → Input
+  Datagram : (from : NodeId) (bytes : List ℕ) → Input
+  Tick : (now : ℕ) → Input
+  SendRel : (dst : NodeId) (payload : List ℕ) → Input
+  SendPrio : (message : PrioSend) → Input
+  SetWeight : (peer : NodeId) (weight : ℕ) → Input
+  TakeRel : (src : NodeId) → Input
+  TakePrio : Input
+
+pub data Reply : Type 0 where
+  Frame : (bytes : List ℕ) → Reply
+  -- a datagram, with the answers to its objects in the order of handling
+  Arrived : (link : LinkReply) (items : List Item) → Reply
+  Ticked : (reply : TickReply) → Reply
+  -- under this number
+  Accepted : (number : ℕ) → Reply
+  Refused : (refused : SendRefused) → Reply
+  NotCalled : (refused : NodeRefused) → Reply
+  Payload : (payload : Option (List ℕ)) → Reply
+  Message : (entry : Option Entry) → Reply
+
+-- the reply, what was caused, in order, and each object that a datagram brought with its answer
+pub record Output : Type 0 where
+  pub reply : Reply
+  pub effects : List Effect
+  pub answered : List (Kept × Item)
+
+-- a reply alone
+abbrev pub replied : Reply → Output
+replied reply = record { reply = reply; effects = []; answered = [] }
+
+abbrev pub accepted : ℕ → List Effect → Output
+accepted number effects = record { reply = Accepted number; effects = effects; answered = [] }
+
+-- ---- the outputs
+
+abbrev pub refused_call : Option NodeRefused → Output → Output
+refused_call (Some refused) output = replied (NotCalled refused)
+refused_call None output = output
+
+abbrev pub refused_send : Option SendRefused → Output → Output
+refused_send (Some refused) output = replied (Refused refused)
+refused_send None output = output
+
+abbrev pub poll_output : Arts → NodeState → NodeId → Output
+poll_output arts n v = refused_call (call_refusal n v) (replied (Frame (frame_to arts n v)))
+
+abbrev pub arrived : Arts → NodeState → NodeId → List ℕ → Output
+arrived arts n v bytes =
+    let done = handled arts n v bytes in
+    record { reply = Arrived (reply_at arts n v bytes) (map (λ a. a.1) done.answered); effects = done.effects; answered = done.answered }
+
+abbrev pub datagram_output : Arts → NodeState → NodeId → List ℕ → Output
+datagram_output arts n v bytes = refused_call (call_refusal n v) (arrived arts n v bytes)
+
+abbrev pub tick_output : NodeState → ℕ → Output
+tick_output n now = record { reply = Ticked (tick_reply n); effects = tick_effects n now; answered = [] }
+
+abbrev pub send_rel_output : NodeState → NodeId → List ℕ → Output
+send_rel_output n dst payload = refused_send (rel_refusal n dst) (accepted (rel_number n dst) (rel_sent n dst payload))
+
+abbrev pub send_prio_output : Arts → NodeState → PrioSend → Result ℕ ℕ → Output
+send_prio_output arts n m choice = refused_send (send_prio_refusal n m choice) (accepted n.parts.prio.next (prio_sent arts n m choice))
+
+abbrev pub set_weight_output : NodeState → NodeId → ℕ → Output
+set_weight_output n v weight = refused_send (weight_refusal n v weight) (accepted (weight_number n v) (weight_sent n v weight))
+
+abbrev pub take_prio_output : NodeState → Output
+take_prio_output n = record { reply = Message (oldest n.parts.prio.inbox); effects = take_prio_effects n; answered = [] }
+
+-- ---- the steps
+
+-- the one case with a choice: which of the cheapest paths a message takes
+pub record SendsPrio (arts : Arts) (old : NodeState) (m : PrioSend) (output : Output) (new : NodeState) : Type 0 where
+  pub choice : Result ℕ ℕ
+  pub is_choice : IsChoice (graph_of old.fixed.topology old.parts.weights) old.fixed.me m.dst m.paths choice
+  pub output_is : output ≡ send_prio_output arts old m choice
+  pub new_is : new ≡ after_send_prio arts old m choice
+
+-- from old the node answers the call so, and goes on to new
+abbrev pub NodeStep : Arts → NodeState → Input → Output → NodeState → Type 0
+NodeStep arts old (Poll to) output new = (output ≡ poll_output arts old to) × (new ≡ after_poll old to)
+NodeStep arts old (Datagram from bytes) output new = (output ≡ datagram_output arts old from bytes) × (new ≡ after_datagram arts old from bytes)
+NodeStep arts old (Tick now) output new = (output ≡ tick_output old now) × (new ≡ after_tick arts old now)
+NodeStep arts old (SendRel dst payload) output new = (output ≡ send_rel_output old dst payload) × (new ≡ after_send_rel arts old dst payload)
+NodeStep arts old (SendPrio message) output new = SendsPrio arts old message output new
+NodeStep arts old (SetWeight peer weight) output new = (output ≡ set_weight_output old peer weight) × (new ≡ after_set_weight arts old peer weight)
+NodeStep arts old (TakeRel src) output new = (output ≡ replied (Payload (rel.oldest old.parts.rel src))) × (new ≡ after_take_rel old src)
+NodeStep arts old TakePrio output new = (output ≡ take_prio_output old) × (new ≡ after_take_prio old)

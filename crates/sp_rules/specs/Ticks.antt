@@ -1,0 +1,52 @@
+-- A tick: the time goes on, what expired leaves, and at most one acknowledgement is signed, of the flow to this node that is next in turn.
+use Rattle.std.specs.Prelude.{ℕ, max, List, [], ◌∷◌, ◌++◌, Option, None, Some}
+use Rattle.sp_msg.specs.declared.body.Ack.{Ack}
+use Rattle.sp_msg.specs.declared.body.Body.TheVariants as bodies
+use Rattle.sp_msg.specs.declared.effect.Effect.{Effect}
+use Rattle.sp_msg.specs.declared.refused.SendRefused.{SendRefused}
+use Rattle.sp_msg.specs.declared.refused.SendRefused.TheVariants as refusals
+use Rattle.sp_rules.specs.Arts.{Arts}
+use Rattle.sp_rules.specs.Node.{NodeState, signed_now, signed_once}
+use Rattle.sp_rules.specs.Prio.{expired, expired_effects}
+use Rattle.sp_rules.specs.Rel.{due, settled}
+use Rattle.sp_rules.specs.Sends.{signed_effect, signer_refusal}
+use Rattle.sp_rules.specs.declared.node.TickReply.{TickReply}
+use Rattle.sp_rules.specs.declared.node.TickReply.TheVariants as replies
+
+-- the time never falls
+abbrev pub time_after : NodeState → ℕ → ℕ
+time_after n now = max n.now now
+
+-- the time has come, and what expired has left
+abbrev pub at_time : NodeState → ℕ → NodeState
+at_time n now = record n { now = time_after n now; parts = record n.parts { prio = expired n.parts.prio (time_after n now) } }
+
+abbrev pub settled_by : Arts → NodeState → Option Ack → Option SendRefused → NodeState
+settled_by arts n None refusal = n
+settled_by arts n (Some ack) (Some refusal) = n
+settled_by arts n (Some ack) None = signed_once n (record n.parts { rel = settled n.parts.rel (signed_now arts n (bodies.Ack ack)) })
+
+-- what is due doesn't depend on what expired
+abbrev pub after_tick : Arts → NodeState → ℕ → NodeState
+after_tick arts n now = settled_by arts (at_time n now) (due n.parts.rel) (signer_refusal n.signer)
+
+-- the reply, where an acknowledgement is due
+abbrev pub reply_of : Option SendRefused → TickReply
+reply_of (Some (refusals.Spent index)) = replies.TickSpent index
+reply_of (Some (refusals.NotReserved bound)) = replies.TickNotReserved bound
+reply_of _ = replies.Ticked
+
+abbrev pub tick_reply_of : Option Ack → Option SendRefused → TickReply
+tick_reply_of None refusal = replies.Ticked
+tick_reply_of (Some ack) refusal = reply_of refusal
+
+abbrev pub tick_reply : NodeState → TickReply
+tick_reply n = tick_reply_of (due n.parts.rel) (signer_refusal n.signer)
+
+abbrev pub ack_effects : Option Ack → Option SendRefused → List Effect
+ack_effects None refusal = []
+ack_effects (Some ack) (Some refusal) = []
+ack_effects (Some ack) None = signed_effect (bodies.Ack ack) ∷ []
+
+abbrev pub tick_effects : NodeState → ℕ → List Effect
+tick_effects n now = expired_effects n.parts.prio (time_after n now) ++ ack_effects (due n.parts.rel) (signer_refusal n.signer)

@@ -1,0 +1,72 @@
+// What a node answers to the objects of a frame, each after its signature was looked at.
+
+/// The answer to an update of a link's weight.
+#[derive(Clone, Copy, Debug, PartialEq, Eq)]
+pub enum WeightAnswer {
+    /// The edge isn't in the topology, or its origin is no end of it, or it is this node's own under a number that it never gave.
+    Foreign,
+    /// The weight is below the administrator's minimum of the edge.
+    Low { min: u32 },
+    /// The update that is held of this end has this number, and the new one is at most that. Normal where updates go round.
+    Old { held: u64 },
+    /// The signature isn't the origin's. An attack.
+    BadSig,
+    New,
+}
+
+/// The answer to a priority message.
+#[derive(Clone, Copy, Debug, PartialEq, Eq)]
+pub enum PrioAnswer {
+    /// Its source or its destination isn't a node, or both are the same.
+    BadEnd,
+    /// Its expiry is before the node's time. Normal for a message that took long.
+    Expired,
+    /// It came before, or is past its source's window, or is this node's own. Normal where messages take several ways.
+    Seen,
+    /// The signature isn't the source's. An attack.
+    BadSig,
+    New,
+}
+
+/// The answer to an acknowledgement in a slot.
+#[derive(Clone, Copy, Debug, PartialEq, Eq)]
+pub enum AckAnswer {
+    /// Its ends aren't the flow of the slot, or aren't two different nodes.
+    BadEnd,
+    /// What it acknowledges is acknowledged. Normal where slots overtake one another.
+    Old,
+    /// It acknowledges what the source hasn't sent, or comes to the destination, which makes it. An attack.
+    Ahead,
+    /// The signature isn't the destination's. An attack.
+    BadSig,
+    New,
+}
+
+/// The answer to a message in a slot.
+#[derive(Clone, Copy, Debug, PartialEq, Eq)]
+pub enum RelAnswer {
+    /// Its ends aren't the flow of the slot, or aren't two different nodes.
+    BadEnd,
+    /// The message is here, or acknowledged. Normal where slots are repeated.
+    Old,
+    /// The source hasn't sent it. An attack.
+    Ahead,
+    /// A message before it is missing. Normal where slots are lost.
+    Gap,
+    /// As many messages wait for their acknowledgement as may.
+    Full,
+    /// As many messages wait at the destination for its clients as may.
+    InboxFull,
+    /// The signature isn't the source's. An attack.
+    BadSig,
+    New,
+}
+
+/// The answer to one object of a frame, by its kind.
+#[derive(Clone, Copy, Debug, PartialEq, Eq)]
+pub enum Item {
+    Weight(WeightAnswer),
+    Prio(PrioAnswer),
+    Ack(AckAnswer),
+    Rel(RelAnswer),
+}
