@@ -1,4 +1,5 @@
 pub mod Cuts
+pub mod Decision
 pub mod Fronts
 pub mod Lengths
 pub mod Uses

@@ -1,10 +1,11 @@
 -- The laws of what a seed signs: its signatures are valid, and over its life no one-time key signs two messages.
-use Rattle.std.specs.Prelude.{◌≡◌, ◌≢◌, ℕ, ◌/◌, ◌<◌, List, ◌++◌}
+use Rattle.std.specs.Prelude.{◌≡◌, ◌≢◌, ◌↔◌, IsTrue, ℕ, ◌/◌, ◌<◌, List, ◌++◌}
 use Rattle.std.specs.List.{Contains}
 use Rattle.sp_ots.specs.Strings.{u32str}
 use Rattle.sp_lms.specs.declared.param.LmsParam.{LmsParam}
 use Rattle.sp_lms.specs.Parameters.{leaf_count}
 use Rattle.sp_hss.specs.KeyTree.{tree_key, public_key, signature, total}
+use Rattle.sp_hss.specs.Decision.{is_valid}
 use Rattle.sp_hss.specs.Validity.{IsValid}
 use Rattle.sp_hss.specs.Uses.{Use, Signing, leaf_of_index, upper_use, lower_use, made_by, uses, Rising}
 use Rattle.sp_hss.specs.declared.tree.Tree.TheVariants.{Upper, Lower}
@@ -34,3 +35,7 @@ AnUpperLeafSignsOneMessage = (height : LmsParam) (seed : List ℕ) (signings : L
 abbrev pub NoLeafSignsTwoMessages : Type 0
 NoLeafSignsTwoMessages = (height : LmsParam) (seed : List ℕ) (signings : List Signing) → Rising 0 signings
     → (a b : Use) → Contains (uses height seed signings) a → Contains (uses height seed signings) b → a.leaf ≡ b.leaf → a.message ≡ b.message
+
+-- the yes or no on bytes says yes exactly where the signature is valid
+abbrev pub ValidIsDecided : Type 0
+ValidIsDecided = (public message signature : List ℕ) → IsTrue (is_valid public message signature) ↔ IsValid public message signature

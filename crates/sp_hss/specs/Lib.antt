@@ -1,5 +1,6 @@
 pub mod KeyTree
 pub mod Validity
+pub mod Decision
 pub mod Signer
 pub mod Uses
 pub mod Laws

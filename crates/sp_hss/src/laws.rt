@@ -1,5 +1,5 @@
 // What holds of everything that a seed signs, whoever wrote the signer.
-ghost use Rattle.sp_hss.specs.Laws.{AnUpperLeafSignsOneMessage, NoLeafSignsTwoMessages, SeedSignaturesAreValid};
+ghost use Rattle.sp_hss.specs.Laws.{AnUpperLeafSignsOneMessage, NoLeafSignsTwoMessages, SeedSignaturesAreValid, ValidIsDecided};
 ghost use Rattle.sp_hss.specs.Laws.{TwoIndexesHaveTwoLeaves, TwoLeavesMakeASignature};
 
 /// A law: the signature of every message at every index is valid under the seed's public key.
@@ -27,4 +27,9 @@ pub fn an_upper_leaf_signs_one_message()
 /// The indexes of a `Signer` rise by one. The law is of one seed at one height: at another height the same one-time keys sign other messages.
 pub fn no_leaf_signs_two_messages()
     ensures { NoLeafSignsTwoMessages }
+{}
+
+/// A law: what tests the bytes of a signature one after another says yes exactly where the signature is valid.
+pub fn a_test_of_bytes_decides_validity()
+    ensures { ValidIsDecided }
 {}

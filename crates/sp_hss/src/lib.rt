@@ -11,8 +11,8 @@ mod verifier;
 
 pub use check::verify;
 pub use laws::{
-    an_upper_leaf_signs_one_message, no_leaf_signs_two_messages, two_indexes_have_two_leaves,
-    two_leaves_make_a_signature, what_a_seed_signs_is_valid,
+    a_test_of_bytes_decides_validity, an_upper_leaf_signs_one_message, no_leaf_signs_two_messages,
+    two_indexes_have_two_leaves, two_leaves_make_a_signature, what_a_seed_signs_is_valid,
 };
 pub use refused::HssRefused;
 pub use signer::Signer;
