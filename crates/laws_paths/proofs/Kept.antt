@@ -27,7 +27,7 @@ is_same_true (parts.Out u) (parts.Out v) e = ap parts.Out (same_node u v (eqb-tr
 pub same_number : (n : ℕ) → (n == n) ≡ true
 same_number n = grind (arith, nat_tests)
 
-other_number : (n m : ℕ) → (n ≡ m → ⊥) → (n == m) ≡ false
+pub other_number : (n m : ℕ) → (n ≡ m → ⊥) → (n == m) ≡ false
 other_number n m apart = go (n == m) refl
   where
     go : (b : Bool) → (n == m) ≡ b → (n == m) ≡ false
@@ -113,10 +113,10 @@ in_range g u v good at = go (ends u v at.0 at.2)
     go (inr e) = let same : at.0.low.0 ≡ v.0 = ap (λ (x : NodeId). x.0) e.0 in (omega (arith, same, of_edge), omega (arith, same, of_edge))
 
 -- a part that is neither of the two left out is there
-in_stays : (s t v : NodeId) → (v ≡ s → ⊥) → stays s t (parts.In v) ≡ true
+pub in_stays : (s t v : NodeId) → (v ≡ s → ⊥) → stays s t (parts.In v) ≡ true
 in_stays s t v apart = let no = other_number v.0 s.0 (λ e. apart (same_node v s e)) in rw no refl
 
-out_stays : (s t v : NodeId) → (v ≡ t → ⊥) → stays s t (parts.Out v) ≡ true
+pub out_stays : (s t v : NodeId) → (v ≡ t → ⊥) → stays s t (parts.Out v) ≡ true
 out_stays s t v apart = let no = other_number v.0 t.0 (λ e. apart (same_node v t e)) in rw no refl
 
 abbrev pub all_arcs : Graph → List Arc

@@ -27,7 +27,7 @@ number_found (p ∷ ps) f q h = go (is_same p q) refl h (number_found ps f q)
     go false e (inl same) rest = absurd (let x : true ≡ false = sym (is_same_itself p) ∙ ap (is_same p) same ∙ e in cc)
     go false e (inr k) rest = rw e (rest k)
 
-has_both : (vs : List NodeId) (v : NodeId) → Has vs v → Has (flat_map both vs) (parts.In v) × Has (flat_map both vs) (parts.Out v)
+pub has_both : (vs : List NodeId) (v : NodeId) → Has vs v → Has (flat_map both vs) (parts.In v) × Has (flat_map both vs) (parts.Out v)
 has_both [] v h = absurd h
 has_both (u ∷ vs) v (inl e) = (inl (ap parts.In e), inr (inl (ap parts.Out e)))
 has_both (u ∷ vs) v (inr h) = let at = has_both vs v h in (inr (inr at.0), inr (inr at.1))
@@ -42,7 +42,7 @@ between_other : (g : Graph) (u v : NodeId) → Between g.edges u v → Between g
 between_other g u v (e, at, test) = (e, at, or_back ((e.low.0 == u.0) && (e.high.0 == v.0)) ((e.low.0 == v.0) && (e.high.0 == u.0)) test)
 
 -- both ends of an arc are parts
-arc_parts : (g : Graph) (s t : NodeId) (a : Arc) → IsGraph g → Has (arcs_of g s t) a → Has (parts_of g s t) a.from × Has (parts_of g s t) a.to
+pub arc_parts : (g : Graph) (s t : NodeId) (a : Arc) → IsGraph g → Has (arcs_of g s t) a → Has (parts_of g s t) a.from × Has (parts_of g s t) a.to
 arc_parts g s t a right h = go (has_either (map node_arc (nodes_to g.nodes)) (flat_map edge_arcs g.edges) a at.0)
   where
     at : Has (all_arcs g) a × (is_there s t a ≡ true)

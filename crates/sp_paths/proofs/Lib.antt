@@ -15,3 +15,4 @@ pub mod Searches
 pub mod PartLists
 pub mod CertificateLemmas
 pub mod Ranges
+pub mod CutLists

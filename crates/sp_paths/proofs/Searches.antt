@@ -82,8 +82,9 @@ leaves_same c lanes =
         rw (from, to) (ap (λ (n : ℕ). cond (c l.from && not (c l.to)) 1 0 + n) (each ls))
 
 pub few_is : (g : Graph) (s t : NodeId) (k found : ℕ) (lanes : List Lane) (reached : List Bool) → IsGraph g → map arc_of lanes ≡ arcs_of g s t
-    → HasOnly (number (parts.Out s)) (number (parts.In t)) found k lanes reached → IsFew g s t k found reached
-few_is g s t k found lanes reached right is only = record {
+    → HasOnly (number (parts.Out s)) (number (parts.In t)) found k lanes reached → length reached ≡ 2 * (MAX_NODES + 1) → IsFew g s t k found reached
+few_is g s t k found lanes reached right is only marks = record {
+  marks = marks;
   fewer = only.fewer;
   no_more = λ n paths good. omega (arith, cut_bounds_paths g s t n paths (λ part. is_in reached (number part)) right good cut, whole);
   is_cut = cut;
@@ -112,12 +113,12 @@ few_is g s t k found lanes reached right is only = record {
 
 pub found_is : (g : Graph) (s t : NodeId) (k : ℕ) (old new : List Lane) (potential : List ℕ) (walks : List (List ℕ)) (paths : List (List NodeId)) → s ≢ t → IsGraph g → map arc_of old ≡ arcs_of g s t
     → HasAll (number (parts.Out s)) (number (parts.In t)) k old potential → IsApart old new (number (parts.Out s)) (number (parts.In t)) k walks → Flow (number (parts.Out s)) (number (parts.In t)) 0 new
-    → paths ≡ map (λ walk. path_along old s walk) walks → IsFound g s t k paths potential
-found_is g s t k old new potential walks paths apart right is all taken none these =
+    → paths ≡ map (λ walk. path_along old s walk) walks → length potential ≡ 2 * (MAX_NODES + 1) → IsFound g s t k paths potential
+found_is g s t k old new potential walks paths apart right is all taken none these numbers =
     let set = map (λ walk. path_along old s walk) walks in
     let disjoint = walks_are_disjoint g s t apart right old new is (at potential) all.fits k walks taken none in
     let optimal = walks_are_optimal g s t apart right old new is (at potential) all.fits k walks taken none in
-    let found : IsFound g s t k set potential = record { disjoint = disjoint; optimal = optimal; least = certified_is_least g s t k set (λ part. pos (at potential (number part))) right disjoint optimal; low = all.low } in
+    let found : IsFound g s t k set potential = record { disjoint = disjoint; optimal = optimal; least = certified_is_least g s t k set (λ part. pos (at potential (number part))) right disjoint optimal; low = all.low; numbers = numbers } in
     subst (λ (ps : List (List NodeId)). IsFound g s t k ps potential) (sym these) found
 
 -- ---- what the functions hand on

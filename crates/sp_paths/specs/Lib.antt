@@ -9,3 +9,4 @@ pub mod Visits
 pub mod Searched
 pub mod Answers
 pub mod Cheapest
+pub mod Fewer

@@ -1,8 +1,7 @@
 // The paths of a search as its callers see them.
-ghost use Rattle.std.specs.Prelude.{◌≡◌, ◌≤◌, ◌+◌, ◌*◌, IfOk, length};
-ghost use Rattle.sp_base.specs.declared.limits.TheConstants.{MAX_NODES};
+ghost use Rattle.std.specs.Prelude.{◌≤◌, IfOk};
 ghost use Rattle.sp_graph.specs.Edges.{IsGraph};
-ghost use Rattle.sp_paths.specs.Cheapest.{AreCheapest, IsNode};
+ghost use Rattle.sp_paths.specs.Cheapest.{AreCheapest, AreEnds};
 ghost use Rattle.sp_paths.specs.Searched.{IsFound};
 ghost use Rattle.sp_paths.specs.declared.limits.TheConstants.{MAX_PATHS};
 
@@ -24,8 +23,7 @@ pub fn paths_found(
     found: Found,
 ) -> Result<Paths, Memory>
     requires graph { IsGraph graph.now }
-    requires ends { IsNode graph.now s × IsNode graph.now t }
-    requires lengths { length found.potential ≡ 2 * (MAX_NODES + 1) }
+    requires ends { AreEnds graph.now s t }
     requires few { count ≤ MAX_PATHS }
     requires found { IsFound graph.now s t count found.paths found.potential }
     ensures { IfOk result (AreCheapest graph.now s t count) }

@@ -2,7 +2,9 @@
 #![tactic(auto)]
 
 mod augment;
+mod cheapest;
 mod costs;
+mod fewer;
 mod found;
 mod grow;
 mod lane;
@@ -12,9 +14,13 @@ mod nearest;
 mod nodes_of;
 mod parts;
 mod paths;
+mod refused;
 mod route;
 mod search;
 mod walk;
 mod walks;
 
+pub use cheapest::disjoint;
 pub use limits::MAX_PATHS;
+pub use paths::Paths;
+pub use refused::PathRefused;

@@ -46,6 +46,7 @@ pub fn route(
     requires there { t < length potential.old }
     requires few { count ≤ MAX_PATHS }
     ensures same { IfOk result (λ _. map bare lanes.new ≡ map bare lanes.old) }
+    ensures lengths { IfOk result (λ _. (length potential.new ≡ length potential.old) × (length reached.new ≡ length reached.old)) }
     ensures routed { IfOk result (IsRouted s t count lanes.new potential.new reached.new) }
 {
     for round in 0..count {
