@@ -5,12 +5,14 @@ pub mod AugmentLemmas
 pub mod RouteLemmas
 pub mod WalkLemmas
 pub mod LaneLists
+pub mod Places
 pub mod WalksLemmas
 pub mod FlowLemmas
 pub mod Shapes
 pub mod ArcsOnce
 pub mod PathLemmas
 pub mod Sets
+pub mod OrderLemmas
 pub mod Searches
 pub mod PartLists
 pub mod CertificateLemmas

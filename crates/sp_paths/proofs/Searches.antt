@@ -27,8 +27,10 @@ use Rattle.sp_paths.specs.Taken.{IsApart, Taken, joined}
 use Rattle.sp_paths.specs.Trees.{IsReady}
 use Rattle.sp_paths.specs.Visits.{path_along, visits, way_of, ways_along}
 use Rattle.sp_paths.proofs.FlowLemmas.{closed_size, least_cut, open_size}
+use Rattle.sp_paths.proofs.OrderLemmas.{walks_in_order}
 use Rattle.sp_paths.proofs.PathLemmas.{all_from}
-use Rattle.sp_paths.proofs.Sets.{in_or_not, walk_in_joined, walks_are_disjoint, walks_are_optimal}
+use Rattle.sp_paths.proofs.Sets.{walks_are_disjoint, walks_are_optimal}
+use Rattle.sp_paths.proofs.Places.{in_or_not, walk_in_joined}
 use Rattle.sp_paths.proofs.Shapes.{number_at, part_of_number}
 
 -- ---- the beginning
@@ -118,7 +120,7 @@ found_is g s t k old new potential walks paths apart right is all taken none the
     let set = map (λ walk. path_along old s walk) walks in
     let disjoint = walks_are_disjoint g s t apart right old new is (at potential) all.fits k walks taken none in
     let optimal = walks_are_optimal g s t apart right old new is (at potential) all.fits k walks taken none in
-    let found : IsFound g s t k set potential = record { disjoint = disjoint; optimal = optimal; least = certified_is_least g s t k set (λ part. pos (at potential (number part))) right disjoint optimal; low = all.low; numbers = numbers } in
+    let found : IsFound g s t k set potential = record { disjoint = disjoint; ordered = walks_in_order g s t right old new is k walks taken; optimal = optimal; least = certified_is_least g s t k set (λ part. pos (at potential (number part))) right disjoint optimal; low = all.low; numbers = numbers } in
     subst (λ (ps : List (List NodeId)). IsFound g s t k ps potential) (sym these) found
 
 -- ---- what the functions hand on

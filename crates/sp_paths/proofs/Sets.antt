@@ -1,8 +1,7 @@
 -- All walks of a flow together are disjoint paths, and the potentials of the search are their certificate.
 use Rattle.std.proofs.Common.{◌≡◌, ◌+◌, ◌*◌, ◌<◌, ◌≤◌, ℕ, suc, Bool, true, false, cond, List, [], ◌∷◌, ◌++◌, length, map, refl, sym, ap, subst, ◌∙◌, inl, inr, arith}
-use Rattle.std.specs.Prelude.{◌⊎◌, ◌≢◌, ◌==◌, pos, ◌≤ℤ◌, nat_abs}
-use Rattle.std.specs.List.{All, AllPairs, flat_map, list_any}
-use Rattle.std.proofs.lemmas.Bool.{eqb-true}
+use Rattle.std.specs.Prelude.{◌⊎◌, ◌≢◌, pos, ◌≤ℤ◌, nat_abs}
+use Rattle.std.specs.List.{All, AllPairs, flat_map}
 use Rattle.std.proofs.lemmas.Int.{ints}
 use Rattle.std.proofs.lemmas.List.{length-map, map-append}
 use Rattle.std.proofs.lemmas.List.Elements.{All-nil, All-cons}
@@ -17,8 +16,8 @@ use Rattle.sp_graph.specs.Edges.{IsEdge, IsGraph}
 use Rattle.sp_graph.specs.Split.{Arc, arcs_of, edge_arcs, node_arc, nodes_to}
 use Rattle.sp_graph.specs.Walks.{IsPath}
 use Rattle.laws_paths.proofs.Duality.{used_is_way, way_is_used}
-use Rattle.laws_paths.proofs.Kept.{all_arcs, same_number}
-use Rattle.laws_paths.proofs.Lists.{Distinct, Has, any_has, contains, distinct, has, has_any, has_either, has_left, has_map, has_right, held}
+use Rattle.laws_paths.proofs.Kept.{all_arcs}
+use Rattle.laws_paths.proofs.Lists.{Distinct, Has, contains, distinct, has, has_either, has_left, has_map, has_right, held}
 use Rattle.laws_paths.proofs.Sets.{together}
 use Rattle.laws_paths.proofs.Ways.{Way, is_out, ways_are, ways_of}
 use Rattle.sp_paths.specs.declared.lane.Lane.{Lane}
@@ -30,6 +29,7 @@ use Rattle.sp_paths.specs.Visits.{path_along, way_of, ways_along}
 use Rattle.sp_paths.proofs.ArcsOnce.{has_arc, place_once}
 use Rattle.sp_paths.proofs.FlowLemmas.{none_left}
 use Rattle.sp_paths.proofs.PathLemmas.{Laid, all_from, distinct_across, distinct_left, distinct_right, lay, path_is, paths_apart}
+use Rattle.sp_paths.proofs.Places.{in_or_not, walk_in_joined}
 use Rattle.sp_paths.proofs.Shapes.{from_filter, from_map, number_at}
 
 -- ---- the paths of many walks
@@ -79,18 +79,6 @@ module _ (g : Graph) (s t : NodeId) (apart_ends : s ≢ t) (lanes : List Lane) w
   are_disjoint k walks count laid once = record { count = length-map walks (λ walk. path_along lanes s walk) ∙ count; are_paths = are_paths walks laid once; apart = are_apart walks laid once }
 
 -- ---- which lanes are taken
-
-pub walk_in_joined : (walks : List (List ℕ)) (walk : List ℕ) (i : ℕ) → Has walks walk → Has walk i → Has (joined walks) i
-walk_in_joined [] walk i h k = absurd h
-walk_in_joined (v ∷ walks) walk i (inl e) k = has_left v (joined walks) i (subst (λ (u : List ℕ). Has u i) (sym e) k)
-walk_in_joined (v ∷ walks) walk i (inr h) k = has_right v (joined walks) i (walk_in_joined walks walk i h k)
-
-pub in_or_not : (xs : List ℕ) (i : ℕ) → Has xs i ⊎ (Has xs i → ⊥)
-in_or_not xs i = go (list_any (λ j. j == i) xs) refl
-  where
-    go : (b : Bool) → list_any (λ j. j == i) xs ≡ b → Has xs i ⊎ (Has xs i → ⊥)
-    go true e = let (j, at, same) = any_has (λ j. j == i) xs e in inl (subst (Has xs) (eqb-true _ _ same) at)
-    go false e = inr (λ h. let x : true ≡ false = sym (has_any (λ j. j == i) xs i h (same_number i)) ∙ e in cc)
 
 distinct_along : {Y : Type 0} (f : ℕ → Y) (xs : List ℕ) → ((i j : ℕ) → Has xs i → Has xs j → f i ≡ f j → i ≡ j) → Distinct xs → Distinct (map f xs)
 distinct_along f [] one once = tt

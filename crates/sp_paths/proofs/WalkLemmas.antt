@@ -11,7 +11,7 @@ use Rattle.std.proofs.lemmas.List.Sums.{sum_by-cons, sum_by-set}
 use Rattle.sp_paths.specs.declared.lane.Lane.{Lane}
 use Rattle.sp_paths.specs.Flows.{Flow, Halfway, begins, ends}
 use Rattle.sp_paths.specs.Lanes.{flipped, head, lane_at, no_lane, tail}
-use Rattle.sp_paths.specs.Taken.{IsFirst, Leads, Taken}
+use Rattle.sp_paths.specs.Taken.{IsFirst, IsLowest, Leads, Taken, first_of}
 use Rattle.sp_paths.proofs.AugmentLemmas.{flip_flow}
 
 -- ---- going on
@@ -73,6 +73,7 @@ pub record Walking (old : List Lane) (s t here : ℕ) (lanes : List Lane) (walk 
   pub flow : (r : ℕ) → Flow s t (r + 1) old → Halfway s t r here lanes
   pub leads : Leads old s walk here
   pub taken : Taken old lanes walk
+  pub first : IsLowest old s (first_of walk)
 
 nothing_in : {X : Type 0} (x : X) → Contains [] x → ⊥
 nothing_in x h = omega (arith, h.1)
@@ -89,6 +90,7 @@ walk_begins old s t = record {
     others = λ i h. refl;
     once = λ i j d less inside. absurd (omega (arith, inside));
   };
+  first = λ k less. absurd (omega (arith, less));
 }
 
 pub walk_ends : (old : List Lane) (s t here : ℕ) (lanes : List Lane) (walk : List ℕ) → Walking old s t here lanes walk → here ≡ t → (r : ℕ) → Flow s t (r + 1) old → Flow s t r lanes
@@ -98,7 +100,7 @@ pub leads_home : (old : List Lane) (s t here : ℕ) (walk : List ℕ) → Leads 
 leads_home old s t here walk leads is = subst (Leads old s walk) is leads
 
 module _ (old : List Lane) (s t here : ℕ) (lanes : List Lane) (walk : List ℕ) (w : Walking old s t here lanes walk) (i : ℕ)
-    (inside : i < length lanes) (used : (lane_at lanes i).used ≡ true) (from : (lane_at lanes i).from ≡ here) where
+    (inside : i < length lanes) (used : (lane_at lanes i).used ≡ true) (from : (lane_at lanes i).from ≡ here) (lowest : IsLowest lanes here i) where
   fresh : Contains walk i → ⊥
   fresh h =
       let free : (lane_at lanes i).used ≡ (flipped (lane_at old i)).used = ap (λ (l : Lane). l.used) (w.taken.free i h) in
@@ -141,8 +143,15 @@ module _ (old : List Lane) (s t here : ℕ) (lanes : List Lane) (walk : List ℕ
       others = λ j out. elsewhere j (λ e. out (subst (Contains (walk ++ i ∷ [])) (sym e) (Contains-push walk i))) ∙ w.taken.others j (λ h. out (Contains-append_left walk (i ∷ []) j h));
       once = all_pairs_push (λ j k. j ≢ k) walk i w.taken.once (λ k d less e. fresh (k, less, get_or_as walk k d i less e));
     };
+    first = still_first walk w.leads w.taken w.first;
   }
     where
+      still_first : (ws : List ℕ) → Leads old s ws here → Taken old lanes ws → IsLowest old s (first_of ws) → IsLowest old s (first_of (ws ++ i ∷ []))
+      still_first (j ∷ ws) leads taken first = first
+      still_first [] leads taken first = λ k less is_used begins.
+          let same : lane_at lanes k ≡ lane_at old k = taken.others k (nothing_in k) in
+          lowest k less (ap (λ (l : Lane). l.used) same ∙ is_used) (ap (λ (l : Lane). l.from) same ∙ begins ∙ leads)
+
       get_or_as : (xs : List ℕ) (k d x : ℕ) → k < length xs → slice_index_or xs k d ≡ x → slice_index_or xs k x ≡ x
       get_or_as xs k d x less e = sym (get_or_default xs k d x less) ∙ e
 

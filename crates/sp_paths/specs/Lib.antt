@@ -8,5 +8,6 @@ pub mod Crossings
 pub mod Visits
 pub mod Searched
 pub mod Answers
+pub mod Order
 pub mod Cheapest
 pub mod Fewer

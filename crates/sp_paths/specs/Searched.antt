@@ -1,5 +1,6 @@
 -- What a search gives: disjoint paths with the potentials that prove them the cheapest, or how many there are with the smallest cut.
 use Rattle.std.specs.Prelude.{ℕ, ◌≡◌, ◌+◌, ◌*◌, ◌<◌, ◌≤◌, ◌^◌, Bool, true, List, length, pos}
+use Rattle.std.specs.List.{AllPairs}
 use Rattle.sp_base.specs.declared.id.NodeId.{NodeId}
 use Rattle.sp_base.specs.declared.limits.TheConstants.{MAX_NODES}
 use Rattle.sp_graph.specs.declared.graph.Graph.{Graph}
@@ -7,12 +8,14 @@ use Rattle.sp_graph.specs.declared.part.Part.{Part}
 use Rattle.sp_graph.specs.Certificates.{IsOptimal}
 use Rattle.sp_graph.specs.Cuts.{IsCut, leaving}
 use Rattle.sp_graph.specs.Disjoint.{Disjoint, Least}
+use Rattle.sp_paths.specs.Order.{IsBefore}
 use Rattle.sp_paths.specs.Lanes.{at, is_in}
 use Rattle.sp_paths.specs.Parts.{number}
 
 -- k disjoint paths, no others cheaper, and potentials by the numbers of parts that prove it
 pub record IsFound (g : Graph) (s t : NodeId) (k : ℕ) (paths : List (List NodeId)) (potential : List ℕ) : Type 0 where
   pub disjoint : Disjoint g s t k paths
+  pub ordered : AllPairs IsBefore paths
   pub optimal : IsOptimal g s t paths (λ part. pos (at potential (number part)))
   pub least : Least g s t k paths
   pub low : (v : ℕ) → at potential v < 2 ^ 40

@@ -18,19 +18,29 @@ pub record Taken (old new : List Lane) (places : List ℕ) : Type 0 where
   pub others : (i : ℕ) → (Contains places i → ⊥) → lane_at new i ≡ lane_at old i
   pub once : AllPairs (λ i j. i ≢ j) places
 
+-- no lane before this place is used and begins here
+abbrev pub IsLowest : List Lane → ℕ → ℕ → Type 0
+IsLowest lanes here i = (k : ℕ) → k < i → (lane_at lanes k).used ≡ true → (lane_at lanes k).from ≢ here
+
 -- the first lane that is used and begins here
 abbrev pub IsFirst : List Lane → ℕ → Option ℕ → Type 0
 IsFirst lanes here (Some i) =
-    (i < length lanes) × ((lane_at lanes i).used ≡ true) × ((lane_at lanes i).from ≡ here)
-    × ((k : ℕ) → k < i → (lane_at lanes k).used ≡ true → (lane_at lanes k).from ≢ here)
+    (i < length lanes) × ((lane_at lanes i).used ≡ true) × ((lane_at lanes i).from ≡ here) × IsLowest lanes here i
 IsFirst lanes here None = (k : ℕ) → k < length lanes → (lane_at lanes k).used ≡ true → (lane_at lanes k).from ≢ here
 
 -- the walks one after the other
 abbrev pub joined : List (List ℕ) → List ℕ
 joined walks = flat_map (λ walk. walk) walks
 
--- so many walks from s to t, which take no lane twice
+-- the place of a walk's first lane
+abbrev pub first_of : List ℕ → ℕ
+first_of [] = 0
+first_of (i ∷ walk) = i
+
+-- so many walks from s to t, which take no lane twice; the first lanes of later walks stand after those of earlier ones
 pub record IsApart (old new : List Lane) (s t total : ℕ) (walks : List (List ℕ)) : Type 0 where
   pub count : length walks ≡ total
   pub lead : All (λ walk. Leads old s walk t) walks
   pub taken : Taken old new (joined walks)
+  pub lowest : All (λ walk. IsLowest new s (first_of walk)) walks
+  pub ascend : s ≢ t → AllPairs (λ v w. first_of v < first_of w) walks

@@ -1,7 +1,7 @@
 // Taking a path out of the flow: from part to part along lanes that are used, which then are used no more.
 ghost use Rattle.std.specs.Prelude.{◌≡◌, ◌+◌, ◌<◌, ℕ, IfOk, length};
 ghost use Rattle.sp_paths.specs.Flows.{Flow};
-ghost use Rattle.sp_paths.specs.Taken.{IsFirst, Leads, Taken};
+ghost use Rattle.sp_paths.specs.Taken.{IsFirst, IsLowest, Leads, Taken, first_of};
 
 use crate::lane::{Lane, flipped};
 use sp_base::Memory;
@@ -26,6 +26,7 @@ pub fn walk(alloc: Global, lanes: &mut [Lane], s: u8, t: u8) -> Result<Vec<usize
     requires flow { (r : ℕ) × Flow s t (r + 1) lanes.old }
     ensures flow { IfOk result (λ _. (r : ℕ) → Flow s t (r + 1) lanes.old → Flow s t r lanes.new) }
     ensures leads { IfOk result (λ walk. Leads lanes.old s walk.items t) }
+    ensures first { IfOk result (λ walk. IsLowest lanes.old s (first_of walk.items)) }
     ensures taken { IfOk result (λ walk. Taken lanes.old lanes.new walk.items) }
 {
     let mut walk = Vec::new(alloc);

@@ -29,6 +29,7 @@ returns c =
     record {
       ends = c.requires.ends;
       disjoint = c.requires.found.disjoint;
+      ordered = c.requires.found.ordered;
       cost = rw (sym c.as_slice-3.ensures, sym c.as_slice-2.ensures) c.cost-cost.ensures;
       certificate = subst (IsCertificate c.args.graph.now c.args.s c.args.t c.args.found.paths) (sym numbers) best;
       least = c.requires.found.least;

@@ -14,4 +14,4 @@ pub on-preserved : goal.on-preserved
 on-preserved c =
     let found : IsFirst c.on.lanes c.on.here (Some c.unwrap-place.result) = rw c.unwrap-place.ensures at c.next.ensures in
     rw (c.in_ok-push.ensures.items, c.flipped.ensures)
-    (walk_goes_on c.args.lanes.now c.args.s c.args.t c.on.here c.on.lanes c.on.walk.items c.on.invariant c.unwrap-place.result found.0 found.1 found.2)
+    (walk_goes_on c.args.lanes.now c.args.s c.args.t c.on.here c.on.lanes c.on.walk.items c.on.invariant c.unwrap-place.result found.0 found.1 found.2 found.3)

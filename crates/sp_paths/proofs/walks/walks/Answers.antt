@@ -16,5 +16,5 @@ loop-taken-preserved c =
     record {
       flow = c.in_ok-walk.ensures.flow (c.args.count - (c.loop-taken._taken + 1)) flow;
       apart = rw (c.in_ok-push.ensures.items, map-append (λ walk. walk.items) c.loop-taken.walks.items (c.in_ok-walk.field-0 ∷ []))
-          (one_more c.args.lanes.now c.loop-taken.lanes c.walk.new.lanes c.args.s c.args.t c.loop-taken._taken _ c.in_ok-walk.field-0.items c.loop-taken.invariant.apart c.in_ok-walk.ensures.taken c.in_ok-walk.ensures.leads);
+          (one_more c.args.lanes.now c.loop-taken.lanes c.walk.new.lanes c.args.s c.args.t c.loop-taken._taken _ c.in_ok-walk.field-0.items c.loop-taken.invariant.apart c.in_ok-walk.ensures.taken c.in_ok-walk.ensures.leads c.in_ok-walk.ensures.first);
     }
