@@ -18,3 +18,9 @@ pub mod PartLists
 pub mod CertificateLemmas
 pub mod Ranges
 pub mod CutLists
+pub mod Tested
+pub mod Paid
+pub mod Placed
+pub mod UsedArcs
+pub mod FitLemmas
+pub mod CheckLemmas

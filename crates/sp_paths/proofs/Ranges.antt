@@ -25,13 +25,24 @@ range_below a zero x h = absurd h
 range_below a (suc n) x (inl e) = omega (arith, e)
 range_below a (suc n) x (inr h) = omega (arith, range_below (a + 1) n x h)
 
+range_from : (a n x : ℕ) → Has (range_with_len a n) x → a ≤ x
+range_from a zero x h = absurd h
+range_from a (suc n) x (inl e) = omega (arith, e)
+range_from a (suc n) x (inr h) = omega (arith, range_from (a + 1) n x h)
+
 node_small : (n : ℕ) (v : NodeId) → Has (nodes_to n) v → v.0 ≤ n
 node_small n v h =
     let node : ℕ → NodeId = λ m. record { 0 = m } in
     let (m, at, e) = from_map node (range_with_len 1 n) v h in
     let same : m ≡ v.0 = ap (λ (u : NodeId). u.0) e in omega (arith, range_below 1 n m at, same)
 
-part_node : (vs : List NodeId) (p : Part) → Has (flat_map both vs) p → Has vs (node_of p)
+pub node_range : (n : ℕ) (v : NodeId) → Has (nodes_to n) v → (1 ≤ v.0) × (v.0 ≤ n)
+node_range n v h =
+    let node : ℕ → NodeId = λ m. record { 0 = m } in
+    let (m, at, e) = from_map node (range_with_len 1 n) v h in
+    let same : m ≡ v.0 = ap (λ (u : NodeId). u.0) e in (omega (arith, range_from 1 n m at, same), node_small n v h)
+
+pub part_node : (vs : List NodeId) (p : Part) → Has (flat_map both vs) p → Has vs (node_of p)
 part_node [] p h = absurd h
 part_node (v ∷ vs) p (inl e) = inl (ap node_of e)
 part_node (v ∷ vs) p (inr (inl e)) = inl (ap node_of e)

@@ -11,3 +11,6 @@ pub mod Answers
 pub mod Order
 pub mod Cheapest
 pub mod Fewer
+pub mod Checks
+pub mod Tests
+pub mod Laws

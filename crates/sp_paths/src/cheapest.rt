@@ -15,7 +15,7 @@ use sp_graph::Graph;
 use std::alloc::Global;
 
 /// Whether it is a node of the graph.
-fn is_node(graph: &Graph, node: NodeId) -> bool
+pub fn is_node(graph: &Graph, node: NodeId) -> bool
     ensures { IsTrue result ↔ IsNode graph.now node }
 {
     1 <= node.0 && node.0 <= graph.nodes

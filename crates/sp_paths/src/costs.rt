@@ -8,14 +8,14 @@ use sp_base::{Listed, NodeId};
 use sp_topology::Edge;
 
 /// Whether the edge joins the two nodes, whichever comes first.
-fn is_between(u: NodeId, v: NodeId, edge: &Edge) -> bool
+pub fn is_between(u: NodeId, v: NodeId, edge: &Edge) -> bool
     ensures { result ≡ is_between u v edge.now }
 {
     edge.low.0 == u.0 && edge.high.0 == v.0 || edge.low.0 == v.0 && edge.high.0 == u.0
 }
 
 /// The weight of the edge between the two nodes, and 0 where there is none.
-fn weight_between(edges: &[Edge], u: NodeId, v: NodeId) -> u32
+pub fn weight_between(edges: &[Edge], u: NodeId, v: NodeId) -> u32
     ensures { result ≡ weight_between edges.now u v }
 {
     for edge in edges {
