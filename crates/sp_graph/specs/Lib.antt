@@ -5,3 +5,7 @@ pub mod Split
 pub mod Cuts
 pub mod Certificates
 pub mod Spelling
+pub mod Masks
+pub mod Refusals
+pub mod Lines
+pub mod Readings

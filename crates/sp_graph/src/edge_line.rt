@@ -44,7 +44,7 @@ fn edge_of(nodes: u8, low: &[u8], high: &[u8], weight: &[u8]) -> Option<Edge>
 }
 
 /// Whether the edge goes from a lower node to a higher one, and stands after the edges so far.
-fn is_next(graph: &Graph, edge: &Edge) -> bool
+pub fn is_next(graph: &Graph, edge: &Edge) -> bool
     requires among { IsAmong graph.now.nodes edge.now }
     requires weight { IsWeight edge.now }
     ensures { IsTrue result ↔ IsNextEdge graph.now edge.now }
