@@ -1,5 +1,5 @@
 -- A cut as the list of its parts is the same cut.
-use Rattle.std.proofs.Common.{◌≡◌, ◌+◌, ◌*◌, ◌<◌, ◌≤◌, ℕ, Bool, true, false, not, cond, List, [], ◌∷◌, refl, sym, ap, ◌∙◌, inl, inr, arith}
+use Rattle.std.proofs.Common.{◌≡◌, ◌<◌, ◌≤◌, ℕ, Bool, true, false, not, cond, List, [], ◌∷◌, refl, sym, ap, ◌∙◌, inl, inr, arith}
 use Rattle.std.specs.Prelude.{◌&&◌}
 use Rattle.std.specs.List.{filter, flat_map}
 use Rattle.sp_base.specs.declared.id.NodeId.{NodeId}
@@ -12,6 +12,7 @@ use Rattle.sp_graph.specs.Edges.{IsGraph}
 use Rattle.sp_graph.specs.Split.{Arc, arcs_of, is_same, nodes_to, parts_of, stays}
 use Rattle.laws_paths.proofs.Kept.{has_filter, has_node, in_stays, is_same_itself, is_same_true, out_stays}
 use Rattle.laws_paths.proofs.Lists.{Has, any_has, has_any, held, total, total_is}
+use Rattle.sp_paths.specs.declared.limits.TheConstants.{PARTS}
 use Rattle.sp_paths.specs.Cheapest.{AreEnds}
 use Rattle.sp_paths.specs.Fewer.{AreFewer}
 use Rattle.sp_paths.specs.Lanes.{is_in}
@@ -74,6 +75,6 @@ cut_is g s t k found reached right ends few =
       least = few.least;
       smallest = λ other good small. all_from (λ part. other part ≡ true) cut (λ q h.
           let at = from_filter test (parts_of g s t) q h in
-          let inside = (held (λ part. ((node_of part).0 ≤ MAX_NODES) × (number part < 2 * (MAX_NODES + 1))) (parts_of g s t) q (parts_small g s t right) at.0).1 in
+          let inside = (held (λ part. ((node_of part).0 ≤ MAX_NODES) × (number part < PARTS)) (parts_of g s t) q (parts_small g s t right) at.0).1 in
           few.smallest other good small q (omega (arith, inside, few.marks)) at.1);
     }

@@ -1,11 +1,12 @@
 -- One part more is reached: what is known of all that is reached stays true.
-use Rattle.std.proofs.Common.{◌≡◌, ◌+◌, ◌*◌, ◌<◌, ◌≤◌, ◌^◌, ℕ, Bool, true, false, not, cond, List, [], ◌∷◌, ◌++◌, length, set, count_by, refl, sym, ap, subst, ◌∙◌, inl, inr, arith}
+use Rattle.std.proofs.Common.{◌≡◌, ◌+◌, ◌*◌, ◌<◌, ◌≤◌, ℕ, Bool, true, false, not, cond, List, [], ◌∷◌, ◌++◌, length, set, count_by, refl, sym, ap, subst, ◌∙◌, inl, inr, arith}
 use Rattle.std.specs.Prelude.{◌⊎◌, ◌≢◌}
 use Rattle.std.proofs.lemmas.Bool.{cases_eq}
 use Rattle.std.proofs.lemmas.List.{length_push, length-set, get_or_append_left, get_or_push, get_or-set_same, get_or-set_other}
 use Rattle.std.proofs.lemmas.List.Sums.{sum_by-set}
 use Rattle.sp_base.specs.declared.limits.TheConstants.{MAX_WEIGHT}
 use Rattle.sp_paths.specs.declared.lane.Lane.{Lane}
+use Rattle.sp_paths.specs.Bounds.{most_gap, most_parts}
 use Rattle.sp_paths.specs.Lanes.{AreWithin, Closed, FitAll, IsWithin, Nearest, at, head, is_in, lane_at, raised, tail}
 use Rattle.sp_paths.specs.Trees.{Grown, IsTight, IsTree, Reaches}
 use Rattle.sp_paths.proofs.Raised.{at_most, end_low, now_tight, raise_fits, slack_low, stays, still_tight}
@@ -60,7 +61,7 @@ module _ (reached : List Bool) (h : ℕ) (inside : h < length reached) where
 
 module _ (first : List ℕ) (s : ℕ) (lanes : List Lane) (pot more : List ℕ) (reached : List Bool) (tree : List ℕ) (place gap : ℕ)
     (g : Grown first s lanes pot reached tree) (n : Nearest (at pot) (is_in reached) lanes (length lanes) place gap)
-    (within : AreWithin (length pot) lanes) (weights : (k : ℕ) → k < length lanes → (lane_at lanes k).cost ≤ MAX_WEIGHT) (few : length pot ≤ 128)
+    (within : AreWithin (length pot) lanes) (weights : (k : ℕ) → k < length lanes → (lane_at lanes k).cost ≤ MAX_WEIGHT) (few : length pot ≤ most_parts)
     (same : length more ≡ length pot) (up : (v : ℕ) → at more v ≡ raised (is_in reached) gap (at pot) v) where
   new_fits : FitAll (at more) lanes
   new_fits k inside = raise_fits (is_in reached) gap (at pot) (at more) up (lane_at lanes k) (g.fits k inside) (n.least k inside)
@@ -145,7 +146,7 @@ module _ (first : List ℕ) (s : ℕ) (lanes : List Lane) (pot more : List ℕ) 
           omega (arith, long, there, end, tail_low, weights place n.inside)
       go (inr f) = omega (arith, long, stays (is_in reached) gap (at pot) (at more) up v f, g.low v inside f)
 
-  new_high : (bound : ℕ) → ((v : ℕ) → at first v ≤ bound) → (v : ℕ) → at more v ≤ bound + length (tree ++ place ∷ []) * 2 ^ 27
+  new_high : (bound : ℕ) → ((v : ℕ) → at first v ≤ bound) → (v : ℕ) → at more v ≤ bound + length (tree ++ place ∷ []) * most_gap
   new_high bound all v =
       let long = length_push tree place in
       let old = g.high bound all v in

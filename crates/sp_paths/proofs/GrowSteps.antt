@@ -1,6 +1,7 @@
 -- A turn of the search: its sums stay in their types, and what is known stays true.
 use Rattle.std.proofs.Common.{◌≡◌, ◌+◌, ◌<◌, ◌^◌, ℕ, Bool, true, List, [], ◌∷◌, ◌++◌, length, set, sym, subst, arith}
 use Rattle.sp_paths.specs.declared.lane.Lane.{Lane}
+use Rattle.sp_paths.specs.Bounds.{most_potential}
 use Rattle.sp_paths.specs.Lanes.{AreWithin, IsLow, Nearest, at, head, is_in, lane_at, raised}
 use Rattle.sp_paths.specs.Trees.{Grown, IsReady}
 use Rattle.sp_paths.proofs.GrowLemmas.{ends_within, grow_more}
@@ -8,7 +9,7 @@ use Rattle.sp_paths.proofs.Raised.{slack_low}
 
 module _ (first : List ℕ) (s : ℕ) (lanes : List Lane) (pot : List ℕ) (reached : List Bool) (tree : List ℕ) (ready : IsReady s lanes first) (g : Grown first s lanes pot reached tree) where
   pub stays_low : IsLow pot
-  stays_low v = omega (arith, g.high (2 ^ 40) ready.low v, g.few, g.marks, ready.parts)
+  stays_low v = omega (arith, g.high most_potential ready.low v, g.few, g.marks, ready.parts)
 
   pub within_more : AreWithin (length pot) lanes
   within_more = subst (λ (n : ℕ). AreWithin n lanes) (sym g.parts) ready.within

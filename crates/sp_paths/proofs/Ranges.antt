@@ -1,5 +1,5 @@
 -- Parts and paths are small.
-use Rattle.std.proofs.Common.{◌≡◌, ◌+◌, ◌*◌, ◌<◌, ◌≤◌, ◌^◌, ℕ, zero, suc, List, [], ◌∷◌, length, map, refl, sym, ap, subst, ◌∙◌, inl, inr, arith}
+use Rattle.std.proofs.Common.{◌≡◌, ◌+◌, ◌*◌, ◌<◌, ◌≤◌, ℕ, zero, suc, List, [], ◌∷◌, length, map, refl, sym, ap, subst, ◌∙◌, inl, inr, arith}
 use Rattle.std.specs.Prelude.{◌⊎◌}
 use Rattle.std.specs.List.{All, flat_map, range_with_len}
 use Rattle.sp_base.specs.declared.id.NodeId.{NodeId}
@@ -14,6 +14,7 @@ use Rattle.sp_graph.specs.Walks.{IsPath, Joined, steps}
 use Rattle.laws_paths.proofs.Kept.{between, has_node, in_range}
 use Rattle.laws_paths.proofs.Lists.{Has, distinct, has_either, held, total, within}
 use Rattle.laws_paths.proofs.Ways.{line, step_into}
+use Rattle.sp_paths.specs.declared.limits.TheConstants.{PARTS}
 use Rattle.sp_paths.specs.Cheapest.{IsNode}
 use Rattle.sp_paths.specs.Parts.{node_of, number}
 use Rattle.sp_paths.proofs.PartLists.{both}
@@ -52,8 +53,8 @@ number_small : (p : Part) (n : ℕ) → (node_of p).0 ≤ n → number p < 2 * (
 number_small (parts.In v) n small = omega (arith, small)
 number_small (parts.Out v) n small = omega (arith, small)
 
-pub parts_small : (g : Graph) (s t : NodeId) → IsGraph g → All (λ part. ((node_of part).0 ≤ MAX_NODES) × (number part < 2 * (MAX_NODES + 1))) (parts_of g s t)
-parts_small g s t right = all_from (λ part. ((node_of part).0 ≤ MAX_NODES) × (number part < 2 * (MAX_NODES + 1))) (parts_of g s t) (λ p h.
+pub parts_small : (g : Graph) (s t : NodeId) → IsGraph g → All (λ part. ((node_of part).0 ≤ MAX_NODES) × (number part < PARTS)) (parts_of g s t)
+parts_small g s t right = all_from (λ part. ((node_of part).0 ≤ MAX_NODES) × (number part < PARTS)) (parts_of g s t) (λ p h.
     let at = from_filter (stays s t) (flat_map both (nodes_to g.nodes)) p h in
     let small = node_small g.nodes (node_of p) (part_node (nodes_to g.nodes) p at.0) in
     let few : (node_of p).0 ≤ MAX_NODES = omega (arith, small, right.nodes.1) in
@@ -97,5 +98,5 @@ path_short g s t path right from to good =
     small : (v : NodeId) → Has path v → (1 ≤ v.0) × (v.0 ≤ g.nodes)
     small v h = in_line v (subst (λ (p : List NodeId). Has p v) good.ends.1 h)
 
-pub paths_short : (g : Graph) (s t : NodeId) (k : ℕ) (ps : List (List NodeId)) → IsGraph g → IsNode g s → IsNode g t → Disjoint g s t k ps → All (λ path. length path ≤ 2 ^ 16) ps
-paths_short g s t k ps right from to good = all_from (λ path. length path ≤ 2 ^ 16) ps (λ path h. omega (arith, path_short g s t path right from to (held (IsPath g s t) ps path good.are_paths h), right.nodes.1))
+pub paths_short : (g : Graph) (s t : NodeId) (k : ℕ) (ps : List (List NodeId)) → IsGraph g → IsNode g s → IsNode g t → Disjoint g s t k ps → All (λ path. length path ≤ MAX_NODES) ps
+paths_short g s t k ps right from to good = all_from (λ path. length path ≤ MAX_NODES) ps (λ path h. omega (arith, path_short g s t path right from to (held (IsPath g s t) ps path good.are_paths h), right.nodes.1))

@@ -1,8 +1,10 @@
 -- A round of the search: one path more goes along the lanes, and what a search begins with holds again.
-use Rattle.std.proofs.Common.{◌≡◌, ◌+◌, ◌*◌, ◌<◌, ◌≤◌, ◌^◌, ℕ, zero, suc, Bool, true, false, cond, List, [], ◌∷◌, length, map, sum_by, refl, sym, ap, ◌∙◌, arith}
+use Rattle.std.proofs.Common.{◌≡◌, ◌+◌, ◌*◌, ◌<◌, ◌≤◌, ℕ, zero, suc, Bool, true, false, cond, List, [], ◌∷◌, length, map, sum_by, refl, sym, ap, ◌∙◌, arith}
 use Rattle.std.proofs.lemmas.List.Sums.{sum_by-cons}
 use Rattle.sp_paths.specs.declared.lane.Lane.{Lane}
+use Rattle.sp_paths.specs.declared.limits.TheConstants.{MAX_PATHS}
 use Rattle.sp_paths.specs.Flows.{Flow, bare, begins, ends}
+use Rattle.sp_paths.specs.Bounds.{most_rise}
 use Rattle.sp_paths.specs.Lanes.{Closed, FitAll, at, is_in, lane_at}
 use Rattle.sp_paths.specs.Routes.{HasAll, HasOnly, IsUnused}
 use Rattle.sp_paths.specs.Trees.{AreTight, Grown, IsReady}
@@ -48,7 +50,7 @@ no_flow s t lanes unused c = none lanes unused (c s) (c t)
 pub record Rounds (old : List Lane) (first : List ℕ) (s t round : ℕ) (lanes : List Lane) (potential : List ℕ) (reached : List Bool) : Type 0 where
   pub same : map bare lanes ≡ map bare old
   pub ready : IsReady s lanes potential
-  pub low : (v : ℕ) → at potential v ≤ round * 2 ^ 34
+  pub low : (v : ℕ) → at potential v ≤ round * most_rise
   pub flow : Flow s t round lanes
   pub parts : length potential ≡ length first
   pub marks : length reached ≡ length first
@@ -65,10 +67,10 @@ rounds_begin old first s t reached ready zero_all unused marks = record {
 
 module _ (old : List Lane) (first : List ℕ) (s t round : ℕ) (lanes : List Lane) (potential more : List ℕ) (before reached : List Bool) (tree : List ℕ)
     (r : Rounds old first s t round lanes potential before) (g : Grown potential s lanes more reached tree) where
-  low_again : (v : ℕ) → at more v ≤ (round + 1) * 2 ^ 34
-  low_again v = omega (arith, g.high (round * 2 ^ 34) r.low v, g.few, g.marks, r.ready.parts)
+  low_again : (v : ℕ) → at more v ≤ (round + 1) * most_rise
+  low_again v = omega (arith, g.high (round * most_rise) r.low v, g.few, g.marks, r.ready.parts)
 
-  pub rounds_more : (turned : List Lane) → map bare turned ≡ map bare lanes → (AreTight (at more) lanes tree → FitAll (at more) lanes → FitAll (at more) turned) → Flow s t (round + 1) turned → round + 1 ≤ 8
+  pub rounds_more : (turned : List Lane) → map bare turned ≡ map bare lanes → (AreTight (at more) lanes tree → FitAll (at more) lanes → FitAll (at more) turned) → Flow s t (round + 1) turned → round + 1 ≤ MAX_PATHS
       → Rounds old first s t (round + 1) turned more reached
   rounds_more turned same fits flow few = record {
     same = same ∙ r.same;
@@ -102,5 +104,5 @@ module _ (old : List Lane) (first : List ℕ) (s t round : ℕ) (lanes : List La
     least_set = λ c source all v inside. g.least_set c source all v (omega (arith, inside, g.marks));
   }
 
-pub rounds_done : (old : List Lane) (first : List ℕ) (s t count : ℕ) (lanes : List Lane) (potential : List ℕ) (reached : List Bool) → count ≤ 8 → Rounds old first s t count lanes potential reached → HasAll s t count lanes potential
+pub rounds_done : (old : List Lane) (first : List ℕ) (s t count : ℕ) (lanes : List Lane) (potential : List ℕ) (reached : List Bool) → count ≤ MAX_PATHS → Rounds old first s t count lanes potential reached → HasAll s t count lanes potential
 rounds_done old first s t count lanes potential reached few r = record { flow = r.flow; fits = r.ready.fits; low = λ v. omega (arith, r.low v, few) }

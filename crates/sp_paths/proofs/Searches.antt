@@ -1,10 +1,9 @@
 -- From what the lanes of a search say to what its answer says of the graph.
-use Rattle.std.proofs.Common.{◌≡◌, ◌+◌, ◌*◌, ◌<◌, ℕ, zero, suc, Bool, true, false, not, cond, List, [], ◌∷◌, length, map, sum_by, refl, sym, ap, subst, ◌∙◌, inl, inr, arith}
+use Rattle.std.proofs.Common.{◌≡◌, ◌+◌, ◌<◌, ℕ, zero, suc, Bool, true, false, not, cond, List, [], ◌∷◌, length, map, sum_by, refl, sym, ap, subst, ◌∙◌, inl, inr, arith}
 use Rattle.std.specs.Prelude.{◌⊎◌, ◌≢◌, ◌&&◌, ◌==◌, pos, replicate}
 use Rattle.std.specs.List.{All, Contains, list_all}
 use Rattle.std.proofs.lemmas.Bool.{eqb-true}
 use Rattle.sp_base.specs.declared.id.NodeId.{NodeId}
-use Rattle.sp_base.specs.declared.limits.TheConstants.{MAX_NODES}
 use Rattle.sp_graph.specs.declared.graph.Graph.{Graph}
 use Rattle.sp_graph.specs.declared.part.Part.{Part}
 use Rattle.sp_graph.specs.declared.part.Part.TheVariants as parts
@@ -17,6 +16,7 @@ use Rattle.laws_paths.proofs.Kept.{both_true}
 use Rattle.laws_paths.proofs.Ways.{Way}
 use Rattle.laws_paths.proofs.Lists.{Has, contains, has, has_map, total, total_is, total_map}
 use Rattle.sp_paths.specs.declared.lane.Lane.{Lane}
+use Rattle.sp_paths.specs.declared.limits.TheConstants.{PARTS}
 use Rattle.sp_paths.specs.Crossings.{leaves}
 use Rattle.sp_paths.specs.Flows.{Flow, bare}
 use Rattle.sp_paths.specs.Lanes.{Fits, at, is_in, lane_at, no_lane}
@@ -41,7 +41,7 @@ fresh_fits p l fresh none = rw fresh.unused (omega (arith, none))
 pub fresh_unused : (lanes : List Lane) → All IsFresh lanes → IsUnused lanes
 fresh_unused lanes fresh k inside = (fresh k no_lane inside).unused
 
-pub fresh_ready : (s : ℕ) (lanes : List Lane) (potential : List ℕ) → All IsFresh lanes → length potential ≡ 2 * (MAX_NODES + 1) → ((v : ℕ) → at potential v ≡ 0) → s < 2 * (MAX_NODES + 1) → IsReady s lanes potential
+pub fresh_ready : (s : ℕ) (lanes : List Lane) (potential : List ℕ) → All IsFresh lanes → length potential ≡ PARTS → ((v : ℕ) → at potential v ≡ 0) → s < PARTS → IsReady s lanes potential
 fresh_ready s lanes potential fresh long zero_all inside = record {
   parts = omega (arith, long);
   source = omega (arith, long, inside);
@@ -84,7 +84,7 @@ leaves_same c lanes =
         rw (from, to) (ap (λ (n : ℕ). cond (c l.from && not (c l.to)) 1 0 + n) (each ls))
 
 pub few_is : (g : Graph) (s t : NodeId) (k found : ℕ) (lanes : List Lane) (reached : List Bool) → IsGraph g → map arc_of lanes ≡ arcs_of g s t
-    → HasOnly (number (parts.Out s)) (number (parts.In t)) found k lanes reached → length reached ≡ 2 * (MAX_NODES + 1) → IsFew g s t k found reached
+    → HasOnly (number (parts.Out s)) (number (parts.In t)) found k lanes reached → length reached ≡ PARTS → IsFew g s t k found reached
 few_is g s t k found lanes reached right is only marks = record {
   marks = marks;
   fewer = only.fewer;
@@ -115,7 +115,7 @@ few_is g s t k found lanes reached right is only marks = record {
 
 pub found_is : (g : Graph) (s t : NodeId) (k : ℕ) (old new : List Lane) (potential : List ℕ) (walks : List (List ℕ)) (paths : List (List NodeId)) → s ≢ t → IsGraph g → map arc_of old ≡ arcs_of g s t
     → HasAll (number (parts.Out s)) (number (parts.In t)) k old potential → IsApart old new (number (parts.Out s)) (number (parts.In t)) k walks → Flow (number (parts.Out s)) (number (parts.In t)) 0 new
-    → paths ≡ map (λ walk. path_along old s walk) walks → length potential ≡ 2 * (MAX_NODES + 1) → IsFound g s t k paths potential
+    → paths ≡ map (λ walk. path_along old s walk) walks → length potential ≡ PARTS → IsFound g s t k paths potential
 found_is g s t k old new potential walks paths apart right is all taken none these numbers =
     let set = map (λ walk. path_along old s walk) walks in
     let disjoint = walks_are_disjoint g s t apart right old new is (at potential) all.fits k walks taken none in
@@ -131,7 +131,7 @@ zeros_read (x ∷ xs) e zero = eqb-true _ _ (both_true (x == 0) (list_all (λ y.
 zeros_read (x ∷ xs) e (suc v) = zeros_read xs (both_true (x == 0) (list_all (λ y. y == 0) xs) e).1 v
 
 abbrev pub zeros : List ℕ
-zeros = replicate 34 0
+zeros = replicate PARTS 0
 
 pub places_inside : {X : Type 0} (f : X → List ℕ) (walks : List X) (n : ℕ) → ((i : ℕ) → Contains (joined (map f walks)) i → i < n) → All (λ walk. All (λ i. i < n) (f walk)) walks
 places_inside f walks n inside =

@@ -2,7 +2,7 @@
 --
 --     a lane that no path goes along    its residual arc leads from `from` to `to`, at its cost
 --     a lane that a path goes along     its residual arc leads back, at its cost negated
-use Rattle.std.specs.Prelude.{ℕ, ◌≡◌, ◌+◌, ◌-◌, ◌<◌, ◌≤◌, ◌^◌, Bool, true, false, not, cond, List, length, Option, Some, None, MatchBool, nat_lt, slice_index_or}
+use Rattle.std.specs.Prelude.{ℕ, ◌≡◌, ◌+◌, ◌-◌, ◌<◌, ◌≤◌, ◌^◌, Bool, true, false, not, cond, List, length, Option, Some, None, MatchBool, slice_index_or}
 use Rattle.sp_paths.specs.declared.lane.Lane.{Lane}
 
 abbrev pub no_lane : Lane
@@ -73,10 +73,6 @@ pub record Nearest (p : ℕ → ℕ) (c : ℕ → Bool) (lanes : List Lane) (n p
 abbrev pub Best : (ℕ → ℕ) → (ℕ → Bool) → List Lane → ℕ → Option (ℕ × ℕ) → Type 0
 Best p c lanes n None = (k : ℕ) → k < n → Closed c (lane_at lanes k)
 Best p c lanes n (Some (place, gap)) = Nearest p c lanes n place gap
-
-abbrev pub closer : Option (ℕ × ℕ) → ℕ → ℕ → Option (ℕ × ℕ)
-closer None place gap = Some (place, gap)
-closer (Some (other, least)) place gap = cond (nat_lt gap least) (Some (place, gap)) (Some (other, least))
 
 -- the potentials after those outside the set are raised
 abbrev pub raised : (ℕ → Bool) → ℕ → (ℕ → ℕ) → ℕ → ℕ

@@ -3,10 +3,11 @@
 --     the in-part of node v has the number 2 v, its out-part 2 v + 1
 use Rattle.std.specs.Prelude.{ℕ, ◌≡◌, ◌+◌, ◌*◌, ◌/◌, ◌%◌, ◌<◌, ◌≤◌, ◌==◌, ◌&&◌, Bool, false, cond, pos}
 use Rattle.sp_base.specs.declared.id.NodeId.{NodeId}
-use Rattle.sp_base.specs.declared.limits.TheConstants.{MAX_NODES, MAX_WEIGHT}
+use Rattle.sp_base.specs.declared.limits.TheConstants.{MAX_WEIGHT}
 use Rattle.sp_graph.specs.declared.part.Part.{Part}
 use Rattle.sp_graph.specs.declared.part.Part.TheVariants as parts
 use Rattle.sp_graph.specs.Split.{Arc, stays}
+use Rattle.sp_paths.specs.declared.limits.TheConstants.{PARTS}
 use Rattle.sp_paths.specs.declared.lane.Lane.{Lane}
 
 abbrev pub node_of : Part → NodeId
@@ -35,6 +36,6 @@ is_there s t a = stays s t a.from && stays s t a.to
 -- no path goes along the lane, and its numbers are in their ranges
 pub record IsFresh (l : Lane) : Type 0 where
   pub unused : l.used ≡ false
-  pub from : l.from < 2 * (MAX_NODES + 1)
-  pub to : l.to < 2 * (MAX_NODES + 1)
+  pub from : l.from < PARTS
+  pub to : l.to < PARTS
   pub weight : l.cost ≤ MAX_WEIGHT

@@ -1,9 +1,10 @@
 -- How a search ends. No public clause names these.
-use Rattle.std.specs.Prelude.{ℕ, ◌≡◌, ◌<◌, ◌^◌, Bool, true, false, List, length}
+use Rattle.std.specs.Prelude.{ℕ, ◌≡◌, ◌<◌, ◌≤◌, Bool, true, false, List, length}
 use Rattle.sp_paths.specs.declared.lane.Lane.{Lane}
 use Rattle.sp_paths.specs.declared.route.Routed.{Routed}
 use Rattle.sp_paths.specs.declared.route.Routed.TheVariants as ways
 use Rattle.sp_paths.specs.Flows.{Flow}
+use Rattle.sp_paths.specs.Bounds.{most_potential}
 use Rattle.sp_paths.specs.Lanes.{Closed, FitAll, at, is_in, lane_at}
 
 abbrev pub IsUnused : List Lane → Type 0
@@ -13,7 +14,7 @@ IsUnused lanes = (k : ℕ) → k < length lanes → (lane_at lanes k).used ≡ f
 pub record HasAll (s t count : ℕ) (lanes : List Lane) (potential : List ℕ) : Type 0 where
   pub flow : Flow s t count lanes
   pub fits : FitAll (at potential) lanes
-  pub low : (v : ℕ) → at potential v < 2 ^ 40
+  pub low : (v : ℕ) → at potential v ≤ most_potential
 
 -- only so many paths go along them: no residual arc leaves what is reached, which lies inside any other such set
 pub record HasOnly (s t found count : ℕ) (lanes : List Lane) (reached : List Bool) : Type 0 where

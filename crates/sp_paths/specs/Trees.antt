@@ -1,8 +1,9 @@
 -- What is reached from the source, and the lanes by which it was. No public clause names these.
-use Rattle.std.specs.Prelude.{ℕ, ◌≡◌, ◌≢◌, ◌⊎◌, ◌+◌, ◌*◌, ◌<◌, ◌≤◌, ◌^◌, Bool, true, false, not, List, length, Option, Some, None}
+use Rattle.std.specs.Prelude.{ℕ, ◌≡◌, ◌≢◌, ◌⊎◌, ◌+◌, ◌*◌, ◌<◌, ◌≤◌, Bool, true, false, not, List, length, Option, Some, None}
 use Rattle.std.specs.List.{count_by}
 use Rattle.sp_base.specs.declared.limits.TheConstants.{MAX_WEIGHT}
 use Rattle.sp_paths.specs.declared.lane.Lane.{Lane}
+use Rattle.sp_paths.specs.Bounds.{most_gap, most_parts, most_potential}
 use Rattle.sp_paths.specs.Lanes.{AreWithin, Closed, FitAll, at, head, is_in, lane_at, tail}
 
 -- the residual arc has a reduced cost of 0
@@ -37,7 +38,7 @@ pub record Grown (first : List ℕ) (s : ℕ) (lanes : List Lane) (potential : L
   pub least_set : (c : ℕ → Bool) → c s ≡ true → ((k : ℕ) → k < length lanes → Closed c (lane_at lanes k))
       → (v : ℕ) → v < length first → is_in reached v ≡ true → c v ≡ true
   pub low : (v : ℕ) → v < length first → is_in reached v ≡ true → at potential v ≤ length tree * MAX_WEIGHT
-  pub high : (bound : ℕ) → ((v : ℕ) → at first v ≤ bound) → (v : ℕ) → at potential v ≤ bound + length tree * 2 ^ 27
+  pub high : (bound : ℕ) → ((v : ℕ) → at first v ≤ bound) → (v : ℕ) → at potential v ≤ bound + length tree * most_gap
   pub few : length tree + count_by not reached ≤ length reached
 
 -- the source alone is reached
@@ -47,13 +48,13 @@ pub record IsStart (s : ℕ) (reached : List Bool) : Type 0 where
 
 -- what a search begins with
 pub record IsReady (s : ℕ) (lanes : List Lane) (potential : List ℕ) : Type 0 where
-  pub parts : length potential ≤ 128
+  pub parts : length potential ≤ most_parts
   pub source : s < length potential
   pub within : AreWithin (length potential) lanes
   pub weights : (k : ℕ) → k < length lanes → (lane_at lanes k).cost ≤ MAX_WEIGHT
   pub fits : FitAll (at potential) lanes
   pub zero_there : at potential s ≡ 0
-  pub low : (v : ℕ) → at potential v ≤ 2 ^ 40
+  pub low : (v : ℕ) → at potential v ≤ most_potential
 
 -- what a search ends with: a tree that reaches the destination, or a set that no residual arc leaves
 abbrev pub GrowsTo : List ℕ → ℕ → ℕ → List Lane → List ℕ → List Bool → Option (List ℕ) → Type 0

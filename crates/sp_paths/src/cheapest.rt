@@ -21,9 +21,11 @@ pub fn is_node(graph: &Graph, node: NodeId) -> bool
     1 <= node.0 && node.0 <= graph.nodes
 }
 
-/// The cheapest `k` paths from `s` to `t` that share no node but these and no edge, in lexical order, with their cost and the potentials that prove that no
-/// others cost less. `Unknown` exactly where an end is no node of the graph; `SameEnds` exactly where both are one node. `Fewer` only where there are no `k` such paths: how many
-/// there are, with the smallest of the cuts that so many arcs leave. `Memory` may come in place of paths and of `Fewer` (docs/RULES.md, "Disjoint paths").
+/// The cheapest `k` paths from `s` to `t` that share no node but these and no edge, in lexical order, with their cost and the potentials that prove that
+/// no others cost less (docs/RULES.md, "Disjoint paths").
+///
+/// `Unknown` exactly where an end is no node of the graph, and `SameEnds` exactly where both are one node: this is seen before memory is taken.
+/// `Fewer` only where there are no `k` such paths: how many there are, with the smallest cut that so many arcs leave. `Memory` may come in place of both.
 pub fn disjoint(
     alloc: Global,
     graph: &Graph,

@@ -19,8 +19,8 @@ fn are_ends(graph: &Graph, s: NodeId, t: NodeId) -> bool
     is_node(graph, s) && is_node(graph, t) && s != t
 }
 
-/// Whether these are disjoint paths from `s` to `t` of this cost, with a certificate: then no others of their number cost less. It is decided of any lists, in any
-/// order, with no path too, and takes no memory. False where an end is no node of the graph, or both are one node.
+/// Whether these are disjoint paths from `s` to `t` of this cost, with a certificate: then no others of their number cost less. It is decided of any
+/// lists, in any order and with no path too, and takes no memory. False where an end is no node of the graph, or both are one node.
 pub fn check(graph: &Graph, s: NodeId, t: NodeId, paths: &Paths) -> bool
     ensures { IsTrue result ↔ IsChecked graph.now s t paths.now }
 {

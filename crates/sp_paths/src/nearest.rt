@@ -1,6 +1,6 @@
 // The residual arc out of what is reached whose reduced cost is the least.
-ghost use Rattle.std.specs.Prelude.{◌≡◌, ◌<◌, ◌≤◌, ◌+◌, ◌^◌, ℕ, length};
-ghost use Rattle.sp_paths.specs.Lanes.{AreWithin, Best, FitAll, Fits, Gap, IsLow, IsWithin, at, closer, is_in, raised};
+ghost use Rattle.std.specs.Prelude.{◌≡◌, ◌<◌, ◌≤◌, ◌+◌, ◌^◌, ◌↔◌, ℕ, IfSome, IsTrue, length};
+ghost use Rattle.sp_paths.specs.Lanes.{AreWithin, Best, FitAll, Fits, Gap, IsLow, IsWithin, at, is_in, raised};
 
 use crate::lane::{Lane, head, tail};
 
@@ -31,25 +31,21 @@ pub fn nearest(lanes: &[Lane], potential: &[u64], reached: &[bool]) -> Option<(u
     let mut best: Option<(usize, u64)> = None;
     for i in 0..lanes.len() {
         if let Some(gap) = gap(lanes[i], potential, reached) {
-            best = closer(best, i, gap);
+            if is_nearer(best, gap) {
+                best = Some((i, gap));
+            }
         }
     }
     best
 }
 
-/// The nearer of the best so far and this one.
-fn closer(best: Option<(usize, u64)>, place: usize, gap: u64) -> Option<(usize, u64)>
-    ensures { result ≡ closer best place gap }
+/// Whether a gap is below that of the best so far.
+fn is_nearer(best: Option<(usize, u64)>, gap: u64) -> bool
+    ensures { IsTrue result ↔ IfSome best (λ found. gap < found.1) }
 {
     match best {
-        Some((other, least)) => {
-            if gap < least {
-                Some((place, gap))
-            } else {
-                Some((other, least))
-            }
-        }
-        None => Some((place, gap)),
+        Some((_place, least)) => gap < least,
+        None => true,
     }
 }
 

@@ -3,6 +3,7 @@ ghost use Rattle.std.specs.Prelude.{◌≡◌, ◌<◌, ◌≤◌, ◌^◌, ◌+
 ghost use Rattle.std.specs.List.{All, filter};
 ghost use Rattle.sp_base.specs.declared.limits.TheConstants.{MAX_NODES};
 ghost use Rattle.sp_graph.specs.Split.{parts_of, stays};
+ghost use Rattle.sp_paths.specs.Bounds.{most_potential};
 ghost use Rattle.sp_paths.specs.Lanes.{at, is_in};
 ghost use Rattle.sp_paths.specs.Parts.{node_of, number};
 
@@ -39,7 +40,7 @@ pub fn parts(alloc: Global, graph: &Graph, s: NodeId, t: NodeId) -> Result<Vec<P
 /// The potential of each part.
 pub fn potentials(alloc: Global, parts: &[Part], potential: &[u64]) -> Result<Vec<i64>, Memory>
     requires parts { All (λ part. ((node_of part).0 ≤ MAX_NODES) × (number part < length potential.now)) parts.now }
-    requires low { (v : ℕ) → at potential.now v < 2 ^ 40 }
+    requires low { (v : ℕ) → at potential.now v ≤ most_potential }
     ensures { IfOk result (λ numbers. numbers.items ≡ map (λ part. pos (at potential.now (number part))) parts.now) }
 {
     let mut numbers = Vec::new(alloc);
