@@ -9,6 +9,7 @@ ghost use Rattle.sp_paths.specs.Parts.{IsFresh, arc, arc_of, is_there, node_of, 
 use crate::lane::Lane;
 use sp_base::{Memory, NodeId};
 use sp_graph::{Graph, Part};
+use sp_topology::Edge;
 use std::alloc::Global;
 use std::vec::Vec;
 
@@ -73,15 +74,21 @@ fn push_nodes(lanes: &mut Vec<Lane>, nodes: u8, s: NodeId, t: NodeId) -> Result<
     Ok(())
 }
 
+/// As many lanes as there can be: one for each node, and two for each edge.
+fn room(nodes: u8, edges: &[Edge]) -> usize {
+    edges.len().saturating_mul(2).saturating_add(nodes as usize)
+}
+
 /// The lanes of a graph between two ends.
 pub fn lanes_of(alloc: Global, graph: &Graph, s: NodeId, t: NodeId) -> Result<Vec<Lane>, Memory>
     requires graph { IsGraph graph.now }
     ensures arcs { IfOk result (λ lanes. map arc_of lanes.items ≡ arcs_of graph.now s t) }
     ensures fresh { IfOk result (λ lanes. All IsFresh lanes.items) }
 {
-    let mut lanes = Vec::new(alloc);
+    let edges = graph.edges.as_slice();
+    let mut lanes = Vec::with_capacity(alloc, room(graph.nodes, edges))?;
     push_nodes(&mut lanes, graph.nodes, s, t)?;
-    for edge in graph.edges.as_slice() {
+    for edge in edges {
         push_arc(
             &mut lanes,
             Part::Out(edge.low),

@@ -31,6 +31,9 @@ pub fn nearest(lanes: &[Lane], potential: &[u64], reached: &[bool]) -> Option<(u
     let mut best: Option<(usize, u64)> = None;
     for i in 0..lanes.len() {
         if let Some(gap) = gap(lanes[i], potential, reached) {
+            if gap == 0 {
+                return Some((i, 0));
+            }
             if is_nearer(best, gap) {
                 best = Some((i, gap));
             }

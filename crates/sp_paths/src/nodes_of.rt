@@ -13,7 +13,7 @@ fn nodes_of(alloc: Global, lanes: &[Lane], walk: &[usize], s: NodeId) -> Result<
     requires inside { All (λ i. i < length lanes.now) walk.now }
     ensures { IfOk result (λ path. path.items ≡ path_along lanes.now s walk.now) }
 {
-    let mut path = Vec::new(alloc);
+    let mut path = Vec::with_capacity(alloc, walk.len() / 2 + 2)?;
     path.push(s)?;
     for place in walk {
         let part = lanes[*place].to;
@@ -34,7 +34,7 @@ pub fn paths_of(
     requires inside { All (λ walk. All (λ i. i < length lanes.now) walk.items) walks.now }
     ensures { IfOk result (λ paths. paths ≡ map (λ walk. path_along lanes.now s walk.items) walks.now) }
 {
-    let mut paths = Vec::new(alloc);
+    let mut paths = Vec::with_capacity(alloc, walks.len())?;
     for walk in walks {
         paths.push(Listed::from_vec(nodes_of(alloc, lanes, walk.as_slice(), s)?))?;
     }

@@ -8,6 +8,7 @@ ghost use Rattle.sp_paths.specs.Lanes.{at, is_in};
 ghost use Rattle.sp_paths.specs.Parts.{node_of, number};
 
 use crate::lanes_of::{number, stays};
+use crate::limits::PARTS;
 use sp_base::{Memory, NodeId};
 use sp_graph::{Graph, Part};
 use std::alloc::Global;
@@ -28,7 +29,7 @@ pub fn parts(alloc: Global, graph: &Graph, s: NodeId, t: NodeId) -> Result<Vec<P
     requires few { graph.now.nodes ≤ MAX_NODES }
     ensures { IfOk result (λ parts. parts.items ≡ parts_of graph.now s t) }
 {
-    let mut parts = Vec::new(alloc);
+    let mut parts = Vec::with_capacity(alloc, PARTS)?;
     for place in 0..graph.nodes {
         let node = NodeId(place + 1);
         push_part(&mut parts, Part::In(node), s, t)?;
@@ -43,7 +44,7 @@ pub fn potentials(alloc: Global, parts: &[Part], potential: &[u64]) -> Result<Ve
     requires low { (v : ℕ) → at potential.now v ≤ most_potential }
     ensures { IfOk result (λ numbers. numbers.items ≡ map (λ part. pos (at potential.now (number part))) parts.now) }
 {
-    let mut numbers = Vec::new(alloc);
+    let mut numbers = Vec::with_capacity(alloc, parts.len())?;
     for part in parts {
         numbers.push(potential[number(*part) as usize] as i64)?;
     }
@@ -55,7 +56,7 @@ pub fn cut(alloc: Global, parts: &[Part], reached: &[bool]) -> Result<Vec<Part>,
     requires parts { All (λ part. ((node_of part).0 ≤ MAX_NODES) × (number part < length reached.now)) parts.now }
     ensures { IfOk result (λ cut. cut.items ≡ filter (λ part. is_in reached.now (number part)) parts.now) }
 {
-    let mut cut = Vec::new(alloc);
+    let mut cut = Vec::with_capacity(alloc, parts.len())?;
     for part in parts {
         if reached[number(*part) as usize] {
             cut.push(*part)?;

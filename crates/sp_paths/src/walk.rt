@@ -4,6 +4,7 @@ ghost use Rattle.sp_paths.specs.Flows.{Flow};
 ghost use Rattle.sp_paths.specs.Taken.{IsFirst, IsLowest, Leads, Taken, first_of};
 
 use crate::lane::{Lane, flipped};
+use crate::limits::PARTS;
 use sp_base::Memory;
 use std::alloc::Global;
 use std::vec::Vec;
@@ -29,7 +30,7 @@ pub fn walk(alloc: Global, lanes: &mut [Lane], s: u8, t: u8) -> Result<Vec<usize
     ensures first { IfOk result (λ walk. IsLowest lanes.old s (first_of walk.items)) }
     ensures taken { IfOk result (λ walk. Taken lanes.old lanes.new walk.items) }
 {
-    let mut walk = Vec::new(alloc);
+    let mut walk = Vec::with_capacity(alloc, PARTS)?;
     let mut here = s;
     'on: while here != t {
         let place = next(lanes, here).unwrap();

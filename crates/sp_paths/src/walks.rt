@@ -21,7 +21,7 @@ pub fn walks(
     ensures flow { IfOk result (λ _. Flow s t 0 lanes.new) }
     ensures apart { IfOk result (λ walks. IsApart lanes.old lanes.new s t count (map (λ walk. walk.items) walks.items)) }
 {
-    let mut walks = Vec::new(alloc);
+    let mut walks = Vec::with_capacity(alloc, count as usize)?;
     for _taken in 0..count {
         walks.push(walk(alloc, lanes, s, t)?)?;
     }
