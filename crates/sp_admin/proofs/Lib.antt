@@ -1,0 +1,2 @@
+pub mod GoodDrafts
+pub mod Keys
