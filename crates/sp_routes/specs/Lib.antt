@@ -1,0 +1,4 @@
+pub mod Words
+pub mod Routes
+pub mod Refusals
+pub mod Answers
