@@ -1,5 +1,6 @@
 -- What was read and run is the output that belongs to the input.
-use Rattle.std.proofs.Common.{◌≡◌, ◌≤◌, ℕ, Bool, false, List, ◌++◌, length, take, nat_lt, Option, Some, None, refl, subst, arith}
+use Rattle.std.proofs.Common.{◌≡◌, ◌≤◌, ℕ, Bool, false, List, ◌++◌, length, take, nat_lt, Option, Some, None, inl, inr, refl, subst, arith}
+use Rattle.std.specs.Prelude.{◌⊎◌}
 use Rattle.std.specs.Io.KnownBytes.{Appends}
 use Rattle.std.proofs.lemmas.List.{take_all}
 use Rattle.std.proofs.lemmas.Bool.Decides.{nat_tests}
@@ -19,7 +20,16 @@ use Rattle.sp_top.specs.declared.ended.Status.{Status}
 use Rattle.sp_top.specs.declared.ended.Status.TheVariants as statuses
 use Rattle.sp_schedule.specs.Refusals.{refused_line}
 use Rattle.sp_top.specs.Played.{IsTextOf, status_of, IsPlayed}
-use Rattle.sp_top.specs.Outputs.{replay_words, IsOutput, No_command, Whole_journal, First_bad_line, IsRefusal, IsWorldOf, lines_before}
+use Rattle.sp_outside.specs.Streams.{AppendsFront}
+use Rattle.sp_offline.specs.declared.answered.Verdict.{Verdict}
+use Rattle.sp_offline.specs.declared.answered.Verdict.TheVariants as verdicts
+use Rattle.sp_offline.specs.declared.command.Offline.{Offline}
+use Rattle.sp_offline.specs.Answers.{IsAnswered}
+use Rattle.sp_top.specs.declared.command.Command.{Command}
+use Rattle.sp_top.specs.declared.command.Command.TheVariants as commands
+use Rattle.sp_top.specs.Commands.{AreWords}
+use Rattle.sp_top.specs.Statuses.{verdict_status}
+use Rattle.sp_top.specs.Outputs.{Answers, AreOffline, IsNoCommand, Offline_answer, replay_words, usage_line, IsOutput, No_command, Whole_journal, First_bad_line, IsRefusal, IsWorldOf, lines_before}
 use Rattle.sp_top.specs.Claims.{Wrote}
 
 -- a reading that ended well read a text that wasn't cut, up to its line `end`
@@ -98,8 +108,43 @@ pub played_output : WholeReadingsRead → GoodTextsAreReadWhole → (left : Opti
 played_output whole good left bytes is_cut world status out input played =
     rw played.status_is (output_by whole good left bytes is_cut played.stage played.ending world out input played.reading played.of_stage played.text_is)
 
+-- what a command answered for what was read of a source
+pub answers_of : (command : Offline) (left : Option (List ℕ)) (verdict : Verdict) (out text : List ℕ) (is_cut : Bool) → IsInput left MAX_INPUT_BYTES text is_cut
+    → IsAnswered command text is_cut verdict out → Answers command left verdict out
+answers_of command left verdict out text is_cut input answered = record { text = text; is_cut = is_cut; input = input; answered = answered }
+
+-- words that were found to be no command
+pub no_command : (words : List (List ℕ)) → ((x : Command) → AreWords words x → ⊥) → IsNoCommand words
+no_command words none = record { no_replay = λ is. none commands.Replay is; not_offline = λ command are. none (commands.Offline command) are }
+
+-- the usage line was written, or a beginning of it
+pub usage_written : (words : List (List ℕ)) (left : Option (List ℕ)) (world : Option Past) (status : Status) (before after : Option (List ℕ)) → IsNoCommand words → world ≡ None
+    → (status ≡ statuses.Usage) ⊎ (status ≡ statuses.Sink) → (status ≡ statuses.Usage → Appends before after usage_line) → (status ≡ statuses.Sink → AppendsFront before after usage_line)
+    → Wrote words left world status before after
+usage_written words left world status before after none worldless (inl usage) whole begun =
+    rw (worldless, usage) (record { output = usage_line; is_output = No_command none; written = whole usage })
+usage_written words left world status before after none worldless (inr sink) whole begun =
+    rw (worldless, sink) (record { status = statuses.Usage; output = usage_line; is_output = No_command none; begun = begun sink })
+
+-- the whole output of an offline command was written
+pub offline_written : (words : List (List ℕ)) (left : Option (List ℕ)) (command : Offline) (verdict : Verdict) (out : List ℕ) (before after : Option (List ℕ)) → AreOffline words command
+    → Answers command left verdict out → Appends before after out → Wrote words left None (verdict_status verdict) before after
+offline_written words left command verdicts.Done out before after are answers written =
+    record { output = out; is_output = Offline_answer command verdicts.Done out are answers; written = written }
+offline_written words left command verdicts.Fewer out before after are answers written =
+    record { output = out; is_output = Offline_answer command verdicts.Fewer out are answers; written = written }
+offline_written words left command verdicts.Refused out before after are answers written =
+    record { output = out; is_output = Offline_answer command verdicts.Refused out are answers; written = written }
+
+-- a beginning of it was written
+pub offline_begun : (words : List (List ℕ)) (left : Option (List ℕ)) (command : Offline) (verdict : Verdict) (out : List ℕ) (before after : Option (List ℕ)) → AreOffline words command
+    → Answers command left verdict out → AppendsFront before after out → Wrote words left None statuses.Sink before after
+offline_begun words left command verdict out before after are answers begun =
+    record { status = verdict_status verdict; output = out; is_output = Offline_answer command verdict out are answers; begun = begun }
+
 -- the whole output was written
 pub wrote_whole : (words : List (List ℕ)) (left : Option (List ℕ)) (world : Option Past) (status : Status) (out : List ℕ) (before after : Option (List ℕ)) → IsOutput words left world status out → Appends before after out → Wrote words left world status before after
 wrote_whole words left world status out before after (No_command wrong) written = record { output = out; is_output = No_command wrong; written = written }
 wrote_whole words left world status out before after (Whole_journal past right reads) written = record { output = out; is_output = Whole_journal past right reads; written = written }
 wrote_whole words left world status out before after (First_bad_line past line kind right is) written = record { output = out; is_output = First_bad_line past line kind right is; written = written }
+wrote_whole words left world status out before after (Offline_answer command verdict output are answers) written = offline_written words left command verdict output before after are answers written

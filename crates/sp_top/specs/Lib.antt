@@ -2,4 +2,5 @@ pub mod Statuses
 pub mod Outputs
 pub mod Claims
 -- ---- what proofs and the parts of this crate use among themselves
+pub mod Commands
 pub mod Played

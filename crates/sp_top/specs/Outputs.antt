@@ -1,5 +1,5 @@
 -- What the program writes for its words and its input.
-use Rattle.std.specs.Prelude.{ℕ, ◌≡◌, ◌≢◌, List, [], ◌∷◌, ◌++◌, length, take, nat_lt, Option, Some, None, codes}
+use Rattle.std.specs.Prelude.{ℕ, ◌≡◌, ◌≢◌, Bool, List, [], ◌∷◌, ◌++◌, length, take, nat_lt, Option, Some, None, codes}
 use Rattle.sp_base.specs.declared.limits.TheConstants.{MAX_INPUT_BYTES}
 use Rattle.sp_schedule.specs.declared.stage.Stage.{Stage}
 use Rattle.sp_schedule.specs.declared.stage.Stage.TheVariants as stages
@@ -12,14 +12,29 @@ use Rattle.sp_schedule.specs.Refusals.{refused_line}
 use Rattle.sp_schedule.specs.Readings.{IsReading}
 use Rattle.sp_journal.specs.JournalText.{journal_lines, journal_text}
 use Rattle.sp_world.specs.Past.{Past}
+use Rattle.sp_outside.specs.Streams.{IsInput}
+use Rattle.sp_offline.specs.declared.answered.Verdict.{Verdict}
+use Rattle.sp_offline.specs.declared.command.Offline.{Offline}
+use Rattle.sp_offline.specs.Answers.{IsAnswered}
+use Rattle.sp_offline.specs.Words.{IsOffline, offline_words}
+use Rattle.sp_top.specs.Statuses.{verdict_status}
 use Rattle.sp_top.specs.declared.ended.Status.{Status}
 use Rattle.sp_top.specs.declared.ended.Status.TheVariants as statuses
 
 -- ---- words
 
--- the one command
 abbrev pub replay_words : List (List ℕ)
 replay_words = codes "replay" ∷ []
+
+-- the words of an offline command, with numbers in their ranges
+pub record AreOffline (words : List (List ℕ)) (command : Offline) : Type 0 where
+  pub in_range : IsOffline command
+  pub spelled : words ≡ offline_words command
+
+-- the words of no command
+pub record IsNoCommand (words : List (List ℕ)) : Type 0 where
+  pub no_replay : words ≢ replay_words
+  pub not_offline : (command : Offline) → AreOffline words command → ⊥
 
 abbrev pub usage_line : List ℕ
 usage_line = codes "usage\n"
@@ -58,10 +73,19 @@ abbrev pub IsRefusal : Option (List ℕ) → Option Past → ℕ → Kind → Ty
 IsRefusal None past line kind = Unit {0}
 IsRefusal (Some text) past line kind = RefusalOf text past line kind
 
+-- what an offline command answers for what a source had left, of which no more is read than may be
+pub record Answers (command : Offline) (left : Option (List ℕ)) (verdict : Verdict) (output : List ℕ) : Type 0 where
+  pub text : List ℕ
+  pub is_cut : Bool
+  pub input : IsInput left MAX_INPUT_BYTES text is_cut
+  pub answered : IsAnswered command text is_cut verdict output
+
 -- ---- the output
 
 -- what is written for these words and what a source had left, with the status and the world that go with it
 pub data IsOutput (words : List (List ℕ)) (left : Option (List ℕ)) : Option Past → Status → List ℕ → Type 0 where
-  No_command : words ≢ replay_words → IsOutput words left None statuses.Usage usage_line
+  No_command : IsNoCommand words → IsOutput words left None statuses.Usage usage_line
   Whole_journal : (past : Past) → words ≡ replay_words → ReadsWhole left past → IsOutput words left (Some past) statuses.Done (journal_text past.journal)
   First_bad_line : (past : Option Past) (line : ℕ) (kind : Kind) → words ≡ replay_words → IsRefusal left past line kind → IsOutput words left past statuses.Refused (lines_before past ++ refused_line line kind)
+  Offline_answer : (command : Offline) (verdict : Verdict) (output : List ℕ) → AreOffline words command → Answers command left verdict output
+      → IsOutput words left None (verdict_status verdict) output

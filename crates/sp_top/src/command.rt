@@ -1,10 +1,33 @@
 // The words with which the program is called.
 ghost use Rattle.std.specs.Prelude.{◌≡◌, ◌↔◌, IsTrue, codes, map};
 ghost use Rattle.std.specs.String.{string_bytes};
+ghost use Rattle.sp_base.specs.Finds.{Finds};
+ghost use Rattle.sp_top.specs.Commands.{AreWords};
 ghost use Rattle.sp_top.specs.Outputs.{replay_words};
 
+use sp_offline::{Offline, offline_of};
+
+/// What the program is to do.
+#[derive(Clone, Copy, Debug, PartialEq, Eq)]
+pub enum Command {
+    /// A schedule is run.
+    Replay,
+    Offline(Offline),
+}
+
+/// The command of these words. None exactly where they are no command.
+pub fn command_of(words: &[String]) -> Option<Command>
+    ensures { Finds (AreWords (map string_bytes words.now)) result }
+{
+    if is_replay(words) {
+        return Some(Command::Replay);
+    }
+    let command = offline_of(words)?;
+    Some(Command::Offline(command))
+}
+
 /// Whether the words are the one command `replay`.
-pub fn is_replay(words: &[String]) -> bool
+fn is_replay(words: &[String]) -> bool
     ensures { IsTrue result ↔ (map string_bytes words.now ≡ replay_words) }
 {
     match words {

@@ -11,7 +11,7 @@ pub enum Status {
     Done,
     /// 2: the words are no command. The last line written is `usage`.
     Usage,
-    /// 3: the input has a bad line. The last line written names the first one, and why it is refused.
+    /// 3: the input is refused. The last line written names the first bad line, or 0, and why it is refused.
     Refused,
     /// 5: the source failed in this run.
     Source,
@@ -19,6 +19,8 @@ pub enum Status {
     Sink,
     /// 9: no memory was left.
     Memory,
+    /// 12: there are fewer disjoint paths than were asked for. The last line written has the parts of the smallest cut.
+    Fewer,
 }
 
 impl Status {
@@ -33,6 +35,7 @@ impl Status {
             Status::Source => 5,
             Status::Sink => 6,
             Status::Memory => 9,
+            Status::Fewer => 12,
         }
     }
 }

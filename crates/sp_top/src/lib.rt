@@ -3,6 +3,7 @@
 
 mod command;
 mod ended;
+mod offline;
 mod output;
 mod play;
 mod replay;

@@ -1,11 +1,14 @@
 // The top call: words and the outside go in, the outcome comes out.
-ghost use Rattle.std.specs.Prelude.{◌≡◌, ◌≢◌, ◌⊎◌, IfSome, map};
+ghost use Rattle.std.specs.Prelude.{◌≡◌, ◌≢◌, ◌⊎◌, IfSome, None, map};
+ghost use Rattle.std.specs.Io.KnownBytes.{Appends};
 ghost use Rattle.std.specs.String.{string_bytes};
 ghost use Rattle.sp_outside.specs.Causes.{Rose};
-ghost use Rattle.sp_top.specs.Outputs.{replay_words};
+ghost use Rattle.sp_outside.specs.Streams.{AppendsFront};
+ghost use Rattle.sp_top.specs.Outputs.{IsNoCommand, usage_line};
 ghost use Rattle.sp_top.specs.Claims.{Wrote, WorldClaims};
 
-use crate::command::is_replay;
+use crate::command::{Command, command_of};
+use crate::offline::offline;
 use crate::replay::replay;
 use crate::{Outcome, Status};
 use sp_outside::{Clock, Keeper, Sink, Source, Wire, write_all};
@@ -14,7 +17,9 @@ use std::alloc::Global;
 /// Runs the words over the outside that is handed in.
 ///
 /// `replay` reads a schedule from the source, runs its events in the order of their lines, and writes their journal to the
-/// sink. All other words are refused as a usage fault. The wire, the clock and the keeper aren't called.
+/// sink. `topology` reads an administrator's draft, and writes its signed document and the administrator's key. `paths --from S --to D
+/// --paths K` reads a graph, and writes its cheapest disjoint paths, or how many there are. All other words are refused as a usage
+/// fault. The wire, the clock and the keeper aren't called.
 pub fn run<S: Source, K: Sink, W: Wire, C: Clock, P: Keeper>(
     alloc: Global,
     words: &[String],
@@ -31,9 +36,9 @@ pub fn run<S: Source, K: Sink, W: Wire, C: Clock, P: Keeper>(
     // buffer is above its bound; each answer to a client has its cause.
     ensures claims { IfSome result.world WorldClaims }
 
-    ensures usage { result.status ≡ Status.Usage → map string_bytes words.now ≢ replay_words }
-    ensures only_usage { map string_bytes words.now ≢ replay_words → (result.status ≡ Status.Usage) ⊎ (result.status ≡ Status.Sink) }
-    ensures unread { map string_bytes words.now ≢ replay_words → source.new ≡ source.old }
+    ensures usage { result.status ≡ Status.Usage → IsNoCommand (map string_bytes words.now) }
+    ensures only_usage { IsNoCommand (map string_bytes words.now) → (result.status ≡ Status.Usage) ⊎ (result.status ≡ Status.Sink) }
+    ensures unread { IsNoCommand (map string_bytes words.now) → source.new ≡ source.old }
     ensures quiet { (result.status ≡ Status.Source) ⊎ (result.status ≡ Status.Memory) → sink.new ≡ sink.old }
     ensures faultless { result.status ≢ Status.Source → S.faults source.new ≡ S.faults source.old }
     ensures sunk { result.status ≢ Status.Sink → K.faults sink.new ≡ K.faults sink.old }
@@ -41,9 +46,22 @@ pub fn run<S: Source, K: Sink, W: Wire, C: Clock, P: Keeper>(
     ensures write { result.status ≡ Status.Sink → Rose (K.faults sink.old) (K.faults sink.new) }
     ensures untouched { (_wire.new ≡ _wire.old) × (_clock.new ≡ _clock.old) × (_keeper.new ≡ _keeper.old) }
 {
-    if is_replay(words) {
-        return replay(alloc, source, sink);
+    match command_of(words) {
+        Some(Command::Replay) => replay(alloc, source, sink),
+        Some(Command::Offline(command)) => offline(alloc, &command, source, sink),
+        None => usage(sink),
     }
+}
+
+/// Writes that the words are no command.
+fn usage<K: Sink>(sink: &mut K) -> Outcome
+    ensures written { result.status ≡ Status.Usage → Appends (K.contents sink.old) (K.contents sink.new) usage_line }
+    ensures begun { result.status ≡ Status.Sink → AppendsFront (K.contents sink.old) (K.contents sink.new) usage_line }
+    ensures status { (result.status ≡ Status.Usage) ⊎ (result.status ≡ Status.Sink) }
+    ensures worldless { result.world ≡ None }
+    ensures sunk { result.status ≢ Status.Sink → K.faults sink.new ≡ K.faults sink.old }
+    ensures write { result.status ≡ Status.Sink → Rose (K.faults sink.old) (K.faults sink.new) }
+{
     match write_all(sink, b"usage\n") {
         Ok(()) => Outcome {
             status: Status::Usage,

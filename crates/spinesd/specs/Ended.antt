@@ -1,10 +1,10 @@
 -- How the program ends over a reader and a writer: its number, and what the writer got.
-use Rattle.std.specs.Prelude.{ℕ, ◌≡◌, ◌≢◌, ◌⊎◌, List, Option, IfSome}
+use Rattle.std.specs.Prelude.{ℕ, ◌≡◌, ◌⊎◌, List, Option, IfSome}
 use Rattle.sp_world.specs.Past.{Past}
 use Rattle.sp_top.specs.declared.ended.Status.{Status}
 use Rattle.sp_top.specs.declared.ended.Status.TheVariants as statuses
 use Rattle.sp_top.specs.Statuses.{code_of}
-use Rattle.sp_top.specs.Outputs.{replay_words}
+use Rattle.sp_top.specs.Outputs.{IsNoCommand}
 use Rattle.sp_top.specs.Claims.{Wrote, WorldClaims}
 
 -- the run of these words ended with this number. A reader had so much left, and a writer held so much before and holds so much after
@@ -16,5 +16,5 @@ pub record Ended (words : List (List ℕ)) (left before after : Option (List ℕ
   pub wrote : Wrote words left world status before after
   -- the world is a run, of which all claims hold
   pub claims : IfSome world WorldClaims
-  pub usage : status ≡ statuses.Usage → words ≢ replay_words
-  pub only_usage : words ≢ replay_words → (status ≡ statuses.Usage) ⊎ (status ≡ statuses.Sink)
+  pub usage : status ≡ statuses.Usage → IsNoCommand words
+  pub only_usage : IsNoCommand words → (status ≡ statuses.Usage) ⊎ (status ≡ statuses.Sink)

@@ -1,7 +1,7 @@
 // The whole program over any reader and any writer: words and input go in, output and a number come out.
-ghost use Rattle.std.specs.Prelude.{◌≡◌, ◌≢◌, ◌⊎◌, IfOk, OnErr, map};
+ghost use Rattle.std.specs.Prelude.{◌≡◌, ◌⊎◌, IfOk, OnErr, map};
 ghost use Rattle.std.specs.String.{string_bytes};
-ghost use Rattle.sp_top.specs.Outputs.{replay_words};
+ghost use Rattle.sp_top.specs.Outputs.{IsNoCommand};
 ghost use Rattle.spinesd.specs.Ended.{Ended};
 
 use crate::standard::{StandardSink, StandardSource};
@@ -13,7 +13,7 @@ use std::io::{Read, Write};
 /// What the program leaves: the number with which it ends, and the reader and the writer.
 #[derive(Drop)]
 pub struct Finished<R: Read, W: Write> {
-    /// 0 done, 2 usage, 3 refused, 5 source, 6 sink, 9 memory.
+    /// 0 done, 2 usage, 3 refused, 5 source, 6 sink, 9 memory, 12 fewer paths.
     pub code: u8,
     pub reader: R,
     pub writer: W,
@@ -30,7 +30,7 @@ pub fn program<R: Read, W: Write>(
 
     // no word was kept, so none is run
     ensures wordless { OnErr words ((result.code ≡ 9) × (result.reader ≡ reader) × (result.writer ≡ writer)) }
-    ensures unread { IfOk words (λ words. map string_bytes words.items ≢ replay_words → result.reader ≡ reader) }
+    ensures unread { IfOk words (λ words. IsNoCommand (map string_bytes words.items) → result.reader ≡ reader) }
     ensures quiet { (result.code ≡ 5) ⊎ (result.code ≡ 9) → result.writer ≡ writer }
 {
     let Ok(words) = words else {

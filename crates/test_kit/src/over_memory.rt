@@ -86,6 +86,19 @@ pub fn sends<S: Source>(
     compare(alloc, outcome.status.code(), sink.bytes(), status, output)
 }
 
+/// Runs the words over an input in memory. They must end with this status and write just this output.
+pub fn writes(
+    alloc: Global,
+    words: &[&str],
+    input: &[u8],
+    status: u8,
+    output: &str,
+) -> Result<(), Fail> {
+    let mut source = MemorySource::new(input);
+    reads(alloc, words, &mut source, status, output)?;
+    Ok(())
+}
+
 /// Replays a text. It must end with this status and write just this output.
 pub fn ends(alloc: Global, text: &[u8], status: u8, output: &str) -> Result<Outcome, Fail> {
     let mut source = MemorySource::new(text);

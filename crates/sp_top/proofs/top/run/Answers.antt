@@ -1,10 +1,9 @@
-use Rattle.std.proofs.Common.{◌≡◌, false, true}
-use Rattle.sp_top.specs.declared.ended.Status.TheVariants as statuses
-use Rattle.sp_top.specs.Outputs.{usage_line, No_command}
+use Rattle.sp_top.proofs.Outputs.{no_command, usage_written}
 use Rattle.sp_top.proofs.top.run.Goals as goal
 
-pub returns-in-Ok-clause-wrote : goal.returns-in-Ok-clause-wrote
-returns-in-Ok-clause-wrote g c = record { output = usage_line; is_output = No_command (λ is. let no_such : false ≡ true = c.if-is_replay.ensures.1 is in cc); written = c.in-Ok.ensures.whole }
+pub returns-in-None-clause-wrote : goal.returns-in-None-clause-wrote
+returns-in-None-clause-wrote g c =
+    usage_written _ _ c.usage.result.world c.usage.result.status _ _ (no_command _ c.in-None.ensures) c.usage.ensures.worldless c.usage.ensures.status c.usage.ensures.written c.usage.ensures.begun
 
-pub returns-in-Err-clause-wrote : goal.returns-in-Err-clause-wrote
-returns-in-Err-clause-wrote g c = record { status = statuses.Usage; output = usage_line; is_output = No_command (λ is. let no_such : false ≡ true = c.if-is_replay.ensures.1 is in cc); begun = c.write_all.ensures.front }
+pub returns-in-None-clause-usage : goal.returns-in-None-clause-usage
+returns-in-None-clause-usage g c = λ _. no_command _ c.in-None.ensures
