@@ -1,0 +1,5 @@
+pub mod FiveFields
+pub mod PayloadLemmas
+pub mod LineLemmas
+pub mod RequestLemmas
+pub mod TableLemmas

@@ -1,0 +1,5 @@
+pub mod Requests
+pub mod Replies
+pub mod Sessions
+pub mod Tables
+pub mod Locals

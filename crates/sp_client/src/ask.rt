@@ -1,0 +1,102 @@
+// One call of the local for a command, and its answer as a client is told it.
+ghost use Rattle.std.specs.Prelude.{◌≡◌, IfOk, OnErr, true};
+ghost use Rattle.std.specs.Result.{result_ok};
+ghost use Rattle.sp_client.specs.Locals.{message, sent, took, took_prio};
+ghost use Rattle.sp_client.specs.Replies.{IsShort};
+ghost use Rattle.sp_client.specs.Requests.{IsCommand};
+ghost use Rattle.sp_client.specs.Sessions.{is_local, sends};
+
+use crate::{Answer, BadEnd, Command, Local, SendRefused};
+use sp_base::{Bytes, Memory};
+use sp_msg::Body;
+use sp_rules::Entry;
+use std::alloc::Global;
+
+/// Has the local do a command, by one call. After `Memory` it is as before.
+pub fn ask<L: Local>(local: &mut L, alloc: Global, command: &Command) -> Result<Answer, Memory>
+    requires local { is_local command.now ≡ true }
+    requires range { IsCommand command.now }
+    ensures step { IfOk result (λ answer. L.steps local.old command.now answer local.new) }
+    ensures size { IfOk result IsShort }
+    ensures memory { OnErr result (local.new ≡ local.old) }
+{
+    match command {
+        Command::Take { from } => Ok(took(local.take_rel(*from))),
+        Command::TakePrio => Ok(took_prio(local.take_prio())),
+        _ => send(local, alloc, command),
+    }
+}
+
+/// The same of what the local may have no memory for.
+fn send<L: Local>(local: &mut L, alloc: Global, command: &Command) -> Result<Answer, Memory>
+    requires sends { sends command.now ≡ true }
+    requires range { IsCommand command.now }
+    ensures step { IfOk result (λ answer. L.steps local.old command.now answer local.new) }
+    ensures size { IfOk result IsShort }
+    ensures memory { OnErr result (local.new ≡ local.old) }
+{
+    match command {
+        Command::Send { to, payload } => sent(local.send_rel(alloc, *to, payload.as_slice())),
+        Command::SendPrio {
+            to,
+            prio,
+            expiry,
+            paths,
+            payload,
+        } => sent(local.send_prio(alloc, *to, *prio, *expiry, *paths, payload.as_slice())),
+        Command::Weight { peer, weight } => sent(local.set_weight(alloc, *peer, *weight)),
+        _ => unreachable!(),
+    }
+}
+
+/// What a client is told of a send or a weight.
+fn sent(call: Result<u64, SendRefused>) -> Result<Answer, Memory>
+    ensures answer { result_ok result ≡ sent call }
+    ensures size { IfOk result IsShort }
+{
+    match call {
+        Ok(seq) => Ok(Answer::Accepted { seq }),
+        Err(SendRefused::BadEnd) => Ok(Answer::BadEnd),
+        Err(SendRefused::Full { base, have }) => Ok(Answer::Full { base, have }),
+        Err(SendRefused::Expired { now }) => Ok(Answer::Expired { now }),
+        Err(SendRefused::NoPaths { found }) => Ok(Answer::NoPaths { found }),
+        Err(SendRefused::Low { min }) => Ok(Answer::Low { min }),
+        Err(SendRefused::Spent { index }) => Ok(Answer::Spent { index }),
+        Err(SendRefused::NotReserved { bound }) => Ok(Answer::NotReserved { bound }),
+        Err(SendRefused::Memory) => Err(Memory),
+    }
+}
+
+/// What a client is told of the oldest reliable message.
+fn took(taken: Result<Option<Bytes>, BadEnd>) -> Answer
+    ensures { result ≡ took taken }
+{
+    match taken {
+        Ok(Some(payload)) => Answer::Payload(payload),
+        Ok(None) => Answer::Empty,
+        Err(BadEnd) => Answer::BadEnd,
+    }
+}
+
+/// What a client is told of the oldest priority message.
+fn took_prio(taken: Option<Entry>) -> Answer
+    ensures { result ≡ took_prio taken }
+{
+    match taken {
+        Some(entry) => message(entry.kept.body),
+        None => Answer::Empty,
+    }
+}
+
+fn message(body: Body) -> Answer
+    ensures { result ≡ message body }
+{
+    match body {
+        Body::Prio(prio) => Answer::Message {
+            src: prio.src,
+            seq: prio.seq,
+            payload: prio.payload,
+        },
+        _ => Answer::Empty,
+    }
+}

@@ -1,0 +1,89 @@
+// The node that clients speak to, as the sessions see it: five calls, each of which is a step of a relation that the node names.
+ghost use Rattle.std.specs.Prelude.{◌≡◌, ◌≤◌, IfErr, IfOk, IfSome, length, true};
+ghost use Rattle.sp_base.specs.declared.limits.TheConstants.{MAX_PAYLOAD_BYTES};
+ghost use Rattle.sp_client.specs.Requests.{IsCommand};
+ghost use Rattle.sp_client.specs.declared.request.Command.{Command};
+ghost use Rattle.sp_client.specs.declared.request.Command.TheVariants as commands;
+ghost use Rattle.sp_client.specs.declared.answer.Answer.{Answer};
+ghost use Rattle.sp_client.specs.Locals.{IsPrioEntry, StepsBy, may_refuse_prio, may_refuse_rel, may_refuse_weight, sent, took, took_prio};
+
+use sp_base::{Bytes, NodeId};
+use sp_rules::Entry;
+use std::alloc::Global;
+use thiserror::Error;
+
+/// The node named isn't another node.
+#[derive(Clone, Copy, Debug, PartialEq, Eq, Error)]
+#[error("the node isn't another node")]
+pub struct BadEnd;
+
+/// Why a node takes no message or weight of a client.
+#[derive(Clone, Copy, Debug, PartialEq, Eq, Error)]
+pub enum SendRefused {
+    /// The destination isn't another node, or the peer no neighbour.
+    #[error("the node named is no right end")]
+    BadEnd,
+    /// The buffer of the flow holds the messages after `base`, up to `have`, which are as many as it may.
+    #[error("the buffer of the flow is full, from {base} to {have}")]
+    Full { base: u64, have: u64 },
+    /// The expiry is before the node's time.
+    #[error("the expiry is before {now}")]
+    Expired { now: u64 },
+    /// There are only so many paths that share no node.
+    #[error("there are only {found} paths")]
+    NoPaths { found: u8 },
+    /// The weight is below the administrator's minimum of the edge.
+    #[error("the weight is below {min}")]
+    Low { min: u32 },
+    /// All signatures of the key are used.
+    #[error("the key is spent at index {index}")]
+    Spent { index: u64 },
+    /// All signatures that were reserved are used.
+    #[error("no index is reserved from {bound} on")]
+    NotReserved { bound: u64 },
+    /// No memory was left for what the call had to keep.
+    #[error("no memory is left")]
+    Memory,
+}
+
+/// A node whose clients speak to it. After `Memory` it is as before.
+pub trait Local {
+    /// The steps that there may be: the state before, the command, its answer, and the state after.
+    ghost steps: { Self → Command → Answer → Self → Type 0 };
+
+    /// Sends a reliable message, and gives its number.
+    fn send_rel(&mut self, alloc: Global, dst: NodeId, payload: &[u8]) -> Result<u64, SendRefused>
+        requires { IsCommand (commands.Send dst payload.now) }
+        ensures step { StepsBy steps self.old (commands.Send dst payload.now) (sent result) self.new }
+        ensures own { IfErr result (λ e. may_refuse_rel e ≡ true) };
+
+    /// Sends a priority message on so many paths, on all edges for 0, and gives its number.
+    fn send_prio(
+        &mut self,
+        alloc: Global,
+        dst: NodeId,
+        prio: u8,
+        expiry: u64,
+        paths: u8,
+        payload: &[u8],
+    ) -> Result<u64, SendRefused>
+        requires { IsCommand (commands.SendPrio dst prio expiry paths payload.now) }
+        ensures step { StepsBy steps self.old (commands.SendPrio dst prio expiry paths payload.now) (sent result) self.new }
+        ensures own { IfErr result (λ e. may_refuse_prio e ≡ true) };
+
+    /// Takes the oldest reliable message from a node. None exactly where none waits.
+    fn take_rel(&mut self, src: NodeId) -> Result<Option<Bytes>, BadEnd>
+        ensures step { steps self.old (commands.Take src) (took result) self.new }
+        ensures size { IfOk result (λ o. IfSome o (λ payload. length payload ≤ MAX_PAYLOAD_BYTES)) };
+
+    /// Takes the oldest priority message. None exactly where none waits.
+    fn take_prio(&mut self) -> Option<Entry>
+        ensures step { steps self.old commands.TakePrio (took_prio result) self.new }
+        ensures range { IfSome result IsPrioEntry };
+
+    /// Sets the weight of the link to a neighbour, and gives the number of the update.
+    fn set_weight(&mut self, alloc: Global, peer: NodeId, weight: u32) -> Result<u64, SendRefused>
+        requires { IsCommand (commands.Weight peer weight) }
+        ensures step { StepsBy steps self.old (commands.Weight peer weight) (sent result) self.new }
+        ensures own { IfErr result (λ e. may_refuse_weight e ≡ true) };
+}
