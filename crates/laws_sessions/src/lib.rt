@@ -1,0 +1,17 @@
+//! The laws of client sessions: over any list of datagrams, each answer is the one that the protocol gives after those before.
+#![tactic(auto)]
+
+ghost use Rattle.laws_sessions.specs.Laws.{DialoguesAreAnswered, TheLastNumberRunsNoMore};
+
+use sp_client::Local;
+
+/// A law: over any list of datagrams, from no sessions on, the table answers what the protocol says by the list of what was asked
+/// and answered before, whatever the local node is.
+pub fn each_answer_is_the_one_after_those_before<L: Local>()
+    ensures { DialoguesAreAnswered L.steps }
+{}
+
+/// A law: in a session whose last request has the greatest number no request runs any more.
+pub fn the_last_number_runs_no_more()
+    ensures { TheLastNumberRunsNoMore }
+{}
