@@ -48,7 +48,7 @@ const ROWS: &str = "1 open = 1 opened
 8 close = 8 closed
 8 close = 8 nosession";
 
-/// `rt try --test` makes each allocation of this test fail in turn.
+/// `bench/fail_test.py` makes each allocation of this test fail in turn.
 #[test]
 fn a_send_and_a_take_run_once_whatever_memory_is_left(rt: HostRuntime) -> Result<(), Fail> {
     let alloc = rt.alloc();
