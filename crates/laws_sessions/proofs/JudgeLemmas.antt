@@ -43,8 +43,10 @@ holder_is history t holds = find_same (listens history) (is_holder t.holder) hol
 
 -- the table's judgement, and the answer of the list
 pub data Judged (history : List Exchange) (t : Table) (port : ℕ) (r : Request) : Type 0 where
-  Repeats : (answer : Answer) → repeat t port r.number ≡ Some (reply_line r.number answer) → runs history port r ≡ false → unrun_answer history port r ≡ answer → Judged history t port r
-  Refuses : (answer : Answer) → repeat t port r.number ≡ None → refusal t port r ≡ Some answer → runs history port r ≡ false → unrun_answer history port r ≡ answer → Judged history t port r
+  Repeats : (answer : Answer) → repeat t port r.number ≡ Some (reply_line r.number answer)
+      → runs history port r ≡ false → unrun_answer history port r ≡ answer → Judged history t port r
+  Refuses : (answer : Answer) → repeat t port r.number ≡ None
+      → refusal t port r ≡ Some answer → runs history port r ≡ false → unrun_answer history port r ≡ answer → Judged history t port r
   Lets_run : repeat t port r.number ≡ None → refusal t port r ≡ None → runs history port r ≡ true → Judged history t port r
 
 -- the same of the session's requests alone, and of how many ports have a session
@@ -83,7 +85,8 @@ outside_waits count r answer some = elim (cases_Bool (is_open r.command)) [
     both_false false = refl
 
 -- in a session of so many requests
-repeat_waits : (e : Exchange) (es : List Exchange) (count : ℕ) (r : Request) → (r.number == length (e ∷ es)) ≡ true → (runs_in (e ∷ es) count r ≡ false) × (unrun_in (e ∷ es) r ≡ e.answer)
+repeat_waits : (e : Exchange) (es : List Exchange) (count : ℕ) (r : Request) → (r.number == length (e ∷ es)) ≡ true
+    → (runs_in (e ∷ es) count r ≡ false) × (unrun_in (e ∷ es) r ≡ e.answer)
 repeat_waits e es count r same =
     let differs : (r.number == length (e ∷ es) + 1) ≡ false = grind (arith, nat_tests) in
     let full : nat_lt 0 (length (e ∷ es)) ≡ true = grind (arith, nat_tests) in
@@ -94,13 +97,15 @@ next_runs e es count r next =
     let full : nat_lt 0 (length (e ∷ es)) ≡ true = grind (arith, nat_tests) in
     rw (next, full) refl
 
-other_waits : (e : Exchange) (es : List Exchange) (count : ℕ) (r : Request) → (r.number == length (e ∷ es)) ≡ false → (r.number == length (e ∷ es) + 1) ≡ false
+other_waits : (e : Exchange) (es : List Exchange) (count : ℕ) (r : Request) → (r.number == length (e ∷ es)) ≡ false
+    → (r.number == length (e ∷ es) + 1) ≡ false
     → (runs_in (e ∷ es) count r ≡ false) × (unrun_in (e ∷ es) r ≡ answers.BadNumber (length (e ∷ es)))
 other_waits e es count r differs later =
     let full : nat_lt 0 (length (e ∷ es)) ≡ true = grind (arith, nat_tests) in
     (rw later refl, rw (full, differs) refl)
 
-judged_outside : (history : List Exchange) (t : Table) (port : ℕ) (r : Request) → Holds history t → session_of history port ≡ [] → session_in t port ≡ None → Judged history t port r
+judged_outside : (history : List Exchange) (t : Table) (port : ℕ) (r : Request) → Holds history t → session_of history port ≡ []
+    → session_in t port ≡ None → Judged history t port r
 judged_outside history t port r holds empty none = go (outside r (length t.sessions)) refl
   where
     no_repeat : repeat t port r.number ≡ None
@@ -115,7 +120,8 @@ judged_outside history t port r holds empty none = go (outside r (length t.sessi
         (ap (λ (es : List Exchange). runs_in es (length (open_ports history)) r) empty ∙ waits.0)
         (ap (λ (es : List Exchange). unrun_in es r) empty ∙ waits.1)
 
-judged_inside : (history : List Exchange) (t : Table) (port : ℕ) (r : Request) (e : Exchange) (es : List Exchange) → session_of history port ≡ e ∷ es → session_in t port ≡ row port (e ∷ es)
+judged_inside : (history : List Exchange) (t : Table) (port : ℕ) (r : Request) (e : Exchange) (es : List Exchange) → session_of history port ≡ e ∷ es
+    → session_in t port ≡ row port (e ∷ es)
     → Judged history t port r
 judged_inside history t port r e es full is = elim (cases_Bool (r.number == length (e ∷ es))) [
   | inl same ↦

@@ -5,3 +5,4 @@ pub mod JudgeLemmas
 pub mod StepLemmas
 pub mod RunLemmas
 pub mod Dialogues
+pub mod WorkedLemmas

@@ -29,7 +29,8 @@ none_more f g p a zero more past = refl
 none_more f g p a (suc n) more past =
     rw (more.others a (λ same. omega arith)) (ap (λ (rest : List ℕ). cond (f a) (a ∷ rest) rest) (none_more f g p (a + 1) n more (omega arith)))
 
-pub one_more : (f g : ℕ → Bool) (p a n : ℕ) → PassesMore f g p → a ≤ p → p < a + n → length (filter g (range_with_len a n)) ≡ length (filter f (range_with_len a n)) + 1
+pub one_more : (f g : ℕ → Bool) (p a n : ℕ) → PassesMore f g p → a ≤ p → p < a + n
+    → length (filter g (range_with_len a n)) ≡ length (filter f (range_with_len a n)) + 1
 one_more f g p a zero more low high = absurd (omega arith)
 one_more f g p a (suc n) more low high = elim (cases_Bool (a == p)) [
   | inl here ↦

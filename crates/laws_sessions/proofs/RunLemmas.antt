@@ -10,7 +10,7 @@ use Rattle.sp_client.specs.declared.request.Command.{Command}
 use Rattle.sp_client.specs.declared.request.Request.{Request}
 use Rattle.sp_client.specs.declared.answer.Answer.{Answer}
 use Rattle.sp_client.specs.Replies.{reply_line}
-use Rattle.sp_client.specs.Sessions.{Answers, Exchange, begins_listening, has_session, is_close, is_open, listens, open_ports, own_answer, ports, runs, session_of}
+use Rattle.sp_client.specs.Sessions.{Answers, Exchange, Steps, begins_listening, has_session, is_close, is_open, listens, open_ports, own_answer, ports, runs, session_of}
 use Rattle.sp_client.specs.Tables.{Session, Table, has_port, holder_after, outside, ran, refusal, refusal_of, session, session_in, without}
 use Rattle.laws_sessions.proofs.HistoryLemmas.{added, closed}
 use Rattle.laws_sessions.proofs.JudgeLemmas.{Holds, IsPort, row}
@@ -30,21 +30,22 @@ not_mine : (p q last : ℕ) (kept : List ℕ) → (q ≡ p → ⊥) → has_port
 not_mine p q last kept apart = grind (arith, nat_tests)
 
 -- the rest of the ports have a session where they had one
-others_stay : (e : Exchange) (history : List Exchange) (q : ℕ) → (q ≡ e.port → ⊥) → has_session (e ∷ history) q ≡ has_session history q
+pub others_stay : (e : Exchange) (history : List Exchange) (q : ℕ) → (q ≡ e.port → ⊥) → has_session (e ∷ history) q ≡ has_session history q
 others_stay e history q apart = ap (λ (es : List Exchange). nat_lt 0 (length es)) (apart_of e history q apart)
 
 some : (x : Exchange) (es : List Exchange) → nat_lt 0 (length (x ∷ es)) ≡ true
 some x es = grind (arith, nat_tests)
 
 -- how many ports have a session, where one more has
-one_port_more : (before after : List Exchange) (p : ℕ) → p < 2 ^ 16 → has_session before p ≡ false → has_session after p ≡ true
+pub one_port_more : (before after : List Exchange) (p : ℕ) → p < 2 ^ 16 → has_session before p ≡ false → has_session after p ≡ true
     → ((q : ℕ) → (q ≡ p → ⊥) → has_session after q ≡ has_session before q) → length (open_ports after) ≡ length (open_ports before) + 1
 unfolding ports
 one_port_more before after p small was is others =
     one_more (has_session before) (has_session after) p 0 (2 ^ 16) (record { before = was; now = is; others = others }) (omega arith) (omega (arith, small))
 
 -- and where the same have
-same_ports : (before after : List Exchange) (p : ℕ) → has_session after p ≡ has_session before p → ((q : ℕ) → (q ≡ p → ⊥) → has_session after q ≡ has_session before q)
+same_ports : (before after : List Exchange) (p : ℕ) → has_session after p ≡ has_session before p
+    → ((q : ℕ) → (q ≡ p → ⊥) → has_session after q ≡ has_session before q)
     → length (open_ports after) ≡ length (open_ports before)
 same_ports before after p own others = ap length (filter_same (has_session after) (has_session before) (λ q. each q (cases_eq q p)) ports)
   where
@@ -78,7 +79,8 @@ mine p r answer = same_port p
 
 -- ---- it begins a session
 
-begins : (history : List Exchange) (t : Table) (p : ℕ) (r : Request) (answer : Answer) → p < 2 ^ 16 → Holds history t → session_of history p ≡ [] → is_open r.command ≡ true → r.number ≡ 1
+begins : (history : List Exchange) (t : Table) (p : ℕ) (r : Request) (answer : Answer) → p < 2 ^ 16 → Holds history t → session_of history p ≡ []
+    → is_open r.command ≡ true → r.number ≡ 1
     → Change history t (done p r answer) (ran t p r answer (reply_line r.number answer))
 begins history t p r answer small holds empty opens first =
     let e = done p r answer in
@@ -105,7 +107,8 @@ begins history t p r answer small holds empty opens first =
 
 -- ---- it ends one
 
-ends : (history : List Exchange) (t : Table) (p : ℕ) (r : Request) (answer : Answer) (x : Exchange) (es : List Exchange) → p < 2 ^ 16 → Holds history t → session_of history p ≡ x ∷ es
+ends : (history : List Exchange) (t : Table) (p : ℕ) (r : Request) (answer : Answer) (x : Exchange) (es : List Exchange) → p < 2 ^ 16
+    → Holds history t → session_of history p ≡ x ∷ es
     → is_close r.command ≡ true → Change history t (done p r answer) (ran t p r answer (reply_line r.number answer))
 ends history t p r answer x es small holds full close =
     let e = done p r answer in
@@ -131,22 +134,26 @@ ends history t p r answer x es small holds full close =
 -- ---- or it goes on
 
 -- who listens after a request that doesn't end the session
-on_holder : (holder : Option ℕ) (p : ℕ) (c : Command) (answer : Answer) → is_close c ≡ false → is_holder (holder_after holder p c answer) p ≡ (begins_listening c answer || is_holder holder p)
+on_holder : (holder : Option ℕ) (p : ℕ) (c : Command) (answer : Answer) → is_close c ≡ false
+    → is_holder (holder_after holder p c answer) p ≡ (begins_listening c answer || is_holder holder p)
 on_holder holder p c answer goes = elim (cases_Bool (begins_listening c answer)) [ inl on ↦ rw (goes, on) (same_port p) | inr off ↦ rw (goes, off) refl ]
 
-on_others : {L : Type 0} (steps : L → Command → Answer → L → Type 0) (holder : Option ℕ) (p : ℕ) (before after : L) (c : Command) (answer : Answer) → is_close c ≡ false
-    → Answers steps (own_answer holder p c) before c answer after → (q : ℕ) → (q ≡ p → ⊥) → is_holder (holder_after holder p c answer) q ≡ is_holder holder q
+on_others : {L : Type 0} (steps : Steps L) (holder : Option ℕ) (p : ℕ) (before after : L) (c : Command) (answer : Answer) → is_close c ≡ false
+    → Answers steps (own_answer holder p c) before c answer after → (q : ℕ) → (q ≡ p → ⊥)
+    → is_holder (holder_after holder p c answer) q ≡ is_holder holder q
 on_others steps holder p before after c answer goes answered q apart = elim (cases_Bool (begins_listening c answer)) [
   | inl on ↦ rw (goes, on) ((let off : (p == q) ≡ false = grind (arith, nat_tests) in off) ∙ sym (takes_over steps holder p before after c answer answered on q apart))
   | inr off ↦ rw (goes, off) refl
 ]
 
-on_within : (holder : Option ℕ) (p : ℕ) (c : Command) (answer : Answer) → is_close c ≡ false → p < 2 ^ 16 → IsPort holder → IsPort (holder_after holder p c answer)
+on_within : (holder : Option ℕ) (p : ℕ) (c : Command) (answer : Answer) → is_close c ≡ false → p < 2 ^ 16 → IsPort holder
+    → IsPort (holder_after holder p c answer)
 on_within holder p c answer goes small is = elim (cases_Bool (begins_listening c answer)) [ inl on ↦ rw (goes, on) small | inr off ↦ rw (goes, off) is ]
 
-goes_on : {L : Type 0} (steps : L → Command → Answer → L → Type 0) (before after : L) (history : List Exchange) (t : Table) (p : ℕ) (r : Request) (answer : Answer) (x : Exchange) (es : List Exchange)
+goes_on : {L : Type 0} (steps : Steps L) (before after : L) (history : List Exchange) (t : Table) (p : ℕ) (r : Request) (answer : Answer) (x : Exchange) (es : List Exchange)
     → p < 2 ^ 16 → Holds history t → session_of history p ≡ x ∷ es → is_close r.command ≡ false → r.number ≡ length (x ∷ es) + 1
-    → Answers steps (own_answer t.holder p r.command) before r.command answer after → Change history t (done p r answer) (ran t p r answer (reply_line r.number answer))
+    → Answers steps (own_answer t.holder p r.command) before r.command answer after
+    → Change history t (done p r answer) (ran t p r answer (reply_line r.number answer))
 goes_on steps before after history t p r answer x es small holds full goes next answered =
     let e = done p r answer in
     let s = session p (length (x ∷ es)) (reply_line (length (x ∷ es)) x.answer) in
@@ -189,7 +196,7 @@ follows s count r none = elim (cases_Bool (r.number == s.last + 1)) [
   | inr other ↦ absurd (let e = rw other at none in cc)
 ]
 
-pub holds_ran : {L : Type 0} (steps : L → Command → Answer → L → Type 0) (before after : L) (history : List Exchange) (t : Table) (p : ℕ) (r : Request) (answer : Answer)
+pub holds_ran : {L : Type 0} (steps : Steps L) (before after : L) (history : List Exchange) (t : Table) (p : ℕ) (r : Request) (answer : Answer)
     → p < 2 ^ 16 → Holds history t → refusal t p r ≡ None → Answers steps (own_answer t.holder p r.command) before r.command answer after
     → Holds (done p r answer ∷ history) (ran t p r answer (reply_line r.number answer))
 holds_ran steps before after history t p r answer small holds runs answered =

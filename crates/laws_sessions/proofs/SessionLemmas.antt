@@ -18,7 +18,8 @@ other_port s p q is apart = grind (arith, nat_tests)
 
 -- ---- a row at the end
 
-pub find_push_own : (ss : List Session) (y : Session) (p : ℕ) → find (has_port p) ss ≡ None → has_port p y ≡ true → find (has_port p) (ss ++ y ∷ []) ≡ Some y
+pub find_push_own : (ss : List Session) (y : Session) (p : ℕ) → find (has_port p) ss ≡ None → has_port p y ≡ true
+    → find (has_port p) (ss ++ y ∷ []) ≡ Some y
 find_push_own [] y p none is = rw is refl
 find_push_own (s ∷ ss) y p none is = elim (cases_Bool (has_port p s)) [
   | inl here ↦ absurd (let found = rw here at none in cc)
@@ -72,14 +73,16 @@ length_less (s ∷ ss) p x found = elim (cases_Bool (has_port p s)) [
 
 -- ---- a row in the place of one
 
-pub find_replace_own : (ss : List Session) (y x : Session) (p : ℕ) → find (has_port p) ss ≡ Some x → has_port p y ≡ true → find (has_port p) (replace_where (has_port p) y ss) ≡ Some y
+pub find_replace_own : (ss : List Session) (y x : Session) (p : ℕ) → find (has_port p) ss ≡ Some x → has_port p y ≡ true
+    → find (has_port p) (replace_where (has_port p) y ss) ≡ Some y
 find_replace_own [] y x p found is = absurd (cc)
 find_replace_own (s ∷ ss) y x p found is = elim (cases_Bool (has_port p s)) [
   | inl here ↦ rw (here, is) refl
   | inr not_here ↦ rw (not_here, not_here) (find_replace_own ss y x p (rw not_here at found) is)
 ]
 
-pub find_replace_other : (ss : List Session) (y : Session) (p q : ℕ) → has_port p y ≡ true → (q ≡ p → ⊥) → find (has_port q) (replace_where (has_port p) y ss) ≡ find (has_port q) ss
+pub find_replace_other : (ss : List Session) (y : Session) (p q : ℕ) → has_port p y ≡ true → (q ≡ p → ⊥)
+    → find (has_port q) (replace_where (has_port p) y ss) ≡ find (has_port q) ss
 find_replace_other [] y p q is apart = refl
 find_replace_other (s ∷ ss) y p q is apart = elim (cases_Bool (has_port p s)) [
   | inl here ↦ rw (here, other_port s p q here apart, other_port y p q is apart) refl

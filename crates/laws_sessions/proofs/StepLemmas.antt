@@ -7,7 +7,7 @@ use Rattle.std.proofs.lemmas.Bool.Decides.{nat_tests}
 use Rattle.sp_client.specs.declared.request.Command.{Command}
 use Rattle.sp_client.specs.declared.request.Command.TheVariants as commands
 use Rattle.sp_client.specs.declared.answer.Answer.{Answer}
-use Rattle.sp_client.specs.Sessions.{Answers, Exchange, begins_listening, has_session, is_close, is_listening, is_open, listen_answer, listens, open_ports, own_answer, ports, session_of}
+use Rattle.sp_client.specs.Sessions.{Answers, Exchange, Steps, begins_listening, has_session, is_close, is_listening, is_open, listen_answer, listens, open_ports, own_answer, ports, session_of}
 use Rattle.sp_client.specs.Tables.{Table, no_sessions, session_in}
 use Rattle.laws_sessions.proofs.HistoryLemmas.{skipped}
 use Rattle.laws_sessions.proofs.JudgeLemmas.{Holds, IsPort, row}
@@ -16,7 +16,7 @@ use Rattle.laws_sessions.proofs.SessionLemmas.{AreSingle}
 
 -- ---- at the start
 
-nobody : (f : ℕ → Bool) → ((x : ℕ) → f x ≡ false) → (xs : List ℕ) → filter f xs ≡ []
+pub nobody : (f : ℕ → Bool) → ((x : ℕ) → f x ≡ false) → (xs : List ℕ) → filter f xs ≡ []
 nobody f none [] = refl
 nobody f none (x ∷ xs) = rw (none x) (nobody f none xs)
 
@@ -105,14 +105,15 @@ open_is_silent (commands.Weight peer weight) answer is = refl
 open_is_silent commands.Close answer is = refl
 
 -- a `listen` is answered `listening` only where nobody else listens
-alone : (holder : Option ℕ) (p : ℕ) (answer : Answer) → answer ≡ listen_answer holder p → is_listening answer ≡ true → (q : ℕ) → (q ≡ p → ⊥) → is_holder holder q ≡ false
+alone : (holder : Option ℕ) (p : ℕ) (answer : Answer) → answer ≡ listen_answer holder p → is_listening answer ≡ true → (q : ℕ) → (q ≡ p → ⊥)
+    → is_holder holder q ≡ false
 alone None p answer is on q apart = refl
 alone (Some h) p answer is on q apart = elim (cases_Bool (h == p)) [
   | inl own ↦ grind (arith, nat_tests)
   | inr another ↦ absurd (let busy = rw another at is in let off = rw busy at on in cc)
 ]
 
-pub takes_over : {L : Type 0} (steps : L → Command → Answer → L → Type 0) (holder : Option ℕ) (p : ℕ) (before after : L) (c : Command) (answer : Answer)
+pub takes_over : {L : Type 0} (steps : Steps L) (holder : Option ℕ) (p : ℕ) (before after : L) (c : Command) (answer : Answer)
     → Answers steps (own_answer holder p c) before c answer after → begins_listening c answer ≡ true → (q : ℕ) → (q ≡ p → ⊥) → is_holder holder q ≡ false
 takes_over steps holder p before after commands.Listen answer answered on = alone holder p answer answered.0 on
 takes_over steps holder p before after commands.Open answer answered on = absurd (cc)

@@ -1,7 +1,7 @@
 //! The laws of client sessions: over any list of datagrams, each answer is the one that the protocol gives after those before.
 #![tactic(auto)]
 
-ghost use Rattle.laws_sessions.specs.Laws.{DialoguesAreAnswered, TheLastNumberRunsNoMore};
+ghost use Rattle.laws_sessions.specs.Laws.{DialoguesAreAnswered, TheLastNumberRunsNoMore, WorkedRow};
 
 use sp_client::Local;
 
@@ -14,4 +14,10 @@ pub fn each_answer_is_the_one_after_those_before<L: Local>()
 /// A law: in a session whose last request has the greatest number no request runs any more.
 pub fn the_last_number_runs_no_more()
     ensures { TheLastNumberRunsNoMore }
+{}
+
+/// The worked row, computed by the checker: an open, a send that comes three times and asks the node once, a number ahead, a port
+/// without a session, and a ninth open.
+pub fn the_worked_row_is_answered_so()
+    ensures { WorkedRow }
 {}

@@ -27,7 +27,8 @@ short_enough word bytes short is =
     elim (length-hex_word bytes) [ inl twice ↦ omega arith | inr dash ↦ omega arith ]
 
 -- what is read of a word that isn't too long
-pub payload_read : {E : Type 0} (word : List ℕ) (read : Result (Option (List ℕ)) E) → length word ≤ 2048 → IfOk read (λ o. IfSome o (λ bytes. word ≡ hex_word bytes))
+pub payload_read : {E : Type 0} (word : List ℕ) (read : Result (Option (List ℕ)) E) → length word ≤ 2048
+    → IfOk read (λ o. IfSome o (λ bytes. word ≡ hex_word bytes))
     → IfOk read (λ o. IfSome o AreBytes) → IfOk read (λ o. IfNone o ((bytes : List ℕ) → AreBytes bytes → word ≢ hex_word bytes))
     → IfOk read (Finds (λ bytes. IsPayload bytes × (word ≡ hex_word bytes)))
 payload_read word (Ok (Some bytes)) short found are none = (record { short = short_enough word bytes short found; bytes = are }, found)

@@ -7,6 +7,7 @@ use Rattle.sp_rules.specs.declared.store.Entry.{Entry}
 use Rattle.sp_client.specs.declared.request.Command.{Command}
 use Rattle.sp_client.specs.declared.answer.Answer.{Answer}
 use Rattle.sp_client.specs.declared.answer.Answer.TheVariants as answers
+use Rattle.sp_client.specs.Sessions.{Steps}
 use Rattle.sp_client.specs.declared.local.BadEnd.{BadEnd}
 use Rattle.sp_client.specs.declared.local.SendRefused.{SendRefused}
 use Rattle.sp_client.specs.declared.local.SendRefused.TheVariants as refusals
@@ -43,7 +44,7 @@ took_prio None = answers.Empty
 -- ---- steps
 
 -- a call is the step of its answer. Without memory it leaves all as it was
-abbrev pub StepsBy : {L : Type 0} → (L → Command → Answer → L → Type 0) → L → Command → Option Answer → L → Type 0
+abbrev pub StepsBy : {L : Type 0} → Steps L → L → Command → Option Answer → L → Type 0
 StepsBy steps old command (Some answer) new = steps old command answer new
 StepsBy steps old command None new = new ≡ old
 

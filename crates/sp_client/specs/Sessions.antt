@@ -119,7 +119,7 @@ abbrev pub listen_answer : Option ℕ → ℕ → Answer
 listen_answer None port = answers.Listening
 listen_answer (Some holder) port = if holder == port then answers.Listening else answers.Busy holder
 
--- the answer of the sessions to a request that runs, where this port listens. None where the local answers
+-- the answer of the sessions to a request that runs, by who listens. None where the local answers
 abbrev pub own_answer : Option ℕ → ℕ → Command → Option Answer
 own_answer holder port commands.Open = Some answers.Opened
 own_answer holder port commands.Close = Some answers.Closed
@@ -129,15 +129,21 @@ own_answer holder port commands.TakePrio = take_answer holder port
 own_answer holder port _ = None
 
 abbrev pub session_answer : List Exchange → ℕ → Request → Option Answer
-session_answer history port r = if runs history port r then own_answer (holder_of history) port r.command else Some (unrun_answer history port r)
+session_answer history port r =
+    if runs history port r then own_answer (holder_of history) port r.command
+    else Some (unrun_answer history port r)
+
+-- the steps of a local: the state before, the command, its answer, the state after
+abbrev pub Steps : Type 0 → Type 1
+Steps L = L → Command → Answer → L → Type 0
 
 -- the answer is the sessions' own, and the local stays; or it is that of one step of the local
-abbrev pub Answers : {L : Type 0} → (L → Command → Answer → L → Type 0) → Option Answer → L → Command → Answer → L → Type 0
+abbrev pub Answers : {L : Type 0} → Steps L → Option Answer → L → Command → Answer → L → Type 0
 Answers steps (Some own) before command answer after = (answer ≡ own) × (after ≡ before)
 Answers steps None before command answer after = steps before command answer after
 
 -- the answer to a request of this port after what was asked and answered, by the order of the protocol
-abbrev pub IsAnswered : {L : Type 0} → (L → Command → Answer → L → Type 0) → List Exchange → ℕ → Request → L → Answer → L → Type 0
+abbrev pub IsAnswered : {L : Type 0} → Steps L → List Exchange → ℕ → Request → L → Answer → L → Type 0
 IsAnswered steps history port r before answer after = Answers steps (session_answer history port r) before r.command answer after
 
 -- what a request leaves behind

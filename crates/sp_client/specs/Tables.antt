@@ -10,7 +10,7 @@ use Rattle.sp_client.specs.declared.answer.Answer.TheVariants as answers
 use Rattle.sp_base.specs.Finds.{Finds}
 use Rattle.sp_client.specs.Requests.{IsRequest}
 use Rattle.sp_client.specs.Replies.{bad_reply, reply_line}
-use Rattle.sp_client.specs.Sessions.{Answers, begins_listening, is_close, is_open, own_answer}
+use Rattle.sp_client.specs.Sessions.{Answers, Steps, begins_listening, is_close, is_open, own_answer}
 
 -- a port's session: the number of its last request, and the whole reply to that
 pub record Session : Type 0 where
@@ -45,8 +45,8 @@ repeat t port number = kept_of (session_in t port) number
 -- without a session, while so many ports have one. None where one begins
 abbrev pub outside : Request → ℕ → Option Answer
 outside r count =
-    if is_open r.command then (if r.number == 1 then (if nat_lt count MAX_SESSIONS then None else Some answers.SessionsFull) else Some (answers.BadNumber 0))
-    else Some answers.NoSession
+    if is_open r.command then (if r.number == 1 then (if nat_lt count MAX_SESSIONS then None else Some answers.SessionsFull)
+    else Some (answers.BadNumber 0)) else Some answers.NoSession
 
 abbrev pub refusal_of : Option Session → ℕ → Request → Option Answer
 refusal_of None count r = outside r count
@@ -86,27 +86,29 @@ ran t port r answer reply = record {
 -- ---- the step
 
 -- the request runs: the answer is the sessions' own, or that of one step of the local
-pub record Runs {L : Type 0} (steps : L → Command → Answer → L → Type 0) (old : Table) (port : ℕ) (r : Request) (reply : List ℕ) (new : Table) (before after : L) : Type 0 where
+pub record Runs {L : Type 0} (steps : Steps L) (old : Table) (port : ℕ) (r : Request) (reply : List ℕ) (new : Table) (before after : L) : Type 0 where
   pub answer : Answer
   pub answered : Answers steps (own_answer old.holder port r.command) before r.command answer after
   pub spelling : reply ≡ reply_line r.number answer
   pub table : new ≡ ran old port r answer reply
 
 -- a request with its kept reply, where it is a repeat, and its refusal, where it is refused. Else it runs
-abbrev pub Served : {L : Type 0} → (L → Command → Answer → L → Type 0) → Option (List ℕ) → Option Answer → Table → ℕ → Request → List ℕ → Table → L → L → Type 0
+abbrev pub Served : {L : Type 0} → Steps L → Option (List ℕ) → Option Answer
+    → Table → ℕ → Request → List ℕ → Table → L → L → Type 0
 Served steps (Some kept) refused old port r reply new before after = (reply ≡ kept) × (new ≡ old) × (after ≡ before)
 Served steps None (Some answer) old port r reply new before after = (reply ≡ reply_line r.number answer) × (new ≡ old) × (after ≡ before)
 Served steps None None old port r reply new before after = Runs steps old port r reply new before after
 
-abbrev pub Serves : {L : Type 0} → (L → Command → Answer → L → Type 0) → Table → ℕ → Request → List ℕ → Table → L → L → Type 0
-Serves steps old port r reply new before after = Served steps (repeat old port r.number) (refusal old port r) old port r reply new before after
+abbrev pub Serves : {L : Type 0} → Steps L → Table → ℕ → Request → List ℕ → Table → L → L → Type 0
+Serves steps old port r reply new before after =
+    Served steps (repeat old port r.number) (refusal old port r) old port r reply new before after
 
-abbrev pub Handles : {L : Type 0} → (L → Command → Answer → L → Type 0) → Option Request → Table → ℕ → List ℕ → Table → L → L → Type 0
+abbrev pub Handles : {L : Type 0} → Steps L → Option Request → Table → ℕ → List ℕ → Table → L → L → Type 0
 Handles steps None old port reply new before after = (reply ≡ bad_reply) × (new ≡ old) × (after ≡ before)
 Handles steps (Some r) old port reply new before after = Serves steps old port r reply new before after
 
 -- a datagram of a port got this reply. Before all else it is a request or none
-pub record Datagram {L : Type 0} (steps : L → Command → Answer → L → Type 0) (old : Table) (port : ℕ) (bytes reply : List ℕ) (new : Table) (before after : L) : Type 0 where
+pub record Datagram {L : Type 0} (steps : Steps L) (old : Table) (port : ℕ) (bytes reply : List ℕ) (new : Table) (before after : L) : Type 0 where
   pub read : Option Request
   pub right : Finds (IsRequest bytes) read
   pub handled : Handles steps read old port reply new before after
