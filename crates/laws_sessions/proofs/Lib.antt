@@ -6,3 +6,4 @@ pub mod StepLemmas
 pub mod RunLemmas
 pub mod Dialogues
 pub mod WorkedLemmas
+pub mod NumberLemmas

@@ -1,5 +1,5 @@
 -- Whole dialogues: what the table answers, and what the protocol says.
-use Rattle.std.specs.Prelude.{ℕ, zero, suc, ◌≡◌, ◌<◌, ◌+◌, ◌^◌, true, List, [], ◌∷◌, Some, None}
+use Rattle.std.specs.Prelude.{ℕ, zero, suc, ◌≡◌, ◌<◌, ◌+◌, ◌^◌, true, List, [], ◌∷◌, length, Some, None, ⊤}
 use Rattle.sp_client.specs.declared.limits.TheConstants.{MAX_REQUEST_NUMBER}
 use Rattle.sp_client.specs.declared.request.Command.{Command}
 use Rattle.sp_client.specs.declared.request.Command.TheVariants as commands
@@ -8,7 +8,7 @@ use Rattle.sp_client.specs.declared.answer.Answer.{Answer}
 use Rattle.sp_client.specs.declared.answer.Answer.TheVariants as answers
 use Rattle.sp_client.specs.Replies.{bad_reply, reply_line}
 use Rattle.sp_client.specs.Requests.{IsInRange, IsRequest}
-use Rattle.sp_client.specs.Sessions.{Exchange, IsAnswered, Steps, exchange, session_answer}
+use Rattle.sp_client.specs.Sessions.{Exchange, IsAnswered, Steps, exchange, is_open, session_answer, session_of}
 use Rattle.sp_client.specs.Tables.{Datagram, Session, Table, no_sessions, refusal_of}
 
 -- a datagram of a port, and the reply to it
@@ -37,6 +37,26 @@ pub data Follows {L : Type 0} (steps : Steps L) (first : L) : List Told → List
 abbrev pub DialoguesAreAnswered : {L : Type 0} → Steps L → Type 0
 DialoguesAreAnswered {L} steps = (first : L) (told : List Told) (table : Table) (after : L) → Served steps first told table after
     → (history : List Exchange) × Follows steps first told history after
+
+-- the requests of a session, the latest first, have the numbers up to their count, each once and in order
+abbrev pub AreNumbered : List Exchange → Type 0
+AreNumbered [] = ⊤
+AreNumbered (e ∷ es) = (e.request.number ≡ length (e ∷ es)) × AreNumbered es
+
+-- the earliest of them is an `open`
+abbrev pub BeginsWithOpen : List Exchange → Type 0
+BeginsWithOpen [] = ⊤
+BeginsWithOpen (e ∷ []) = is_open e.request.command ≡ true
+BeginsWithOpen (e ∷ x ∷ es) = BeginsWithOpen (x ∷ es)
+
+pub record IsSession (es : List Exchange) : Type 0 where
+  pub numbered : AreNumbered es
+  pub begins : BeginsWithOpen es
+
+-- whatever was repeated, delayed or left out
+abbrev pub EachRunsOnce : {L : Type 0} → Steps L → Type 0
+EachRunsOnce {L} steps = (first : L) (told : List Told) (history : List Exchange) (after : L) → Follows steps first told history after
+    → (port : ℕ) → IsSession (session_of history port)
 
 -- a request of any number of a session at the last one is a repeat, or refused
 abbrev pub TheLastNumberRunsNoMore : Type 0

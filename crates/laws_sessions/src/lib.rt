@@ -1,7 +1,7 @@
 //! The laws of client sessions: over any list of datagrams, each answer is the one that the protocol gives after those before.
 #![tactic(auto)]
 
-ghost use Rattle.laws_sessions.specs.Laws.{DialoguesAreAnswered, TheLastNumberRunsNoMore, WorkedRow};
+ghost use Rattle.laws_sessions.specs.Laws.{DialoguesAreAnswered, EachRunsOnce, TheLastNumberRunsNoMore, WorkedRow};
 
 use sp_client::Local;
 
@@ -9,6 +9,12 @@ use sp_client::Local;
 /// and answered before, whatever the local node is.
 pub fn each_answer_is_the_one_after_those_before<L: Local>()
     ensures { DialoguesAreAnswered L.steps }
+{}
+
+/// A law: over any list of datagrams, the requests that ran in a session of a port have the numbers 1, 2, 3 and so on, each once and in
+/// this order, and the first is an `open`.
+pub fn each_request_runs_once_and_in_order<L: Local>()
+    ensures { EachRunsOnce L.steps }
 {}
 
 /// A law: in a session whose last request has the greatest number no request runs any more.
