@@ -9,8 +9,8 @@ use Rattle.sp_client.specs.declared.answer.Answer.{Answer}
 use Rattle.sp_client.specs.declared.answer.Answer.TheVariants as answers
 use Rattle.sp_client.specs.Sessions.{Steps}
 use Rattle.sp_client.specs.declared.local.BadEnd.{BadEnd}
-use Rattle.sp_client.specs.declared.local.SendRefused.{SendRefused}
-use Rattle.sp_client.specs.declared.local.SendRefused.TheVariants as refusals
+use Rattle.sp_msg.specs.declared.refused.SendRefused.{SendRefused}
+use Rattle.sp_msg.specs.declared.refused.SendRefused.TheVariants as refusals
 
 -- ---- answers
 

@@ -14,6 +14,7 @@ mod spelling;
 pub use answer::Answer;
 pub use clients::Clients;
 pub use limits::{MAX_PATHS, MAX_REPLY_BYTES, MAX_REQUEST_BYTES, MAX_REQUEST_NUMBER, MAX_SESSIONS};
-pub use local::{BadEnd, Local, SendRefused};
+pub use local::{BadEnd, Local};
 pub use reading::{read_request, requests_have_one_line};
 pub use request::{Command, Request};
+pub use sp_msg::SendRefused;

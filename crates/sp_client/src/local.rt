@@ -8,6 +8,7 @@ ghost use Rattle.sp_client.specs.declared.answer.Answer.{Answer};
 ghost use Rattle.sp_client.specs.Locals.{IsPrioEntry, StepsBy, may_refuse_prio, may_refuse_rel, may_refuse_weight, sent, took, took_prio};
 
 use sp_base::{Bytes, NodeId};
+use sp_msg::SendRefused;
 use sp_rules::Entry;
 use std::alloc::Global;
 use thiserror::Error;
@@ -16,35 +17,6 @@ use thiserror::Error;
 #[derive(Clone, Copy, Debug, PartialEq, Eq, Error)]
 #[error("the node isn't another node")]
 pub struct BadEnd;
-
-/// Why a node takes no message or weight of a client.
-#[derive(Clone, Copy, Debug, PartialEq, Eq, Error)]
-pub enum SendRefused {
-    /// The destination isn't another node, or the peer no neighbour.
-    #[error("the node named is no right end")]
-    BadEnd,
-    /// The buffer of the flow holds the messages after `base`, up to `have`, which are as many as it may.
-    #[error("the buffer of the flow is full, from {base} to {have}")]
-    Full { base: u64, have: u64 },
-    /// The expiry is before the node's time.
-    #[error("the expiry is before {now}")]
-    Expired { now: u64 },
-    /// There are only so many paths that share no node.
-    #[error("there are only {found} paths")]
-    NoPaths { found: u8 },
-    /// The weight is below the administrator's minimum of the edge.
-    #[error("the weight is below {min}")]
-    Low { min: u32 },
-    /// All signatures of the key are used.
-    #[error("the key is spent at index {index}")]
-    Spent { index: u64 },
-    /// All signatures that were reserved are used.
-    #[error("no index is reserved from {bound} on")]
-    NotReserved { bound: u64 },
-    /// No memory was left for what the call had to keep.
-    #[error("no memory is left")]
-    Memory,
-}
 
 /// A node whose clients speak to it. After `Memory` it is as before.
 pub trait Local {
