@@ -9,7 +9,9 @@ import sys
 import tempfile
 
 HEADER = ["schedule 1", "seed " + 64 * "0", "height 5", "bounds 2 4", "nodes 3", "edge 1 2 10", "edge 2 3 10", "begin"]
-CRATE = os.path.join(os.path.dirname(os.path.dirname(os.path.abspath(__file__))), "crates", "spinesd")
+ROOT = os.path.dirname(os.path.dirname(os.path.abspath(__file__)))
+CRATE = os.path.join(ROOT, "crates", "spinesd")
+EXAMPLES = os.path.join(ROOT, "examples")
 
 
 def text(*lines):
@@ -19,6 +21,11 @@ def text(*lines):
 
 def stored(name):
     with open(os.path.join(CRATE, name), "rb") as file:
+        return file.read()
+
+
+def example(name):
+    with open(os.path.join(EXAMPLES, name), "rb") as file:
         return file.read()
 
 
@@ -86,6 +93,10 @@ def main():
         runs.piped("no end", ["replay"], text("take 3 1"), 3, b"journal 1\n1 empty\nrefused 10 NoEnd\n")
         runs.filed("a line after the end", text("end", "end"), 3, b"journal 1\nrefused 10 AfterEnd\n")
         runs.piped("no text", ["replay"], b"", 3, b"refused 1 NoEnd\n")
+        runs.piped("two paths", ["paths", "--from", "1", "--to", "4", "--paths", "2"], example("trap.graph"), 0, b"path 1 2 4\npath 1 3 4\ncost 10\n")
+        runs.piped("three paths", ["paths", "--from", "1", "--to", "4", "--paths", "3"], example("trap.graph"), 12, b"fewer 2\ncut 1\n")
+        runs.piped("a signed topology", ["topology"], example("two_nodes.toml"), 0, example("two_nodes.topology"))
+        runs.piped("a graph for a draft", ["topology"], example("trap.graph"), 3, b"refused 0 Toml\n")
         runs.shell("a folder as input", '"$0" replay < /', 5, b"")
         runs.shell("a closed standard input", '"$0" replay <&-', 5, b"")
         runs.shell("a full device", f'"$0" replay < "{os.path.join(CRATE, "stdin")}" > /dev/full', 6, b"")
