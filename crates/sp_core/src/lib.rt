@@ -2,7 +2,7 @@
 //! then one call takes it, which can't fail.
 #![tactic(auto)]
 
-mod core;
+mod parts;
 mod taking;
 
-pub use crate::core::Core;
+pub use parts::Core;

@@ -11,7 +11,7 @@ ghost use Rattle.sp_rules.specs.Prio.{acked, acked_effects, judge_prio, places};
 ghost use Rattle.sp_rules.specs.Rel.{judge_ack_of, judge_rel_of, reported};
 ghost use Rattle.sp_rules.specs.Told.{told};
 
-use crate::core::Core;
+use crate::parts::Core;
 use sp_base::{Bytes, Flow, NodeId};
 use sp_frame::ObjectRef;
 use sp_msg::{BodyRef, Effect, Effects, Kept, WeightBody};

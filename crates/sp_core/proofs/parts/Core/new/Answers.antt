@@ -12,7 +12,7 @@ use Rattle.sp_topology.specs.Neighbours.{neighbours_from}
 use Rattle.sp_rules.specs.declared.prio.Neighbour.{Neighbour}
 use Rattle.sp_topology.specs.declared.topology.NodeKey.{NodeKey}
 use Rattle.sp_core.proofs.Starts.{few_neighbours}
-use Rattle.sp_core.proofs.core.Core.new.Goals as goal
+use Rattle.sp_core.proofs.parts.Core.new.Goals as goal
 
 pub new-requires-2 : goal.new-requires-2
 new-requires-2 c =
