@@ -1,5 +1,6 @@
 pub mod Ancestors
 pub mod Candidates
+pub mod Groups
 pub mod Growth
 pub mod Levels
 pub mod Parts

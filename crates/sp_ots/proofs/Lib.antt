@@ -6,5 +6,6 @@ pub mod Parameters
 pub mod Places
 pub mod Steps
 pub mod UnderWay
+pub mod EachLeaf
 pub mod Validity
 pub mod Written

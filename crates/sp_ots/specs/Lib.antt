@@ -7,3 +7,4 @@ pub mod Signature
 pub mod Candidate
 -- ---- what proofs and the parts of this crate use among themselves
 pub mod UnderWay
+pub mod Leaves

@@ -1,6 +1,6 @@
 // Chains of elements, each the hash of the one before (RFC 8554, section 4.3): nearly all the work of a
 // signature.
-ghost use Rattle.std.specs.Prelude.{◌≡◌, ◌<◌, ◌≤◌, ◌^◌, length};
+ghost use Rattle.std.specs.Prelude.{◌≡◌, ◌<◌, ◌≤◌, ◌^◌, ℕ, length, slice_index};
 ghost use Rattle.sp_ots.specs.Chains.{chain_end, chain_ends};
 
 use crate::hashes::element_message;
@@ -10,19 +10,30 @@ use sha2::{Digest, Sha256};
 /// Runs each chain from its own step to its own step, in place: element i belongs to chain i.
 ///
 /// A chain whose first step is not below its last one stays. Every signature and key is made by this
-/// one call, so all the chains are known before the first step is made, and four are hashed at once.
+/// one call, so all the chains are known before the first step is made, and four are hashed at once, the longest first.
 pub fn run_chains(id: &[u8; 16], q: u32, from: &[u8], to: &[u8], elements: &mut [[u8; 32]])
     requires numbers { length elements.old ≤ 2 ^ 16 }
     requires from { length from.now ≡ length elements.old }
     requires to { length to.now ≡ length elements.old }
     ensures { elements.new ≡ chain_ends id.now q from.now to.now elements.old }
 {
-    let mut lanes = Lanes::idle();
+    let mut lanes = Lanes::idle(greatest(to));
     lanes.fill(id, q, from, to, elements);
     'rounds: while !lanes.are_idle() {
         lanes.step(to, elements);
         lanes.fill(id, q, from, to, elements);
     }
+}
+
+/// The greatest of the numbers, or 0 where there is none.
+fn greatest(numbers: &[u8]) -> u8
+    ensures { (i : ℕ) → i < length numbers.now → slice_index numbers.now i ≤ result }
+{
+    let mut most = 0u8;
+    'numbers: for number in numbers {
+        most = most.max(*number);
+    }
+    most
 }
 
 /// The same as `run_chains`, one chain after another: the plain form, which tests and measures run beside it.

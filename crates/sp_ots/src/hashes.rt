@@ -10,7 +10,7 @@ ghost use Rattle.sha2.specs.Hashers.{Holds256};
 use sha2::{Digest, Sha256};
 
 /// The number before the ends of all chains.
-const D_PBLC: u16 = 0x8080;
+pub(crate) const D_PBLC: u16 = 0x8080;
 
 /// The number before the randomizer and the message that is signed.
 const D_MESG: u16 = 0x8181;

@@ -1,9 +1,10 @@
-// Chains on their way, four at a time: when the chain of a lane is at its end, the lane takes the next one.
+// Chains on their way, four at a time: when the chain of a lane is at its end, the lane takes another one. The longest go first, so that
+// no lane waits long for the others at the end.
 ghost use Rattle.std.specs.Prelude.{◌≡◌, ℕ, ◌+◌, ◌-◌, ◌<◌, ◌≤◌, ◌^◌, ◌++◌, ◌↔◌, IsTrue, List, [], length, map, take, drop, replicate, slice_index, slice_index_or, slice_set};
 ghost use Rattle.sha2.specs.Sha256.{sha256};
 ghost use Rattle.sp_lanes.specs.Lanes.{lanes};
 ghost use Rattle.sp_ots.specs.Strings.{u8str};
-ghost use Rattle.sp_ots.specs.UnderWay.{AreUnderWay, AreFull, IsSound, work_left};
+ghost use Rattle.sp_ots.specs.UnderWay.{AreUnderWay, AreFull, IsInTurn, IsSound, work_left};
 
 use crate::hashes::element_message;
 use sp_lanes::{LANES, digests};
@@ -11,7 +12,9 @@ use sp_lanes::{LANES, digests};
 /// What each lane holds of the chains that are on their way.
 #[derive(Drop)]
 pub(crate) struct Lanes {
-    /// The first of the chains that no lane has taken yet.
+    /// No chain that is left has more steps. Those with more than a third as many are taken in this turn.
+    most: u8,
+    /// Of these the first one that is left.
     next: usize,
     /// The number of the chain in each lane.
     chains: [usize; LANES],
@@ -22,12 +25,13 @@ pub(crate) struct Lanes {
 }
 
 impl Lanes {
-    /// All lanes idle, and all chains still to be taken.
-    pub(crate) fn idle() -> Lanes
+    /// All lanes idle, and all chains still to be taken, of which none has more steps than `most`.
+    pub(crate) fn idle(most: u8) -> Lanes
         ensures { (id : List ℕ) (q : ℕ) (from to : List ℕ) (elements : List (List ℕ))
-            → AreUnderWay id q from to elements elements result }
+            → ((i : ℕ) → i < length elements → slice_index to i ≤ most) → AreUnderWay id q from to elements elements result }
     {
         Lanes {
+            most,
             next: 0,
             chains: [0; LANES],
             left: [0; LANES],
@@ -55,7 +59,7 @@ impl Lanes {
         requires to { length to.now ≡ length elements.now }
         ensures under_way { (old : List (List ℕ)) → AreUnderWay id.now q from.now to.now old elements.now self.old
             → AreUnderWay id.now q from.now to.now old elements.now self.new }
-        ensures full { AreFull (length elements.now) self.new }
+        ensures full { AreFull self.new }
         ensures work { work_left (length elements.now) self.new ≤ work_left (length elements.now) self.old }
     {
         'lanes: for k in 0..LANES {
@@ -65,7 +69,7 @@ impl Lanes {
         }
     }
 
-    /// Gives lane k, which is idle, the next chain that has steps.
+    /// Gives lane k, which is idle, a chain that has steps.
     fn take(
         &mut self,
         k: usize,
@@ -82,18 +86,41 @@ impl Lanes {
         requires to { length to.now ≡ length elements.now }
         ensures under_way { (old : List (List ℕ)) → AreUnderWay id.now q from.now to.now old elements.now self.old
             → AreUnderWay id.now q from.now to.now old elements.now self.new }
-        ensures full { slice_index self.new.left k ≡ 0 → length elements.now ≤ self.new.next }
+        ensures full { slice_index self.new.left k ≡ 0 → self.new.most ≡ 0 }
         ensures others { (m : ℕ) → m < k → slice_index self.new.left m ≡ slice_index self.old.left m }
-        ensures next { length elements.now ≤ self.old.next → length elements.now ≤ self.new.next }
+        ensures none { self.old.most ≡ 0 → self.new.most ≡ 0 }
         ensures work { work_left (length elements.now) self.new ≤ work_left (length elements.now) self.old }
     {
-        let i = next_chain(from, to, self.next);
-        self.next = i;
-        if i < elements.len() {
+        self.seek(from, to);
+        if self.most > 0 {
+            let i = self.next;
             self.next = i + 1;
             self.chains[k] = i;
             self.left[k] = to[i] - from[i];
             self.messages[k] = element_message(id, q, i as u16, from[i], &elements[i]);
+        }
+    }
+
+    /// Goes on to the next chain that is to be taken, as long as there is one.
+    fn seek(&mut self, from: &[u8], to: &[u8])
+        requires numbers { length to.now ≤ 2 ^ 16 }
+        requires from { length from.now ≡ length to.now }
+        ensures under_way { (id : List ℕ) (q : ℕ) (old now : List (List ℕ)) → length to.now ≡ length old
+            → AreUnderWay id q from.now to.now old now self.old → AreUnderWay id q from.now to.now old now self.new }
+        ensures found { 0 < self.new.most → (self.new.next < length to.now) × IsInTurn from.now to.now self.new.most self.new.next }
+        ensures none { self.old.most ≡ 0 → self.new.most ≡ 0 }
+        ensures chains { self.new.chains ≡ self.old.chains }
+        ensures left { self.new.left ≡ self.old.left }
+        ensures messages { self.new.messages ≡ self.old.messages }
+        ensures work { work_left (length to.now) self.new ≤ work_left (length to.now) self.old }
+    {
+        'turns: while self.most > 0 {
+            self.next = next_chain(from, to, self.next, self.most);
+            if self.next < to.len() {
+                return;
+            }
+            self.most /= 3;
+            self.next = 0;
         }
     }
 
@@ -104,6 +131,7 @@ impl Lanes {
         ensures under_way { (id : List ℕ) (q : ℕ) (from : List ℕ) (old : List (List ℕ)) → length id ≡ 16
             → AreUnderWay id q from to.now old elements.old self.old
             → AreUnderWay id q from to.now old elements.new self.new }
+        ensures most { self.new.most ≡ self.old.most }
         ensures next { self.new.next ≡ self.old.next }
         ensures left { self.new.left ≡ map (λ n. n - 1) self.old.left }
     {
@@ -126,6 +154,7 @@ impl Lanes {
             → AreUnderWay id q from to.now old elements.old self.old
             → AreUnderWay id q from to.now old elements.new self.new }
         ensures sound { IsSound to.now self.new }
+        ensures most { self.new.most ≡ self.old.most }
         ensures next { self.new.next ≡ self.old.next }
         ensures left { self.new.left ≡ slice_set self.old.left k (slice_index self.old.left k - 1) }
         ensures messages { drop (k + 1) self.new.messages ≡ drop (k + 1) self.old.messages }
@@ -138,16 +167,17 @@ impl Lanes {
     }
 }
 
-/// The first chain from `start` on that has steps, or the number of chains where none has.
-fn next_chain(from: &[u8], to: &[u8], start: usize) -> usize
+/// The first chain from `start` on with more steps than a third of `most`, and no more than `most`. The number of chains where there is none.
+fn next_chain(from: &[u8], to: &[u8], start: usize, most: u8) -> usize
     requires { length from.now ≡ length to.now }
     ensures low { result < length to.now → start ≤ result }
     ensures high { result ≤ length to.now }
-    ensures without_steps { (i : ℕ) → start ≤ i → i < result → slice_index to.now i ≤ slice_index from.now i }
-    ensures with_steps { result < length to.now → slice_index from.now result < slice_index to.now result }
+    ensures others { (i : ℕ) → start ≤ i → i < result → ¬ IsInTurn from.now to.now most i }
+    ensures in_turn { result < length to.now → IsInTurn from.now to.now most result }
 {
     'chains: for i in start..to.len() {
-        if from[i] < to[i] {
+        let steps = to[i].saturating_sub(from[i]);
+        if most / 3 < steps && steps <= most {
             return i;
         }
     }
@@ -155,7 +185,7 @@ fn next_chain(from: &[u8], to: &[u8], start: usize) -> usize
 }
 
 /// Puts another step's number and element into the message of a chain.
-fn renew(message: &mut [u8; 55], step: u8, element: &[u8; 32])
+pub(crate) fn renew(message: &mut [u8; 55], step: u8, element: &[u8; 32])
     ensures { message.new ≡ take 22 message.old ++ u8str step ++ element.now }
 {
     message[22] = step;

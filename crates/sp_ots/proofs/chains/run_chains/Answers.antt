@@ -7,7 +7,7 @@ pub rounds-init : goal.rounds-init
 rounds-init c =
     let elements = c.args.elements.now in
     record {
-      under_way = c.fill.ensures.under_way elements (c.idle-lanes.ensures c.args.id.now c.args.q c.args.from.now c.args.to.now elements);
+      under_way = c.fill.ensures.under_way elements (c.idle-lanes.ensures c.args.id.now c.args.q c.args.from.now c.args.to.now elements (λ i within. c.greatest.ensures i (omega (arith, c.requires.to))));
       full = c.fill.ensures.full;
     }
 
@@ -25,11 +25,11 @@ rounds-smaller c =
     let none : ℕ → List ℕ = λ n. replicate n 0 in
     let all : none (length left) ≡ none lanes = ap none c.rounds.invariant.under_way.left in
     let busy : left ≢ none (length left) = λ e. let idle : IsTrue c.are_idle.result = c.are_idle.ensures.1 (e ∙ all) in search rules in
-    omega (arith, c.fill-in-rounds.ensures.work, c.step.ensures.next, ap sum c.step.ensures.left, fewer_left_if_busy left busy)
+    omega (arith, c.fill-in-rounds.ensures.work, c.step.ensures.most, c.step.ensures.next, ap sum c.step.ensures.left, fewer_left_if_busy left busy)
 
 pub returns : goal.returns
 returns c =
     let idle : IsTrue c.are_idle.result = search rules in
     let left : c.rounds.lanes.left ≡ replicate lanes 0 = c.are_idle.ensures.0 idle in
     all_ended c.args.id.now c.args.q c.args.from.now c.args.to.now c.args.elements.now c.rounds.elements c.rounds.lanes c.rounds.invariant.under_way
-    (omega (arith, c.rounds.invariant.full 0 (omega arith) (ap (λ (xs : List ℕ). slice_index xs 0) left))) left
+    (c.rounds.invariant.full 0 (omega arith) (ap (λ (xs : List ℕ). slice_index xs 0) left)) left

@@ -5,7 +5,7 @@ use Rattle.sp_ots.proofs.chains.run_chains.Given as goal
 abbrev pub invariant-rounds : goal.invariant-rounds
 invariant-rounds l = record {
   under_way : AreUnderWay l.id l.q l.from l.to l.fn.elements l.elements l.lanes;
-  full : AreFull (length l.elements) l.lanes;
+  full : AreFull l.lanes;
 }
 
 abbrev pub decreases-rounds : goal.decreases-rounds

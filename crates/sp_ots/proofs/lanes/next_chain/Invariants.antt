@@ -1,5 +1,6 @@
-use Rattle.std.proofs.Common.{ℕ, ◌<◌, ◌≤◌, slice_index}
+use Rattle.std.proofs.Common.{ℕ, ◌<◌, ◌≤◌}
+use Rattle.sp_ots.specs.UnderWay.{IsInTurn}
 use Rattle.sp_ots.proofs.lanes.next_chain.Given as goal
 
 abbrev pub invariant-chains : goal.invariant-chains
-invariant-chains l = (j : ℕ) → l.start ≤ j → j < l.i → slice_index l.to j ≤ slice_index l.from j
+invariant-chains l = (j : ℕ) → l.start ≤ j → j < l.i → ¬ IsInTurn l.from l.to l.most j

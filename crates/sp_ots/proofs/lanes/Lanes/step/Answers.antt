@@ -25,6 +25,7 @@ lanes-preserved c =
             w.advance.ensures.under_way id q from old long digest (held.under_way id q from old long u);
         whole = omega arith;
         sound = w.advance.ensures.sound;
+        most = w.advance.ensures.most ∙ held.most;
         next = w.advance.ensures.next ∙ held.next;
         left = w.advance.ensures.left ∙ fewer;
         messages = w.advance.ensures.messages ∙ rest;
@@ -33,6 +34,7 @@ lanes-preserved c =
         under_way = held.under_way;
         whole = held.whole;
         sound = held.sound;
+        most = held.most;
         next = held.next;
         left =
             let none : get_or now.left k 0 ≡ get_or now.left k 0 - 1 = omega arith in

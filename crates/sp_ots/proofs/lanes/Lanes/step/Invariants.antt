@@ -8,6 +8,7 @@ invariant-lanes l = record {
       → AreUnderWay id q from l.to old l.fn.elements l.fn.self → AreUnderWay id q from l.to old l.elements l.self;
   whole : length l.elements ≡ length l.fn.elements;
   sound : IsSound l.to l.self;
+  most : l.self.most ≡ l.fn.self.most;
   next : l.self.next ≡ l.fn.self.next;
   left : l.self.left ≡ map (λ n. n - 1) (take l.k l.fn.self.left) ++ drop l.k l.fn.self.left;
   messages : drop l.k l.self.messages ≡ drop l.k l.fn.self.messages;
