@@ -18,7 +18,7 @@ use Rattle.sp_config.specs.Readings.{draft_from, draft_in, draft_of, fault_of, h
 use Rattle.sp_config.specs.Values.{is_within, number_at, number_of}
 use Rattle.sp_config.proofs.GoodLemmas.{good}
 use Rattle.sp_admin.specs.Good.{IsGoodDraft}
-use Rattle.sp_admin.specs.Signed.{param_of}
+use Rattle.sp_sign.specs.Heights.{param_of}
 
 -- a step that went well, and the next one
 then_ok : {A B E : Type 0} (first : Result A E) (next : A → Result B E) (b : B) → (first >>= next) ≡ Ok b → (a : A) × (first ≡ Ok a) × (next a ≡ Ok b)

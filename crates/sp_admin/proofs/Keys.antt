@@ -18,7 +18,8 @@ use Rattle.sp_topology.specs.Ranges.{AreIds, AreNodes, IsKey, IsTopology, ids_of
 use Rattle.sp_config.specs.declared.draft.Draft.{Draft}
 use Rattle.sp_config.specs.declared.draft.DraftNode.{DraftNode}
 use Rattle.sp_admin.specs.Good.{IsGoodDraft}
-use Rattle.sp_admin.specs.Signed.{node_key, param_of, topology_of}
+use Rattle.sp_admin.specs.Signed.{node_key, topology_of}
+use Rattle.sp_sign.specs.Heights.{param_of}
 
 levels : (height : LmsHeight) (seed : List ℕ) → big_number 4 (public_key (param_of height) seed) ≡ 2
 unfolding public_key u32str

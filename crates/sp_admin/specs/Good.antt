@@ -3,7 +3,7 @@ use Rattle.std.specs.Prelude.{◌≡◌, ◌<◌, None}
 use Rattle.sp_hss.specs.KeyTree.{total}
 use Rattle.sp_config.specs.declared.draft.Draft.{Draft}
 use Rattle.sp_config.specs.Readings.{fault_of}
-use Rattle.sp_admin.specs.Signed.{param_of}
+use Rattle.sp_sign.specs.Heights.{param_of}
 
 pub record IsGoodDraft (d : Draft) : Type 0 where
   pub no_fault : fault_of d ≡ None

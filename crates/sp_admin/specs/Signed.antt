@@ -4,21 +4,15 @@
 --     administrator's key         in hexadecimal
 use Rattle.std.specs.Prelude.{ℕ, List, ◌++◌, codes, map}
 use Rattle.hex.specs.Hex.{encode_lower}
-use Rattle.sp_lms.specs.declared.param.LmsParam.{LmsParam}
-use Rattle.sp_lms.specs.declared.param.LmsParam.TheVariants.{H5, H10}
 use Rattle.sp_hss.specs.KeyTree.{public_key, signature}
+use Rattle.sp_sign.specs.Heights.{param_of}
 use Rattle.sp_topology.specs.declared.topology.LmsHeight.{LmsHeight}
-use Rattle.sp_topology.specs.declared.topology.LmsHeight.TheVariants.{Five, Ten}
 use Rattle.sp_topology.specs.declared.topology.NodeKey.{NodeKey}
 use Rattle.sp_topology.specs.declared.topology.Topology.{Topology}
 use Rattle.sp_topology.specs.Documents.{document}
 use Rattle.sp_config.specs.declared.draft.Draft.{Draft}
 use Rattle.sp_config.specs.declared.draft.DraftNode.{DraftNode}
 use Rattle.sp_config.specs.Readings.{as_edge}
-
-abbrev pub param_of : LmsHeight → LmsParam
-param_of Five = H5
-param_of Ten = H10
 
 -- a node with the public key of its seed
 abbrev pub node_key : LmsHeight → DraftNode → NodeKey

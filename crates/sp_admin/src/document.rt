@@ -5,23 +5,15 @@ ghost use Rattle.sp_config.specs.Readings.{as_edge};
 ghost use Rattle.sp_topology.specs.Documents.{document};
 ghost use Rattle.sp_topology.specs.Ranges.{IsKey};
 ghost use Rattle.sp_admin.specs.Good.{IsGoodDraft};
-ghost use Rattle.sp_admin.specs.Signed.{node_key, param_of, topology_of};
+ghost use Rattle.sp_admin.specs.Signed.{node_key, topology_of};
+ghost use Rattle.sp_sign.specs.Heights.{param_of};
 
 use sp_base::{Bytes, Listed, Memory, NodeId};
 use sp_config::{Draft, DraftEdge, DraftNode};
-use sp_hss::{LmsParam, public_key};
+use sp_hss::public_key;
+use sp_sign::param_of;
 use sp_topology::{Edge, LmsHeight, NodeKey, Topology, a_graph_without_fault_is_in_range};
 use std::alloc::Global;
-
-/// The parameter set of a height.
-pub fn param_of(height: LmsHeight) -> LmsParam
-    ensures { result ≡ param_of height }
-{
-    match height {
-        LmsHeight::Five => LmsParam::H5,
-        LmsHeight::Ten => LmsParam::H10,
-    }
-}
 
 /// The document of a draft that was read.
 pub fn document_of(alloc: Global, draft: &Draft) -> Result<Bytes, Memory>

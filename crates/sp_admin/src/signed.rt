@@ -2,12 +2,14 @@
 ghost use Rattle.std.specs.Prelude.{◌≡◌, ◌++◌, ◌<◌, IfOk, OnOk};
 ghost use Rattle.sp_hss.specs.KeyTree.{public_key, signature, total};
 ghost use Rattle.sp_admin.specs.Good.{IsGoodDraft};
-ghost use Rattle.sp_admin.specs.Signed.{admin_key, hex_line, param_of, signed_text};
+ghost use Rattle.sp_admin.specs.Signed.{admin_key, hex_line, signed_text};
+ghost use Rattle.sp_sign.specs.Heights.{param_of};
 
-use crate::document::{document_of, param_of};
+use crate::document::document_of;
 use sp_base::{Bytes, Listed, Memory};
 use sp_config::Draft;
 use sp_hss::Signer;
+use sp_sign::param_of;
 use std::alloc::Global;
 
 /// An administrator's signature and key.

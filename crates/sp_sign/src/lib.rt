@@ -5,11 +5,13 @@
 mod blank;
 mod checker;
 mod checking;
+mod heights;
 mod refused;
 mod signer;
 
 pub use blank::Blank;
 pub use checker::Checker;
 pub use checking::{check, check_topology};
+pub use heights::param_of;
 pub use refused::SignRefused;
 pub use signer::NodeSigner;

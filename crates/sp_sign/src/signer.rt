@@ -35,6 +35,20 @@ impl NodeSigner {
         NodeSigner { node, signer }
     }
 
+    /// The node that signs.
+    pub fn node(&self) -> NodeId
+        ensures { result ≡ self.now.node }
+    {
+        self.node
+    }
+
+    /// The public key (RFC 8554, section 6.1).
+    pub fn public(&self) -> [u8; 60]
+        ensures { result ≡ public_key self.now.signer.height self.now.signer.seed }
+    {
+        self.signer.public()
+    }
+
     /// Reserves the indexes up to, and not with, `upto`.
     pub fn extend(&mut self, upto: u64)
         requires forward { self.old.signer.bound ≤ upto }
@@ -46,14 +60,16 @@ impl NodeSigner {
 
     /// The index of the next signature. None below is used again.
     pub fn index(&self) -> u64
-        ensures { result ≡ self.now.signer.index }
+        ensures value { result ≡ self.now.signer.index }
+        ensures reserved { result ≤ self.now.signer.bound }
     {
         self.signer.index()
     }
 
     /// The indexes below this one are reserved for the signer.
     pub fn bound(&self) -> u64
-        ensures { result ≡ self.now.signer.bound }
+        ensures value { result ≡ self.now.signer.bound }
+        ensures within { result ≤ total self.now.signer.height }
     {
         self.signer.bound()
     }
@@ -63,6 +79,13 @@ impl NodeSigner {
         ensures { result ≡ total self.now.signer.height }
     {
         self.signer.total()
+    }
+
+    /// The bytes of each signature: 4,756 at height 5 and 5,076 at height 10.
+    pub fn signature_len(&self) -> usize
+        ensures { result ≡ signature_len self.now.signer.height }
+    {
+        self.signer.signature_len()
     }
 
     /// A message to be signed: its bytes, and room for the signature, whose bytes are all 0. Only want of memory refuses.
