@@ -193,6 +193,7 @@ boot_keeps arts f signer keys buffer store boots =
     record {
       fixed = record {
         me = refl;
+        nodes = refl;
         edges = refl;
         is_node = boots.me;
         boot = boots.boot;
@@ -209,6 +210,7 @@ boot_keeps arts f signer keys buffer store boots =
         weights = record { edges = refl; rows = λ row. none_held (UpdateHolds k signer.index) (2 * length t.edges) row };
         prio = record {
           me = refl;
+          known = refl;
           nodes = nodes;
           capacity = refl;
           inbox = record { last = omega arith; bounded = omega arith; capacity = omega arith; entries = All-nil (EntryHolds k 0) };

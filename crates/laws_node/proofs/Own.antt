@@ -38,7 +38,7 @@ use Rattle.laws_node.proofs.Updates.{own_next_seq, own_row, place_within}
 
 -- ---- the signer goes on
 
-either : (o : Option SendRefused) (p : Option SendRefused) → or_else o p ≡ None → (o ≡ None) × (p ≡ None)
+pub either : (o : Option SendRefused) (p : Option SendRefused) → or_else o p ≡ None → (o ≡ None) × (p ≡ None)
 either None p e = (refl, e)
 either (Some x) p e = absurd (cc)
 
@@ -52,10 +52,13 @@ free s h e =
     let two = if_none (s.index == s.bound) (refusals.NotReserved s.bound) None one.1 in
     grind (arith, nat_tests, two.0, h.index)
 
+pub left : (s : Signer) → SignerHolds s → signer_refusal s ≡ None → s.index < s.total
+left s h e = omega (arith, free s h e, h.bound)
+
 -- an own message is in its ranges and has its signature
-pub own_fits : (arts : Arts) (n : NodeState) (k : Sizes) (body : Body) → ArtsFit arts n.fixed n.signer.seed → n.fixed.signature_len ≡ k.signature_len
+pub own_fits : (arts : Arts) (n : NodeState) (k : Sizes) (body : Body) → ArtsFit arts n.fixed n.signer → n.signer.index < n.signer.total → n.fixed.signature_len ≡ k.signature_len
     → ((o : Kept) → IsTrue (is_signed arts n.fixed o) → k.keeps o) → signer_of body ≡ n.fixed.me → HasGoodFields body → Fits k (signed_now arts n body)
-own_fits arts n k body arts_fit long trusts mine fields = record {
+own_fits arts n k body arts_fit left long trusts mine fields = record {
   fields = fields;
   long = arts_fit.long n.signer.index (encoded body) ∙ long;
   holds = trusts (signed_now arts n body) (is_valid (key_of (signer_of body).0 n.fixed.topology.nodes)
@@ -64,7 +67,7 @@ own_fits arts n k body arts_fit long trusts mine fields = record {
   where
     is_valid : (key : Option (List ℕ)) → key ≡ Some arts_fit.key → IsTrue (is_signed_by arts key (encoded body) (signed_now arts n body).signature)
     is_valid key is = subst (λ (o : Option (List ℕ)). IsTrue (is_signed_by arts o (encoded body) (signed_now arts n body).signature)) (sym is)
-        (arts_fit.valid n.signer.index (encoded body))
+        (arts_fit.valid n.signer.index (encoded body) left)
 
 -- ---- a reliable message
 

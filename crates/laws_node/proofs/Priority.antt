@@ -142,6 +142,7 @@ pub prio_more : (k : Sizes) (numbers more ids further index later : ℕ) (p : Pr
     → PrioHolds k numbers ids index p → PrioHolds k more further later p
 prio_more k numbers more ids further index later p one two three h = record {
   me = h.me;
+  known = h.known;
   nodes = h.nodes;
   capacity = h.capacity;
   inbox = store_more k ids further p.inbox two h.inbox;
@@ -154,6 +155,7 @@ with_peer_holds : (k : Sizes) (numbers more ids index : ℕ) (p : PrioState) (v 
     → (PrioPeerHolds k numbers ids (peer_in p v) → PrioPeerHolds k more ids q) → PrioHolds k numbers ids index p → PrioHolds k more ids index (with_peer p v q)
 with_peer_holds k numbers more ids index p v q up new h = record {
   me = h.me;
+  known = h.known;
   nodes = h.nodes;
   capacity = h.capacity;
   inbox = h.inbox;
@@ -184,6 +186,7 @@ pub expired_holds : (k : Sizes) (numbers ids index : ℕ) (p : PrioState) (now :
     → PrioHolds k numbers ids index (expired p now)
 expired_holds k numbers ids index p now h = record {
   me = h.me;
+  known = h.known;
   nodes = h.nodes;
   capacity = h.capacity;
   inbox = less_expired_holds k ids p.inbox now h.inbox;
@@ -195,6 +198,7 @@ expired_holds k numbers ids index p now h = record {
 pub taken_holds : (k : Sizes) (numbers ids index : ℕ) (p : PrioState) → PrioHolds k numbers ids index p → PrioHolds k numbers ids index (taken p)
 taken_holds k numbers ids index p h = record {
   me = h.me;
+  known = h.known;
   nodes = h.nodes;
   capacity = h.capacity;
   inbox = less_oldest_holds k ids p.inbox h.inbox;
@@ -211,6 +215,7 @@ spread_holds k numbers ids index p o came is fits h =
     cond_either (PrioHolds k numbers (ids + 1) index) (is_here p o.body) (record p { inbox = put p.inbox o }) (record p { peers = map (given o came) p.peers })
     (record {
       me = h.me;
+      known = h.known;
       nodes = h.nodes;
       capacity = h.capacity;
       inbox = put_holds k ids p.inbox o is fits h.inbox;
@@ -221,6 +226,7 @@ spread_holds k numbers ids index p o came is fits h =
     })
     (record {
       me = h.me;
+      known = h.known;
       nodes = h.nodes;
       capacity = h.capacity;
       inbox = store_more k ids (ids + 1) p.inbox (omega arith) h.inbox;
@@ -236,6 +242,7 @@ marked_holds : (k : Sizes) (numbers ids index later : ℕ) (p : PrioState) (body
     → PrioHolds k numbers ids index p → PrioHolds k numbers ids later (marked p body came)
 marked_holds k numbers ids index later p body came least most h = record {
   me = h.me;
+  known = h.known;
   nodes = h.nodes;
   capacity = h.capacity;
   inbox = h.inbox;

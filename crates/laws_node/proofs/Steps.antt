@@ -23,12 +23,12 @@ use Rattle.sp_rules.specs.Arts.{Arts}
 use Rattle.sp_rules.specs.Link.{advanced}
 use Rattle.sp_rules.specs.Masks.{IsChoice, graph_of}
 use Rattle.sp_rules.specs.Node.{NodeState, Signer, call_refusal, called, is_neighbour, kept_or, link_in, signed_now, signed_once, with_link}
-use Rattle.sp_rules.specs.Parts.{Fixed, Parts, is_signed, place_of}
+use Rattle.sp_rules.specs.Parts.{Fixed, Parts, is_signed, nodes_of, place_of}
 use Rattle.sp_rules.specs.Pieces.{Piece, PrioAckPiece, WeightPiece, AckPiece, RelPiece, pieces_of, prio_piece, slot_pieces}
 use Rattle.sp_rules.specs.Polls.{polled}
 use Rattle.sp_rules.specs.Prio.{admit_prio}
 use Rattle.sp_rules.specs.Rel.{due, pushed_in, settled}
-use Rattle.sp_rules.specs.Sends.{PrioSend, after_take_prio, after_take_rel, mask_in, own_prio, prio_body, rel_body, rel_refusal, send_prio_refusal, signer_refusal, weight_body, weight_refusal}
+use Rattle.sp_rules.specs.Sends.{PrioSend, after_take_prio, after_take_rel, mask_in, no_paths, own_prio, prio_body, prio_refusal, rel_body, rel_refusal, send_prio_refusal, signer_refusal, weight_body, weight_refusal}
 use Rattle.sp_rules.specs.Steps.{Input, NodeStep, Output, Poll, Datagram, Tick, SendRel, SendPrio, SetWeight, TakeRel, TakePrio}
 use Rattle.sp_rules.specs.Ticks.{after_tick, at_time, settled_by, time_after}
 use Rattle.sp_rules.specs.Weights.{held}
@@ -44,7 +44,7 @@ use Rattle.laws_node.specs.Nodes.{IsKept, NodeHolds, PartsHold, SignerHolds}
 use Rattle.laws_node.specs.Sizes.{Sizes, ids_after, most_messages}
 use Rattle.laws_node.proofs.Handles.{AllFit, InRange, PieceFits, all_hold, messages, messages_in}
 use Rattle.laws_node.proofs.Links.{advanced_holds, link_after_holds, with_link_holds}
-use Rattle.laws_node.proofs.Own.{free, own_fits, prio_sent_fits, rel_sent_fits, weight_sent_fits}
+use Rattle.laws_node.proofs.Own.{either, free, left, own_fits, prio_sent_fits, rel_sent_fits, weight_sent_fits}
 use Rattle.laws_node.proofs.Priority.{carried_holds, expired_holds, prio_more, sent_holds, taken_holds}
 use Rattle.laws_node.proofs.Reliable.{due_fits, pushed_in_holds, rel_more, served_holds, settled_holds, took_holds}
 use Rattle.laws_node.proofs.Tables.{all_weaker}
@@ -55,7 +55,15 @@ use Rattle.laws_node.proofs.Updates.{held_holds, moved_holds, weights_more}
 -- what is asked under arts
 abbrev sizes_with : Arts → Fixed → (buffer store : ℕ) → Sizes
 sizes_with arts f buffer store =
-    record { me = f.me; edges = f.topology.edges; signature_len = f.signature_len; buffer = buffer; store = store; keeps = λ o. IsTrue (is_signed arts f o) }
+    record {
+      me = f.me;
+      nodes = nodes_of f.topology;
+      edges = f.topology.edges;
+      signature_len = f.signature_len;
+      buffer = buffer;
+      store = store;
+      keeps = λ o. IsTrue (is_signed arts f o);
+    }
 
 abbrev sizes_in : Arts → NodeState → Sizes
 sizes_in arts n = sizes_with arts n.fixed n.parts.rel.bound n.parts.prio.inbox.capacity
@@ -193,12 +201,12 @@ record FewFit (k : Sizes) (pieces : List Piece) : Type 0 where
 none_fit : (k : Sizes) → FewFit k []
 none_fit k = record { fit = tt; few = omega arith }
 
-sections_fit : (k : Sizes) (arts : Arts) (f : Fixed) (seed bytes : List ℕ) → ArtsFit arts f seed → AreBytes bytes → f.signature_len ≡ k.signature_len
+sections_fit : (k : Sizes) (arts : Arts) (f : Fixed) (signer : Signer) (bytes : List ℕ) → ArtsFit arts f signer → AreBytes bytes → f.signature_len ≡ k.signature_len
     → (s : Result Contents SectionRefused) → sections_in arts f bytes ≡ s → FewFit k (pieces_in s)
-sections_fit k arts f seed bytes fits are same (Ok s) is =
+sections_fit k arts f signer bytes fits are same (Ok s) is =
     let contents = fits.sections bytes s are is in
     record { fit = contents_fit k f.signature_len same s contents; few = few_messages f.signature_len s contents }
-sections_fit k arts f seed bytes fits are same (Err e) is = none_fit k
+sections_fit k arts f signer bytes fits are same (Err e) is = none_fit k
 
 where_fits : (k : Sizes) (pieces : List Piece) (reply : LinkReply) → FewFit k pieces → FewFit k (pieces_where reply pieces)
 where_fits k pieces replies.Fresh h = h
@@ -221,12 +229,12 @@ parts_more k numbers more ids further index p one two h = record {
   rel = h.rel;
 }
 
-datagram_keeps : (k : Sizes) (arts : Arts) (n : NodeState) (v : NodeId) (bytes : List ℕ) → ArtsFit arts n.fixed n.signer.seed → AreBytes bytes
+datagram_keeps : (k : Sizes) (arts : Arts) (n : NodeState) (v : NodeId) (bytes : List ℕ) → ArtsFit arts n.fixed n.signer → AreBytes bytes
     → ((o : Kept) → IsTrue (is_signed arts n.fixed o) → k.keeps o) → n.calls + 1 ≤ MAX_CALLS → NodeHolds k n
     → NodeHolds k (called n (with_link n v (link_after arts n v bytes)) (handled arts n v bytes).parts)
 datagram_keeps k arts n v bytes fits are trusts most h =
     let pieces = where_fits k (pieces_in (sections_in arts n.fixed bytes)) (reply_at arts n v bytes)
-    (sections_fit k arts n.fixed n.signer.seed bytes fits are h.fixed.signature_len (sections_in arts n.fixed bytes) refl) in
+    (sections_fit k arts n.fixed n.signer bytes fits are h.fixed.signature_len (sections_in arts n.fixed bytes) refl) in
     let done = all_hold k arts (arrival_at n v) (record { me = h.fixed.me; signed = trusts }) n.calls (ids_after n.calls n.signer.index) n.signer.index n.parts
     (pieces_where (reply_at arts n v bytes) (pieces_in (sections_in arts n.fixed bytes))) pieces.fit h.parts in
     record {
@@ -244,12 +252,12 @@ datagram_keeps k arts n v bytes fits are trusts most h =
 signed_once_holds : (s : Signer) → s.index < s.bound → SignerHolds s → SignerHolds (record s { index = s.index + 1 })
 signed_once_holds s below h = record { index = omega (arith, below); bound = h.bound; total = h.total }
 
-rel_sent_keeps : (k : Sizes) (arts : Arts) (n : NodeState) (dst : NodeId) (payload : List ℕ) → ArtsFit arts n.fixed n.signer.seed
+rel_sent_keeps : (k : Sizes) (arts : Arts) (n : NodeState) (dst : NodeId) (payload : List ℕ) → ArtsFit arts n.fixed n.signer
     → length payload ≤ MAX_PAYLOAD_BYTES → ((o : Kept) → IsTrue (is_signed arts n.fixed o) → k.keeps o) → rel_refusal n dst ≡ None → NodeHolds k n
     → NodeHolds k (signed_once n (record n.parts { rel = pushed_in n.parts.rel (signed_now arts n (rel_body n dst payload)) }))
 rel_sent_keeps k arts n dst payload fits short trusts e h =
     let sent = rel_sent_fits k n dst payload short e h in
-    let own = own_fits arts n k (rel_body n dst payload) fits h.fixed.signature_len trusts refl sent.fields in
+    let own = own_fits arts n k (rel_body n dst payload) fits (left n.signer h.signer sent.free) h.fixed.signature_len trusts refl sent.fields in
     record {
       fixed = h.fixed;
       now = h.now;
@@ -264,13 +272,13 @@ rel_sent_keeps k arts n dst payload fits short trusts e h =
       };
     }
 
-prio_sent_keeps : (k : Sizes) (arts : Arts) (n : NodeState) (m : PrioSend) (choice : Result ℕ ℕ) → ArtsFit arts n.fixed n.signer.seed
+prio_sent_keeps : (k : Sizes) (arts : Arts) (n : NodeState) (m : PrioSend) (choice : Result ℕ ℕ) → ArtsFit arts n.fixed n.signer
     → PrioSendFits m → ((o : Kept) → IsTrue (is_signed arts n.fixed o) → k.keeps o) → send_prio_refusal n m choice ≡ None
     → IsChoice (graph_of n.fixed.topology n.parts.weights) n.fixed.me m.dst m.paths choice → NodeHolds k n
     → NodeHolds k (signed_once n (record n.parts { prio = admit_prio n.parts.prio (own_prio arts n m choice) None }))
 prio_sent_keeps k arts n m choice fits sizes trusts e is h =
     let sent = prio_sent_fits k n m choice sizes e is h in
-    let own = own_fits arts n k (prio_body n m (mask_in choice)) fits h.fixed.signature_len trusts refl sent.fields in
+    let own = own_fits arts n k (prio_body n m (mask_in choice)) fits (left n.signer h.signer sent.free) h.fixed.signature_len trusts refl sent.fields in
     record {
       fixed = h.fixed;
       now = h.now;
@@ -286,12 +294,12 @@ prio_sent_keeps k arts n m choice fits sizes trusts e is h =
       };
     }
 
-weight_sent_keeps : (k : Sizes) (arts : Arts) (n : NodeState) (v : NodeId) (weight : ℕ) → ArtsFit arts n.fixed n.signer.seed
+weight_sent_keeps : (k : Sizes) (arts : Arts) (n : NodeState) (v : NodeId) (weight : ℕ) → ArtsFit arts n.fixed n.signer
     → 1 ≤ weight → weight ≤ MAX_WEIGHT → ((o : Kept) → IsTrue (is_signed arts n.fixed o) → k.keeps o) → weight_refusal n v weight ≡ None → NodeHolds k n
     → NodeHolds k (signed_once n (record n.parts { weights = held n.parts.weights (signed_now arts n (weight_body n v weight)) }))
 weight_sent_keeps k arts n v weight fits least most trusts e h =
     let sent = weight_sent_fits k n v weight least most e h in
-    let own = own_fits arts n k (weight_body n v weight) fits h.fixed.signature_len trusts refl sent.fields in
+    let own = own_fits arts n k (weight_body n v weight) fits (left n.signer h.signer sent.free) h.fixed.signature_len trusts refl sent.fields in
     record {
       fixed = h.fixed;
       now = h.now;
@@ -323,12 +331,12 @@ at_time_holds k n now small h = record {
   };
 }
 
-settled_keeps : (k : Sizes) (arts : Arts) (n : NodeState) (ack : Ack) → ArtsFit arts n.fixed n.signer.seed
+settled_keeps : (k : Sizes) (arts : Arts) (n : NodeState) (ack : Ack) → ArtsFit arts n.fixed n.signer
     → ((o : Kept) → IsTrue (is_signed arts n.fixed o) → k.keeps o) → due n.parts.rel ≡ Some ack → signer_refusal n.signer ≡ None → NodeHolds k n
     → NodeHolds k (signed_once n (record n.parts { rel = settled n.parts.rel (signed_now arts n (bodies.Ack ack)) }))
 settled_keeps k arts n ack fits trusts is e h =
     let facts = due_fits k n.signer.index n.parts.rel ack is h.parts.rel in
-    let own = own_fits arts n k (bodies.Ack ack) fits h.fixed.signature_len trusts (facts.mine ∙ sym h.fixed.me) facts.fields in
+    let own = own_fits arts n k (bodies.Ack ack) fits (left n.signer h.signer e) h.fixed.signature_len trusts (facts.mine ∙ sym h.fixed.me) facts.fields in
     record {
       fixed = h.fixed;
       now = h.now;
@@ -344,7 +352,7 @@ settled_keeps k arts n ack fits trusts is e h =
       };
     }
 
-tick_keeps : (arts : Arts) (n : NodeState) (now : ℕ) → ArtsFit arts n.fixed n.signer.seed → now < 2 ^ 64 → IsKept arts n → IsKept arts (after_tick arts n now)
+tick_keeps : (arts : Arts) (n : NodeState) (now : ℕ) → ArtsFit arts n.fixed n.signer → now < 2 ^ 64 → IsKept arts n → IsKept arts (after_tick arts n now)
 tick_keeps arts n now fits small h = go (due n.parts.rel) refl (signer_refusal n.signer) refl
   where
     later : IsKept arts (at_time n now)
@@ -362,7 +370,7 @@ tick_keeps arts n now fits small h = go (due n.parts.rel) refl (signer_refusal n
 trusting : (arts : Arts) (n : NodeState) (o : Kept) → IsTrue (is_signed arts n.fixed o) → (sizes_in arts n).keeps o
 trusting arts n o right = right
 
-step : (arts : Arts) (n : NodeState) (input : Input) (output : Output) (new : NodeState) → ArtsFit arts n.fixed n.signer.seed → InputFits input
+step : (arts : Arts) (n : NodeState) (input : Input) (output : Output) (new : NodeState) → ArtsFit arts n.fixed n.signer → InputFits input
     → NodeStep arts n input output new → IsKept arts n → IsKept arts new
 step arts n (Poll v) output new fits input s h =
     subst (IsKept arts) (sym s.1) (or_kept arts n _ (call_refusal n v) h
@@ -379,7 +387,7 @@ step arts n (SendRel dst payload) output new fits input s h =
 step arts n (SendPrio m) output new fits input s h =
     subst (IsKept arts) (sym s.new_is) (or_kept arts n _ (send_prio_refusal n m s.choice) h
     (λ e. renamed arts n.fixed n.parts.rel.bound n.parts.prio.inbox.capacity _ refl
-    (prio_sent_keeps (sizes_in arts n) arts n m s.choice fits input (trusting arts n) e s.is_choice h)))
+    (prio_sent_keeps (sizes_in arts n) arts n m s.choice fits input (trusting arts n) e (s.is_choice (either (prio_refusal n m) (no_paths s.choice) e).0) h)))
 step arts n (SetWeight v weight) output new fits input s h =
     subst (IsKept arts) (sym s.1) (or_kept arts n _ (weight_refusal n v weight) h
     (λ e. renamed arts n.fixed n.parts.rel.bound n.parts.prio.inbox.capacity _ refl

@@ -14,12 +14,12 @@ use Rattle.sp_topology.specs.Ranges.{IsTopology}
 use Rattle.laws_node.specs.Nodes.{SignerHolds}
 use Rattle.laws_node.specs.Sizes.{IsNode}
 
--- the arts fit a node: signatures are of one length, and the own ones are valid; what is read of bytes is in its ranges
-pub record ArtsFit (arts : Arts) (f : Fixed) (seed : List ℕ) : Type 0 where
-  pub long : (index : ℕ) (message : List ℕ) → length (arts.sign f.topology.height seed index message) ≡ f.signature_len
+-- the arts fit a node and its signer: signatures are of one length, and the own ones are valid; what is read of bytes is in its ranges
+pub record ArtsFit (arts : Arts) (f : Fixed) (s : Signer) : Type 0 where
+  pub long : (index : ℕ) (message : List ℕ) → length (arts.sign f.topology.height s.seed index message) ≡ f.signature_len
   pub key : List ℕ
   pub is_mine : key_of f.me.0 f.topology.nodes ≡ Some key
-  pub valid : (index : ℕ) (message : List ℕ) → IsTrue (arts.valid key message (arts.sign f.topology.height seed index message))
+  pub valid : (index : ℕ) (message : List ℕ) → index < s.total → IsTrue (arts.valid key message (arts.sign f.topology.height s.seed index message))
   pub heads : (bytes : List ℕ) → AreBytes bytes → IsHead (arts.head bytes)
   pub sections : (bytes : List ℕ) (s : Contents) → AreBytes bytes → arts.sections f.signature_len bytes ≡ Ok s → IsContents f.signature_len s
 

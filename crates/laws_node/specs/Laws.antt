@@ -13,7 +13,7 @@ use Rattle.laws_node.specs.Nodes.{IsKept}
 -- whatever is called, and whatever arrives
 abbrev pub EachStepKeeps : Type 0
 EachStepKeeps = (arts : Arts) (old : NodeState) (input : Input) (output : Output) (new : NodeState)
-    → ArtsFit arts old.fixed old.signer.seed → InputFits input → NodeStep arts old input output new → IsKept arts old → IsKept arts new
+    → ArtsFit arts old.fixed old.signer → InputFits input → NodeStep arts old input output new → IsKept arts old → IsKept arts new
 
 -- the start of a life
 abbrev pub BootKeeps : Type 0

@@ -5,7 +5,7 @@ use Rattle.sp_msg.specs.declared.kept.Kept.{Kept}
 use Rattle.sp_rules.specs.Arts.{Arts}
 use Rattle.sp_rules.specs.Link.{Link}
 use Rattle.sp_rules.specs.Node.{NodeState, Signer}
-use Rattle.sp_rules.specs.Parts.{Fixed, Parts, is_signed}
+use Rattle.sp_rules.specs.Parts.{Fixed, Parts, is_signed, nodes_of}
 use Rattle.sp_rules.specs.declared.node.TheConstants.{MAX_CALLS}
 use Rattle.sp_topology.specs.Ranges.{IsTopology}
 use Rattle.laws_node.specs.Flows.{RelHolds}
@@ -23,6 +23,7 @@ pub record LinkHolds (calls : ℕ) (l : Link) : Type 0 where
 
 pub record FixedHolds (k : Sizes) (f : Fixed) : Type 0 where
   pub me : f.me ≡ k.me
+  pub nodes : nodes_of f.topology ≡ k.nodes
   pub edges : f.topology.edges ≡ k.edges
   pub is_node : IsNode f.me
   pub boot : f.boot < 2 ^ 64
@@ -52,6 +53,7 @@ pub record NodeHolds (k : Sizes) (n : NodeState) : Type 0 where
 abbrev pub sizes_of : (Kept → Type 0) → NodeState → Sizes
 sizes_of keeps n = record {
   me = n.fixed.me;
+  nodes = nodes_of n.fixed.topology;
   edges = n.fixed.topology.edges;
   signature_len = n.fixed.signature_len;
   buffer = n.parts.rel.bound;

@@ -6,10 +6,11 @@ use Rattle.sp_msg.specs.Bodies.{HasGoodFields}
 use Rattle.sp_msg.specs.declared.kept.Kept.{Kept}
 use Rattle.sp_topology.specs.declared.topology.Edge.{Edge}
 
--- this node, the edges of its topology, the length of all signatures, the bounds of its flows and stores, and what is asked of each message
+-- this node, the nodes and the edges of its topology, the length of all signatures, the bounds of its flows and stores, and what is asked of each message
 -- beside its form
 pub record Sizes : Type 1 where
   pub me : NodeId
+  pub nodes : List NodeId
   pub edges : List Edge
   pub signature_len : ℕ
   pub buffer : ℕ

@@ -2,7 +2,9 @@
 //! then one call takes it, which can't fail.
 #![tactic(auto)]
 
+mod fixed;
 mod parts;
 mod taking;
 
+pub use fixed::Fixed;
 pub use parts::Core;

@@ -15,9 +15,9 @@ use std::marker::Model;
 /// What a node keeps for others. A contract sees the three parts of the rules (`sp_rules`).
 #[derive(Drop)]
 pub struct Core {
-    pub(crate) weights: Weights,
-    pub(crate) prio: PrioTable,
-    pub(crate) rel: RelTable,
+    pub weights: Weights,
+    pub prio: PrioTable,
+    pub rel: RelTable,
 }
 
 impl Model for Core {

@@ -2,7 +2,7 @@
 ghost use Rattle.std.specs.Prelude.{◌≡◌, ◌<◌, ◌≤◌, ◌+◌, ◌*◌, ◌^◌, ◌↔◌, All, IfOk, IsTrue, length, option_map, replicate};
 ghost use Rattle.sp_msg.specs.Bodies.{HasGoodFields};
 ghost use Rattle.sp_msg.specs.Views.{as_body};
-ghost use Rattle.sp_rules.specs.Prio.{acked, acked_effects, admit_prio, carried, expired, expired_effects, expiring, heard, judge, judge_fields, judge_prio, marked, next_prio, peer_in, places, prio_effects, spread, start, taken};
+ghost use Rattle.sp_rules.specs.Prio.{acked, acked_effects, admit_prio, carried, expired, expired_effects, expiring, heard, is_node, judge, judge_fields, judge_prio, marked, next_prio, peer_in, places, prio_effects, spread, start, taken};
 ghost use Rattle.sp_rules.specs.Store.{oldest};
 ghost use Rattle.sp_rules.specs.Told.{told};
 ghost use Rattle.sp_rules.specs.declared.store.TheConstants.{IDS};
@@ -92,6 +92,13 @@ impl PrioTable {
         ensures { IfOk result (λ parcel. parcel ≡ record { kept = kept.now; came = came; copies = places self.now kept.now.body came }) }
     {
         Parcel::new(alloc, kept, came, self.places(&kept.body, came))
+    }
+
+    /// Whether this is a node.
+    pub fn is_node(&self, node: NodeId) -> bool
+        ensures { result ≡ is_node self.now.nodes node.0 }
+    {
+        is_node(&self.nodes, node.0)
     }
 
     /// How many neighbours there are.

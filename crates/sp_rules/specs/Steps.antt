@@ -10,7 +10,7 @@ use Rattle.sp_rules.specs.Masks.{IsChoice, graph_of}
 use Rattle.sp_rules.specs.Node.{NodeState, call_refusal}
 use Rattle.sp_rules.specs.Polls.{after_poll, frame_to}
 use Rattle.sp_rules.specs.Rel as rel
-use Rattle.sp_rules.specs.Sends.{PrioSend, after_send_prio, after_send_rel, after_set_weight, after_take_prio, after_take_rel, prio_sent, rel_number, rel_refusal, rel_sent, send_prio_refusal, take_prio_effects, weight_number, weight_refusal, weight_sent}
+use Rattle.sp_rules.specs.Sends.{PrioSend, after_send_prio, after_send_rel, after_set_weight, after_take_prio, after_take_rel, prio_refusal, prio_sent, rel_number, rel_refusal, rel_sent, send_prio_refusal, take_prio_effects, weight_number, weight_refusal, weight_sent}
 use Rattle.sp_rules.specs.Store.{oldest}
 use Rattle.sp_rules.specs.Ticks.{after_tick, tick_effects, tick_reply}
 use Rattle.sp_rules.specs.declared.answers.Item.{Item}
@@ -92,10 +92,10 @@ take_prio_output n = record { reply = Message (oldest n.parts.prio.inbox); effec
 
 -- ---- the steps
 
--- the one case with a choice: which of the cheapest paths a message takes
+-- the one case with a choice: which of the cheapest paths a message takes. They are sought only where nothing else refuses
 pub record SendsPrio (arts : Arts) (old : NodeState) (m : PrioSend) (output : Output) (new : NodeState) : Type 0 where
   pub choice : Result ℕ ℕ
-  pub is_choice : IsChoice (graph_of old.fixed.topology old.parts.weights) old.fixed.me m.dst m.paths choice
+  pub is_choice : prio_refusal old m ≡ None → IsChoice (graph_of old.fixed.topology old.parts.weights) old.fixed.me m.dst m.paths choice
   pub output_is : output ≡ send_prio_output arts old m choice
   pub new_is : new ≡ after_send_prio arts old m choice
 

@@ -110,9 +110,8 @@ impl Weights {
         }
     }
 
-    /// The update that goes next to the node in this place. None exactly where none is held.
+    /// The update that goes next to the node in this place. None exactly where none is held. In a place without a node the cycle never moves.
     pub fn next(&self, v: usize) -> Option<&Kept>
-        requires { v < length self.now.cycles }
         ensures { option_copied result ≡ next self.now v }
     {
         match self.next_row(v) {
@@ -123,9 +122,11 @@ impl Weights {
 
     /// The update that goes next to the node in this place went there. Nothing changes where none is held.
     pub fn moved(&mut self, v: usize)
-        requires { v < length self.old.cycles }
         ensures { self.new ≡ moved self.old v }
     {
+        if v >= self.cycles.len() {
+            return;
+        }
         if let Some(row) = self.next_row(v) {
             self.cycles[v].moved(row);
         }
@@ -133,10 +134,13 @@ impl Weights {
 
     /// The row that goes next to the node in this place.
     fn next_row(&self, v: usize) -> Option<usize>
-        requires { v < length self.now.cycles }
         ensures { result ≡ next_row self.now v }
     {
-        self.cycles[v].next(self.active.as_slice())
+        let cycle = match self.cycles.get(v) {
+            Some(cycle) => *cycle,
+            None => Cursor::start(),
+        };
+        cycle.next(self.active.as_slice())
     }
 }
 
