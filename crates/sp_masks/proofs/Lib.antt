@@ -1,0 +1,3 @@
+pub mod WeighedLemmas
+pub mod UnionLemmas
+pub mod ChoiceLemmas
