@@ -1,0 +1,5 @@
+pub mod DoneLemmas
+pub mod PrioLemmas
+pub mod RelLemmas
+pub mod RoomLemmas
+pub mod SignedLemmas

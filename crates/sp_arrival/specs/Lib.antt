@@ -1,0 +1,3 @@
+pub mod Done
+pub mod Ready
+pub mod Taken
