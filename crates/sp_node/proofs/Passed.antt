@@ -1,0 +1,85 @@
+-- What its link makes of a datagram is what the rules say.
+use Rattle.std.proofs.Common.{rules, ◌≡◌, ◌∙◌, ℕ, Bool, true, false, List, [], Ok, Err, refl, sym, ap, cond}
+use Rattle.sp_base.specs.declared.id.NodeId.{NodeId}
+use Rattle.sp_format.specs.Format.{format}
+use Rattle.sp_frame.specs.Frames.{head_of, opened}
+use Rattle.sp_frame.specs.declared.refused.FrameRefused.{FrameRefused}
+use Rattle.sp_frame.specs.declared.refused.FrameRefused.TheVariants as frames
+use Rattle.sp_rules.specs.Arrivals.{link_after, link_says, link_with, no_frame, of_frame, of_fresh, of_link, pieces_in, pieces_where, reply_at, sections_in}
+use Rattle.sp_rules.specs.Link.{Link}
+use Rattle.sp_rules.specs.Node.{NodeState, link_in}
+use Rattle.sp_rules.specs.Parts.{Fixed}
+use Rattle.sp_rules.specs.Pieces.{Piece}
+use Rattle.sp_rules.specs.declared.link.LinkAnswer.{LinkAnswer}
+use Rattle.sp_rules.specs.declared.node.LinkReply.{LinkReply}
+
+-- four tests, of which none refuses
+none_refuses : (bytes frame : List ℕ) (a b c d : Bool) (e f g h : FrameRefused)
+    → cond a (Err e) (cond b (Err f) (cond c (Err g) (cond d (Err h) (Ok bytes)))) ≡ Ok frame → frame ≡ bytes
+none_refuses bytes frame true b c d e f g h is = absurd (cc)
+none_refuses bytes frame false true c d e f g h is = absurd (cc)
+none_refuses bytes frame false false true d e f g h is = absurd (cc)
+none_refuses bytes frame false false false true e f g h is = absurd (cc)
+none_refuses bytes frame false false false false e f g h is = cc
+
+-- a datagram that is a frame is all of it
+pub opened_whole : (bytes frame : List ℕ) → opened bytes ≡ Ok frame → frame ≡ bytes
+opened_whole bytes frame is = search (rules, none_refuses)
+
+-- ---- one that is no frame
+
+pub no_reply : (n : NodeState) (v : NodeId) (bytes : List ℕ) (refused : FrameRefused) → opened bytes ≡ Err refused → no_frame refused ≡ reply_at format n v bytes
+no_reply n v bytes refused is = sym (ap (of_frame format n.fixed (link_in n v) bytes) is)
+
+pub same_link : (n : NodeState) (v : NodeId) (bytes : List ℕ) (refused : FrameRefused) → opened bytes ≡ Err refused → link_in n v ≡ link_after format n v bytes
+same_link n v bytes refused is = sym (ap (link_with format (link_in n v) bytes) is)
+
+none_of : (refused : FrameRefused) (pieces : List Piece) → [] ≡ pieces_where (no_frame refused) pieces
+none_of frames.TooLong pieces = refl
+none_of (frames.Short short) pieces = refl
+none_of frames.Magic pieces = refl
+none_of frames.Version pieces = refl
+none_of frames.Memory pieces = refl
+
+pub no_pieces : (n : NodeState) (v : NodeId) (bytes : List ℕ) (refused : FrameRefused) (pieces : List Piece) → opened bytes ≡ Err refused
+    → [] ≡ pieces_where (reply_at format n v bytes) pieces
+no_pieces n v bytes refused pieces is =
+    none_of refused pieces ∙ ap (λ (r : LinkReply). pieces_where r pieces) (no_reply n v bytes refused is)
+
+-- ---- a frame
+
+pub reply_is : (n : NodeState) (v : NodeId) (bytes frame : List ℕ) → opened bytes ≡ Ok frame
+    → of_frame format n.fixed (link_in n v) bytes (Ok frame) ≡ reply_at format n v bytes
+reply_is n v bytes frame is = sym (ap (of_frame format n.fixed (link_in n v) bytes) is)
+
+pub link_is : (n : NodeState) (v : NodeId) (bytes frame : List ℕ) → opened bytes ≡ Ok frame
+    → link_with format (link_in n v) bytes (Ok frame) ≡ link_after format n v bytes
+link_is n v bytes frame is = sym (ap (link_with format (link_in n v) bytes) is)
+
+pub passed_reply : (n : NodeState) (v : NodeId) (bytes frame : List ℕ) (f : Fixed) (l : Link) (answer : LinkAnswer) (reply : LinkReply) → opened bytes ≡ Ok frame → f ≡ n.fixed
+    → l ≡ link_in n v → answer ≡ link_says format l frame
+    → reply ≡ of_link answer (of_fresh f.topology.version (head_of frame).topology (sections_in format f frame)) → reply ≡ reply_at format n v bytes
+passed_reply n v bytes frame f l answer reply is fixed link says gives =
+    gives
+    ∙ ap (λ (a : LinkAnswer). of_link a (of_fresh f.topology.version (head_of frame).topology (sections_in format f frame))) says
+    ∙ ap (λ (k : Link). of_frame format f k frame (Ok frame)) link
+    ∙ ap (λ (g : Fixed). of_frame format g (link_in n v) frame (Ok frame)) fixed
+    ∙ ap (λ (b : List ℕ). of_frame format n.fixed (link_in n v) b (Ok frame)) (opened_whole bytes frame is)
+    ∙ reply_is n v bytes frame is
+
+pub passed_link : (n : NodeState) (v : NodeId) (bytes frame : List ℕ) (l left : Link) → opened bytes ≡ Ok frame → l ≡ link_in n v
+    → left ≡ link_with format l frame (Ok frame) → left ≡ link_after format n v bytes
+passed_link n v bytes frame l left is link gives =
+    gives
+    ∙ ap (λ (k : Link). link_with format k frame (Ok frame)) link
+    ∙ ap (λ (b : List ℕ). link_with format (link_in n v) b (Ok frame)) (opened_whole bytes frame is)
+    ∙ link_is n v bytes frame is
+
+pub passed_pieces : (n : NodeState) (v : NodeId) (bytes frame : List ℕ) (f : Fixed) (reply : LinkReply) (pieces : List Piece) → opened bytes ≡ Ok frame → f ≡ n.fixed
+    → reply ≡ reply_at format n v bytes → pieces ≡ pieces_where reply (pieces_in (sections_in format f frame))
+    → pieces ≡ pieces_where (reply_at format n v bytes) (pieces_in (sections_in format n.fixed bytes))
+passed_pieces n v bytes frame f reply pieces is fixed replied gives =
+    gives
+    ∙ ap (λ (r : LinkReply). pieces_where r (pieces_in (sections_in format f frame))) replied
+    ∙ ap (λ (g : Fixed). pieces_where (reply_at format n v bytes) (pieces_in (sections_in format g frame))) fixed
+    ∙ ap (λ (b : List ℕ). pieces_where (reply_at format n v bytes) (pieces_in (sections_in format n.fixed b))) (opened_whole bytes frame is)

@@ -1,0 +1,191 @@
+// A datagram arrives from a neighbour.
+ghost use Rattle.std.specs.Prelude.{◌≡◌, ◌<◌, [], IfOk, OnErr, Some as There, length, position};
+ghost use Rattle.sp_base.specs.Rows.{replace_where};
+ghost use Rattle.sp_rules.specs.Node.{called, is_link, with_link};
+ghost use Rattle.sp_rules.specs.declared.node.TheConstants.{MAX_CALLS};
+ghost use Rattle.laws_node.specs.Nodes.{IsKept};
+ghost use Rattle.sp_arrival.specs.Taken.{IsTaken};
+ghost use Rattle.sp_format.specs.Format.{format};
+ghost use Rattle.sp_frame.specs.Frames.{head_of, opened};
+ghost use Rattle.sp_node.specs.Arrived.{pieces_with};
+ghost use Rattle.sp_node.specs.Calls.{Datagrams};
+ghost use Rattle.sp_node.specs.Ready.{IsAnswered};
+ghost use Rattle.sp_rules.specs.Arrivals.{arrival_at, link_after, no_frame, of_fresh, of_link, pieces_in, pieces_where, reply_at, sections_in};
+ghost use Rattle.sp_rules.specs.Handle.{handle_all};
+
+use crate::state::State;
+use sp_arrival::{Arrived, arrive};
+use sp_base::{Listed, Memory, NodeId};
+use sp_core::Fixed;
+use sp_frame::{Frame, FrameRefused, Sections};
+use sp_link::Link;
+use sp_msg::Effects;
+use sp_rules::{LinkAnswer, LinkReply, NodeRefused, Step, Taken};
+use std::alloc::Global;
+
+/// What became of a datagram at its link: the reply, the link after it, and the sections that are to be handled, if any.
+#[derive(Clone, Copy, Debug)]
+struct Passage<'a> {
+    reply: LinkReply,
+    link: Link,
+    sections: Option<Sections<'a>>,
+}
+
+impl State {
+    /// A datagram is tested by its link, and where it passes, its objects are taken in order.
+    pub fn datagram(
+        &mut self,
+        alloc: Global,
+        from: NodeId,
+        bytes: &[u8],
+    ) -> Result<Step<Taken>, NodeRefused>
+        requires { IsKept format self.old }
+        ensures { Datagrams self.old from bytes.now result self.new }
+    {
+        let place = self.place_for(from)?;
+        let passage = self.passage(place, from, bytes);
+        let arrived = self.take_sections(alloc, from, &passage.sections)?;
+        self.answered(place, from, passage.link);
+        Ok(Step {
+            reply: Taken {
+                link: passage.reply,
+                items: arrived.items,
+            },
+            effects: arrived.effects,
+        })
+    }
+
+    /// What becomes of a datagram at the link in this place.
+    fn passage<'a>(&self, place: usize, from: NodeId, bytes: &'a [u8]) -> Passage<'a>
+        requires { IsAnswered self.now from place }
+        ensures reply { result.reply ≡ reply_at format self.entry.now from bytes.now }
+        ensures link { result.link ≡ link_after format self.entry.now from bytes.now }
+        ensures pieces { pieces_with result.sections ≡ pieces_where (reply_at format self.entry.now from bytes.now) (pieces_in (sections_in format self.entry.now.fixed bytes.now)) }
+    {
+        let mut link = self.link_at(place, from);
+        let frame = match Frame::open(bytes) {
+            Ok(frame) => frame,
+            Err(refused) => {
+                return Passage {
+                    reply: no_frame(refused),
+                    link,
+                    sections: None,
+                };
+            }
+        };
+        let answer = link.accept(&frame);
+        let (reply, sections) = after_link(&self.fixed, answer, &frame);
+        Passage {
+            reply,
+            link,
+            sections,
+        }
+    }
+
+    /// A datagram of a neighbour was answered, and left its link, which stands in this place, like this.
+    fn answered(&mut self, place: usize, v: NodeId, link: Link)
+        requires place { position (is_link v) self.old.links ≡ There place }
+        requires within { place < length self.old.links }
+        requires left { self.old.calls < MAX_CALLS }
+        ensures { self.new ≡ called self.old (with_link self.old v link) self.old.parts }
+    {
+        put_link(&mut self.links, place, v, link);
+        self.calls += 1;
+    }
+
+    /// Takes the objects of these sections, if there are any. After `Memory` the node is as before.
+    fn take_sections(
+        &mut self,
+        alloc: Global,
+        from: NodeId,
+        sections: &Option<Sections<'_>>,
+    ) -> Result<Arrived, Memory>
+        requires { IsKept format self.old }
+        ensures taken { IfOk result (λ a. IsTaken (handle_all format (arrival_at self.old from) self.old.parts (pieces_with sections.now)) self.new.parts a.items a.effects.list) }
+        ensures others { IfOk result (λ _. self.new ≡ record self.old { parts = self.new.parts }) }
+        ensures as_before { OnErr result (self.new ≡ self.old) }
+    {
+        match sections {
+            None => nothing_taken(alloc),
+            Some(sections) => arrive(
+                alloc,
+                &self.fixed,
+                &mut self.core,
+                &mut self.checker,
+                self.now,
+                from,
+                sections,
+            ),
+        }
+    }
+}
+
+/// The link to a neighbour, which stands in this place, is this one from now on.
+#[tactic(auto, using(sp_base::proofs::RowLemmas::placed))]
+fn put_link(links: &mut Vec<Link>, place: usize, v: NodeId, link: Link)
+    requires place { position (is_link v) links.old.items ≡ There place }
+    requires within { place < length links.old.items }
+    ensures { links.new.items ≡ replace_where (is_link v) link links.old.items }
+{
+    links[place] = link;
+}
+
+/// Nothing was taken. It takes no memory.
+fn nothing_taken(alloc: Global) -> Result<Arrived, Memory>
+    ensures items { IfOk result (λ a. a.items ≡ []) }
+    ensures effects { IfOk result (λ a. a.effects.list ≡ []) }
+{
+    let Ok(effects) = Effects::with_room(alloc, 0) else {
+        return Err(Memory);
+    };
+    Ok(Arrived {
+        items: Listed::from_vec(Vec::new(alloc)),
+        effects,
+    })
+}
+
+/// Why the bytes are no frame.
+fn no_frame(refused: FrameRefused) -> LinkReply
+    ensures { result ≡ no_frame refused }
+{
+    match refused {
+        FrameRefused::TooLong => LinkReply::TooLong,
+        FrameRefused::Short(short) => LinkReply::Short(short),
+        FrameRefused::Magic => LinkReply::Magic,
+        FrameRefused::Version => LinkReply::Version,
+        FrameRefused::Memory => LinkReply::TooLong,
+    }
+}
+
+/// What becomes of a frame after its link's answer, with its sections where they are to be handled.
+fn after_link<'a>(
+    fixed: &Fixed,
+    answer: LinkAnswer,
+    frame: &Frame<'a>,
+) -> (LinkReply, Option<Sections<'a>>)
+    ensures reply { result.0 ≡ of_link answer (of_fresh fixed.now.topology.version (head_of frame.now).topology (sections_in format fixed.now frame.now)) }
+    ensures pieces { pieces_with result.1 ≡ pieces_where result.0 (pieces_in (sections_in format fixed.now frame.now)) }
+{
+    match answer {
+        LinkAnswer::NotForMe => (LinkReply::NotForMe, None),
+        LinkAnswer::BadTag => (LinkReply::BadTag, None),
+        LinkAnswer::Learned { boot } => (LinkReply::Learned { boot }, None),
+        LinkAnswer::Stale { boot, counter } => (LinkReply::Stale { boot, counter }, None),
+        LinkAnswer::Fresh => of_fresh(fixed, frame),
+    }
+}
+
+/// What becomes of a fresh frame.
+fn of_fresh<'a>(fixed: &Fixed, frame: &Frame<'a>) -> (LinkReply, Option<Sections<'a>>)
+    ensures reply { result.0 ≡ of_fresh fixed.now.topology.version (head_of frame.now).topology (sections_in format fixed.now frame.now) }
+    ensures pieces { pieces_with result.1 ≡ pieces_where result.0 (pieces_in (sections_in format fixed.now frame.now)) }
+{
+    let theirs = frame.head().topology;
+    if theirs != fixed.topology.version {
+        return (LinkReply::OtherTopology { theirs }, None);
+    }
+    match frame.sections(fixed.signature_len) {
+        Ok(sections) => (LinkReply::Fresh, Some(sections)),
+        Err(refused) => (LinkReply::Section(refused), None),
+    }
+}

@@ -1,0 +1,257 @@
+// One node, and all that may be asked of it.
+ghost use Rattle.std.specs.Prelude.{◌≡◌, ◌≤◌, IfErr, IfOk, IsOk, None as Nothing, length};
+ghost use Rattle.laws_node.specs.Nodes.{IsKept};
+ghost use Rattle.sp_base.specs.declared.limits.TheConstants.{MAX_PAYLOAD_BYTES, MAX_PRIORITY, MAX_WEIGHT};
+ghost use Rattle.sp_format.specs.Format.{format};
+ghost use Rattle.sp_paths.specs.declared.limits.TheConstants.{MAX_PATHS};
+ghost use Rattle.sp_rules.specs.Node.{extended, link_in};
+ghost use Rattle.sp_rules.specs.Prio.{expiring};
+ghost use Rattle.sp_rules.specs.Rel.{due, position_in};
+ghost use Rattle.sp_rules.specs.Sends.{PrioSend, prio_refusal, rel_refusal, weight_refusal};
+ghost use Rattle.sp_rules.specs.Steps.{SendPrio, SendRel, SetWeight};
+ghost use Rattle.sp_rules.specs.Ticks.{time_after};
+ghost use Rattle.sp_node.specs.Boots.{IsBootable, booted_of};
+ghost use Rattle.sp_node.specs.Calls.{Datagrams, Polls, Sends, TakesPrio, TakesRel, Ticks};
+ghost use Rattle.sp_node.specs.States.{is_other};
+
+use crate::boot::NodeConfig;
+use crate::send_prio::Message;
+use crate::state::State;
+use sp_base::{Bytes, Flow, NodeId};
+use sp_msg::SendRefused;
+use sp_rules::{Entry, NodeRefused, Step, Taken, TickReply};
+use sp_sign::NodeSigner;
+use std::alloc::Global;
+use std::marker::Model;
+
+/// A node in one of its lives. A contract sees what the rules see of it (`sp_rules`), and each call is a step of theirs.
+///
+/// After any calls it keeps at most as many messages of each flow and entries of each store as it may, each in its ranges and with its
+/// signer's valid signature.
+#[derive(Drop)]
+pub struct Node {
+    state: State,
+}
+
+impl Model for Node {
+    ghost use Rattle.laws_node.specs.Nodes.{IsKept};
+    ghost use Rattle.sp_format.specs.Format.{format};
+    ghost use Rattle.sp_rules.specs.Node.{NodeState};
+
+    ghost Value = { NodeState };
+
+    ghost view = { λ n. n.state };
+
+    ghost invariant = { λ n. IsKept format n.state };
+}
+
+impl Node {
+    /// A node at the start of a life with this boot number. Only want of memory refuses.
+    ///
+    /// A boot number never comes again, and is above that of every life before: neighbours take frames of lower ones for stale.
+    pub fn boot(
+        alloc: Global,
+        config: NodeConfig,
+        signer: NodeSigner,
+        boot: u64,
+    ) -> Result<Node, NodeRefused>
+        requires { IsBootable config signer boot }
+        ensures node { IfOk result (λ node. node ≡ booted_of config signer boot) }
+        ensures memory { IfErr result (λ refused. refused ≡ NodeRefused.Memory) }
+    {
+        let state = State::boot(alloc, config, signer, boot)?;
+        Ok(Node { state })
+    }
+
+    /// The next frame to a neighbour: what is next in turn of each part, sealed for that link.
+    ///
+    /// `NotNeighbour` exactly where the other node isn't a neighbour, and else `Worn` exactly where the node has answered `MAX_CALLS` polls and
+    /// datagrams.
+    #[tactic(auto, using(crate::proofs::Steps::kept_by_poll))]
+    pub fn poll(&mut self, alloc: Global, v: NodeId) -> Result<Bytes, NodeRefused>
+        ensures { Polls self.old v result self.new }
+    {
+        self.state.is_fit();
+        self.state.poll(alloc, v)
+    }
+
+    /// A datagram that came from a neighbour's address: what became of it at its link, and where it is fresh, the answers to its objects.
+    ///
+    /// `NotNeighbour` exactly where the other node isn't a neighbour, and else `Worn` exactly where the node has answered `MAX_CALLS` polls and
+    /// datagrams. All memory is taken before anything changes.
+    #[tactic(auto, using(crate::proofs::Steps::kept_by_datagram))]
+    pub fn datagram(
+        &mut self,
+        alloc: Global,
+        from: NodeId,
+        bytes: &[u8],
+    ) -> Result<Step<Taken>, NodeRefused>
+        ensures { Datagrams self.old from bytes.now result self.new }
+    {
+        self.state.is_fit();
+        self.state.datagram(alloc, from, bytes)
+    }
+
+    /// The time goes on to the greater of the one held and this one, what expired before it leaves, and at most one acknowledgement is signed.
+    ///
+    /// Only want of memory refuses. None is taken where nothing expires and no acknowledgement is due.
+    #[tactic(auto, using(crate::proofs::Steps::kept_by_tick))]
+    pub fn tick(&mut self, alloc: Global, now: u64) -> Result<Step<TickReply>, NodeRefused>
+        ensures step { Ticks self.old now result self.new }
+        ensures quiet { due self.old.parts.rel ≡ Nothing → expiring self.old.parts.prio (time_after self.old now) ≡ 0 → IsOk result }
+    {
+        self.state.is_fit();
+        self.state.tick(alloc, now)
+    }
+
+    /// Signs a client's reliable message, and keeps it until its destination acknowledges it. Gives its number, counted from 1 in each flow.
+    ///
+    /// The first of these that applies: `BadEnd` where the destination isn't another node, `Full`, `Spent`, `NotReserved`.
+    #[tactic(auto, using(crate::proofs::Steps::kept_by_rel))]
+    pub fn send_rel(
+        &mut self,
+        alloc: Global,
+        dst: NodeId,
+        payload: &[u8],
+    ) -> Result<Step<u64>, SendRefused>
+        requires { length payload.now ≤ MAX_PAYLOAD_BYTES }
+        ensures { Sends (SendRel dst payload.now) (rel_refusal self.old dst) self.old result self.new }
+    {
+        self.state.is_fit();
+        self.state.send_rel(alloc, dst, payload)
+    }
+
+    /// Signs a client's priority message, which goes over so many paths that share no node, or over all edges where `paths` is 0. Gives its number,
+    /// counted from 1 over all destinations. A priority is 1 to 10, and 10 goes first; the message is gone once the time is above `expiry`.
+    ///
+    /// The first of these that applies: `BadEnd` where the destination isn't another node, `Expired`, `Spent`, `NotReserved`, and `NoPaths` where there
+    /// are fewer paths. `Memory` may come in place of the last.
+    #[tactic(auto, using(crate::proofs::Steps::kept_by_prio))]
+    pub fn send_prio(
+        &mut self,
+        alloc: Global,
+        dst: NodeId,
+        prio: u8,
+        expiry: u64,
+        paths: u8,
+        payload: &[u8],
+    ) -> Result<Step<u64>, SendRefused>
+        requires prio { (1 ≤ prio) × (prio ≤ MAX_PRIORITY) }
+        requires few { paths ≤ MAX_PATHS }
+        requires short { length payload.now ≤ MAX_PAYLOAD_BYTES }
+        ensures { let m : PrioSend = record { dst = dst; prio = prio; expiry = expiry; paths = paths; payload = payload.now } in Sends (SendPrio m) (prio_refusal self.old m) self.old result self.new }
+    {
+        self.state.is_fit();
+        let message = Message {
+            dst,
+            prio,
+            expiry,
+            paths,
+            payload,
+        };
+        self.state.send_prio(alloc, &message)
+    }
+
+    /// Signs what this node says of the weight of its link to a neighbour. Gives the number of the update.
+    ///
+    /// The first of these that applies: `BadEnd` where the peer isn't a neighbour, `Low`, `Spent`, `NotReserved`.
+    #[tactic(auto, using(crate::proofs::Steps::kept_by_weight))]
+    pub fn set_weight(
+        &mut self,
+        alloc: Global,
+        peer: NodeId,
+        weight: u32,
+    ) -> Result<Step<u64>, SendRefused>
+        requires least { 1 ≤ weight }
+        requires most { weight ≤ MAX_WEIGHT }
+        ensures { Sends (SetWeight peer weight) (weight_refusal self.old peer weight) self.old result self.new }
+    {
+        self.state.is_fit();
+        self.state.set_weight(alloc, peer, weight)
+    }
+
+    /// Takes the payload of the oldest reliable message that waits here from a node. None exactly where none waits.
+    #[tactic(auto, using(crate::proofs::Steps::kept_by_take_rel))]
+    pub fn take_rel(&mut self, src: NodeId) -> Option<Bytes>
+        ensures { TakesRel self.old src result self.new }
+    {
+        self.state.is_fit();
+        self.state.take_rel(src)
+    }
+
+    /// Takes the oldest priority message that waits here. None exactly where none waits. That its entry leaves place 0 is told by the entry.
+    #[tactic(auto, using(crate::proofs::Steps::kept_by_take_prio))]
+    pub fn take_prio(&mut self) -> Option<Entry>
+        ensures { TakesPrio self.old result self.new }
+    {
+        self.state.is_fit();
+        self.state.take_prio()
+    }
+
+    /// Whether this is another node of the overlay.
+    pub fn is_other(&self, node: NodeId) -> bool
+        ensures { result ≡ is_other self.entry.now node }
+    {
+        self.state.is_other(node)
+    }
+
+    /// What always holds of a node: what it keeps is within its bounds, in its ranges and signed.
+    pub fn is_kept(&self)
+        ensures { IsKept format self.entry.now }
+    {
+        let _state = &self.state;
+    }
+
+    /// Reserves the indexes of the signer up to, and not with, `upto`.
+    #[tactic(auto, using(crate::proofs::Steps::kept_by_extend))]
+    pub fn extend(&mut self, upto: u64)
+        requires forward { self.old.signer.bound ≤ upto }
+        requires within { upto ≤ self.old.signer.total }
+        ensures { self.new ≡ extended self.old upto }
+    {
+        self.state.signer.extend(upto);
+    }
+
+    /// The index of the next signature. None below is used again.
+    pub fn index(&self) -> u64
+        ensures { result ≡ self.entry.now.signer.index }
+    {
+        self.state.signer.index()
+    }
+
+    /// The indexes below this one are reserved for the signer.
+    pub fn bound(&self) -> u64
+        ensures { result ≡ self.entry.now.signer.bound }
+    {
+        self.state.signer.bound()
+    }
+
+    /// How many messages the key may sign.
+    pub fn total(&self) -> u64
+        ensures { result ≡ self.entry.now.signer.total }
+    {
+        self.state.signer.total()
+    }
+
+    /// The greatest time that a tick gave, in the unit of expiries. 0 before.
+    pub fn now(&self) -> u64
+        ensures { result ≡ self.entry.now.now }
+    {
+        self.state.now
+    }
+
+    /// The boot and the counter above which a frame of a neighbour is fresh: (0, 0) where it isn't a neighbour.
+    #[tactic(auto, using(sp_base::proofs::RowLemmas::placed))]
+    pub fn kept_pair(&self, v: NodeId) -> (u64, u64)
+        ensures { result ≡ (link_in self.entry.now v).seen }
+    {
+        self.state.seen(v)
+    }
+
+    /// Up to which number the messages of a flow are acknowledged, and up to which they are here. None exactly where the flow isn't active here.
+    pub fn position(&self, flow: Flow) -> Option<(u64, u64)>
+        ensures { result ≡ position_in self.entry.now.parts.rel.flows flow }
+    {
+        self.state.core.rel.position(flow)
+    }
+}

@@ -1,0 +1,145 @@
+// A poll: the next frame to a neighbour.
+ghost use Rattle.std.specs.Prelude.{◌≡◌, ◌<◌, ◌^◌, All, IfOk, Some as There, length, option_map, position, replicate};
+ghost use Rattle.laws_node.specs.Nodes.{IsKept};
+ghost use Rattle.sp_format.specs.Format.{format};
+ghost use Rattle.sp_frame.specs.Frames.{frame_bytes};
+ghost use Rattle.sp_frame.specs.Ranges.{IsContents};
+ghost use Rattle.sp_node.specs.Calls.{Polls};
+ghost use Rattle.sp_node.specs.Ready.{IsAnswered};
+ghost use Rattle.sp_base.specs.Rows.{first_where, replace_where};
+ghost use Rattle.sp_rules.specs.Link as rules;
+ghost use Rattle.sp_rules.specs.Link.{advanced, next_head};
+ghost use Rattle.sp_rules.specs.Node.{is_link};
+ghost use Rattle.sp_rules.specs.Parts.{place_in, place_of};
+ghost use Rattle.sp_rules.specs.Polls.{after_poll, as_message, contents_to, frame_to};
+ghost use Rattle.sp_rules.specs.Prio.{carried, next_prio, peer_in};
+ghost use Rattle.sp_rules.specs.Rel.{served};
+ghost use Rattle.sp_rules.specs.Weights.{moved};
+
+use crate::state::State;
+use sp_base::{Bytes, Memory, NodeId};
+use sp_core::{Core, Fixed};
+use sp_frame::{Head, write};
+use sp_link::Link;
+use sp_msg::Kept;
+use sp_prio::PrioTable;
+use sp_rules::NodeRefused;
+use sp_topology::NodeKey;
+use std::alloc::Global;
+
+impl State {
+    /// The next frame to a neighbour. It is written and sealed first; then the link and each cycle go on.
+    pub fn poll(&mut self, alloc: Global, v: NodeId) -> Result<Bytes, NodeRefused>
+        requires { IsKept format self.old }
+        ensures { Polls self.old v result self.new }
+    {
+        let place = self.place_for(v)?;
+        let bytes = self.frame_at(alloc, place, v)?;
+        self.went(place, v);
+        Ok(bytes)
+    }
+
+    /// The frame for the neighbour of the link in this place.
+    fn frame_at(&self, alloc: Global, place: usize, v: NodeId) -> Result<Bytes, Memory>
+        requires kept { IsKept format self.now }
+        requires answered { IsAnswered self.now v place }
+        ensures { IfOk result (λ bytes. bytes ≡ frame_to format self.entry.now v) }
+    {
+        let link = self.link_at(place, v);
+        let head = head_for(&link, &self.fixed);
+        let mut frame = unsealed(alloc, &head, &self.fixed, &self.core, v)?;
+        link.seal(&mut frame);
+        Ok(frame)
+    }
+
+    /// The frame for the neighbour of the link in this place was made.
+    fn went(&mut self, place: usize, v: NodeId)
+        requires kept { IsKept format self.old }
+        requires answered { IsAnswered self.old v place }
+        ensures { self.new ≡ after_poll self.old v }
+    {
+        let at = place_of(&self.fixed, v);
+        moved(&mut self.core, at, v);
+        advance_at(&mut self.links, place, v);
+        self.calls += 1;
+    }
+}
+
+/// The head of the next frame over a link.
+fn head_for(link: &Link, fixed: &Fixed) -> Head
+    requires { link.now.sent < 2 ^ 60 }
+    ensures { result ≡ next_head link.now fixed.now.topology.version }
+{
+    link.head(fixed.topology.version)
+}
+
+/// The bytes of the next frame to a neighbour, with zeros in the place of its tag.
+fn unsealed(
+    alloc: Global,
+    head: &Head,
+    fixed: &Fixed,
+    core: &Core,
+    v: NodeId,
+) -> Result<Bytes, Memory>
+    requires contents { IsContents fixed.now.signature_len (contents_to fixed.now core.now v) }
+    ensures { IfOk result (λ bytes. bytes ≡ frame_bytes head.now (contents_to fixed.now core.now v) (replicate 32 0)) }
+{
+    let weight = core.weights.next(place_of(fixed, v));
+    let heard = core.prio.heard_of(v);
+    let prio = message_to(&core.prio, v);
+    let slot = core.rel.slot_for(v);
+    match write(alloc, head, weight, heard, prio, slot.as_ref()) {
+        Ok(bytes) => Ok(bytes),
+        Err(_) => Err(Memory),
+    }
+}
+
+/// The priority message that goes to a neighbour, with its link number.
+fn message_to(prio: &PrioTable, v: NodeId) -> Option<(u64, &Kept)>
+    ensures { option_map (λ p. (p.0, p.1.now)) result ≡ option_map as_message (next_prio prio.now v.0) }
+{
+    match prio.slot_for(v) {
+        Some((number, entry)) => Some((number, &entry.kept)),
+        None => None,
+    }
+}
+
+/// What was next in turn of each part went to a neighbour, the node in this place.
+fn moved(core: &mut Core, at: usize, v: NodeId)
+    requires { (peer_in core.old.prio v.0).number < 2 ^ 63 }
+    ensures { core.new ≡ record { weights = moved core.old.weights at; prio = carried core.old.prio v.0; rel = served core.old.rel v } }
+{
+    core.weights.moved(at);
+    core.prio.carry(v);
+    core.rel.served(v);
+}
+
+/// The next frame over the link in this place was made.
+fn advance_at(links: &mut Vec<Link>, place: usize, v: NodeId)
+    requires place { position (is_link v) links.old.items ≡ There place }
+    requires within { place < length links.old.items }
+    requires sent { All (λ l. l.sent < 2 ^ 60) links.old.items }
+    ensures { (none : rules.Link) → links.new.items ≡ replace_where (is_link v) (advanced (first_where (is_link v) none links.old.items)) links.old.items }
+{
+    let link = &mut links[place];
+    link.advance();
+}
+
+/// Where a node stands among all nodes.
+fn place_of(fixed: &Fixed, v: NodeId) -> usize
+    ensures { result ≡ place_of fixed.now v }
+{
+    place_in(fixed.topology.nodes.as_slice(), v)
+}
+
+/// Where a node stands among these, or how many they are where it isn't there.
+fn place_in(nodes: &[NodeKey], v: NodeId) -> usize
+    ensures { result ≡ place_in nodes.now v }
+{
+    'nodes: for (place, node) in nodes.iter().enumerate() {
+        if node.id.0 == v.0 {
+            return place;
+        }
+    }
+    nodes.len()
+}

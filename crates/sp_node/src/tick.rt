@@ -1,0 +1,122 @@
+// A tick: the time goes on, what expired leaves, and the acknowledgement that is due is signed.
+ghost use Rattle.std.specs.Prelude.{◌≡◌, ◌≤◌, ◌+◌, ◌-◌, ◌++◌, IfOk, IsOk, [], None as Nothing};
+ghost use Rattle.laws_node.specs.Nodes.{IsKept};
+ghost use Rattle.sp_format.specs.Format.{format};
+ghost use Rattle.sp_node.specs.Calls.{Ticks};
+ghost use Rattle.sp_node.specs.Ready.{IsDue, told_of};
+ghost use Rattle.sp_rules.specs.Prio.{expired, expired_effects, expiring};
+ghost use Rattle.sp_rules.specs.Rel.{due};
+ghost use Rattle.sp_rules.specs.Sends.{signer_refusal};
+ghost use Rattle.sp_rules.specs.Ticks.{ack_effects, settled_by, tick_reply_of, time_after};
+ghost use Rattle.sp_rules.specs.Told.{told};
+
+use crate::state::State;
+use sp_base::Memory;
+use sp_core::Core;
+use sp_msg::{Ack, Body, Effect, Effects, SendRefused};
+use sp_rules::{NodeRefused, Step, TickReply};
+use sp_sign::Blank;
+use std::alloc::Global;
+
+/// The acknowledgement that is due at a tick.
+#[derive(Debug, Drop)]
+pub enum Due {
+    /// None is due.
+    Nothing,
+    /// One is due, and the signer refuses it.
+    Refused(TickReply),
+    /// This one is due, and has the memory for its signature.
+    Ready(Blank),
+}
+
+impl State {
+    /// The time is the greater of the one held and this one. What expired before it leaves, and the acknowledgement that is due is signed.
+    pub fn tick(&mut self, alloc: Global, now: u64) -> Result<Step<TickReply>, NodeRefused>
+        requires { IsKept format self.old }
+        ensures step { Ticks self.old now result self.new }
+        ensures quiet { due self.old.parts.rel ≡ Nothing → expiring self.old.parts.prio (time_after self.old now) ≡ 0 → IsOk result }
+    {
+        let owed = self.owed(alloc)?;
+        let time = self.now.max(now);
+        let mut effects = self.room_for(alloc, time, &owed)?;
+        self.now = time;
+        expire(&mut self.core, time, &mut effects);
+        let reply = self.settle(owed, &mut effects);
+        Ok(Step { reply, effects })
+    }
+
+    /// The acknowledgement that is due.
+    fn owed(&self, alloc: Global) -> Result<Due, Memory>
+        requires { IsKept format self.now }
+        ensures owed { IfOk result (IsDue self.entry.now) }
+        ensures none { due self.entry.now.parts.rel ≡ Nothing → IsOk result }
+    {
+        let Some(ack) = due_of(&self.core) else {
+            return Ok(Due::Nothing);
+        };
+        match self.signer_refusal() {
+            Some(SendRefused::Spent { index }) => Ok(Due::Refused(TickReply::TickSpent { index })),
+            Some(SendRefused::NotReserved { bound }) => {
+                Ok(Due::Refused(TickReply::TickNotReserved { bound }))
+            }
+            Some(_) => Ok(Due::Refused(TickReply::Ticked)),
+            None => Ok(Due::Ready(self.blank(alloc, Body::Ack(ack))?)),
+        }
+    }
+
+    /// Room for all that a tick at this time tells. It takes no memory where that is nothing.
+    fn room_for(&self, alloc: Global, time: u64, owed: &Due) -> Result<Effects, Memory>
+        ensures room { IfOk result (λ effects. effects ≡ record { list = []; room = expiring self.entry.now.parts.prio time + told_of owed.now }) }
+        ensures none { expiring self.entry.now.parts.prio time + told_of owed.now ≡ 0 → IsOk result }
+    {
+        let told = match owed {
+            Due::Ready(_) => 1,
+            _ => 0,
+        };
+        let Some(room) = self.core.prio.expiring(time).checked_add(told) else {
+            return Err(Memory);
+        };
+        match Effects::with_room(alloc, room) {
+            Ok(effects) => Ok(effects),
+            Err(_) => Err(Memory),
+        }
+    }
+
+    /// Signs the acknowledgement that is due, where it is ready.
+    fn settle(&mut self, owed: Due, effects: &mut Effects) -> TickReply
+        requires owed { IsDue self.old owed }
+        requires room { told_of owed ≤ effects.old.room }
+        ensures reply { result ≡ tick_reply_of (due self.old.parts.rel) (signer_refusal self.old.signer) }
+        ensures state { self.new ≡ settled_by format self.old (due self.old.parts.rel) (signer_refusal self.old.signer) }
+        ensures told { effects.new ≡ told effects.old (ack_effects (due self.old.parts.rel) (signer_refusal self.old.signer)) }
+    {
+        match owed {
+            Due::Nothing => TickReply::Ticked,
+            Due::Refused(reply) => reply,
+            Due::Ready(blank) => {
+                let Blank { kept, bytes } = self.sign(blank);
+                effects.push(Effect::Signed(bytes));
+                self.core.rel.signed(kept);
+                TickReply::Ticked
+            }
+        }
+    }
+}
+
+/// The acknowledgement that is due.
+fn due_of(core: &Core) -> Option<Ack>
+    ensures { result ≡ due core.now.rel }
+{
+    core.rel.due()
+}
+
+/// What expired before this time leaves.
+#[tactic(auto, using(crate::proofs::Expired::expired_length))]
+fn expire(core: &mut Core, time: u64, effects: &mut Effects)
+    requires { expiring core.old.prio time ≤ effects.old.room }
+    ensures core { core.new ≡ record core.old { prio = expired core.old.prio time } }
+    ensures list { effects.new.list ≡ effects.old.list ++ expired_effects core.old.prio time }
+    ensures room { effects.new.room ≡ effects.old.room - expiring core.old.prio time }
+{
+    core.prio.expire(time, effects);
+}
