@@ -1,4 +1,4 @@
-//! Sessions of clients held against dialogues of another program, over a node in memory that counts its calls.
+//! Sessions of clients held against dialogues of another program, over a node in memory that counts its calls, and over a whole node.
 #![tactic(auto)]
 
 #[cfg(test)]
@@ -7,6 +7,10 @@ mod bad_input;
 mod dialogues;
 #[cfg(test)]
 mod memory_node;
+#[cfg(test)]
+mod node_talk;
+#[cfg(test)]
+mod node_talks;
 #[cfg(test)]
 mod talk;
 #[cfg(test)]
