@@ -1,5 +1,5 @@
 -- A node has fewer neighbours than there are ids.
-use Rattle.std.proofs.Common.{◌≡◌, ◌≤◌, ℕ, ◌+◌, List, [], ◌∷◌, ◌++◌, length, map, Option, Some, None, ap, arith, length-append}
+use Rattle.std.proofs.Common.{◌≡◌, ◌≤◌, ℕ, ◌+◌, List, [], ◌∷◌, length, map, Option, Some, None, ap, arith, length-append}
 use Rattle.std.proofs.lemmas.List.{length-map}
 use Rattle.sp_base.specs.declared.id.EdgeId.{EdgeId}
 use Rattle.sp_base.specs.declared.id.NodeId.{NodeId}

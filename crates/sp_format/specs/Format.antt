@@ -1,6 +1,6 @@
 -- The arts of this format: the frames of `sp_frame`, tags by HMAC with SHA-256 (RFC 2104), and signatures of two levels of hash-based
 -- trees (RFC 8554).
-use Rattle.std.specs.Prelude.{ℕ, List, ◌++◌}
+use Rattle.std.specs.Prelude.{◌++◌}
 use Rattle.sp_frame.specs.Frames.{head_bytes, head_of, sections_part}
 use Rattle.sp_frame.specs.Sections.{sections_bytes, sections_of}
 use Rattle.sp_hmac.specs.Hmac.{hmac}

@@ -1,13 +1,12 @@
 -- The yes or no on bytes says yes exactly where a signature is valid.
-use Rattle.std.proofs.Common.{◌≡◌, ◌<◌, ℕ, ◌+◌, ◌==◌, ◌&&◌, ◌||◌, Bool, true, false, inl, inr, List, [], ◌∷◌, length, take, drop, refl, sym, ap, subst, nat_lt}
-use Rattle.std.specs.Prelude.{◌⊎◌, ◌↔◌, IsTrue, nat_eq, slice_range}
-use Rattle.std.specs.Cmp.Lexicographic.{bytes_decides, pointwise}
+use Rattle.std.proofs.Common.{◌≡◌, ℕ, ◌+◌, ◌==◌, ◌&&◌, ◌||◌, Bool, true, false, inl, inr, List, [], ◌∷◌, length, take, drop, refl, subst}
+use Rattle.std.specs.Prelude.{◌⊎◌, slice_range}
+use Rattle.std.specs.Cmp.Lexicographic.{bytes_decides}
 use Rattle.std.specs.List.{list_any}
 use Rattle.std.specs.Bool.{Decides}
-use Rattle.std.proofs.lemmas.Bool.Decides.{Decides-and, Decides-eqb, Decides-like, Decides-ltb, Decides-or}
+use Rattle.std.proofs.lemmas.Bool.Decides.{Decides-and, Decides-eqb, Decides-ltb, Decides-or}
 use Rattle.sp_ots.specs.declared.param.OtsParam.{OtsParam}
 use Rattle.sp_ots.specs.declared.param.OtsParam.TheVariants.{W1, W2, W4, W8}
-use Rattle.sp_ots.specs.Candidate.{HasTypecode}
 use Rattle.sp_ots.specs.Parameters as ots
 use Rattle.sp_ots.specs.Strings.{u32str}
 use Rattle.sp_lms.specs.declared.param.LmsParam.{LmsParam}
@@ -18,8 +17,8 @@ use Rattle.sp_lms.specs.Validity as tree
 use Rattle.sp_lms.specs.Validity.{HasTypes, IsValidUnder, candidate_root, id_of, leaf_of, one_time_of, root_of, typecode_of}
 use Rattle.sp_hss.specs.Decision.{all_one_time, has_types, is_by, is_by_levels, is_by_tree, is_by_two, is_valid, is_valid_under, some_types}
 use Rattle.sp_hss.specs.Laws.{ValidIsDecided}
-use Rattle.sp_hss.specs.Validity.{IsSignedBelow, IsSignedThrough, IsValid, IsValidAtOneLevel, IsValidAtTwoLevels, number_of}
-use Rattle.sp_hss.proofs.Cuts.{IsCutAt, parts_stand, put_together}
+use Rattle.sp_hss.specs.Validity.{IsSignedBelow, IsValidAtOneLevel, IsValidAtTwoLevels, number_of}
+use Rattle.sp_hss.proofs.Cuts.{parts_stand, put_together}
 
 -- ---- parameter sets
 
