@@ -8,7 +8,7 @@ use Rattle.sp_format.specs.Format.{format}
 use Rattle.sp_msg.specs.Caused.{Caused}
 use Rattle.sp_msg.specs.declared.refused.SendRefused.{SendRefused}
 use Rattle.sp_msg.specs.declared.refused.SendRefused.TheVariants as refusals
-use Rattle.sp_node.specs.Calls.{Sends}
+use Rattle.sp_sends.specs.Sends.{Sends}
 use Rattle.sp_rules.specs.Node.{NodeState}
 use Rattle.sp_rules.specs.Steps.{Input, NodeStep, Refused, accepted, replied}
 use Rattle.sp_rules.specs.declared.node.Step.{Step}

@@ -7,7 +7,7 @@ use Rattle.sp_base.specs.declared.id.NodeId.{NodeId}
 use Rattle.sp_base.specs.declared.limits.TheConstants.{MAX_PAYLOAD_BYTES}
 use Rattle.sp_format.specs.Format.{format}
 use Rattle.sp_node.specs.Calls.{TakesRel}
-use Rattle.sp_node.specs.States.{is_other}
+use Rattle.sp_state.specs.States.{is_other}
 use Rattle.sp_rules.specs.Node.{NodeState}
 use Rattle.sp_rules.specs.Parts.{is_signed}
 use Rattle.sp_rules.specs.Prio.{is_node}

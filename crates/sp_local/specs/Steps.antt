@@ -9,7 +9,7 @@ use Rattle.sp_client.specs.declared.request.Command.TheVariants as commands
 use Rattle.sp_format.specs.Format.{format}
 use Rattle.sp_msg.specs.Caused.{Caused}
 use Rattle.sp_msg.specs.declared.effect.Effect.{Effect}
-use Rattle.sp_node.specs.States.{is_other}
+use Rattle.sp_state.specs.States.{is_other}
 use Rattle.sp_rules.specs.Steps.{Accepted, Input, Message, NodeStep, Output, Payload, Refused, Reply, SendPrio, SendRel, SetWeight, TakePrio, TakeRel}
 use Rattle.sp_local.specs.declared.local.LocalNode.{LocalNode}
 

@@ -1,6 +1,5 @@
 -- What a node keeps gives the conditions of the calls of its parts.
 use Rattle.std.proofs.Common.{◌≡◌, ◌<◌, ◌^◌, [], Some, arith}
-use Rattle.std.specs.Prelude.{IsTrue}
 use Rattle.std.specs.List.{All}
 use Rattle.sp_base.specs.declared.id.NodeId.{NodeId}
 use Rattle.sp_format.specs.Format.{format}
@@ -10,21 +9,16 @@ use Rattle.sp_msg.specs.declared.body.Ack.{Ack}
 use Rattle.sp_msg.specs.declared.body.Body.TheVariants as bodies
 use Rattle.sp_rules.specs.Link.{Link, new_link}
 use Rattle.sp_rules.specs.Node.{NodeState, is_link, link_in}
-use Rattle.sp_rules.specs.Parts.{is_signed}
 use Rattle.sp_rules.specs.Polls.{contents_to}
 use Rattle.sp_rules.specs.Prio.{is_peer, no_peer, peer_in}
-use Rattle.sp_rules.specs.PrioPeer.{PrioPeer}
 use Rattle.sp_rules.specs.Rel.{due}
 use Rattle.laws_node.proofs.Frames.{frames_fit}
 use Rattle.laws_node.proofs.Priority.{no_peer_holds}
 use Rattle.laws_node.proofs.Reliable.{due_fits}
 use Rattle.laws_node.proofs.Tables.{all_first, all_weaker}
-use Rattle.laws_node.specs.Nodes.{IsKept, LinkHolds, sizes_of}
-use Rattle.laws_node.specs.Sizes.{Sizes, ids_after}
+use Rattle.laws_node.specs.Nodes.{IsKept, LinkHolds}
 use Rattle.laws_node.specs.Stores.{PrioPeerHolds}
-
-abbrev pub sizes : NodeState → Sizes
-sizes n = sizes_of (λ o. IsTrue (is_signed format n.fixed o)) n
+use Rattle.sp_state.proofs.Sizes.{sizes}
 
 -- ---- a poll
 
@@ -41,20 +35,6 @@ links_low n kept left = all_weaker (LinkHolds n.calls) (λ (l : Link). l.sent < 
 
 pub link_low : (n : NodeState) (v : NodeId) → IsKept format n → n.calls < 2 ^ 60 → (link_in n v).sent < 2 ^ 60
 link_low n v kept left = all_first (λ (l : Link). l.sent < 2 ^ 60) (is_link v) (new_link n.fixed.me v 0 []) n.links (links_low n kept left) (omega arith)
-
--- ---- ids of stores
-
-ids_low : (n : NodeState) → IsKept format n → ids_after n.calls n.signer.index < 2 ^ 63
-ids_low n kept = omega (arith, kept.calls, kept.signer.index, kept.signer.bound, kept.signer.total)
-
-pub inbox_low : (n : NodeState) → IsKept format n → n.parts.prio.inbox.last < 2 ^ 63
-inbox_low n kept = omega (arith, kept.parts.prio.inbox.last, ids_low n kept)
-
-pub stores_low : (n : NodeState) → IsKept format n → All (λ (q : PrioPeer). q.store.last < 2 ^ 63) n.parts.prio.peers
-stores_low n kept =
-    let low = ids_low n kept in
-    all_weaker (PrioPeerHolds (sizes n) n.calls (ids_after n.calls n.signer.index)) (λ (q : PrioPeer). q.store.last < 2 ^ 63) n.parts.prio.peers
-    (λ q h. omega (arith, h.store.last, low)) kept.parts.prio.peers
 
 -- ---- an acknowledgement
 

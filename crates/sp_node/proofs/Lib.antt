@@ -1,14 +1,8 @@
 pub mod Arrived
-pub mod Ends
 pub mod Expired
-pub mod Fitted
 pub mod Frames
-pub mod InEffect
 pub mod Kept
-pub mod Links
 pub mod Passed
-pub mod Sent
 pub mod Starts
 pub mod Steps
 pub mod Written
-pub mod Urgent

@@ -17,7 +17,8 @@ use Rattle.sp_rules.specs.declared.node.TickReply.{TickReply}
 use Rattle.laws_node.specs.Inputs.{ArtsFit, InputFits, PrioSendFits}
 use Rattle.laws_node.specs.Nodes.{IsKept}
 use Rattle.laws_node.proofs.Steps.{each_step_keeps, extend_keeps}
-use Rattle.sp_node.specs.Calls.{Datagrams, Polls, Sends, Ticks}
+use Rattle.sp_sends.specs.Sends.{Sends}
+use Rattle.sp_node.specs.Calls.{Datagrams, Polls, Ticks}
 
 pub kept_by_poll : (n new : NodeState) (v : NodeId) (r : Result (List ℕ) NodeRefused) → ArtsFit format n.fixed n.signer → IsKept format n → Polls n v r new
     → IsKept format new

@@ -4,12 +4,10 @@ use Rattle.std.specs.Prelude.{ℕ, ◌≡◌, List, [], Option, None, Result, Ok
 use Rattle.sp_base.specs.declared.id.NodeId.{NodeId}
 use Rattle.sp_format.specs.Format.{format}
 use Rattle.sp_msg.specs.declared.effect.Why.TheVariants.{Taken as TakenAway}
-use Rattle.sp_msg.specs.declared.refused.SendRefused.{SendRefused}
-use Rattle.sp_msg.specs.declared.refused.SendRefused.TheVariants as sends
 use Rattle.sp_rules.specs.Arrivals.{handled}
 use Rattle.sp_rules.specs.Node.{NodeState, call_refusal}
 use Rattle.sp_rules.specs.PrioPeer.{gone}
-use Rattle.sp_rules.specs.Steps.{Input, NodeStep, Poll, Datagram, Tick, TakePrio, TakeRel, Frame, Arrived, Message, NotCalled, Payload, Refused, Ticked, accepted, replied}
+use Rattle.sp_rules.specs.Steps.{NodeStep, Poll, Datagram, Tick, TakePrio, TakeRel, Frame, Arrived, Message, NotCalled, Payload, Ticked, replied}
 use Rattle.sp_rules.specs.declared.node.NodeRefused.{NodeRefused}
 use Rattle.sp_rules.specs.declared.node.NodeRefused.TheVariants as calls
 use Rattle.sp_rules.specs.declared.node.Step.{Step}
@@ -28,12 +26,6 @@ Polls old v (Err calls.Memory) new = (call_refusal old v ≡ None) × (new ≡ o
 abbrev pub Ticks : NodeState → ℕ → Result (Step TickReply) NodeRefused → NodeState → Type 0
 Ticks old now (Ok step) new = NodeStep format old (Tick now) (record { reply = Ticked step.reply; effects = step.effects.list; answered = [] }) new
 Ticks old now (Err refused) new = (refused ≡ calls.Memory) × (new ≡ old)
-
--- a send: the number of what was accepted, and what it caused, or why it is refused. Want of memory comes where these refusals don't
-abbrev pub Sends : Input → Option SendRefused → NodeState → Result (Step ℕ) SendRefused → NodeState → Type 0
-Sends input refusal old (Ok step) new = NodeStep format old input (accepted step.reply step.effects.list) new
-Sends input refusal old (Err sends.Memory) new = (refusal ≡ None) × (new ≡ old)
-Sends input refusal old (Err refused) new = NodeStep format old input (replied (Refused refused)) new
 
 -- a datagram: what became of it at its link, the answers to its objects, and what they caused, or why it isn't answered
 abbrev pub Datagrams : NodeState → NodeId → List ℕ → Result (Step Taken) NodeRefused → NodeState → Type 0

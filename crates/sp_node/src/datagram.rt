@@ -9,11 +9,10 @@ ghost use Rattle.sp_format.specs.Format.{format};
 ghost use Rattle.sp_frame.specs.Frames.{head_of, opened};
 ghost use Rattle.sp_node.specs.Arrived.{pieces_with};
 ghost use Rattle.sp_node.specs.Calls.{Datagrams};
-ghost use Rattle.sp_node.specs.Ready.{IsAnswered};
+ghost use Rattle.sp_state.specs.Ready.{IsAnswered};
 ghost use Rattle.sp_rules.specs.Arrivals.{arrival_at, link_after, no_frame, of_fresh, of_link, pieces_in, pieces_where, reply_at, sections_in};
 ghost use Rattle.sp_rules.specs.Handle.{handle_all};
 
-use crate::state::State;
 use sp_arrival::{Arrived, arrive};
 use sp_base::{Listed, Memory, NodeId};
 use sp_core::Fixed;
@@ -21,6 +20,7 @@ use sp_frame::{Frame, FrameRefused, Sections};
 use sp_link::Link;
 use sp_msg::Effects;
 use sp_rules::{LinkAnswer, LinkReply, NodeRefused, Step, Taken};
+use sp_state::State;
 use std::alloc::Global;
 
 /// What became of a datagram at its link: the reply, the link after it, and the sections that are to be handled, if any.
@@ -31,92 +31,90 @@ struct Passage<'a> {
     sections: Option<Sections<'a>>,
 }
 
-impl State {
-    /// A datagram is tested by its link, and where it passes, its objects are taken in order.
-    pub fn datagram(
-        &mut self,
-        alloc: Global,
-        from: NodeId,
-        bytes: &[u8],
-    ) -> Result<Step<Taken>, NodeRefused>
-        requires { IsKept format self.old }
-        ensures { Datagrams self.old from bytes.now result self.new }
-    {
-        let place = self.place_for(from)?;
-        let passage = self.passage(place, from, bytes);
-        let arrived = self.take_sections(alloc, from, &passage.sections)?;
-        self.answered(place, from, passage.link);
-        Ok(Step {
-            reply: Taken {
-                link: passage.reply,
-                items: arrived.items,
-            },
-            effects: arrived.effects,
-        })
-    }
+/// A datagram is tested by its link, and where it passes, its objects are taken in order.
+pub fn datagram(
+    state: &mut State,
+    alloc: Global,
+    from: NodeId,
+    bytes: &[u8],
+) -> Result<Step<Taken>, NodeRefused>
+    requires { IsKept format state.old }
+    ensures { Datagrams state.old from bytes.now result state.new }
+{
+    let place = state.place_for(from)?;
+    let passage = passed(state, place, from, bytes);
+    let arrived = take_sections(state, alloc, from, &passage.sections)?;
+    answered(state, place, from, passage.link);
+    Ok(Step {
+        reply: Taken {
+            link: passage.reply,
+            items: arrived.items,
+        },
+        effects: arrived.effects,
+    })
+}
 
-    /// What becomes of a datagram at the link in this place.
-    fn passage<'a>(&self, place: usize, from: NodeId, bytes: &'a [u8]) -> Passage<'a>
-        requires { IsAnswered self.now from place }
-        ensures reply { result.reply ≡ reply_at format self.entry.now from bytes.now }
-        ensures link { result.link ≡ link_after format self.entry.now from bytes.now }
-        ensures pieces { pieces_with result.sections ≡ pieces_where (reply_at format self.entry.now from bytes.now) (pieces_in (sections_in format self.entry.now.fixed bytes.now)) }
-    {
-        let mut link = self.link_at(place, from);
-        let frame = match Frame::open(bytes) {
-            Ok(frame) => frame,
-            Err(refused) => {
-                return Passage {
-                    reply: no_frame(refused),
-                    link,
-                    sections: None,
-                };
-            }
-        };
-        let answer = link.accept(&frame);
-        let (reply, sections) = after_link(&self.fixed, answer, &frame);
-        Passage {
-            reply,
-            link,
+/// What becomes of a datagram at the link in this place.
+fn passed<'a>(state: &State, place: usize, from: NodeId, bytes: &'a [u8]) -> Passage<'a>
+    requires { IsAnswered state.now from place }
+    ensures reply { result.reply ≡ reply_at format state.entry.now from bytes.now }
+    ensures link { result.link ≡ link_after format state.entry.now from bytes.now }
+    ensures pieces { pieces_with result.sections ≡ pieces_where (reply_at format state.entry.now from bytes.now) (pieces_in (sections_in format state.entry.now.fixed bytes.now)) }
+{
+    let mut link = state.link_at(place, from);
+    let frame = match Frame::open(bytes) {
+        Ok(frame) => frame,
+        Err(refused) => {
+            return Passage {
+                reply: no_frame(refused),
+                link,
+                sections: None,
+            };
+        }
+    };
+    let answer = link.accept(&frame);
+    let (reply, sections) = after_link(&state.fixed, answer, &frame);
+    Passage {
+        reply,
+        link,
+        sections,
+    }
+}
+
+/// A datagram of a neighbour was answered, and left its link, which stands in this place, like this.
+fn answered(state: &mut State, place: usize, v: NodeId, link: Link)
+    requires place { position (is_link v) state.old.links ≡ There place }
+    requires within { place < length state.old.links }
+    requires left { state.old.calls < MAX_CALLS }
+    ensures { state.new ≡ called state.old (with_link state.old v link) state.old.parts }
+{
+    put_link(&mut state.links, place, v, link);
+    state.calls += 1;
+}
+
+/// Takes the objects of these sections, if there are any. After `Memory` the node is as before.
+fn take_sections(
+    state: &mut State,
+    alloc: Global,
+    from: NodeId,
+    sections: &Option<Sections<'_>>,
+) -> Result<Arrived, Memory>
+    requires { IsKept format state.old }
+    ensures taken { IfOk result (λ a. IsTaken (handle_all format (arrival_at state.old from) state.old.parts (pieces_with sections.now)) state.new.parts a.items a.effects.list) }
+    ensures others { IfOk result (λ _. state.new ≡ record state.old { parts = state.new.parts }) }
+    ensures as_before { OnErr result (state.new ≡ state.old) }
+{
+    match sections {
+        None => nothing_taken(alloc),
+        Some(sections) => arrive(
+            alloc,
+            &state.fixed,
+            &mut state.core,
+            &mut state.checker,
+            state.now,
+            from,
             sections,
-        }
-    }
-
-    /// A datagram of a neighbour was answered, and left its link, which stands in this place, like this.
-    fn answered(&mut self, place: usize, v: NodeId, link: Link)
-        requires place { position (is_link v) self.old.links ≡ There place }
-        requires within { place < length self.old.links }
-        requires left { self.old.calls < MAX_CALLS }
-        ensures { self.new ≡ called self.old (with_link self.old v link) self.old.parts }
-    {
-        put_link(&mut self.links, place, v, link);
-        self.calls += 1;
-    }
-
-    /// Takes the objects of these sections, if there are any. After `Memory` the node is as before.
-    fn take_sections(
-        &mut self,
-        alloc: Global,
-        from: NodeId,
-        sections: &Option<Sections<'_>>,
-    ) -> Result<Arrived, Memory>
-        requires { IsKept format self.old }
-        ensures taken { IfOk result (λ a. IsTaken (handle_all format (arrival_at self.old from) self.old.parts (pieces_with sections.now)) self.new.parts a.items a.effects.list) }
-        ensures others { IfOk result (λ _. self.new ≡ record self.old { parts = self.new.parts }) }
-        ensures as_before { OnErr result (self.new ≡ self.old) }
-    {
-        match sections {
-            None => nothing_taken(alloc),
-            Some(sections) => arrive(
-                alloc,
-                &self.fixed,
-                &mut self.core,
-                &mut self.checker,
-                self.now,
-                from,
-                sections,
-            ),
-        }
+        ),
     }
 }
 

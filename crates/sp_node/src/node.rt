@@ -10,17 +10,21 @@ ghost use Rattle.sp_rules.specs.Rel.{due, position_in};
 ghost use Rattle.sp_rules.specs.Sends.{PrioSend, prio_refusal, rel_refusal, weight_refusal};
 ghost use Rattle.sp_rules.specs.Steps.{SendPrio, SendRel, SetWeight};
 ghost use Rattle.sp_rules.specs.Ticks.{time_after};
-ghost use Rattle.sp_node.specs.Boots.{IsBootable, booted_of};
-ghost use Rattle.sp_node.specs.Calls.{Datagrams, Polls, Sends, TakesPrio, TakesRel, Ticks};
-ghost use Rattle.sp_node.specs.States.{is_other};
+ghost use Rattle.sp_state.specs.Boots.{IsBootable, booted_of};
+ghost use Rattle.sp_node.specs.Calls.{Datagrams, Polls, TakesPrio, TakesRel, Ticks};
+ghost use Rattle.sp_sends.specs.Sends.{Sends};
+ghost use Rattle.sp_state.specs.States.{is_other};
 
-use crate::boot::NodeConfig;
-use crate::send_prio::Message;
-use crate::state::State;
+use crate::datagram::datagram;
+use crate::poll::poll;
+use crate::take::{take_prio, take_rel};
+use crate::tick::tick;
 use sp_base::{Bytes, Flow, NodeId};
 use sp_msg::SendRefused;
 use sp_rules::{Entry, NodeRefused, Step, Taken, TickReply};
+use sp_sends::{Message, send_prio, send_rel, set_weight};
 use sp_sign::NodeSigner;
+use sp_state::{NodeConfig, State};
 use std::alloc::Global;
 use std::marker::Model;
 
@@ -72,7 +76,7 @@ impl Node {
         ensures { Polls self.old v result self.new }
     {
         self.state.is_fit();
-        self.state.poll(alloc, v)
+        poll(&mut self.state, alloc, v)
     }
 
     /// A datagram that came from a neighbour's address: what became of it at its link, and where it is fresh, the answers to its objects.
@@ -89,7 +93,7 @@ impl Node {
         ensures { Datagrams self.old from bytes.now result self.new }
     {
         self.state.is_fit();
-        self.state.datagram(alloc, from, bytes)
+        datagram(&mut self.state, alloc, from, bytes)
     }
 
     /// The time goes on to the greater of the one held and this one, what expired before it leaves, and at most one acknowledgement is signed.
@@ -101,7 +105,7 @@ impl Node {
         ensures quiet { due self.old.parts.rel ≡ Nothing → expiring self.old.parts.prio (time_after self.old now) ≡ 0 → IsOk result }
     {
         self.state.is_fit();
-        self.state.tick(alloc, now)
+        tick(&mut self.state, alloc, now)
     }
 
     /// Signs a client's reliable message, and keeps it until its destination acknowledges it. Gives its number, counted from 1 in each flow.
@@ -118,7 +122,7 @@ impl Node {
         ensures { Sends (SendRel dst payload.now) (rel_refusal self.old dst) self.old result self.new }
     {
         self.state.is_fit();
-        self.state.send_rel(alloc, dst, payload)
+        send_rel(&mut self.state, alloc, dst, payload)
     }
 
     /// Signs a client's priority message, which goes over so many paths that share no node, or over all edges where `paths` is 0. Gives its number,
@@ -149,7 +153,7 @@ impl Node {
             paths,
             payload,
         };
-        self.state.send_prio(alloc, &message)
+        send_prio(&mut self.state, alloc, &message)
     }
 
     /// Signs what this node says of the weight of its link to a neighbour. Gives the number of the update.
@@ -167,7 +171,7 @@ impl Node {
         ensures { Sends (SetWeight peer weight) (weight_refusal self.old peer weight) self.old result self.new }
     {
         self.state.is_fit();
-        self.state.set_weight(alloc, peer, weight)
+        set_weight(&mut self.state, alloc, peer, weight)
     }
 
     /// Takes the payload of the oldest reliable message that waits here from a node. None exactly where none waits.
@@ -176,7 +180,7 @@ impl Node {
         ensures { TakesRel self.old src result self.new }
     {
         self.state.is_fit();
-        self.state.take_rel(src)
+        take_rel(&mut self.state, src)
     }
 
     /// Takes the oldest priority message that waits here. None exactly where none waits. That its entry leaves place 0 is told by the entry.
@@ -185,7 +189,7 @@ impl Node {
         ensures { TakesPrio self.old result self.new }
     {
         self.state.is_fit();
-        self.state.take_prio()
+        take_prio(&mut self.state)
     }
 
     /// Whether this is another node of the overlay.

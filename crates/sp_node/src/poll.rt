@@ -5,7 +5,7 @@ ghost use Rattle.sp_format.specs.Format.{format};
 ghost use Rattle.sp_frame.specs.Frames.{frame_bytes};
 ghost use Rattle.sp_frame.specs.Ranges.{IsContents};
 ghost use Rattle.sp_node.specs.Calls.{Polls};
-ghost use Rattle.sp_node.specs.Ready.{IsAnswered};
+ghost use Rattle.sp_state.specs.Ready.{IsAnswered};
 ghost use Rattle.sp_base.specs.Rows.{first_where, replace_where};
 ghost use Rattle.sp_rules.specs.Link as rules;
 ghost use Rattle.sp_rules.specs.Link.{advanced, next_head};
@@ -16,7 +16,6 @@ ghost use Rattle.sp_rules.specs.Prio.{carried, next_prio, peer_in};
 ghost use Rattle.sp_rules.specs.Rel.{served};
 ghost use Rattle.sp_rules.specs.Weights.{moved};
 
-use crate::state::State;
 use sp_base::{Bytes, Memory, NodeId};
 use sp_core::{Core, Fixed};
 use sp_frame::{Head, write};
@@ -24,45 +23,44 @@ use sp_link::Link;
 use sp_msg::Kept;
 use sp_prio::PrioTable;
 use sp_rules::NodeRefused;
+use sp_state::State;
 use sp_topology::NodeKey;
 use std::alloc::Global;
 
-impl State {
-    /// The next frame to a neighbour. It is written and sealed first; then the link and each cycle go on.
-    pub fn poll(&mut self, alloc: Global, v: NodeId) -> Result<Bytes, NodeRefused>
-        requires { IsKept format self.old }
-        ensures { Polls self.old v result self.new }
-    {
-        let place = self.place_for(v)?;
-        let bytes = self.frame_at(alloc, place, v)?;
-        self.went(place, v);
-        Ok(bytes)
-    }
+/// The next frame to a neighbour. It is written and sealed first; then the link and each cycle go on.
+pub fn poll(state: &mut State, alloc: Global, v: NodeId) -> Result<Bytes, NodeRefused>
+    requires { IsKept format state.old }
+    ensures { Polls state.old v result state.new }
+{
+    let place = state.place_for(v)?;
+    let bytes = frame_at(state, alloc, place, v)?;
+    went(state, place, v);
+    Ok(bytes)
+}
 
-    /// The frame for the neighbour of the link in this place.
-    fn frame_at(&self, alloc: Global, place: usize, v: NodeId) -> Result<Bytes, Memory>
-        requires kept { IsKept format self.now }
-        requires answered { IsAnswered self.now v place }
-        ensures { IfOk result (λ bytes. bytes ≡ frame_to format self.entry.now v) }
-    {
-        let link = self.link_at(place, v);
-        let head = head_for(&link, &self.fixed);
-        let mut frame = unsealed(alloc, &head, &self.fixed, &self.core, v)?;
-        link.seal(&mut frame);
-        Ok(frame)
-    }
+/// The frame for the neighbour of the link in this place.
+fn frame_at(state: &State, alloc: Global, place: usize, v: NodeId) -> Result<Bytes, Memory>
+    requires kept { IsKept format state.now }
+    requires answered { IsAnswered state.now v place }
+    ensures { IfOk result (λ bytes. bytes ≡ frame_to format state.entry.now v) }
+{
+    let link = state.link_at(place, v);
+    let head = head_for(&link, &state.fixed);
+    let mut frame = unsealed(alloc, &head, &state.fixed, &state.core, v)?;
+    link.seal(&mut frame);
+    Ok(frame)
+}
 
-    /// The frame for the neighbour of the link in this place was made.
-    fn went(&mut self, place: usize, v: NodeId)
-        requires kept { IsKept format self.old }
-        requires answered { IsAnswered self.old v place }
-        ensures { self.new ≡ after_poll self.old v }
-    {
-        let at = place_of(&self.fixed, v);
-        moved(&mut self.core, at, v);
-        advance_at(&mut self.links, place, v);
-        self.calls += 1;
-    }
+/// The frame for the neighbour of the link in this place was made.
+fn went(state: &mut State, place: usize, v: NodeId)
+    requires kept { IsKept format state.old }
+    requires answered { IsAnswered state.old v place }
+    ensures { state.new ≡ after_poll state.old v }
+{
+    let at = place_of(&state.fixed, v);
+    moved(&mut state.core, at, v);
+    advance_at(&mut state.links, place, v);
+    state.calls += 1;
 }
 
 /// The head of the next frame over a link.

@@ -10,12 +10,12 @@ ghost use Rattle.sp_rules.specs.Sends.{signer_refusal};
 ghost use Rattle.sp_rules.specs.Ticks.{ack_effects, settled_by, tick_reply_of, time_after};
 ghost use Rattle.sp_rules.specs.Told.{told};
 
-use crate::state::State;
 use sp_base::Memory;
 use sp_core::Core;
 use sp_msg::{Ack, Body, Effect, Effects, SendRefused};
 use sp_rules::{NodeRefused, Step, TickReply};
 use sp_sign::Blank;
+use sp_state::State;
 use std::alloc::Global;
 
 /// The acknowledgement that is due at a tick.
@@ -29,76 +29,74 @@ pub enum Due {
     Ready(Blank),
 }
 
-impl State {
-    /// The time is the greater of the one held and this one. What expired before it leaves, and the acknowledgement that is due is signed.
-    pub fn tick(&mut self, alloc: Global, now: u64) -> Result<Step<TickReply>, NodeRefused>
-        requires { IsKept format self.old }
-        ensures step { Ticks self.old now result self.new }
-        ensures quiet { due self.old.parts.rel ≡ Nothing → expiring self.old.parts.prio (time_after self.old now) ≡ 0 → IsOk result }
-    {
-        let owed = self.owed(alloc)?;
-        let time = self.now.max(now);
-        let mut effects = self.room_for(alloc, time, &owed)?;
-        self.now = time;
-        expire(&mut self.core, time, &mut effects);
-        let reply = self.settle(owed, &mut effects);
-        Ok(Step { reply, effects })
-    }
+/// The time is the greater of the one held and this one. What expired before it leaves, and the acknowledgement that is due is signed.
+pub fn tick(state: &mut State, alloc: Global, now: u64) -> Result<Step<TickReply>, NodeRefused>
+    requires { IsKept format state.old }
+    ensures step { Ticks state.old now result state.new }
+    ensures quiet { due state.old.parts.rel ≡ Nothing → expiring state.old.parts.prio (time_after state.old now) ≡ 0 → IsOk result }
+{
+    let owed = owed(state, alloc)?;
+    let time = state.now.max(now);
+    let mut effects = room_for(state, alloc, time, &owed)?;
+    state.now = time;
+    expire(&mut state.core, time, &mut effects);
+    let reply = settle(state, owed, &mut effects);
+    Ok(Step { reply, effects })
+}
 
-    /// The acknowledgement that is due.
-    fn owed(&self, alloc: Global) -> Result<Due, Memory>
-        requires { IsKept format self.now }
-        ensures owed { IfOk result (IsDue self.entry.now) }
-        ensures none { due self.entry.now.parts.rel ≡ Nothing → IsOk result }
-    {
-        let Some(ack) = due_of(&self.core) else {
-            return Ok(Due::Nothing);
-        };
-        match self.signer_refusal() {
-            Some(SendRefused::Spent { index }) => Ok(Due::Refused(TickReply::TickSpent { index })),
-            Some(SendRefused::NotReserved { bound }) => {
-                Ok(Due::Refused(TickReply::TickNotReserved { bound }))
-            }
-            Some(_) => Ok(Due::Refused(TickReply::Ticked)),
-            None => Ok(Due::Ready(self.blank(alloc, Body::Ack(ack))?)),
+/// The acknowledgement that is due.
+fn owed(state: &State, alloc: Global) -> Result<Due, Memory>
+    requires { IsKept format state.now }
+    ensures owed { IfOk result (IsDue state.entry.now) }
+    ensures none { due state.entry.now.parts.rel ≡ Nothing → IsOk result }
+{
+    let Some(ack) = due_of(&state.core) else {
+        return Ok(Due::Nothing);
+    };
+    match state.signer_refusal() {
+        Some(SendRefused::Spent { index }) => Ok(Due::Refused(TickReply::TickSpent { index })),
+        Some(SendRefused::NotReserved { bound }) => {
+            Ok(Due::Refused(TickReply::TickNotReserved { bound }))
         }
+        Some(_) => Ok(Due::Refused(TickReply::Ticked)),
+        None => Ok(Due::Ready(state.blank(alloc, Body::Ack(ack))?)),
     }
+}
 
-    /// Room for all that a tick at this time tells. It takes no memory where that is nothing.
-    fn room_for(&self, alloc: Global, time: u64, owed: &Due) -> Result<Effects, Memory>
-        ensures room { IfOk result (λ effects. effects ≡ record { list = []; room = expiring self.entry.now.parts.prio time + told_of owed.now }) }
-        ensures none { expiring self.entry.now.parts.prio time + told_of owed.now ≡ 0 → IsOk result }
-    {
-        let told = match owed {
-            Due::Ready(_) => 1,
-            _ => 0,
-        };
-        let Some(room) = self.core.prio.expiring(time).checked_add(told) else {
-            return Err(Memory);
-        };
-        match Effects::with_room(alloc, room) {
-            Ok(effects) => Ok(effects),
-            Err(_) => Err(Memory),
-        }
+/// Room for all that a tick at this time tells. It takes no memory where that is nothing.
+fn room_for(state: &State, alloc: Global, time: u64, owed: &Due) -> Result<Effects, Memory>
+    ensures room { IfOk result (λ effects. effects ≡ record { list = []; room = expiring state.entry.now.parts.prio time + told_of owed.now }) }
+    ensures none { expiring state.entry.now.parts.prio time + told_of owed.now ≡ 0 → IsOk result }
+{
+    let told = match owed {
+        Due::Ready(_) => 1,
+        _ => 0,
+    };
+    let Some(room) = state.core.prio.expiring(time).checked_add(told) else {
+        return Err(Memory);
+    };
+    match Effects::with_room(alloc, room) {
+        Ok(effects) => Ok(effects),
+        Err(_) => Err(Memory),
     }
+}
 
-    /// Signs the acknowledgement that is due, where it is ready.
-    fn settle(&mut self, owed: Due, effects: &mut Effects) -> TickReply
-        requires owed { IsDue self.old owed }
-        requires room { told_of owed ≤ effects.old.room }
-        ensures reply { result ≡ tick_reply_of (due self.old.parts.rel) (signer_refusal self.old.signer) }
-        ensures state { self.new ≡ settled_by format self.old (due self.old.parts.rel) (signer_refusal self.old.signer) }
-        ensures told { effects.new ≡ told effects.old (ack_effects (due self.old.parts.rel) (signer_refusal self.old.signer)) }
-    {
-        match owed {
-            Due::Nothing => TickReply::Ticked,
-            Due::Refused(reply) => reply,
-            Due::Ready(blank) => {
-                let Blank { kept, bytes } = self.sign(blank);
-                effects.push(Effect::Signed(bytes));
-                self.core.rel.signed(kept);
-                TickReply::Ticked
-            }
+/// Signs the acknowledgement that is due, where it is ready.
+fn settle(state: &mut State, owed: Due, effects: &mut Effects) -> TickReply
+    requires owed { IsDue state.old owed }
+    requires room { told_of owed ≤ effects.old.room }
+    ensures reply { result ≡ tick_reply_of (due state.old.parts.rel) (signer_refusal state.old.signer) }
+    ensures state { state.new ≡ settled_by format state.old (due state.old.parts.rel) (signer_refusal state.old.signer) }
+    ensures told { effects.new ≡ told effects.old (ack_effects (due state.old.parts.rel) (signer_refusal state.old.signer)) }
+{
+    match owed {
+        Due::Nothing => TickReply::Ticked,
+        Due::Refused(reply) => reply,
+        Due::Ready(blank) => {
+            let Blank { kept, bytes } = state.sign(blank);
+            effects.push(Effect::Signed(bytes));
+            state.core.rel.signed(kept);
+            TickReply::Ticked
         }
     }
 }

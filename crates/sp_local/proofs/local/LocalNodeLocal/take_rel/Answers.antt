@@ -1,5 +1,5 @@
 use Rattle.std.proofs.Common.{rules, ◌≡◌, true}
-use Rattle.sp_node.specs.States.{is_other}
+use Rattle.sp_state.specs.States.{is_other}
 use Rattle.sp_local.proofs.Takes.{short}
 use Rattle.sp_local.proofs.local.LocalNodeLocal.take_rel.Goals as goal
 

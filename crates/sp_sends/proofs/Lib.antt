@@ -1,0 +1,4 @@
+pub mod Ends
+pub mod InEffect
+pub mod Sent
+pub mod Urgent

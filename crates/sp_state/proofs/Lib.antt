@@ -1,0 +1,4 @@
+pub mod Fitted
+pub mod Links
+pub mod Sizes
+pub mod Starts
