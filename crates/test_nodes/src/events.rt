@@ -49,7 +49,7 @@ impl<'a> Words<'a> {
 }
 
 /// The node of an id.
-fn node(nodes: &mut Vec<Node>, id: u8) -> Result<&mut Node, Fail> {
+pub fn node(nodes: &mut Vec<Node>, id: u8) -> Result<&mut Node, Fail> {
     let place = usize::from(id).checked_sub(1).ok_or("no node 0")?;
     Ok(nodes.get_mut(place).ok_or("no such node")?)
 }

@@ -17,4 +17,6 @@ mod spelled;
 #[cfg(test)]
 mod stories;
 #[cfg(test)]
+mod want_of_memory;
+#[cfg(test)]
 mod world;
