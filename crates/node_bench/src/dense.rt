@@ -1,0 +1,50 @@
+// The graph of the network as a text: the edge between A and B weighs (A * 7919 + B * 104729) % 1000 + 1.
+ghost use Rattle.std.specs.Prelude.{◌≤◌, IfSome};
+ghost use Rattle.sp_graph.specs.Edges.{IsGraph};
+
+use sp_base::MAX_INPUT_BYTES;
+use sp_graph::{Graph, read};
+use std::alloc::Global;
+
+/// The weight of an edge.
+pub fn edge_weight(low: u32, high: u32) -> u32
+    ensures { (1 ≤ result) × (result ≤ 1_000) }
+{
+    let sum = low
+        .wrapping_mul(7_919)
+        .wrapping_add(high.wrapping_mul(104_729));
+    sum % 1_000 + 1
+}
+
+/// The lines of the edges from the node to higher ones.
+fn push_lines(alloc: Global, text: &mut String, low: u32) -> Option<()> {
+    for high in low.saturating_add(1)..17 {
+        let weight = edge_weight(low, high);
+        let line = format!(in alloc; "edge {low} {high} {weight}\n").ok()?;
+        text.push_str(line.as_str()).ok()?;
+    }
+    Some(())
+}
+
+/// The text of the graph of 16 nodes.
+pub fn dense(alloc: Global) -> Option<String> {
+    let mut text = format!(in alloc; "graph 1\nnodes 16\n").ok()?;
+    for low in 1..16 {
+        push_lines(alloc, &mut text, low)?;
+    }
+    text.push_str("end\n").ok()?;
+    Some(text)
+}
+
+/// The graph of the text.
+pub fn graph_of(alloc: Global, text: &str) -> Option<Graph>
+    ensures { IfSome result IsGraph }
+{
+    if text.len() > MAX_INPUT_BYTES {
+        return None;
+    }
+    match read(alloc, text.as_bytes()) {
+        Ok(graph) => Some(graph),
+        Err(_) => None,
+    }
+}
