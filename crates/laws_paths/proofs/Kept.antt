@@ -6,6 +6,7 @@ use Rattle.std.proofs.lemmas.Bool.{eqb-true}
 use Rattle.std.proofs.lemmas.Bool.Decides.{nat_tests}
 use Rattle.sp_base.specs.declared.id.NodeId.{NodeId}
 use Rattle.sp_topology.specs.declared.topology.Edge.{Edge}
+use Rattle.sp_graph.proofs.GraphLemmas.{HasEnds, between_ends}
 use Rattle.sp_graph.specs.declared.graph.Graph.{Graph}
 use Rattle.sp_graph.specs.declared.part.Part.{Part}
 use Rattle.sp_graph.specs.declared.part.Part.TheVariants as parts
@@ -64,13 +65,11 @@ has_node nodes v low high = let node : ℕ → NodeId = λ n. record { 0 = n } i
 
 -- an edge between two nodes has them as its ends
 ends : (u v : NodeId) (e : Edge) → is_between u v e ≡ true → ((e.low ≡ u) × (e.high ≡ v)) ⊎ ((e.low ≡ v) × (e.high ≡ u))
-ends u v e is = go ((e.low.0 == u.0) && (e.high.0 == v.0)) refl
+ends u v e is = go (between_ends u v e is)
   where
-    go : (b : Bool) → ((e.low.0 == u.0) && (e.high.0 == v.0)) ≡ b → ((e.low ≡ u) × (e.high ≡ v)) ⊎ ((e.low ≡ v) × (e.high ≡ u))
-    go true f = let k = both_true (e.low.0 == u.0) (e.high.0 == v.0) f in inl (same_node e.low u (eqb-true _ _ k.0), same_node e.high v (eqb-true _ _ k.1))
-    go false f =
-        let back : ((e.low.0 == v.0) && (e.high.0 == u.0)) ≡ true = rw f at is in
-        let k = both_true (e.low.0 == v.0) (e.high.0 == u.0) back in inr (same_node e.low v (eqb-true _ _ k.0), same_node e.high u (eqb-true _ _ k.1))
+    go : HasEnds u v e → ((e.low ≡ u) × (e.high ≡ v)) ⊎ ((e.low ≡ v) × (e.high ≡ u))
+    go (inl k) = inl (same_node e.low u k.0, same_node e.high v k.1)
+    go (inr k) = inr (same_node e.low v k.0, same_node e.high u k.1)
 
 -- an edge between the two stands in the list
 abbrev pub Between : List Edge → NodeId → NodeId → Type 0

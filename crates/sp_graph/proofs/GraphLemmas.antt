@@ -6,6 +6,7 @@ use Rattle.std.proofs.lemmas.Bool.{cases_eq, eqb-true}
 use Rattle.std.proofs.lemmas.List.Elements.{All-nil, All-push}
 use Rattle.std.proofs.lemmas.List.Quantifiers.{all_pairs_push}
 use Rattle.std.proofs.lemmas.Option.{slice_get-get_or}
+use Rattle.sp_base.specs.declared.id.NodeId.{NodeId}
 use Rattle.sp_topology.specs.declared.topology.Edge.{Edge}
 use Rattle.sp_graph.specs.declared.graph.Graph.{Graph}
 use Rattle.sp_graph.specs.Edges.{AreNodes, IsEdge, IsGraph, IsLower, IsNextEdge, last_edge, with_edge}
@@ -77,3 +78,21 @@ not_between nodes e f one two lower = neither (f.low.0 == e.low.0) (f.high.0 == 
 pub simple : (g : Graph) → IsGraph g → AllPairs (λ e f. is_between e.low e.high f ≡ false) g.edges
 simple g good i j d less inside =
     not_between g.nodes (slice_index_or g.edges i d) (slice_index_or g.edges j d) (good.edges i d (omega (arith, less, inside))) (good.edges j d inside) (good.ascend i j d less inside)
+
+-- the edge's ends are the two nodes, whichever comes first
+abbrev pub HasEnds : NodeId → NodeId → Edge → Type 0
+HasEnds u v e = ((e.low.0 ≡ u.0) × (e.high.0 ≡ v.0)) ⊎ ((e.low.0 ≡ v.0) × (e.high.0 ≡ u.0))
+
+-- an edge between two nodes has them as its ends
+pub between_ends : (u v : NodeId) (e : Edge) → is_between u v e ≡ true → HasEnds u v e
+between_ends u v e is = go (e.low.0 == u.0) (e.high.0 == v.0) (e.low.0 == v.0) (e.high.0 == u.0) refl refl refl refl is
+  where
+    go : (a b c d : Bool) → (e.low.0 == u.0) ≡ a → (e.high.0 == v.0) ≡ b → (e.low.0 == v.0) ≡ c → (e.high.0 == u.0) ≡ d → ((a && b) || (c && d)) ≡ true
+        → HasEnds u v e
+    go true true c d one two three four is = inl (eqb-true _ _ one, eqb-true _ _ two)
+    go true false true true one two three four is = inr (eqb-true _ _ three, eqb-true _ _ four)
+    go true false true false one two three four is = absurd cc
+    go true false false d one two three four is = absurd cc
+    go false b true true one two three four is = inr (eqb-true _ _ three, eqb-true _ _ four)
+    go false b true false one two three four is = absurd cc
+    go false b false d one two three four is = absurd cc

@@ -1,5 +1,5 @@
 -- Sets of edges as masks: which edges a path goes along, and along which edges of a mask a node sends on.
-use Rattle.std.specs.Prelude.{ℕ, ◌≡◌, ◌≢◌, ◌⊎◌, Bool, true, false, List, Option, Some, None, slice_get}
+use Rattle.std.specs.Prelude.{ℕ, ◌≡◌, ◌≢◌, ◌⊎◌, ◌^◌, Bool, true, false, List, Option, Some, None, slice_get}
 use Rattle.std.specs.List.{list_any}
 use Rattle.sp_base.specs.declared.id.NodeId.{NodeId}
 use Rattle.sp_base.specs.declared.id.EdgeId.{EdgeId}
@@ -20,6 +20,11 @@ is_walked_at (Some e) path = is_walked e path
 -- the mask has just the edges that the path goes along
 abbrev pub IsMaskOf : Graph → List NodeId → ℕ → Type 0
 IsMaskOf g path mask = (place : ℕ) → names_edge mask place ≡ is_walked_at (slice_get g.edges place) path
+
+-- the mask of the edge at a place alone, and of none
+abbrev pub mask_at : Option ℕ → ℕ
+mask_at None = 0
+mask_at (Some place) = 2 ^ place
 
 -- the mask has the edge, the node is an end of it, and what the node sends on didn't come from its other end
 pub record Forwards (g : Graph) (mask : ℕ) (node : NodeId) (edge : EdgeId) (came : Option NodeId) : Type 0 where

@@ -1,8 +1,8 @@
 // The edges of a path as a mask, and whether a node sends along an edge of a mask.
-ghost use Rattle.std.specs.Prelude.{◌≡◌, ◌≢◌, ◌↔◌, IsTrue, Some, cond};
-ghost use Rattle.std.specs.List.{list_any};
+ghost use Rattle.std.specs.Prelude.{◌≡◌, ◌≢◌, ◌≤◌, ◌↔◌, IsTrue, Some, length, position};
+ghost use Rattle.sp_base.specs.declared.limits.TheConstants.{MAX_EDGES};
 ghost use Rattle.sp_graph.specs.Edges.{IsGraph};
-ghost use Rattle.sp_graph.specs.Masks.{Forwards, IsMaskOf, is_walked};
+ghost use Rattle.sp_graph.specs.Masks.{Forwards, IsMaskOf, mask_at};
 ghost use Rattle.sp_graph.specs.Walks.{is_between};
 
 use crate::Graph;
@@ -18,33 +18,31 @@ impl Graph {
     {
         let edges = self.edges.as_slice();
         let mut mask = 0;
-        let mut place = edges.len();
-        'edges: while place > 0 {
-            place -= 1;
-            mask = mask * 2 + bit(is_walked(&edges[place], path));
+        let mut rest = path;
+        'steps: while rest.len() >= 2 {
+            mask |= mask_between(edges, rest[0], rest[1]);
+            rest = &rest[1..];
         }
         mask
     }
 }
 
-fn bit(is_set: bool) -> u128
-    ensures { result ≡ cond is_set 1 0 }
+/// The mask of the edge between two nodes, and of no edge where there is none.
+fn mask_between(edges: &[Edge], u: NodeId, v: NodeId) -> Mask
+    requires { length edges.now ≤ MAX_EDGES }
+    ensures { result ≡ mask_at (position (is_between u v) edges.now) }
 {
-    if is_set { 1 } else { 0 }
+    match place_between(edges, u, v) {
+        Some(place) => 1 << place,
+        None => 0,
+    }
 }
 
-/// Whether the path goes along the edge.
-fn is_walked(edge: &Edge, path: &[NodeId]) -> bool
-    ensures { result ≡ is_walked edge.now path.now }
+/// Where the edge between two nodes stands. None exactly where there is none.
+fn place_between(edges: &[Edge], u: NodeId, v: NodeId) -> Option<usize>
+    ensures { result ≡ position (is_between u v) edges.now }
 {
-    let mut rest = path;
-    'steps: while rest.len() >= 2 {
-        if is_between(rest[0], rest[1], edge) {
-            return true;
-        }
-        rest = &rest[1..];
-    }
-    false
+    edges.iter().position(|edge| is_between(u, v, edge))
 }
 
 /// Whether the edge joins the two nodes, whichever comes first.

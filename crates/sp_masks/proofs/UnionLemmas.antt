@@ -1,29 +1,14 @@
 -- The edges of several paths are those of each of them together.
-use Rattle.std.proofs.Common.{◌≡◌, ◌<◌, ℕ, zero, suc, max, Bool, true, false, List, ◌∷◌, refl, sym, ap, ◌∙◌, arith}
-use Rattle.std.specs.Prelude.{◌==◌, ◌||◌, Option, Some, None, slice_get}
-use Rattle.std.specs.Int.{bit_at}
+use Rattle.std.proofs.Common.{◌≡◌, ℕ, Bool, List, ◌∷◌, refl, sym, ap, ◌∙◌}
+use Rattle.std.specs.Prelude.{◌||◌, Option, Some, None, slice_get}
 use Rattle.std.specs.Int.RustNames.{bit_or}
-use Rattle.std.proofs.lemmas.Nat.Bits.{bit_at-lt, bit_at_or}
 use Rattle.sp_base.specs.declared.id.NodeId.{NodeId}
+use Rattle.sp_graph.proofs.MaskLemmas.{named_or, regroup}
 use Rattle.sp_graph.specs.declared.graph.Graph.{Graph}
 use Rattle.sp_graph.specs.Masks.{is_walked_at}
 use Rattle.sp_msg.specs.Views.{names_edge}
 use Rattle.sp_rules.specs.Masks.{is_used}
 use Rattle.sp_topology.specs.declared.topology.Edge.{Edge}
-
-either : (x y : ℕ) → x < 2 → y < 2 → (max x y == 1) ≡ ((x == 1) || (y == 1))
-either zero zero low high = refl
-either zero (suc zero) low high = refl
-either (suc zero) zero low high = refl
-either (suc zero) (suc zero) low high = refl
-either (suc (suc x)) y low high = absurd (omega (arith, low))
-either zero (suc (suc y)) low high = absurd (omega (arith, high))
-either (suc zero) (suc (suc y)) low high = absurd (omega (arith, high))
-
--- an edge is in one of two masks
-named_or : (a b edge : ℕ) → names_edge (bit_or a b) edge ≡ (names_edge a edge || names_edge b edge)
-named_or a b edge =
-    ap (λ (n : ℕ). n == 1) (bit_at_or a b edge) ∙ either (bit_at a edge) (bit_at b edge) (bit_at-lt a edge) (bit_at-lt b edge)
 
 -- with the edges of the rest the mask is that of all paths
 abbrev pub IsMaskWith : Graph → List (List NodeId) → List (List NodeId) → ℕ → Type 0
@@ -32,10 +17,6 @@ IsMaskWith g rest paths mask = (edge : ℕ) → (names_edge mask edge || is_used
 used_more : (path : List NodeId) (rest : List (List NodeId)) (e : Option Edge) → is_used (path ∷ rest) e ≡ (is_walked_at e path || is_used rest e)
 used_more path rest None = refl
 used_more path rest (Some e) = refl
-
-regroup : (a b c : Bool) → ((a || b) || c) ≡ (a || (b || c))
-regroup true b c = refl
-regroup false b c = refl
 
 pub one_more : (g : Graph) (path : List NodeId) (rest paths : List (List NodeId)) (mask one : ℕ) → IsMaskWith g (path ∷ rest) paths mask
     → ((place : ℕ) → names_edge one place ≡ is_walked_at (slice_get g.edges place) path) → IsMaskWith g rest paths (bit_or mask one)
