@@ -3,3 +3,5 @@ pub mod Windows
 pub mod Rotations
 pub mod ChMaj
 pub mod EachLane
+pub mod Cuts
+pub mod HashValues

@@ -1,6 +1,6 @@
-// The hash values of four blocks after the initial one (FIPS 180-4, section 6.2.2).
+// The hash values of four messages, each with a block more (FIPS 180-4, section 6.2.2).
 ghost use Rattle.std.specs.Prelude.{◌≡◌, ◌<◌, ℕ, List, length, map, slice_index};
-ghost use Rattle.sha2.specs.Sha256.{add_state, digest_bytes, initial_hash_256};
+ghost use Rattle.sha2.specs.Sha256.{add_state, compress, digest_bytes, initial_hash_256};
 ghost use Rattle.sp_lanes.specs.Lanes.{columns, lanes};
 ghost use Rattle.sp_lanes.specs.Blocks.{AreWindows, block_digest};
 
@@ -13,18 +13,29 @@ use crate::words::{LANES, Words};
 pub fn hash_blocks(blocks: &[[u8; 64]; LANES]) -> [[u8; 32]; LANES]
     ensures { result ≡ map block_digest blocks.now }
 {
+    let mut hash = initial();
+    take_in::<true>(&mut hash, blocks);
+    rows(&hash)
+}
+
+/// Takes a block of each message into the hash value before it.
+#[inline(always)]
+pub(crate) fn take_in<const FIRST: bool>(hash: &mut [Words; 8], blocks: &[[u8; 64]; LANES])
+    ensures { (ms : List (List ℕ)) (before block : List ℕ → List ℕ) → hash.old ≡ columns before ms → blocks.now ≡ map block ms
+        → hash.new ≡ columns (λ m. compress (before m) (block m)) ms }
+{
     let mut w = first_words(blocks);
-    let mut v = first_turn(&w, initial());
+    let mut v = first_turn::<FIRST>(&w, *hash);
     'schedule: for turn in 1..4 {
-        next_turn(&mut w, &mut v, turn);
+        next_turn::<FIRST>(&mut w, &mut v, turn);
     }
-    rows(&add_states(initial(), v))
+    *hash = add_states(*hash, v);
 }
 
 /// The words of each block.
 #[inline(always)]
 fn first_words(blocks: &[[u8; 64]; LANES]) -> [Words; 16]
-    ensures { AreWindows blocks.now result 16 }
+    ensures { (ms : List (List ℕ)) (block : List ℕ → List ℕ) → blocks.now ≡ map block ms → AreWindows block ms result 16 }
 {
     let mut w = [Words::splat(0); 16];
     'load: for i in 0..16 {
@@ -35,8 +46,8 @@ fn first_words(blocks: &[[u8; 64]; LANES]) -> [Words; 16]
 
 /// The initial hash value, for each block.
 #[inline(always)]
-fn initial() -> [Words; 8]
-    ensures { (bs : List (List ℕ)) → length bs ≡ lanes → result ≡ columns (λ _. initial_hash_256) bs }
+pub(crate) fn initial() -> [Words; 8]
+    ensures { (ms : List (List ℕ)) → length ms ≡ lanes → result ≡ columns (λ _. initial_hash_256) ms }
 {
     [
         Words::splat(INITIAL_HASH[0]),
@@ -70,7 +81,7 @@ fn add_states(h: [Words; 8], v: [Words; 8]) -> [Words; 8]
 
 /// The eight words of each block as its bytes, high byte first.
 #[inline(always)]
-fn rows(v: &[Words; 8]) -> [[u8; 32]; LANES]
+pub(crate) fn rows(v: &[Words; 8]) -> [[u8; 32]; LANES]
     ensures { (bs : List (List ℕ)) (f : List ℕ → List ℕ) → length bs ≡ lanes → v.now ≡ columns f bs
         → result ≡ map (λ b. digest_bytes (f b) 8) bs }
 {

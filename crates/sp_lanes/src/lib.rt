@@ -5,11 +5,13 @@
 
 mod block;
 mod constants;
+mod long;
 mod message;
 mod rounds;
 mod schedule;
 mod words;
 
 pub use block::hash_blocks;
+pub use long::prefix_digests;
 pub use message::digests;
 pub use words::LANES;

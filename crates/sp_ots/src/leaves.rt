@@ -1,7 +1,6 @@
 // The public keys of as many leaves as there are lanes, each leaf in a lane of its own (RFC 8554, section 4.3).
 ghost use Rattle.std.specs.Prelude.{◌≡◌, ◌+◌, ◌*◌, ◌<◌, ◌≤◌, ◌^◌, ◌++◌, ℕ, [], map, slice_index_or, take};
 ghost use Rattle.std.specs.List.{range_with_len};
-ghost use Rattle.sha2.specs.Sha256.{sha256};
 ghost use Rattle.sp_lanes.specs.Lanes.{lanes};
 ghost use Rattle.sp_ots.specs.Strings.{u8str};
 ghost use Rattle.sp_ots.specs.Keys.{public_key};
@@ -12,8 +11,7 @@ use crate::hashes::{D_PBLC, element_message};
 use crate::keys::SEED_STEP;
 use crate::lanes::renew;
 use crate::param::MOST_CHAINS;
-use sha2::{Digest, Sha256};
-use sp_lanes::{LANES, digests};
+use sp_lanes::{LANES, digests, prefix_digests};
 
 /// Where the ends of the chains begin in the message that a public key is the hash of.
 const FRONT: usize = 22;
@@ -34,19 +32,7 @@ pub fn publics(param: OtsParam, id: &[u8; 16], q: u32, seed: &[u8; 32]) -> [[u8;
         let ends = ends(id, q, i as u16, seed, last);
         put(&mut messages, FRONT + 32 * i, &ends);
     }
-    digests_of_all(&messages, FRONT + 32 * param.chain_count())
-}
-
-/// The digest of the first `len` bytes of each message, one after another.
-fn digests_of_all(messages: &[[u8; ROOM]; LANES], len: usize) -> [[u8; 32]; LANES]
-    requires { len ≤ 8502 }
-    ensures { result ≡ map (λ m. sha256 (take len m)) messages.now }
-{
-    let mut made = [[0u8; 32]; LANES];
-    'lanes: for k in 0..LANES {
-        made[k] = Sha256::digest(&messages[k][..len]);
-    }
-    made
+    prefix_digests(&messages, FRONT + 32 * param.chain_count())
 }
 
 /// What each leaf's message begins with.

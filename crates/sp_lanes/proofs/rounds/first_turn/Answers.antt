@@ -1,8 +1,8 @@
 use Rattle.sp_lanes.proofs.rounds.first_turn.Goals as goal
 
 pub returns : goal.returns
-returns c = λ bs window held.
-    let s1 = c.first_four_steps-first.ensures bs window held in
-    let s2 = c.first_four_steps-second.ensures bs window s1 in
-    let s3 = c.first_four_steps-third.ensures bs window s2 in
-    c.first_four_steps.ensures bs window s3
+returns g c = λ ms hash block window held.
+    let s1 = c.first_four_steps-first.ensures ms hash block window held in
+    let s2 = c.first_four_steps-second.ensures ms hash block window s1 in
+    let s3 = c.first_four_steps-third.ensures ms hash block window s2 in
+    c.first_four_steps.ensures ms hash block window s3

@@ -27,5 +27,5 @@ returns c =
     let count : c.chains.i ≡ c.chain_count.result = omega (arith, c.chain_count.ensures, c.chain_count-i-end.ensures) in
     let len : 22 + 32 * c.chain_count.result ≡ 22 + 32 * c.chains.i = omega arith in
     keys_of_messages c.args.param c.args.id.now c.args.q c.args.seed.now c.chains.i c.last_step-last.result (22 + 32 * c.chain_count.result)
-    c.chains.messages c.digests_of_all.result (count ∙ c.chain_count.ensures) c.last_step-last.ensures c.chains.invariant.long len c.digests_of_all.ensures
+    c.chains.messages c.prefix_digests.result (count ∙ c.chain_count.ensures) c.last_step-last.ensures c.chains.invariant.long len c.prefix_digests.ensures
     c.chains.invariant.laid
