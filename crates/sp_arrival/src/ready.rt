@@ -103,7 +103,7 @@ fn ready_prio(
         return Ok(None);
     }
     let kept = copy_of(alloc, object)?;
-    Ok(Some(core.prio.parcel(alloc, &kept, Some(at.from))?))
+    Ok(Some(core.prio.parcel_of(alloc, kept, Some(at.from))?))
 }
 
 fn ready_slot(

@@ -20,14 +20,14 @@ pub fn hash_blocks(blocks: &[[u8; 64]; LANES]) -> [[u8; 32]; LANES]
 
 /// Takes a block of each message into the hash value before it.
 #[inline(always)]
-pub(crate) fn take_in<const FIRST: bool>(hash: &mut [Words; 8], blocks: &[[u8; 64]; LANES])
+pub(crate) fn take_in<const SINGLE: bool>(hash: &mut [Words; 8], blocks: &[[u8; 64]; LANES])
     ensures { (ms : List (List ℕ)) (before block : List ℕ → List ℕ) → hash.old ≡ columns before ms → blocks.now ≡ map block ms
         → hash.new ≡ columns (λ m. compress (before m) (block m)) ms }
 {
     let mut w = first_words(blocks);
-    let mut v = first_turn::<FIRST>(&w, *hash);
+    let mut v = first_turn::<SINGLE>(&w, *hash);
     'schedule: for turn in 1..4 {
-        next_turn::<FIRST>(&mut w, &mut v, turn);
+        next_turn::<SINGLE>(&mut w, &mut v, turn);
     }
     *hash = add_states(*hash, v);
 }

@@ -1,6 +1,6 @@
 //! SHA-256 of four messages at once (FIPS 180-4): about twice as many hashes a second as one after another.
 //!
-//! For callers that have many short messages ready, as chains of hashes do.
+//! For callers that have many messages of one length ready, as chains of hashes do.
 #![tactic(auto)]
 
 mod block;

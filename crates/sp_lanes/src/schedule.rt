@@ -29,7 +29,7 @@ fn load_be(block: &[u8], i: usize) -> u32
 
 /// The next word of each schedule, which goes over the word 16 before it in the ring.
 #[inline(always)]
-pub(crate) fn next_word<const FIRST: bool>(w: &mut [Words; 16], place: usize) -> Words
+pub(crate) fn next_word<const SINGLE: bool>(w: &mut [Words; 16], place: usize) -> Words
     requires { place < 16 }
     ensures { (ms : List (List ℕ)) (block : List ℕ → List ℕ) (t : ℕ) → 16 ≤ t → t < 64 → t % 16 ≡ place → AreWindows block ms w.old t
         → (result ≡ map (λ m. slice_index (schedule (block m) 48) t) ms) × AreWindows block ms w.new (t + 1) }

@@ -49,7 +49,7 @@ pub mapped_holds : {X : Type 0} (P : X → Type 0) (f : X → X) (i : ℕ) (xs y
     i < length xs → All P xs → P x
 mapped_holds P f i xs ys x so_far is inside all = subst P (sym (mapped_read f i xs ys x so_far is)) (All-get_or P xs i x inside all)
 
-map_same : {X : Type 0} (f : X → X) (n : ℕ) (x : X) → map f (replicate n x) ≡ replicate n (f x)
+pub map_same : {X : Type 0} (f : X → X) (n : ℕ) (x : X) → map f (replicate n x) ≡ replicate n (f x)
 map_same f zero x = refl
 map_same {X} f (suc n) x = ap (λ (rest : List X). f x ∷ rest) (map_same f n x)
 

@@ -1,3 +1,4 @@
 pub mod Answers
 pub mod Parcel
 pub mod Sound
+pub mod Given

@@ -9,6 +9,6 @@ mod rows;
 mod table;
 mod windows;
 
-pub use parcel::Parcel;
+pub use parcel::{Parcel, Spare};
 pub use sp_rules::{Entry, Neighbour, PrioJudged};
 pub use table::PrioTable;

@@ -3,13 +3,14 @@ ghost use Rattle.std.specs.Prelude.{◌≡◌, ◌<◌, ◌≤◌, ◌+◌, ◌^
 ghost use Rattle.std.specs.Option.{option_copied};
 ghost use Rattle.sp_rules.specs.Prio.{is_peer};
 ghost use Rattle.sp_rules.specs.PrioPeer.{acked, acked_effects, carried, expired, expired_effects, flying, goes_to, heard, new_peer, next_prio, put_effects};
+ghost use Rattle.sp_prio.specs.Given.{goes_along};
 ghost use Rattle.sp_rules.specs.Store as stores;
 ghost use Rattle.sp_rules.specs.Told.{told};
 
 use crate::field::{mask_of, src_of};
 use crate::place;
 use sp_base::{Cursor, EdgeId, Memory, NodeId};
-use sp_msg::{Body, Effects, Kept, Why, mask_has};
+use sp_msg::{Body, Effects, Kept, Mask, Why, mask_has};
 use sp_rules::{Entry, Neighbour};
 use sp_store::Store;
 use std::alloc::Global;
@@ -65,11 +66,18 @@ impl Peer {
     pub fn goes_to(&self, body: &Body, came: Option<NodeId>) -> bool
         ensures { result ≡ goes_to body.now came self.now }
     {
+        self.goes_along(&mask_of(body), came)
+    }
+
+    /// The same by the mask alone.
+    pub fn goes_along(&self, mask: &Mask, came: Option<NodeId>) -> bool
+        ensures { result ≡ goes_along mask.now came self.now }
+    {
         let back = match came {
             Some(from) => from.0 == self.id.0,
             None => false,
         };
-        !back && mask_has(&mask_of(body), self.edge)
+        !back && mask_has(mask, self.edge)
     }
 
     /// Puts a message into its store, and tells so.

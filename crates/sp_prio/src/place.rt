@@ -23,15 +23,15 @@ pub fn put(store: &mut Store, place: u8, kept: Kept, out: &mut Effects)
 }
 
 /// Delivers a message to the clients of this node: tells its payload, and puts the copy into the inbox, which is place 0.
-pub fn deliver(inbox: &mut Store, kept: Kept, mut copies: Vec<Kept>, out: &mut Effects)
-    requires copies { copies.items ≡ replicate 1 kept }
+pub fn deliver(inbox: &mut Store, kept: Kept, mut beside: Vec<Kept>, out: &mut Effects)
+    requires beside { beside.items ≡ replicate 1 kept }
     requires last { inbox.old.last < 2 ^ 63 }
     requires room { 3 ≤ out.old.room }
     ensures inbox { inbox.new ≡ put inbox.old kept }
     ensures told { out.new ≡ told out.old (delivered kept.body ++ put_effects 0 inbox.old kept) }
 {
     tell_delivered(kept.body, out);
-    if let Some(copy) = copies.pop() {
+    if let Some(copy) = beside.pop() {
         put(inbox, 0, copy, out);
     }
 }

@@ -1,15 +1,20 @@
 // The rows of all neighbours: what is done with one, and what is done with each.
-ghost use Rattle.std.specs.Prelude.{◌≡◌, ◌<◌, ◌≤◌, ◌+◌, ◌*◌, ◌^◌, ◌↔◌, All, IfOk, IfSome, IsTrue, count_by, if◌then◌else◌, length, map, position, replicate, sum_by};
+ghost use Rattle.std.specs.Prelude.{◌≡◌, ◌<◌, ◌≤◌, ◌+◌, ◌*◌, ◌^◌, ◌↔◌, All, IfOk, IfSome, IsTrue, count_by, if◌then◌else◌, length, map, position, replicate, sum_by, vec_capacity};
 ghost use Rattle.std.specs.List.{flat_map};
 ghost use Rattle.sp_rules.specs.Prio.{is_peer};
 ghost use Rattle.sp_rules.specs.PrioPeer.{expired, expired_effects, given, given_effects, goes_to, new_peer};
+ghost use Rattle.sp_msg.specs.declared.kept.Kept.{Kept};
+ghost use Rattle.sp_prio.specs.Given.{IsGiven, goes_along};
+ghost use Rattle.sp_prio.specs.Parcel.{AreBeside};
 ghost use Rattle.sp_rules.specs.Store as stores;
+ghost use Rattle.sp_rules.specs.Store.{said};
 ghost use Rattle.sp_rules.specs.Told.{told};
 ghost use Rattle.sp_rules.specs.declared.store.TheConstants.{IDS};
 
+use crate::field::mask_of;
 use crate::peer::Peer;
-use sp_base::{Memory, NodeId};
-use sp_msg::{Body, Effects, Kept};
+use sp_base::{Memory, NodeId, push_in_room};
+use sp_msg::{Body, Effects, Kept, Mask};
 use sp_rules::Neighbour;
 use std::alloc::Global;
 
@@ -46,43 +51,44 @@ pub fn count_to(peers: &[Peer], body: &Body, came: Option<NodeId>) -> usize
     peers.iter().filter(|peer| peer.goes_to(body, came)).count()
 }
 
-/// Puts a copy of a message into the store of each neighbour that it goes to, and tells so.
+/// Puts a copy of a message into the store of each neighbour that it goes to, and tells so. The message itself is one of the copies.
 pub fn spread(
     peers: &mut Vec<Peer>,
-    kept: &Kept,
+    kept: Kept,
     came: Option<NodeId>,
-    mut copies: Vec<Kept>,
+    beside: Vec<Kept>,
     out: &mut Effects,
 )
-    requires copies { copies.items ≡ replicate (count_by (goes_to kept.now.body came) peers.old.items) kept.now }
+    requires beside { AreBeside kept (count_by (goes_to kept.body came) peers.old.items) beside.items (vec_capacity beside) }
     requires stores { All (λ q. q.store.last < 2 ^ 63) peers.old.items }
     requires room { 2 * length peers.old.items ≤ out.old.room }
-    ensures peers { peers.new.items ≡ map (given kept.now came) peers.old.items }
-    ensures told { out.new ≡ told out.old (flat_map (given_effects kept.now came) peers.old.items) }
+    ensures peers { peers.new.items ≡ map (given kept came) peers.old.items }
+    ensures told { out.new ≡ told out.old (flat_map (given_effects kept came) peers.old.items) }
 {
+    let mask = mask_of(&kept.body);
+    let mut copies = beside;
+    push_in_room(&mut copies, kept);
     'peers: for place in 0..peers.len() {
-        give(&mut peers[place], kept, came, &mut copies, out);
+        give(&mut peers[place], &mask, came, &mut copies, out);
     }
 }
 
-/// Puts a copy of a message into the store of a neighbour, where it goes there.
+/// Puts one of these copies into the store of a neighbour, where a message with this mask goes there.
 fn give(
     peer: &mut Peer,
-    kept: &Kept,
+    mask: &Mask,
     came: Option<NodeId>,
     copies: &mut Vec<Kept>,
     out: &mut Effects,
 )
-    requires alike { copies.old.items ≡ replicate (length copies.old.items) kept.now }
-    requires enough { (if goes_to kept.now.body came peer.old then 1 else 0) ≤ length copies.old.items }
+    requires enough { (if goes_along mask.now came peer.old then 1 else 0) ≤ length copies.old.items }
     requires last { peer.old.store.last < 2 ^ 63 }
     requires room { 2 ≤ out.old.room }
-    ensures peer { peer.new ≡ given kept.now came peer.old }
-    ensures told { out.new ≡ told out.old (given_effects kept.now came peer.old) }
-    ensures alike { copies.new.items ≡ replicate (length copies.new.items) kept.now }
-    ensures fewer { length copies.new.items + (if goes_to kept.now.body came peer.old then 1 else 0) ≡ length copies.old.items }
+    ensures given { (kept : Kept) → mask.now ≡ said (λ p. p.mask) kept.body → copies.old.items ≡ replicate (length copies.old.items) kept
+        → IsGiven kept came peer.old peer.new copies.new.items out.old out.new }
+    ensures fewer { length copies.new.items + (if goes_along mask.now came peer.old then 1 else 0) ≡ length copies.old.items }
 {
-    if !peer.goes_to(&kept.body, came) {
+    if !peer.goes_along(mask, came) {
         return;
     }
     if let Some(copy) = copies.pop() {

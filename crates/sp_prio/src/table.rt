@@ -1,17 +1,19 @@
 // The table of the priority part. Every call is judged first, its memory taken next, and changes come last.
-ghost use Rattle.std.specs.Prelude.{◌≡◌, ◌<◌, ◌≤◌, ◌+◌, ◌*◌, ◌^◌, ◌↔◌, All, IfOk, IsTrue, length, option_map, replicate};
+ghost use Rattle.std.specs.Prelude.{◌≡◌, ◌<◌, ◌≤◌, ◌+◌, ◌*◌, ◌^◌, ◌↔◌, All, IfOk, IsTrue, length, option_map, vec_capacity};
 ghost use Rattle.sp_msg.specs.Bodies.{HasGoodFields};
 ghost use Rattle.sp_msg.specs.Views.{as_body};
 ghost use Rattle.sp_rules.specs.Prio.{acked, acked_effects, admit_prio, carried, expired, expired_effects, expiring, heard, is_node, judge, judge_fields, judge_prio, marked, next_prio, peer_in, places, prio_effects, spread, start, taken};
 ghost use Rattle.sp_rules.specs.Store.{oldest};
 ghost use Rattle.sp_rules.specs.Told.{told};
+ghost use Rattle.sp_prio.specs.Parcel.{AreBeside, IsSpareOf};
 ghost use Rattle.sp_rules.specs.declared.store.TheConstants.{IDS};
 
 use crate::field::{dst_of, next_after_own, seq_of, src_of};
+use crate::parcel::copy_of;
 use crate::peer::Peer;
 use crate::rows::{count_to, expire_peers, expiring_in, have_ids, peers_of, place_of, spread};
 use crate::windows::{is_node, mark, seen_in, windows_of};
-use crate::{Parcel, place};
+use crate::{Parcel, Spare, place};
 use sp_base::{Memory, NodeId};
 use sp_dedup::Window;
 use sp_msg::{Body, BodyRef, Effects, Kept, Prio};
@@ -91,7 +93,28 @@ impl PrioTable {
     pub fn parcel(&self, alloc: Global, kept: &Kept, came: Option<NodeId>) -> Result<Parcel, Memory>
         ensures { IfOk result (λ parcel. parcel ≡ record { kept = kept.now; came = came; copies = places self.now kept.now.body came }) }
     {
-        Parcel::new(alloc, kept, came, self.places(&kept.body, came))
+        self.parcel_of(alloc, copy_of(alloc, kept)?, came)
+    }
+
+    /// The same of a message that is handed over: it takes one copy less.
+    pub fn parcel_of(
+        &self,
+        alloc: Global,
+        kept: Kept,
+        came: Option<NodeId>,
+    ) -> Result<Parcel, Memory>
+        ensures { IfOk result (λ parcel. parcel ≡ record { kept = kept; came = came; copies = places self.now kept.body came }) }
+    {
+        let copies = self.places(&kept.body, came);
+        Parcel::new(alloc, kept, came, copies)
+    }
+
+    /// The copies that a parcel has beside its message, made before the message is signed.
+    pub fn spare(&self, alloc: Global, kept: &Kept, came: Option<NodeId>) -> Result<Spare, Memory>
+        ensures of_it { IfOk result (IsSpareOf kept.now) }
+        ensures copies { IfOk result (λ spare. spare.copies ≡ places self.now kept.now.body came) }
+    {
+        Spare::new(alloc, kept, self.places(&kept.body, came))
     }
 
     /// Whether this is a node.
@@ -137,9 +160,9 @@ impl PrioTable {
         ensures table { self.new ≡ admit_prio self.old parcel.kept parcel.came }
         ensures told { out.new ≡ told out.old (prio_effects self.old parcel.kept parcel.came) }
     {
-        let (kept, came, copies) = parcel.into_parts();
+        let (kept, came, beside) = parcel.into_parts();
         self.mark(&kept.body, came);
-        self.spread(kept, came, copies, out);
+        self.spread(kept, came, beside, out);
     }
 
     /// What a poll of a neighbour carries, with its link number: what is in flight, or else the entry that is served next.
@@ -254,8 +277,8 @@ impl PrioTable {
     }
 
     /// Puts a message into its places, a copy into each, and tells so.
-    fn spread(&mut self, kept: Kept, came: Option<NodeId>, copies: Vec<Kept>, out: &mut Effects)
-        requires copies { copies.items ≡ replicate (places self.old kept.body came) kept }
+    fn spread(&mut self, kept: Kept, came: Option<NodeId>, beside: Vec<Kept>, out: &mut Effects)
+        requires beside { AreBeside kept (places self.old kept.body came) beside.items (vec_capacity beside) }
         requires inbox { self.old.inbox.last < 2 ^ 63 }
         requires stores { All (λ q. q.store.last < 2 ^ 63) self.old.peers }
         requires room { 2 * length self.old.peers + 3 ≤ out.old.room }
@@ -263,9 +286,9 @@ impl PrioTable {
         ensures told { out.new ≡ told out.old (prio_effects self.old kept came) }
     {
         if dst_of(&kept.body) == self.me.0 {
-            place::deliver(&mut self.inbox, kept, copies, out);
+            place::deliver(&mut self.inbox, kept, beside, out);
         } else {
-            spread(&mut self.peers, &kept, came, copies, out);
+            spread(&mut self.peers, kept, came, beside, out);
         }
     }
 

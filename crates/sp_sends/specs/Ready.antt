@@ -2,6 +2,7 @@
 use Rattle.std.specs.Prelude.{ℕ, ◌≡◌, ◌<◌, ◌+◌, ◌*◌, ◌^◌, [], All, None, Result, Ok, Err, length}
 use Rattle.sp_msg.specs.declared.refused.SendRefused.{SendRefused}
 use Rattle.sp_msg.specs.declared.refused.SendRefused.TheVariants as refusals
+use Rattle.sp_prio.specs.Parcel.{IsSpareOf}
 use Rattle.sp_rel.specs.Seated.{IsSeated}
 use Rattle.sp_rules.specs.Flow.{flow_said}
 use Rattle.sp_rules.specs.Masks.{IsChoice, graph_of}
@@ -41,7 +42,8 @@ IsMaskFor n m (Err refused) = refused ≡ refusals.Memory
 
 pub record IsReadyPrio (n : NodeState) (ready : ReadyPrio) : Type 0 where
   pub blank : IsReadyBlank n ready.blank
-  pub parcel : ready.parcel ≡ record { kept = ready.blank.kept; came = None; copies = places n.parts.prio ready.blank.kept.body None }
+  pub spare : IsSpareOf ready.blank.kept ready.spare
+  pub copies : ready.spare.copies ≡ places n.parts.prio ready.blank.kept.body None
   pub inbox : n.parts.prio.inbox.last < 2 ^ 63
   pub stores : All (λ q. q.store.last < 2 ^ 63) n.parts.prio.peers
   pub room : ready.effects ≡ record { list = []; room = 1 + 2 * length n.parts.prio.peers + 3 }

@@ -10,7 +10,7 @@ ghost use Rattle.sp_sends.specs.Sends.{Sends};
 ghost use Rattle.sp_sends.specs.Messages.{as_send};
 ghost use Rattle.sp_sends.specs.Ready.{IsMaskFor, IsReadyPrio};
 ghost use Rattle.sp_paths.specs.declared.limits.TheConstants.{MAX_PATHS};
-ghost use Rattle.sp_prio.specs.Parcel.{signed};
+ghost use Rattle.sp_prio.specs.Parcel.{IsSpareFor};
 ghost use Rattle.sp_rules.specs.Masks.{IsChoice, graph_of};
 ghost use Rattle.sp_rules.specs.Node.{signed_now, signed_once};
 ghost use Rattle.sp_rules.specs.Parts.{nodes_of};
@@ -24,8 +24,8 @@ ghost use Rattle.sp_topology.specs.Ranges.{IsTopology};
 use sp_base::{Bytes, Memory, NodeId};
 use sp_core::{Core, Fixed};
 use sp_masks::{NoMask, mask_to};
-use sp_msg::{Body, Effect, Effects, Mask, Prio, SendRefused};
-use sp_prio::Parcel;
+use sp_msg::{Body, Effect, Effects, Kept, Mask, Prio, SendRefused};
+use sp_prio::Spare;
 use sp_rules::Step;
 use sp_sign::Blank;
 use sp_state::State;
@@ -41,11 +41,11 @@ pub struct Message<'a> {
     pub payload: &'a [u8],
 }
 
-/// All that a priority message needs: itself, a copy for each place that it goes into, and room for what it causes.
+/// All that a priority message needs: itself, a copy for each further place that it goes into, and room for what it causes.
 #[derive(Drop)]
 pub struct ReadyPrio {
     pub blank: Blank,
-    pub parcel: Parcel,
+    pub spare: Spare,
     pub effects: Effects,
 }
 
@@ -148,11 +148,11 @@ fn ready_prio(
 {
     let body = prio_body(state, alloc, message, mask)?;
     let blank = state.blank(alloc, body)?;
-    let parcel = state.core.prio.parcel(alloc, &blank.kept, None)?;
+    let spare = state.core.prio.spare(alloc, &blank.kept, None)?;
     match Effects::with_room(alloc, 1 + 2 * state.core.prio.neighbours() + 3) {
         Ok(effects) => Ok(ReadyPrio {
             blank,
-            parcel,
+            spare,
             effects,
         }),
         Err(_) => Err(Memory),
@@ -168,17 +168,12 @@ fn admit_own(state: &mut State, ready: ReadyPrio) -> Effects
     state.is_fit();
     let ReadyPrio {
         blank,
-        parcel,
+        spare,
         mut effects,
     } = ready;
     let Blank { kept, bytes } = state.sign(blank);
     effects.push(Effect::Signed(bytes));
-    place_own(
-        &mut state.core,
-        parcel,
-        kept.signature.as_slice(),
-        &mut effects,
-    );
+    place_own(&mut state.core, kept, spare, &mut effects);
     effects
 }
 
@@ -204,19 +199,16 @@ fn choose(alloc: Global, fixed: &Fixed, core: &Core, message: &Message<'_>) -> R
     )
 }
 
-/// Puts a message under its signature into its places.
-fn place_own(core: &mut Core, parcel: Parcel, signature: &[u8], out: &mut Effects)
-    requires came { parcel.came ≡ Nothing }
-    requires copies { parcel.copies ≡ places core.old.prio parcel.kept.body Nothing }
-    requires long { length signature.now ≡ length parcel.kept.signature }
-    requires fields { HasGoodFields parcel.kept.body }
+/// Puts a message that is signed into its places, with the copies that were made before.
+fn place_own(core: &mut Core, kept: Kept, spare: Spare, out: &mut Effects)
+    requires spare { IsSpareFor kept spare }
+    requires copies { spare.copies ≡ places core.old.prio kept.body Nothing }
+    requires fields { HasGoodFields kept.body }
     requires inbox { core.old.prio.inbox.last < 2 ^ 63 }
     requires stores { All (λ q. q.store.last < 2 ^ 63) core.old.prio.peers }
     requires room { 2 * length core.old.prio.peers + 3 ≤ out.old.room }
-    ensures core { core.new ≡ record core.old { prio = admit_prio core.old.prio (signed signature.now parcel.kept) Nothing } }
-    ensures told { out.new ≡ told out.old (prio_effects core.old.prio (signed signature.now parcel.kept) Nothing) }
+    ensures core { core.new ≡ record core.old { prio = admit_prio core.old.prio kept Nothing } }
+    ensures told { out.new ≡ told out.old (prio_effects core.old.prio kept Nothing) }
 {
-    let mut parcel = parcel;
-    parcel.set_signature(signature);
-    core.prio.admit(parcel, out);
+    core.prio.admit(spare.parcel(kept, None), out);
 }
