@@ -6,23 +6,14 @@
 //! signs 1,024 messages.
 #![tactic(auto)]
 
-mod arrivals;
-mod bench;
-mod dense;
-mod frames;
-mod network;
-mod objects;
-mod sends;
 mod sizes;
-mod works;
 
-use bench::Bench;
+use node_works::{Bench, RATIOS, WORKS, with_bench, work_at};
 use std::env::Env;
 use std::num::nearest_u64_to_f64;
 use std::rt::Clock;
 use std::time::Instant;
 use std::{env, io};
-use works::{RATIOS, WORKS, work_at};
 
 /// Each work is timed so often, in turn with the others, and its least time counts: the machine may have other work.
 const ROUNDS: u32 = 5;
@@ -52,6 +43,14 @@ impl Times {
     /// The least time of the work in this place.
     fn of(&self, place: usize) -> f64 {
         self.least.get(place).copied().unwrap_or(f64::INFINITY)
+    }
+
+    /// The least times of one or two works together.
+    fn of_both(&self, first: usize, second: Option<usize>) -> f64 {
+        match second {
+            Some(second) => self.of(first) + self.of(second),
+            None => self.of(first),
+        }
     }
 }
 
@@ -91,12 +90,8 @@ fn print_times(rt: &impl Print, count: u32, times: &Times) -> io::Result<()> {
 /// Prints how the calls compare with what they are measured by.
 fn print_ratios(rt: &impl Print, times: &Times) -> io::Result<()> {
     for (name, whole, first, second) in RATIOS {
-        let by = match second {
-            Some(second) => times.of(first) + times.of(second),
-            None => times.of(first),
-        };
-        let ratio = times.of(whole) / by;
-        println!(rt; "{name:<36} {ratio:.4}")?
+        let ratio = times.of(whole) / times.of_both(first, second);
+        println!(rt; "{name:<39} {ratio:.4}")?
     }
     Ok(())
 }
@@ -123,11 +118,12 @@ fn measure(
 fn main(rt: HostRuntime) -> io::Result<()> {
     let count = count(&rt)?;
     sizes::print_sizes(&rt)?;
-    let Some(mut bench) = Bench::make(rt.alloc(), count.unwrap_or(1)) else {
-        return Err(io::ErrorKind::OutOfMemory.into());
-    };
-    match count {
-        None => show(&rt, &mut bench),
-        Some(count) => measure(&rt, count, &mut bench),
+    let ran = with_bench(rt.alloc(), count.unwrap_or(1), |bench| match count {
+        None => show(&rt, bench),
+        Some(count) => measure(&rt, count, bench),
+    });
+    match ran {
+        Some(ran) => ran,
+        None => Err(io::ErrorKind::OutOfMemory.into()),
     }
 }

@@ -3,10 +3,9 @@ ghost use Rattle.std.specs.Prelude.{◌≤◌, ◌^◌, IfSome};
 ghost use Rattle.sp_frame.specs.Writing.{IsWritable};
 ghost use Rattle.sp_msg.specs.Bodies.{HasGoodFields};
 ghost use Rattle.sp_msg.specs.Views.{as_body};
-ghost use Rattle.node_bench.specs.Writable.{AreWritable};
+ghost use Rattle.node_frames.specs.Writable.{AreWritable};
 
-use crate::dense::edge_weight;
-use crate::network::{ONE, THREE, signer};
+use crate::network::{ONE, THREE, edge_weight, make_signer};
 use sp_base::{EdgeId, MAX_PAYLOAD_BYTES};
 use sp_frame::{Frame, ObjectRef};
 use sp_hss::Signer;
@@ -37,10 +36,10 @@ pub struct Signers {
 
 impl Signers {
     pub fn make(alloc: Global) -> Option<Signers> {
-        Some(Signers {
-            one: signer(alloc, ONE)?,
-            three: signer(alloc, THREE)?,
-        })
+        match (make_signer(alloc, ONE), make_signer(alloc, THREE)) {
+            (Some(one), Some(three)) => Some(Signers { one, three }),
+            _ => None,
+        }
     }
 
     /// The objects with this number; the reliable message has the next one.
@@ -48,11 +47,23 @@ impl Signers {
         requires { (1 ≤ number) × (number ≤ 2 ^ 33) }
         ensures { IfSome result AreWritable }
     {
+        let Some(weight) = weight(alloc, &mut self.three, number) else {
+            return None;
+        };
+        let Some(prio) = prio(alloc, &mut self.one, number) else {
+            return None;
+        };
+        let Some(ack) = ack(alloc, &mut self.three, number) else {
+            return None;
+        };
+        let Some(rel) = rel(alloc, &mut self.one, number + 1) else {
+            return None;
+        };
         Some(Objects {
-            weight: weight(alloc, &mut self.three, number)?,
-            prio: prio(alloc, &mut self.one, number)?,
-            ack: ack(alloc, &mut self.three, number)?,
-            rel: rel(alloc, &mut self.one, number + 1)?,
+            weight,
+            prio,
+            ack,
+            rel,
         })
     }
 }
@@ -131,9 +142,13 @@ fn signed(alloc: Global, signer: &mut Signer, body: &BodyRef<'_>) -> Option<Kept
 
 /// The signature of the next index.
 pub fn signature(alloc: Global, signer: &mut Signer, bytes: &[u8]) -> Option<Vec<u8>> {
-    let mut signature = vec![in alloc; 0u8; signer.signature_len()].ok()?;
-    signer.sign(bytes, &mut signature).ok()?;
-    Some(signature)
+    let Ok(mut signature) = vec![in alloc; 0u8; signer.signature_len()] else {
+        return None;
+    };
+    match signer.sign(bytes, &mut signature) {
+        Ok(()) => Some(signature),
+        Err(_) => None,
+    }
 }
 
 /// The objects of a frame that has all four.
@@ -146,15 +161,27 @@ pub struct Four<'a> {
 }
 
 pub fn four_in(bytes: &[u8]) -> Option<Four<'_>> {
-    let frame = Frame::open(bytes).ok()?;
-    let sections = frame.sections(SIGNATURE_LEN).ok()?;
-    let slot = sections.slot?;
-    let (_, prio) = sections.prio?;
+    let Ok(frame) = Frame::open(bytes) else {
+        return None;
+    };
+    let Ok(sections) = frame.sections(SIGNATURE_LEN) else {
+        return None;
+    };
+    let (Some(weight), Some((_, prio)), Some(slot)) = (
+        sections.weight,
+        sections.prio,
+        sections.slot,
+    ) else {
+        return None;
+    };
+    let (Some(ack), Some(rel)) = (slot.ack, slot.rel) else {
+        return None;
+    };
     Some(Four {
-        weight: sections.weight?,
+        weight,
         prio,
-        ack: slot.ack?,
-        rel: slot.rel?,
+        ack,
+        rel,
     })
 }
 
@@ -163,11 +190,23 @@ pub fn copied(alloc: Global, bytes: &[u8]) -> Option<Objects>
     ensures { IfSome result AreWritable }
 {
     let four = four_in(bytes)?;
+    let Some(weight) = copy_of(alloc, &four.weight) else {
+        return None;
+    };
+    let Some(prio) = copy_of(alloc, &four.prio) else {
+        return None;
+    };
+    let Some(ack) = copy_of(alloc, &four.ack) else {
+        return None;
+    };
+    let Some(rel) = copy_of(alloc, &four.rel) else {
+        return None;
+    };
     Some(Objects {
-        weight: copy_of(alloc, &four.weight)?,
-        prio: copy_of(alloc, &four.prio)?,
-        ack: copy_of(alloc, &four.ack)?,
-        rel: copy_of(alloc, &four.rel)?,
+        weight,
+        prio,
+        ack,
+        rel,
     })
 }
 

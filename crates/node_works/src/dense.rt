@@ -1,20 +1,11 @@
-// The graph of the network as a text: the edge between A and B weighs (A * 7919 + B * 104729) % 1000 + 1.
-ghost use Rattle.std.specs.Prelude.{◌≤◌, IfSome};
+// The graph of the network as a text.
+ghost use Rattle.std.specs.Prelude.{IfSome};
 ghost use Rattle.sp_graph.specs.Edges.{IsGraph};
 
+use node_frames::edge_weight;
 use sp_base::MAX_INPUT_BYTES;
 use sp_graph::{Graph, read};
 use std::alloc::Global;
-
-/// The weight of an edge.
-pub fn edge_weight(low: u32, high: u32) -> u32
-    ensures { (1 ≤ result) × (result ≤ 1_000) }
-{
-    let sum = low
-        .wrapping_mul(7_919)
-        .wrapping_add(high.wrapping_mul(104_729));
-    sum % 1_000 + 1
-}
 
 /// The lines of the edges from the node to higher ones.
 fn push_lines(alloc: Global, text: &mut String, low: u32) -> Option<()> {
@@ -28,12 +19,17 @@ fn push_lines(alloc: Global, text: &mut String, low: u32) -> Option<()> {
 
 /// The text of the graph of 16 nodes.
 pub fn dense(alloc: Global) -> Option<String> {
-    let mut text = format!(in alloc; "graph 1\nnodes 16\n").ok()?;
-    for low in 1..16 {
-        push_lines(alloc, &mut text, low)?;
-    }
-    text.push_str("end\n").ok()?;
+    let mut text = String::new(alloc);
+    push_graph(alloc, &mut text)?;
     Some(text)
+}
+
+fn push_graph(alloc: Global, text: &mut String) -> Option<()> {
+    text.push_str("graph 1\nnodes 16\n").ok()?;
+    for low in 1..16 {
+        push_lines(alloc, text, low)?;
+    }
+    text.push_str("end\n").ok()
 }
 
 /// The graph of the text.

@@ -22,11 +22,12 @@ pub enum Work {
     SignRel,
     SendPrio,
     SignPrio,
+    SignPrioAlone,
     Search,
 }
 
 /// How many works there are.
-pub const WORKS: usize = 20;
+pub const WORKS: usize = 21;
 
 /// The work in this place, and its name.
 pub fn work_at(place: usize) -> (Work, &'static str) {
@@ -50,12 +51,13 @@ pub fn work_at(place: usize) -> (Work, &'static str) {
         16 => (Work::SignRel, "signature of it"),
         17 => (Work::SendPrio, "send_prio, 8 paths"),
         18 => (Work::SignPrio, "signature and search"),
+        19 => (Work::SignPrioAlone, "signature of it alone"),
         _ => (Work::Search, "search alone"),
     }
 }
 
 /// The comparisons: a name, the place of a work, and those of one or two that it is measured by.
-pub const RATIOS: [(&str, usize, usize, Option<usize>); 12] = [
+pub const RATIOS: [(&str, usize, usize, Option<usize>); 13] = [
     ("a tag by itself", 2, 1, None),
     ("new objects by tag and checks", 0, 1, Some(3)),
     ("new objects by tag and known checks", 0, 1, Some(4)),
@@ -68,4 +70,5 @@ pub const RATIOS: [(&str, usize, usize, Option<usize>); 12] = [
     ("poll by write and tag", 12, 13, Some(14)),
     ("send_rel by signature", 15, 16, None),
     ("send_prio by signature and search", 17, 18, None),
+    ("send_prio by signature and search apart", 17, 19, Some(20)),
 ];
