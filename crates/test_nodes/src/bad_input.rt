@@ -1,11 +1,11 @@
 // Bad datagrams, however many, leave nothing behind.
 use crate::stories::ROW;
-use crate::world::World;
 use sp_base::NodeId;
 use sp_node::Node;
 use sp_rules::LinkReply;
 use std::alloc::Global;
 use std::test::Fail;
+use test_worlds::{World, follows, node, with_world};
 
 /// So often each bit of a frame of 76 bytes is changed: a million datagrams in all.
 const ROUNDS: u32 = 1_645;
@@ -43,17 +43,25 @@ fn change_all(alloc: Global, node: &mut Node, frame: &[u8]) -> Result<(), Fail> 
     Ok(())
 }
 
-#[test]
-fn a_million_bad_datagrams_leave_nothing_behind(rt: HostRuntime) -> Result<(), Fail> {
-    let alloc = rt.alloc();
-    let mut world = World::begin(alloc, ROW)?;
+/// After a million bad datagrams the first frame is still learned.
+fn leave_nothing(alloc: Global, world: &mut World) -> Result<(), Fail> {
     world.event(alloc, "poll 1 2")?;
     let frame = Vec::from_slice(alloc, world.frame(1, 2, 1)?)?;
-    let node = world.nodes.get_mut(1).ok_or("no node 2")?;
+    let second = node(&mut world.nodes, 2)?;
     for _ in 0..ROUNDS {
-        change_all(alloc, node, &frame)?;
+        change_all(alloc, second, &frame)?;
     }
-    assert_eq!(rt; node.kept_pair(NodeId(1)), (0, 0));
-    assert_eq!(rt; world.event(alloc, "pass 1 2 1")?.as_str(), "learned 1");
-    Ok(())
+    if second.kept_pair(NodeId(1)) != (0, 0) {
+        return Err("a bad datagram was heard".into());
+    }
+    follows(
+        "pass 1 2 1",
+        world.event(alloc, "pass 1 2 1")?.as_str(),
+        &mut "learned 1".lines(),
+    )
+}
+
+#[test]
+fn a_million_bad_datagrams_leave_nothing_behind(rt: HostRuntime) -> Result<(), Fail> {
+    with_world(rt.alloc(), ROW, leave_nothing)
 }

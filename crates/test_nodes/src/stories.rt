@@ -1,7 +1,7 @@
 // Stories of three nodes in a row, worked out by hand, and the long schedules of another program.
-use crate::events::runs;
 use crate::{schedule_77, schedule_78};
 use std::test::Fail;
+use test_worlds::runs;
 
 /// Three nodes in a row, which keep two messages of a flow and four in a store.
 pub const ROW: &str = "schedule 1
@@ -60,7 +60,7 @@ const MESSAGE_JOURNAL: &str = "1 accepted 1
 
 #[test]
 fn a_message_and_its_acknowledgement_go_over_three_nodes(rt: HostRuntime) -> Result<(), Fail> {
-    runs(&rt, ROW, MESSAGE, MESSAGE_JOURNAL)
+    runs(rt.alloc(), ROW, MESSAGE, MESSAGE_JOURNAL)
 }
 
 const GARBAGE: &str = "poll 1 2
@@ -77,7 +77,7 @@ const GARBAGE_JOURNAL: &str = "1 frame 1 76 D
 
 #[test]
 fn garbage_is_told_by_its_first_fault(rt: HostRuntime) -> Result<(), Fail> {
-    runs(&rt, ROW, GARBAGE, GARBAGE_JOURNAL)
+    runs(rt.alloc(), ROW, GARBAGE, GARBAGE_JOURNAL)
 }
 
 const EXPIRY: &str = "tick 1 100
@@ -99,7 +99,7 @@ const EXPIRY_JOURNAL: &str = "1 ticked
 
 #[test]
 fn a_message_expires_after_its_time(rt: HostRuntime) -> Result<(), Fail> {
-    runs(&rt, ROW, EXPIRY, EXPIRY_JOURNAL)
+    runs(rt.alloc(), ROW, EXPIRY, EXPIRY_JOURNAL)
 }
 
 const WEIGHTS: &str = "weight 1 2 9
@@ -114,13 +114,13 @@ const WEIGHTS_JOURNAL: &str = "1 low 10
 
 #[test]
 fn a_weight_is_held_of_an_end_alone(rt: HostRuntime) -> Result<(), Fail> {
-    runs(&rt, ROW, WEIGHTS, WEIGHTS_JOURNAL)
+    runs(rt.alloc(), ROW, WEIGHTS, WEIGHTS_JOURNAL)
 }
 
 #[test]
 fn a_long_schedule_has_the_journal_of_another_program(rt: HostRuntime) -> Result<(), Fail> {
     runs(
-        &rt,
+        rt.alloc(),
         schedule_77::HEADER,
         schedule_77::EVENTS,
         schedule_77::JOURNAL,
@@ -130,7 +130,7 @@ fn a_long_schedule_has_the_journal_of_another_program(rt: HostRuntime) -> Result
 #[test]
 fn another_long_schedule_has_its_journal_too(rt: HostRuntime) -> Result<(), Fail> {
     runs(
-        &rt,
+        rt.alloc(),
         schedule_78::HEADER,
         schedule_78::EVENTS,
         schedule_78::JOURNAL,

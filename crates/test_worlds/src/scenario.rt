@@ -1,8 +1,12 @@
-// The nodes of a scenario, each booted as the format of schedules says, and the frames that went between them.
+// A scenario: how nodes are joined, how much each keeps, and the seed of all keys.
+ghost use Rattle.std.specs.Prelude.{IfOk};
+ghost use Rattle.sp_topology.specs.Ranges.{IsTopology};
+
+use crate::words::Words;
 use hex::FromHex;
-use sp_base::{Bytes, EdgeId, Limits, Listed, NodeId};
+use sp_base::{EdgeId, Limits, Listed, NodeId};
 use sp_hmac::tag;
-use sp_hss::{LmsParam, Signer};
+use sp_hss::{LmsParam, Signer, public_key};
 use sp_node::{Node, NodeConfig, can_boot};
 use sp_sign::NodeSigner;
 use sp_topology::Topology;
@@ -10,28 +14,12 @@ use std::alloc::Global;
 use std::test::Fail;
 
 /// A scenario: the seed of all seeds, how much each node keeps, and how they are joined.
-#[derive(Debug, Drop)]
+#[derive(Drop)]
 pub struct Scenario {
     seed: [u8; 32],
     limits: Limits,
     nodes: u8,
     edges: Vec<(u8, u8, u32)>,
-}
-
-/// A frame that was polled.
-#[derive(Debug, Drop)]
-pub struct Polled {
-    pub from: u8,
-    pub to: u8,
-    pub bytes: Bytes,
-}
-
-/// The nodes by their ids, and all frames in their order.
-#[derive(Drop)]
-pub struct World {
-    pub scenario: Scenario,
-    pub nodes: Vec<Node>,
-    pub frames: Vec<Polled>,
 }
 
 impl Scenario {
@@ -54,20 +42,11 @@ impl Scenario {
 
     fn add(&mut self, line: &str) -> Result<(), Fail> {
         let (name, rest) = line.split_once(' ').ok_or("no words")?;
-        let mut words = rest.split(' ');
         match name {
             "seed" => self.seed = <[u8; 32] as FromHex>::from_hex(rest)?,
-            "bounds" => {
-                self.limits.buffer = rest.split(' ').next().ok_or("no bound")?.parse()?;
-                self.limits.store = rest.split(' ').last().ok_or("no bound")?.parse()?;
-            }
+            "bounds" => self.limits = limits(rest)?,
             "nodes" => self.nodes = rest.parse()?,
-            "edge" => {
-                let low = words.next().ok_or("no lower end")?.parse()?;
-                let high = words.next().ok_or("no higher end")?.parse()?;
-                let weight = words.next().ok_or("no weight")?.parse()?;
-                self.edges.push((low, high, weight))?;
-            }
+            "edge" => self.edges.push(edge(rest)?)?,
             _ => {}
         }
         Ok(())
@@ -79,7 +58,7 @@ impl Scenario {
     }
 
     /// The key that the ends of an edge share.
-    pub fn key_of(&self, edge: u16) -> [u8; 32] {
+    fn key_of(&self, edge: u16) -> [u8; 32] {
         tag(&self.seed, b"link", &edge.to_be_bytes())
     }
 
@@ -102,7 +81,7 @@ impl Scenario {
     }
 
     /// The signer of a node, with all its indexes.
-    pub fn signer(&self, alloc: Global, id: u8) -> Result<NodeSigner, Fail> {
+    fn signer(&self, alloc: Global, id: u8) -> Result<NodeSigner, Fail> {
         let signer = Signer::make(alloc, LmsParam::H5, self.seed_of(id), 0, 1024)?;
         Ok(NodeSigner::new(NodeId(id), signer))
     }
@@ -110,19 +89,28 @@ impl Scenario {
     /// The document of the topology.
     fn document(&self, alloc: Global) -> Result<Vec<u8>, Fail> {
         let mut document = Vec::new(alloc);
+        self.write_nodes(alloc, &mut document)?;
+        self.write_edges(&mut document)?;
+        Ok(document)
+    }
+
+    fn write_nodes(&self, alloc: Global, document: &mut Vec<u8>) -> Result<(), Fail> {
         document.extend_from_slice(b"MTMW\x01\x00\x00\x00\x01\x05")?;
         document.push(self.nodes)?;
         for id in 1..=self.nodes {
-            let key = sp_hss::public_key(alloc, LmsParam::H5, &self.seed_of(id))?;
             document.push(id)?;
-            document.extend_from_slice(&key)?;
+            document.extend_from_slice(&public_key(alloc, LmsParam::H5, &self.seed_of(id))?)?;
         }
+        Ok(())
+    }
+
+    fn write_edges(&self, document: &mut Vec<u8>) -> Result<(), Fail> {
         document.extend_from_slice(&u16::try_from(self.edges.len())?.to_be_bytes())?;
         for &(low, high, weight) in &self.edges {
             document.extend_from_slice(&[low, high])?;
             document.extend_from_slice(&weight.to_be_bytes())?;
         }
-        Ok(document)
+        Ok(())
     }
 
     /// The key of each edge of a node.
@@ -137,58 +125,56 @@ impl Scenario {
         Ok(keys)
     }
 
-    /// A node at its start.
-    fn node(&self, alloc: Global, document: &[u8], id: u8) -> Result<Node, Fail> {
+    fn config(&self, alloc: Global, document: &[u8], id: u8) -> Result<NodeConfig, Fail>
+        ensures { IfOk result (λ config. IsTopology config.topology) }
+    {
+        let keys = self.keys_of(alloc, id)?;
         let (topology, _) = Topology::read(alloc, document)?;
-        let config = NodeConfig {
+        Ok(NodeConfig {
             me: NodeId(id),
             topology,
             limits: self.limits,
-            keys: Listed::from_vec(self.keys_of(alloc, id)?),
-        };
-        let signer = self.signer(alloc, id)?;
-        if !can_boot(&config, &signer, 1) {
-            return Err("the node can't boot".into());
-        }
-        Ok(Node::boot(alloc, config, signer, 1)?)
-    }
-}
-
-impl World {
-    /// All nodes of a scenario at their start.
-    pub fn begin(alloc: Global, header: &str) -> Result<World, Fail> {
-        let scenario = Scenario::read(alloc, header)?;
-        let document = scenario.document(alloc)?;
-        let mut nodes = Vec::new(alloc);
-        for id in 1..=scenario.nodes {
-            nodes.push(scenario.node(alloc, &document, id)?)?;
-        }
-        Ok(World {
-            scenario,
-            nodes,
-            frames: Vec::new(alloc),
+            keys: Listed::from_vec(keys),
         })
     }
 
-    /// How many frames went from one node to another.
-    pub fn count(&self, from: u8, to: u8) -> usize {
-        self.frames
-            .iter()
-            .filter(|frame| frame.from == from && frame.to == to)
-            .count()
+    fn boot(&self, alloc: Global, document: &[u8]) -> Result<Vec<Node>, Fail> {
+        let mut nodes = Vec::new(alloc);
+        for id in 1..=self.nodes {
+            let signer = self.signer(alloc, id)?;
+            nodes.push(boot(alloc, self.config(alloc, document, id)?, signer)?)?;
+        }
+        Ok(nodes)
     }
 
-    /// The frame of a number from one node to another, counted from 1.
-    pub fn frame(&self, from: u8, to: u8, number: usize) -> Result<&[u8], Fail> {
-        let mut left = number;
-        for frame in &self.frames {
-            if frame.from == from && frame.to == to {
-                left = left.checked_sub(1).ok_or("frame 0")?;
-                if left == 0 {
-                    return Ok(frame.bytes.as_slice());
-                }
-            }
-        }
-        Err("no frame".into())
+    /// All nodes at their start, by their ids.
+    pub fn nodes(&self, alloc: Global) -> Result<Vec<Node>, Fail> {
+        let document = self.document(alloc)?;
+        self.boot(alloc, &document)
     }
+}
+
+/// How many messages of a flow and how many of a store a node keeps.
+fn limits(words: &str) -> Result<Limits, Fail> {
+    let (buffer, store) = words.split_once(' ').ok_or("one bound")?;
+    Ok(Limits {
+        buffer: buffer.parse()?,
+        store: store.parse()?,
+    })
+}
+
+/// Both ends of an edge and its weight.
+fn edge(rest: &str) -> Result<(u8, u8, u32), Fail> {
+    let mut words = Words { rest };
+    Ok((words.id()?, words.id()?, words.weight()?))
+}
+
+/// A node at its start.
+fn boot(alloc: Global, config: NodeConfig, signer: NodeSigner) -> Result<Node, Fail>
+    requires { IsTopology config.topology }
+{
+    if !can_boot(&config, &signer, 1) {
+        return Err("the node can't boot".into());
+    }
+    Ok(Node::boot(alloc, config, signer, 1)?)
 }
