@@ -1,4 +1,4 @@
-//! What tests of whole nodes stand on: the nodes of a scenario and the frames between them, run through events that tell how they differ from a journal.
+//! What tests of whole nodes stand on: the nodes of a scenario and the frames between them, run through events whose answers are held against a journal.
 #![tactic(auto)]
 
 mod calls;
