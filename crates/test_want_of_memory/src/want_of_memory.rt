@@ -5,7 +5,7 @@ use sp_msg::SendRefused;
 use sp_node::Node;
 use sp_rules::{NodeRefused, Step, Taken, TickReply};
 use std::alloc::{AllocError, Global};
-use std::fmt::{Debug, Write};
+use std::fmt::Write;
 use std::test::Fail;
 use test_worlds::{World, arrived, ends, follows, node, sent, ticked, with_two_worlds};
 
@@ -50,67 +50,84 @@ impl Seen {
     }
 }
 
-/// A call of a node, which is made again where no memory was left. Then the node was as before.
-fn again<T, E: PartialEq + Debug + Drop, F: FnMut(&mut Node) -> Result<T, E>>(
+/// A call that found no memory left the node as it was.
+fn unchanged(before: &Seen, node: &Node) -> Result<(), Fail> {
+    if Seen::of(node) != *before {
+        return Err("a call without memory changed the node".into());
+    }
+    Ok(())
+}
+
+/// The send of an event.
+fn send(
+    alloc: Global,
     node: &mut Node,
-    memory: E,
-    mut call: F,
-) -> Result<T, Fail>
-    requires { F.IsAlwaysCallable call }
-{
-    let before = Seen::of(node);
-    match call(node) {
-        Ok(done) => Ok(done),
-        Err(refused) => {
-            if refused != memory {
-                return Err(refused.into());
-            }
-            if Seen::of(node) != before {
-                return Err("a call without memory changed the node".into());
-            }
-            Ok(call(node)?)
-        }
+    name: &str,
+    other: NodeId,
+) -> Result<Step<u64>, SendRefused> {
+    match name {
+        "rel" => node.send_rel(alloc, other, b"hi"),
+        "prio" => node.send_prio(alloc, other, 5, 9, 2, b"hi"),
+        _ => node.set_weight(alloc, other, 25),
     }
 }
 
-fn send_rel(alloc: Global, node: &mut Node, dst: NodeId) -> Result<Step<u64>, Fail> {
-    again(
-        node,
-        SendRefused::Memory,
-        |node| node.send_rel(alloc, dst, b"hi"),
-    )
+/// A send, which is made again where no memory was left.
+fn send_again(
+    alloc: Global,
+    node: &mut Node,
+    name: &str,
+    other: NodeId,
+) -> Result<Step<u64>, Fail> {
+    let before = Seen::of(node);
+    match send(alloc, node, name, other) {
+        Err(SendRefused::Memory) => {
+            unchanged(&before, node)?;
+            Ok(send(alloc, node, name, other)?)
+        }
+        call => Ok(call?),
+    }
 }
 
-fn send_prio(alloc: Global, node: &mut Node, dst: NodeId) -> Result<Step<u64>, Fail> {
-    again(
-        node,
-        SendRefused::Memory,
-        |node| node.send_prio(alloc, dst, 5, 9, 2, b"hi"),
-    )
+/// A tick, which is made again where no memory was left.
+fn tick_again(alloc: Global, node: &mut Node, now: u64) -> Result<Step<TickReply>, Fail> {
+    let before = Seen::of(node);
+    match node.tick(alloc, now) {
+        Err(NodeRefused::Memory) => {
+            unchanged(&before, node)?;
+            Ok(node.tick(alloc, now)?)
+        }
+        call => Ok(call?),
+    }
 }
 
-fn set_weight(alloc: Global, node: &mut Node, peer: NodeId) -> Result<Step<u64>, Fail> {
-    again(
-        node,
-        SendRefused::Memory,
-        |node| node.set_weight(alloc, peer, 25),
-    )
+/// The next frame to a neighbour, which is asked for again where no memory was left.
+fn poll_again(alloc: Global, node: &mut Node, to: NodeId) -> Result<Bytes, Fail> {
+    let before = Seen::of(node);
+    match node.poll(alloc, to) {
+        Err(NodeRefused::Memory) => {
+            unchanged(&before, node)?;
+            Ok(node.poll(alloc, to)?)
+        }
+        call => Ok(call?),
+    }
 }
 
-fn tick(alloc: Global, node: &mut Node, now: u64) -> Result<Step<TickReply>, Fail> {
-    again(node, NodeRefused::Memory, |node| node.tick(alloc, now))
-}
-
-fn poll(alloc: Global, node: &mut Node, to: NodeId) -> Result<Bytes, Fail> {
-    again(node, NodeRefused::Memory, |node| node.poll(alloc, to))
-}
-
-fn arrive(alloc: Global, node: &mut Node, from: NodeId, frame: &[u8]) -> Result<Step<Taken>, Fail> {
-    again(
-        node,
-        NodeRefused::Memory,
-        |node| node.datagram(alloc, from, frame),
-    )
+/// A frame arrives, and once more where no memory was left.
+fn arrive_again(
+    alloc: Global,
+    node: &mut Node,
+    from: NodeId,
+    frame: &[u8],
+) -> Result<Step<Taken>, Fail> {
+    let before = Seen::of(node);
+    match node.datagram(alloc, from, frame) {
+        Err(NodeRefused::Memory) => {
+            unchanged(&before, node)?;
+            Ok(node.datagram(alloc, from, frame)?)
+        }
+        call => Ok(call?),
+    }
 }
 
 /// Room for the longest answer, which is asked for again where no memory was left.
@@ -146,23 +163,18 @@ impl Story<'_> {
     }
 
     fn send(&mut self, name: &str, id: u8, other: NodeId) -> Result<(), Fail> {
-        let acting = node(self.nodes, id)?;
-        let step = match name {
-            "rel" => send_rel(self.alloc, acting, other),
-            "prio" => send_prio(self.alloc, acting, other),
-            _ => set_weight(self.alloc, acting, other),
-        };
-        Ok(sent(&mut self.answer, Ok(step?))?)
+        let step = send_again(self.alloc, node(self.nodes, id)?, name, other)?;
+        Ok(sent(&mut self.answer, Ok(step))?)
     }
 
     fn tick(&mut self, id: u8, now: u8) -> Result<(), Fail> {
-        let step = tick(self.alloc, node(self.nodes, id)?, u64::from(now))?;
+        let step = tick_again(self.alloc, node(self.nodes, id)?, u64::from(now))?;
         Ok(ticked(&mut self.answer, step)?)
     }
 
     /// The next frame from one node to another, which arrives.
     fn carry(&mut self, from: u8, to: u8) -> Result<(), Fail> {
-        let frame = poll(self.alloc, node(self.nodes, from)?, NodeId(to))?;
+        let frame = poll_again(self.alloc, node(self.nodes, from)?, NodeId(to))?;
         self.frame = Sha256::digest(frame.as_slice());
         writeln!(self.answer, "frame {}", frame.as_slice().len())?;
         self.arrive(from, to, frame.as_slice())
@@ -170,7 +182,7 @@ impl Story<'_> {
 
     fn arrive(&mut self, from: u8, to: u8, frame: &[u8]) -> Result<(), Fail> {
         let acting = node(self.nodes, to)?;
-        let step = arrive(self.alloc, acting, NodeId(from), frame)?;
+        let step = arrive_again(self.alloc, acting, NodeId(from), frame)?;
         Ok(arrived(&mut self.answer, step)?)
     }
 }

@@ -12,6 +12,5 @@ mod world;
 
 pub use calls::node;
 pub use journals::{ends, follows, runs};
-pub use scenario::Scenario;
 pub use spelled::{arrived, sent, ticked};
-pub use world::{Polled, World, with_two_worlds, with_world};
+pub use world::{World, with_two_worlds, with_world};

@@ -17,9 +17,9 @@ pub struct Polled {
 /// The nodes by their ids, and all frames in their order.
 #[derive(Drop)]
 pub struct World {
-    pub scenario: Scenario,
+    pub(crate) scenario: Scenario,
     pub nodes: Vec<Node>,
-    pub frames: Vec<Polled>,
+    pub(crate) frames: Vec<Polled>,
 }
 
 impl World {
@@ -36,10 +36,13 @@ impl World {
 
     /// How many frames went from one node to another.
     pub fn count(&self, from: u8, to: u8) -> usize {
-        self.frames
-            .iter()
-            .filter(|frame| frame.from == from && frame.to == to)
-            .count()
+        let mut count = 0usize;
+        for frame in &self.frames {
+            if frame.from == from && frame.to == to {
+                count = count.saturating_add(1);
+            }
+        }
+        count
     }
 
     /// The frame of a number from one node to another, counted from 1.
