@@ -2,7 +2,7 @@
 ghost use Rattle.std.specs.Prelude.{◌↔◌, IsTrue};
 ghost use Rattle.sp_hss.specs.Validity.{IsSignedBelow, IsValid};
 
-use sp_lms::{PublicKey, u32_at};
+use sp_lms::{Claim, PublicKey, u32_at, verify_both};
 
 /// The bytes of the public key of one tree.
 pub(crate) const TREE_KEY_LEN: usize = 56;
@@ -36,6 +36,18 @@ fn verify_below(upper_key: &[u8], msg: &[u8], sig: &[u8]) -> bool
         return false;
     }
     let lower_key = &sig[place..place + TREE_KEY_LEN];
-    upper.verify(lower_key, &sig[..place])
-        && sp_lms::verify(lower_key, msg, &sig[place + TREE_KEY_LEN..])
+    let Some(lower) = PublicKey::read(lower_key) else {
+        return false;
+    };
+    let first = Claim {
+        key: &upper,
+        msg: lower_key,
+        sig: &sig[..place],
+    };
+    let second = Claim {
+        key: &lower,
+        msg,
+        sig: &sig[place + TREE_KEY_LEN..],
+    };
+    verify_both(&first, &second)
 }

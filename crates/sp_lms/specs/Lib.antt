@@ -11,3 +11,4 @@ pub mod Laws
 pub mod Nodes
 pub mod Kept
 pub mod Grown
+pub mod Form

@@ -1,6 +1,7 @@
 //! Trees of one-time keys that rest on SHA-256 alone: LMS (RFC 8554, section 5). A key of height h signs 2^h messages.
 #![tactic(auto)]
 
+mod both;
 mod bytes;
 mod grow;
 mod growing;
@@ -12,6 +13,7 @@ mod path;
 mod public_key;
 mod refused;
 
+pub use both::{Claim, verify_both};
 pub use bytes::u32_at;
 pub use growing::GrowingKey;
 pub use key::LmsKey;

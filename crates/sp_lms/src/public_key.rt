@@ -1,10 +1,11 @@
 // Checking a signature under the public key of a tree (RFC 8554, section 5.4.2).
-ghost use Rattle.std.specs.Prelude.{◌≡◌, ◌++◌, ◌↔◌, IfSome, IsNone, IsTrue};
+ghost use Rattle.std.specs.Prelude.{◌≡◌, ◌++◌, ◌↔◌, IfSome, IsNone, IsTrue, length};
 ghost use Rattle.sp_ots.specs.Parameters as one_time;
 ghost use Rattle.sp_ots.specs.Strings.{u32str};
 ghost use Rattle.sp_lms.specs.Parameters.{signature_len, typecode};
 ghost use Rattle.sp_lms.specs.PublicKey.{IsReadFrom};
-ghost use Rattle.sp_lms.specs.Validity.{HasTypes, IsValid, IsValidUnder};
+ghost use Rattle.sp_lms.specs.Validity.{HasTypes, IsValid, IsValidUnder, leaf_of, one_time_of};
+ghost use Rattle.sp_lms.specs.Form.{HasForm, root_above};
 
 use crate::bytes::u32_at;
 use crate::hashes::leaf_hash;
@@ -65,22 +66,51 @@ impl PublicKey {
     pub fn verify(&self, msg: &[u8], sig: &[u8]) -> bool
         ensures { IsTrue result ↔ IsValidUnder self.now.lms self.now.ots self.now.id self.now.root msg.now sig.now }
     {
-        if sig.len() != self.sig_len() {
+        let Some(leaf) = self.leaf_of(sig) else {
             return false;
+        };
+        match sp_ots::candidate(self.ots, &self.id, leaf, msg, self.one_time_of(sig)) {
+            Ok(key) => self.is_above(leaf, &key, sig),
+            Err(_) => false,
+        }
+    }
+
+    /// The number of the leaf that made a signature. None exactly where the signature has another length, the number of no leaf, or
+    /// another typecode of the tree.
+    pub(crate) fn leaf_of(&self, sig: &[u8]) -> Option<u32>
+        ensures some { IfSome result (λ leaf. (leaf ≡ leaf_of sig.now) × HasForm self.now.lms self.now.ots sig.now) }
+        ensures none { IsNone result → ¬ HasForm self.now.lms self.now.ots sig.now }
+    {
+        if sig.len() != self.sig_len() {
+            return None;
         }
         let leaf = u32_at(sig, 0);
         let behind = 4 + sp_ots::sig_len(self.ots);
         if leaf >= self.lms.leaf_count() || u32_at(sig, behind) != self.lms.typecode() {
-            return false;
+            return None;
         }
-        let Ok(key) = sp_ots::candidate(self.ots, &self.id, leaf, msg, &sig[4..behind]) else {
-            return false;
-        };
+        Some(leaf)
+    }
+
+    /// The one-time signature in a signature.
+    pub(crate) fn one_time_of<'a>(&self, sig: &'a [u8]) -> &'a [u8]
+        requires { length sig.now ≡ signature_len self.now.lms self.now.ots }
+        ensures { result.now ≡ one_time_of self.now.ots sig.now }
+    {
+        &sig[4..4 + sp_ots::sig_len(self.ots)]
+    }
+
+    /// Whether the path of a signature leads to the root from the leaf with this one-time public key.
+    pub(crate) fn is_above(&self, leaf: u32, key: &[u8; 32], sig: &[u8]) -> bool
+        requires form { HasForm self.now.lms self.now.ots sig.now }
+        requires leaf { leaf ≡ leaf_of sig.now }
+        ensures { IsTrue result ↔ (self.now.root ≡ root_above self.now.lms self.now.ots self.now.id key.now sig.now) }
+    {
         let r = self.lms.leaf_count() + leaf;
-        let siblings = sig[behind + 4..].as_chunks().0;
+        let siblings = sig[8 + sp_ots::sig_len(self.ots)..].as_chunks().0;
         is_same(
             &self.root,
-            &ancestor(&self.id, siblings, r, &leaf_hash(&self.id, r, &key)),
+            &ancestor(&self.id, siblings, r, &leaf_hash(&self.id, r, key)),
         )
     }
 }

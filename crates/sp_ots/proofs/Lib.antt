@@ -1,10 +1,11 @@
-pub mod Candidates
+pub mod SignedEnds
 pub mod Ends
 pub mod KeyPairs
 pub mod Messages
 pub mod Parameters
 pub mod Places
 pub mod Steps
+pub mod TwoLeaves
 pub mod UnderWay
 pub mod EachLeaf
 pub mod Validity

@@ -1,7 +1,7 @@
 -- A list that is filled from its first place on, each place by a function of its number.
 use Rattle.std.proofs.Common.{◌≡◌, ℕ, zero, suc, ◌+◌, ◌-◌, ◌<◌, ◌≤◌, List, ◌∷◌, ◌++◌, length, take, drop, map, set, get_or, refl, sym, ◌∙◌, ap, arith}
 use Rattle.std.specs.List.{range_with_len}
-use Rattle.std.proofs.lemmas.List.{take_more_set, take_all, drop-set-lt, get_or-drop}
+use Rattle.std.proofs.lemmas.List.{take_more_set, take_all, drop-set-lt, get_or-append_right, get_or-drop, get_or-take, length-take-le}
 use Rattle.std.proofs.lemmas.List.FromFn.{length-map-range_with_len, map-range_with_len_more, take-map-range_with_len}
 use Rattle.std.proofs.lemmas.Slice.{take-put_mid}
 use borrow.Rule.Slice.PartMut.{put_mid}
@@ -48,3 +48,10 @@ group_filled f xs ys a b m order within most before values =
     let made : ys ≡ map f (range_with_len a (b - a)) = values ∙ take-map-range_with_len f a m (b - a) (omega arith) in
     let count : length ys ≡ b - a = ap length made ∙ length-map-range_with_len f a (b - a) in
     take-put_mid a (b - a) xs ys b (omega arith) (omega arith) ∙ rw (before, made) (sym (in_two f 0 a (b - a) a b (omega arith) (omega arith)))
+
+-- what is written over the places from a on
+pub put_within : {X : Type 0} (a k : ℕ) (xs ys : List X) (i : ℕ) (d : X) → a ≤ length xs → i < length ys → get_or (put_mid a k xs ys) (a + i) d ≡ get_or ys i d
+put_within {X = X} a k xs ys i d within inside =
+    let place : a + i - a ≡ i = omega arith in
+    sym (get_or-take (a + length ys) (put_mid a k xs ys) (a + i) d (omega arith)) ∙ ap (λ (zs : List X). get_or zs (a + i) d) (take-put_mid a k xs ys (a + length ys) refl within)
+    ∙ get_or-append_right (take a xs) ys a (a + i) d (length-take-le a xs within) (omega arith) ∙ ap (λ (n : ℕ). get_or ys n d) place

@@ -7,10 +7,10 @@ use Rattle.std.proofs.lemmas.List.FromFn.{get_or-map-range_with_len, length-map-
 use Rattle.sha2.specs.Sha256.{sha256}
 use Rattle.sp_lanes.specs.Lanes.{lanes}
 use Rattle.sp_ots.specs.declared.lanes.Lanes.{Lanes}
-use Rattle.sp_ots.specs.Strings.{u8str, u16str, u32str}
-use Rattle.sp_ots.specs.Chains.{chain_ends, next_element, stepped}
-use Rattle.sp_ots.specs.UnderWay.{AreUnderWay, IsHeld, IsInTurn, IsLeft, IsTaken, element_at, steps_of}
-use Rattle.sp_ots.proofs.Steps.{begun, chain_more, chain_none}
+use Rattle.sp_ots.specs.Strings.{u8str}
+use Rattle.sp_ots.specs.TwoLeaves.{element_at, run_ends, stepped_behind}
+use Rattle.sp_ots.specs.UnderWay.{AreUnderWay, IsHeld, IsInTurn, IsLeft, IsTaken, steps_of}
+use Rattle.sp_ots.proofs.TwoLeaves.{begun_behind, more_behind, none_behind}
 
 -- no lane holds a chain where none has steps left
 pub none_left : (n k : ℕ) → slice_index (replicate n 0) k ≡ 0
@@ -45,13 +45,13 @@ later_taken from to most next after i more taken = elim taken [
 ]
 
 -- a lane that is as it was
-still : (id : List ℕ) (q : ℕ) (from to : List ℕ) (old : List (List ℕ)) (was l : Lanes) (m : ℕ)
+still : (front : ℕ → List ℕ) (from to : List ℕ) (old : List (List ℕ)) (was l : Lanes) (m : ℕ)
     → ((i : ℕ) → IsTaken from to was.most was.next i → IsTaken from to l.most l.next i)
     → slice_index l.chains m ≡ slice_index was.chains m → slice_index l.left m ≡ slice_index was.left m
     → slice_index_or l.messages m [] ≡ slice_index_or was.messages m []
-    → IsHeld id q from to old was.most was.next (slice_index was.chains m) (slice_index was.left m) (slice_index_or was.messages m [])
-    → IsHeld id q from to old l.most l.next (slice_index l.chains m) (slice_index l.left m) (slice_index_or l.messages m [])
-still id q from to old was l m stays chains left messages held =
+    → IsHeld front from to old was.most was.next (slice_index was.chains m) (slice_index was.left m) (slice_index_or was.messages m [])
+    → IsHeld front from to old l.most l.next (slice_index l.chains m) (slice_index l.left m) (slice_index_or l.messages m [])
+still front from to old was l m stays chains left messages held =
     rw (chains, left, messages) (record {
       within = held.within;
       taken = stays (slice_index was.chains m) held.taken;
@@ -60,19 +60,19 @@ still id q from to old was l m stays chains left messages held =
     })
 
 -- an element of a chain without steps is its end
-no_steps : (id : List ℕ) (q : ℕ) (from to : List ℕ) (elements : List (List ℕ)) (i : ℕ) → slice_index to i ≤ slice_index from i
-    → element_at id q from elements i (slice_index to i) ≡ slice_index_or elements i []
-unfolding stepped
-no_steps id q from to elements i without = let none : slice_index to i - slice_index from i ≡ 0 = omega arith in rw none refl
+no_steps : (front : ℕ → List ℕ) (from to : List ℕ) (elements : List (List ℕ)) (i : ℕ) → slice_index to i ≤ slice_index from i
+    → element_at front from elements i (slice_index to i) ≡ slice_index_or elements i []
+unfolding stepped_behind
+no_steps front from to elements i without = let none : slice_index to i - slice_index from i ≡ 0 = omega arith in rw none refl
 
 -- the same chains are taken, and the same are left, said by other numbers
-went_on : (id : List ℕ) (q : ℕ) (from to : List ℕ) (old now : List (List ℕ)) (was l : Lanes) → AreUnderWay id q from to old now was
+went_on : (front : ℕ → List ℕ) (from to : List ℕ) (old now : List (List ℕ)) (was l : Lanes) → AreUnderWay front from to old now was
     → ((i : ℕ) → IsTaken from to was.most was.next i → IsTaken from to l.most l.next i)
     → ((i : ℕ) → i < length old → IsTaken from to l.most l.next i → IsTaken from to was.most was.next i)
     → ((i : ℕ) → IsLeft from to l.most l.next i → IsLeft from to was.most was.next i)
     → l.chains ≡ was.chains → l.left ≡ was.left → l.messages ≡ was.messages
-    → AreUnderWay id q from to old now l
-went_on id q from to old now was l u stays taken left chains left_is messages =
+    → AreUnderWay front from to old now l
+went_on front from to old now was l u stays taken left chains left_is messages =
     let c : (m : ℕ) → slice_index l.chains m ≡ slice_index was.chains m = λ m. ap (λ (xs : List ℕ). slice_index xs m) chains in
     let n : (m : ℕ) → slice_index l.left m ≡ slice_index was.left m = λ m. ap (λ (xs : List ℕ). slice_index xs m) left_is in
     let e : (m : ℕ) → slice_index_or l.messages m [] ≡ slice_index_or was.messages m [] = λ m. ap (λ (xs : List (List ℕ)). slice_index_or xs m []) messages in
@@ -81,18 +81,18 @@ went_on id q from to old now was l u stays taken left chains left_is messages =
       chains = ap length chains ∙ u.chains;
       left = ap length left_is ∙ u.left;
       messages = ap length messages ∙ u.messages;
-      held = λ m busy. still id q from to old was l m stays (c m) (n m) (e m) (u.held m (omega (arith, n m)));
+      held = λ m busy. still front from to old was l m stays (c m) (n m) (e m) (u.held m (omega (arith, n m)));
       ended = λ i within t free. u.ended i within (taken i within t) (λ m busy at. free m (omega (arith, n m)) (c m ∙ at));
       waiting = λ i l. u.waiting i (left i l);
     }
 
 -- none of the chains up to the next one is in turn
-pub passed : (id : List ℕ) (q : ℕ) (from to : List ℕ) (old now : List (List ℕ)) (was l : Lanes) → AreUnderWay id q from to old now was
+pub passed : (front : ℕ → List ℕ) (from to : List ℕ) (old now : List (List ℕ)) (was l : Lanes) → AreUnderWay front from to old now was
     → was.next ≤ l.next → ((i : ℕ) → was.next ≤ i → i < l.next → ¬ IsInTurn from to was.most i)
     → l.most ≡ was.most → l.chains ≡ was.chains → l.left ≡ was.left → l.messages ≡ was.messages
-    → AreUnderWay id q from to old now l
-passed id q from to old now was l u more none most chains left messages =
-    went_on id q from to old now was l u
+    → AreUnderWay front from to old now l
+passed front from to old now was l u more none most chains left messages =
+    went_on front from to old now was l u
     (λ i t. rw most (later_taken from to was.most was.next l.next i more t))
     (λ i within t. elim (taken_or_left from to was.most was.next i) [
       | inl before ↦ before
@@ -107,11 +107,11 @@ passed id q from to old now was l u more none most chains left messages =
     chains left messages
 
 -- none is in turn at all, and the turn of shorter ones begins
-pub turned : (id : List ℕ) (q : ℕ) (from to : List ℕ) (old now : List (List ℕ)) (was l : Lanes) → AreUnderWay id q from to old now was
+pub turned : (front : ℕ → List ℕ) (from to : List ℕ) (old now : List (List ℕ)) (was l : Lanes) → AreUnderWay front from to old now was
     → ((i : ℕ) → was.next ≤ i → i < length old → ¬ IsInTurn from to was.most i) → l.most ≡ was.most / 3 → l.next ≡ 0 → l.chains ≡ was.chains → l.left ≡ was.left → l.messages ≡ was.messages
-    → AreUnderWay id q from to old now l
-turned id q from to old now was l u none most next chains left messages =
-    went_on id q from to old now was l u
+    → AreUnderWay front from to old now l
+turned front from to old now was l u none most next chains left messages =
+    went_on front from to old now was l u
     (λ i t. rw most (inl (elim t [ inl long ↦ omega (arith, long) | inr turn ↦ turn.0.low ])))
     (λ i within t. elim (rw (most, next) at t) [
       | inl long ↦ elim (cases_lt was.most (steps_of from to i)) [
@@ -131,28 +131,28 @@ turned id q from to old now was l u none most next chains left messages =
     chains left messages
 
 -- what a lane holds of a chain that it has just taken
-first_message : (id : List ℕ) (q : ℕ) (from to : List ℕ) (old now : List (List ℕ)) (most next i : ℕ) (message : List ℕ)
+first_message : (front : ℕ → List ℕ) (from to : List ℕ) (old now : List (List ℕ)) (most next i : ℕ) (message : List ℕ)
     → i < length old → IsTaken from to most next i → slice_index from i < slice_index to i
-    → message ≡ id ++ u32str q ++ u16str i ++ u8str (slice_index from i) ++ slice_index_or now i [] → slice_index_or now i [] ≡ slice_index_or old i []
-    → IsHeld id q from to old most next i (slice_index to i - slice_index from i) message
-first_message id q from to old now most next i message within taken with_steps laid same =
+    → message ≡ front i ++ u8str (slice_index from i) ++ slice_index_or now i [] → slice_index_or now i [] ≡ slice_index_or old i []
+    → IsHeld front from to old most next i (slice_index to i - slice_index from i) message
+first_message front from to old now most next i message within taken with_steps laid same =
     let first : slice_index to i - (slice_index to i - slice_index from i) ≡ slice_index from i = omega arith in
     record {
       within = within;
       taken = taken;
       steps = omega arith;
-      message_is = rw first (laid ∙ ap (λ (x : List ℕ). id ++ u32str q ++ u16str i ++ u8str (slice_index from i) ++ x)
-          (same ∙ sym (chain_none id q i (slice_index from i) (slice_index_or old i []))));
+      message_is = rw first (laid ∙ ap (λ (x : List ℕ). front i ++ u8str (slice_index from i) ++ x)
+          (same ∙ sym (none_behind (front i) (slice_index from i) (slice_index_or old i []))));
     }
 
 -- a lane that is idle takes the next chain, which is in turn
-pub taken : (id : List ℕ) (q : ℕ) (from to : List ℕ) (old now : List (List ℕ)) (was l : Lanes) (k : ℕ) (message : List ℕ)
-    → AreUnderWay id q from to old now was → k < lanes → slice_index was.left k ≡ 0 → was.next < length old → IsInTurn from to was.most was.next
-    → message ≡ id ++ u32str q ++ u16str was.next ++ u8str (slice_index from was.next) ++ slice_index_or now was.next []
+pub taken : (front : ℕ → List ℕ) (from to : List ℕ) (old now : List (List ℕ)) (was l : Lanes) (k : ℕ) (message : List ℕ)
+    → AreUnderWay front from to old now was → k < lanes → slice_index was.left k ≡ 0 → was.next < length old → IsInTurn from to was.most was.next
+    → message ≡ front was.next ++ u8str (slice_index from was.next) ++ slice_index_or now was.next []
     → l.most ≡ was.most → l.next ≡ was.next + 1 → l.chains ≡ set was.chains k was.next
     → l.left ≡ set was.left k (slice_index to was.next - slice_index from was.next) → l.messages ≡ set was.messages k message
-    → AreUnderWay id q from to old now l
-taken id q from to old now was l k message u lane idle within turn laid most next chains left messages =
+    → AreUnderWay front from to old now l
+taken front from to old now was l k message u lane idle within turn laid most next chains left messages =
     let i = was.next in
     let c : (m : ℕ) → m ≢ k → slice_index l.chains m ≡ slice_index was.chains m =
     λ m ne. ap (λ (xs : List ℕ). slice_index xs m) chains ∙ get_or-set_other was.chains k m i 0 ne in
@@ -169,7 +169,7 @@ taken id q from to old now was l k message u lane idle within turn laid most nex
     let stays : (j : ℕ) → IsTaken from to was.most was.next j → IsTaken from to l.most l.next j =
     λ j t. rw (most, next) (later_taken from to was.most i (i + 1) j (omega arith) t) in
     let waits = u.waiting i (record { high = turn.high; later = λ _. omega arith }) in
-    let begins = first_message id q from to old now l.most l.next i message within (rw (most, next) (inr (turn, omega arith))) (omega (arith, turn.low)) laid waits in
+    let begins = first_message front from to old now l.most l.next i message within (rw (most, next) (inr (turn, omega arith))) (omega (arith, turn.low)) laid waits in
     record {
       whole = u.whole;
       chains = ap length chains ∙ length-set was.chains k i ∙ u.chains;
@@ -177,7 +177,7 @@ taken id q from to old now was l k message u lane idle within turn laid most nex
       messages = ap length messages ∙ length-set was.messages k message ∙ u.messages;
       held = λ m busy. elim (cases_eq m k) [
         | inl same ↦ rw (same, here, steps, put) begins
-        | inr ne ↦ still id q from to old was l m stays (c m ne) (n m ne) (e m ne) (u.held m (omega (arith, n m ne)))
+        | inr ne ↦ still front from to old was l m stays (c m ne) (n m ne) (e m ne) (u.held m (omega (arith, n m ne)))
       ];
       ended = λ j inside t free. elim (taken_or_left from to was.most was.next j) [
         | inl early ↦ u.ended j inside early (λ m busy at. free m (omega (arith, n m (other m busy))) (c m (other m busy) ∙ at))
@@ -192,44 +192,43 @@ taken id q from to old now was l k message u lane idle within turn laid most nex
     }
 
 -- the digest of what a lane holds is the next element of its chain
-next_of_held : (id : List ℕ) (q : ℕ) (from to : List ℕ) (old : List (List ℕ)) (most next i n : ℕ) (message digest : List ℕ)
-    → IsHeld id q from to old most next i n message → 0 < n → digest ≡ sha256 message
-    → digest ≡ element_at id q from old i (slice_index to i - (n - 1))
-unfolding next_element
-next_of_held id q from to old most next i n message digest held busy hashed =
+next_of_held : (front : ℕ → List ℕ) (from to : List ℕ) (old : List (List ℕ)) (most next i n : ℕ) (message digest : List ℕ)
+    → IsHeld front from to old most next i n message → 0 < n → digest ≡ sha256 message
+    → digest ≡ element_at front from old i (slice_index to i - (n - 1))
+next_of_held front from to old most next i n message digest held busy hashed =
     let later : slice_index to i - (n - 1) ≡ slice_index to i - n + 1 = omega (arith, held.steps) in
     hashed ∙ ap sha256 held.message_is
-    ∙ sym (chain_more id q i (slice_index from i) (slice_index to i - n) (slice_index_or old i []) (omega (arith, held.steps)))
-    ∙ ap (element_at id q from old i) (sym later)
+    ∙ sym (more_behind (front i) (slice_index from i) (slice_index to i - n) (slice_index_or old i []) (omega (arith, held.steps)))
+    ∙ ap (element_at front from old i) (sym later)
 
 -- a lane holds the same chain one step later
-one_step_later : (id : List ℕ) (q : ℕ) (from to : List ℕ) (old : List (List ℕ)) (most next i n : ℕ) (message digest : List ℕ)
-    → length id ≡ 16 → IsHeld id q from to old most next i n message → 0 < n → digest ≡ element_at id q from old i (slice_index to i - (n - 1))
-    → IsHeld id q from to old most next i (n - 1) (take 22 message ++ u8str (slice_index to i - (n - 1)) ++ digest)
-one_step_later id q from to old most next i n message digest long held busy is =
-    let front = begun id q i (slice_index to i - n) (element_at id q from old i (slice_index to i - n)) message long held.message_is in
+one_step_later : (front : ℕ → List ℕ) (from to : List ℕ) (old : List (List ℕ)) (most next i n : ℕ) (message digest : List ℕ)
+    → ((i : ℕ) → length (front i) ≡ 22) → IsHeld front from to old most next i n message → 0 < n → digest ≡ element_at front from old i (slice_index to i - (n - 1))
+    → IsHeld front from to old most next i (n - 1) (take 22 message ++ u8str (slice_index to i - (n - 1)) ++ digest)
+one_step_later front from to old most next i n message digest long held busy is =
+    let begins : take 22 message ≡ front i = begun_behind (front i) (slice_index to i - n) (element_at front from old i (slice_index to i - n)) message (long i) held.message_is in
     record {
       within = held.within;
       taken = held.taken;
       steps = omega (arith, held.steps);
-      message_is = λ x. front.0 x ++ u8str (slice_index to i - (n - 1)) ++ is x;
+      message_is = λ x. begins x ++ u8str (slice_index to i - (n - 1)) ++ is x;
     }
 
 -- the chain in lane k makes a step: its element and its message are those of the next step
-pub advanced : (id : List ℕ) (q : ℕ) (from to : List ℕ) (old was_now now : List (List ℕ)) (was l : Lanes) (k : ℕ) (digest : List ℕ)
-    → length id ≡ 16 → AreUnderWay id q from to old was_now was → k < lanes → 0 < slice_index was.left k
+pub advanced : (front : ℕ → List ℕ) (from to : List ℕ) (old was_now now : List (List ℕ)) (was l : Lanes) (k : ℕ) (digest : List ℕ)
+    → ((i : ℕ) → length (front i) ≡ 22) → AreUnderWay front from to old was_now was → k < lanes → 0 < slice_index was.left k
     → digest ≡ sha256 (slice_index_or was.messages k []) → now ≡ set was_now (slice_index was.chains k) digest
     → l.most ≡ was.most → l.next ≡ was.next → l.chains ≡ was.chains → l.left ≡ set was.left k (slice_index was.left k - 1)
     → l.messages ≡ set was.messages k (take 22 (slice_index_or was.messages k [])
     ++ u8str (slice_index to (slice_index was.chains k) - (slice_index was.left k - 1)) ++ digest)
-    → AreUnderWay id q from to old now l
-advanced id q from to old was_now now was l k digest long u lane busy hashed put most next chains left messages =
+    → AreUnderWay front from to old now l
+advanced front from to old was_now now was l k digest long u lane busy hashed put most next chains left messages =
     let i = slice_index was.chains k in
     let n = slice_index was.left k in
     let message = take 22 (slice_index_or was.messages k []) ++ u8str (slice_index to i - (n - 1)) ++ digest in
     let held = u.held k busy in
-    let is = next_of_held id q from to old was.most was.next i n (slice_index_or was.messages k []) digest held busy hashed in
-    let later = one_step_later id q from to old was.most was.next i n (slice_index_or was.messages k []) digest long held busy is in
+    let is = next_of_held front from to old was.most was.next i n (slice_index_or was.messages k []) digest held busy hashed in
+    let later = one_step_later front from to old was.most was.next i n (slice_index_or was.messages k []) digest long held busy is in
     let c : (m : ℕ) → slice_index l.chains m ≡ slice_index was.chains m = λ m. ap (λ (xs : List ℕ). slice_index xs m) chains in
     let others : (m : ℕ) → m ≢ k → slice_index l.left m ≡ slice_index was.left m =
     λ m ne. ap (λ (xs : List ℕ). slice_index xs m) left ∙ get_or-set_other was.left k m (n - 1) 0 ne in
@@ -250,14 +249,14 @@ advanced id q from to old was_now now was l k digest long u lane busy hashed put
       messages = ap length messages ∙ length-set was.messages k message ∙ u.messages;
       held = λ m steps. elim (cases_eq m k) [
         | inl same ↦ rw (same, c k, fewer, renewed, most, next) later
-        | inr ne ↦ still id q from to old was l m stays (c m) (others m ne) (e m ne) (u.held m (omega (arith, others m ne)))
+        | inr ne ↦ still front from to old was l m stays (c m) (others m ne) (e m ne) (u.held m (omega (arith, others m ne)))
       ];
       ended = λ p within before free. elim (cases_eq p i) [
         | inl same ↦ elim (cases_lt 0 (n - 1)) [
           | inl more ↦ absurd (free k (omega (arith, fewer)) (c k ∙ sym same))
           | inr none ↦
               let last : slice_index to i - (n - 1) ≡ slice_index to i = omega arith in
-              rw same (here ∙ is ∙ ap (element_at id q from old i) last)
+              rw same (here ∙ is ∙ ap (element_at front from old i) last)
         ]
         | inr ne ↦ elsewhere p ne ∙ u.ended p within (rw (most, next) at before) (λ m steps at. elim (cases_eq m k) [
           | inl same ↦ ne (sym at ∙ ap (λ (x : ℕ). slice_index was.chains x) same)
@@ -270,24 +269,24 @@ advanced id q from to old was_now now was l k digest long u lane busy hashed put
     }
 
 -- where no lane holds a chain, and none is left that has steps, a chain is at its end
-at_end : (id : List ℕ) (q : ℕ) (from to : List ℕ) (old now : List (List ℕ)) (l : Lanes) (i : ℕ) → AreUnderWay id q from to old now l → l.most ≡ 0
-    → i < length old → ((k : ℕ) → slice_index l.left k ≡ 0) → slice_index_or now i [] ≡ element_at id q from old i (slice_index to i)
-at_end id q from to old now l i u end within none = elim (taken_or_left from to l.most l.next i) [
+at_end : (front : ℕ → List ℕ) (from to : List ℕ) (old now : List (List ℕ)) (l : Lanes) (i : ℕ) → AreUnderWay front from to old now l → l.most ≡ 0
+    → i < length old → ((k : ℕ) → slice_index l.left k ≡ 0) → slice_index_or now i [] ≡ element_at front from old i (slice_index to i)
+at_end front from to old now l i u end within none = elim (taken_or_left from to l.most l.next i) [
   | inl taken ↦ u.ended i within taken (λ k busy. absurd (omega (arith, none k)))
-  | inr left ↦ u.waiting i left ∙ sym (no_steps id q from to old i (omega (arith, left.high)))
+  | inr left ↦ u.waiting i left ∙ sym (no_steps front from to old i (omega (arith, left.high)))
 ]
 
 -- where no lane holds a chain and none is left to take, all are at their ends
-pub all_ended : (id : List ℕ) (q : ℕ) (from to : List ℕ) (old now : List (List ℕ)) (l : Lanes)
-    → AreUnderWay id q from to old now l → l.most ≡ 0 → l.left ≡ replicate lanes 0
-    → now ≡ chain_ends id q from to old
-unfolding chain_ends
-all_ended id q from to old now l u end idle =
-    let f : ℕ → List ℕ = λ i. element_at id q from old i (slice_index to i) in
+pub all_ended : (front : ℕ → List ℕ) (from to : List ℕ) (old now : List (List ℕ)) (l : Lanes)
+    → AreUnderWay front from to old now l → l.most ≡ 0 → l.left ≡ replicate lanes 0
+    → now ≡ run_ends front from to old
+unfolding run_ends
+all_ended front from to old now l u end idle =
+    let f : ℕ → List ℕ = λ i. element_at front from old i (slice_index to i) in
     let none : (k : ℕ) → slice_index l.left k ≡ 0 = λ k. ap (λ (xs : List ℕ). slice_index xs k) idle ∙ none_left lanes k in
-    ext_get_or [] now (chain_ends id q from to old) (u.whole ∙ sym (length-map-range_with_len f 0 (length old)))
+    ext_get_or [] now (run_ends front from to old) (u.whole ∙ sym (length-map-range_with_len f 0 (length old)))
     (λ i within.
-    at_end id q from to old now l i u end (omega (arith, u.whole)) none
+    at_end front from to old now l i u end (omega (arith, u.whole)) none
     ∙ sym (get_or-map-range_with_len f 0 (length old) i i [] (omega (arith, u.whole)) (omega arith)))
 
 -- the steps that are left in all lanes, after each made one

@@ -5,6 +5,8 @@ pub mod Chains
 pub mod Keys
 pub mod Signature
 pub mod Candidate
+pub mod Form
 -- ---- what proofs and the parts of this crate use among themselves
+pub mod TwoLeaves
 pub mod UnderWay
 pub mod Leaves

@@ -2,12 +2,8 @@
 use Rattle.std.specs.Prelude.{◌≡◌, ℕ, ◌+◌, ◌-◌, ◌*◌, ◌/◌, ◌<◌, ◌≤◌, ◌≢◌, ◌⊎◌, List, [], ◌++◌, length, sum, slice_index, slice_index_or}
 use Rattle.sp_lanes.specs.Lanes.{lanes}
 use Rattle.sp_ots.specs.declared.lanes.Lanes.{Lanes}
-use Rattle.sp_ots.specs.Strings.{u8str, u16str, u32str}
-use Rattle.sp_ots.specs.Chains.{chain_end}
-
--- the element of chain i at step j, from the first of its own steps
-abbrev pub element_at : List ℕ → ℕ → List ℕ → List (List ℕ) → ℕ → ℕ → List ℕ
-element_at id q from elements i j = chain_end id q i (slice_index from i) j (slice_index_or elements i [])
+use Rattle.sp_ots.specs.Strings.{u8str}
+use Rattle.sp_ots.specs.TwoLeaves.{element_at}
 
 -- how many steps chain i has
 abbrev pub steps_of : (from to : List ℕ) → ℕ → ℕ
@@ -28,25 +24,25 @@ pub record IsLeft (from to : List ℕ) (most next i : ℕ) : Type 0 where
   pub later : most / 3 < steps_of from to i → next ≤ i
 
 -- a lane holds a chain that was taken, with steps left, and the message of its next step
-pub record IsHeld (id : List ℕ) (q : ℕ) (from to : List ℕ) (elements : List (List ℕ)) (most next chain left : ℕ)
+pub record IsHeld (front : ℕ → List ℕ) (from to : List ℕ) (elements : List (List ℕ)) (most next chain left : ℕ)
     (message : List ℕ) : Type 0 where
   pub within : chain < length elements
   pub taken : IsTaken from to most next chain
   pub steps : slice_index from chain + left ≤ slice_index to chain
-  pub message_is : message ≡ id ++ u32str q ++ u16str chain ++ u8str (slice_index to chain - left)
-      ++ element_at id q from elements chain (slice_index to chain - left)
+  pub message_is : message ≡ front chain ++ u8str (slice_index to chain - left)
+      ++ element_at front from elements chain (slice_index to chain - left)
 
 -- of the chains that began with the elements `old`, each that was taken is in a lane, or at its end in `now`; those that are left stand
 -- in `now` as they began
-pub record AreUnderWay (id : List ℕ) (q : ℕ) (from to : List ℕ) (old now : List (List ℕ)) (l : Lanes) : Type 0 where
+pub record AreUnderWay (front : ℕ → List ℕ) (from to : List ℕ) (old now : List (List ℕ)) (l : Lanes) : Type 0 where
   pub whole : length now ≡ length old
   pub chains : length l.chains ≡ lanes
   pub left : length l.left ≡ lanes
   pub messages : length l.messages ≡ lanes
   pub held : (k : ℕ) → 0 < slice_index l.left k
-      → IsHeld id q from to old l.most l.next (slice_index l.chains k) (slice_index l.left k) (slice_index_or l.messages k [])
+      → IsHeld front from to old l.most l.next (slice_index l.chains k) (slice_index l.left k) (slice_index_or l.messages k [])
   pub ended : (i : ℕ) → i < length old → IsTaken from to l.most l.next i → ((k : ℕ) → 0 < slice_index l.left k → slice_index l.chains k ≢ i)
-      → slice_index_or now i [] ≡ element_at id q from old i (slice_index to i)
+      → slice_index_or now i [] ≡ element_at front from old i (slice_index to i)
   pub waiting : (i : ℕ) → IsLeft from to l.most l.next i → slice_index_or now i [] ≡ slice_index_or old i []
 
 -- each lane that is not idle holds one of the chains, with no more steps than it has

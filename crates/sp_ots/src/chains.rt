@@ -2,14 +2,16 @@
 // signature.
 ghost use Rattle.std.specs.Prelude.{◌≡◌, ◌<◌, ◌≤◌, ◌^◌, ℕ, length, slice_index};
 ghost use Rattle.sp_ots.specs.Chains.{chain_end, chain_ends};
+ghost use Rattle.sp_ots.specs.TwoLeaves.{front_in, run_ends};
 
 use crate::hashes::element_message;
 use crate::lanes::Lanes;
+use crate::two_leaves::{Leaf, TwoLeaves};
 use sha2::{Digest, Sha256};
 
 /// Runs each chain from its own step to its own step, in place: element i belongs to chain i.
 ///
-/// A chain whose first step is not below its last one stays. Every signature and key is made by this
+/// A chain whose first step is not below its last one stays. Every signature and key of one leaf is made by this
 /// one call, so all the chains are known before the first step is made, and four are hashed at once, the longest first.
 pub fn run_chains(id: &[u8; 16], q: u32, from: &[u8], to: &[u8], elements: &mut [[u8; 32]])
     requires numbers { length elements.old ≤ 2 ^ 16 }
@@ -17,11 +19,27 @@ pub fn run_chains(id: &[u8; 16], q: u32, from: &[u8], to: &[u8], elements: &mut 
     requires to { length to.now ≡ length elements.old }
     ensures { elements.new ≡ chain_ends id.now q from.now to.now elements.old }
 {
+    let leaf = Leaf { id: *id, q };
+    let leaves = TwoLeaves {
+        first: leaf,
+        second: leaf,
+        split: elements.len(),
+    };
+    run_both(&leaves, from, to, elements);
+}
+
+/// Runs the chains of two leaves in place, as `run_chains` does those of one.
+pub(crate) fn run_both(leaves: &TwoLeaves, from: &[u8], to: &[u8], elements: &mut [[u8; 32]])
+    requires numbers { length elements.old ≤ 2 ^ 16 }
+    requires from { length from.now ≡ length elements.old }
+    requires to { length to.now ≡ length elements.old }
+    ensures { elements.new ≡ run_ends (front_in leaves.now) from.now to.now elements.old }
+{
     let mut lanes = Lanes::idle(greatest(to));
-    lanes.fill(id, q, from, to, elements);
+    lanes.fill(leaves, from, to, elements);
     'rounds: while !lanes.are_idle() {
         lanes.step(to, elements);
-        lanes.fill(id, q, from, to, elements);
+        lanes.fill(leaves, from, to, elements);
     }
 }
 

@@ -40,7 +40,7 @@ pub fn candidate(
 
 /// Whether the bytes are the typecode of the parameter set.
 #[tactic(auto, unfolding(crate::specs::Strings::u32str))]
-fn has_typecode(param: OtsParam, bytes: &[u8]) -> bool
+pub(crate) fn has_typecode(param: OtsParam, bytes: &[u8]) -> bool
     ensures { IsTrue result ↔ (bytes.now ≡ u32str (typecode param)) }
 {
     bytes == param.typecode().to_be_bytes().as_slice()

@@ -4,9 +4,10 @@ ghost use Rattle.std.specs.Prelude.{◌≡◌, ℕ, ◌+◌, ◌-◌, ◌<◌, �
 ghost use Rattle.sha2.specs.Sha256.{sha256};
 ghost use Rattle.sp_lanes.specs.Lanes.{lanes};
 ghost use Rattle.sp_ots.specs.Strings.{u8str};
+ghost use Rattle.sp_ots.specs.TwoLeaves.{front_in};
 ghost use Rattle.sp_ots.specs.UnderWay.{AreUnderWay, AreFull, IsInTurn, IsSound, work_left};
 
-use crate::hashes::element_message;
+use crate::two_leaves::TwoLeaves;
 use sp_lanes::{LANES, digests};
 
 /// What each lane holds of the chains that are on their way.
@@ -16,7 +17,7 @@ pub(crate) struct Lanes {
     most: u8,
     /// Of these the first one that is left.
     next: usize,
-    /// The number of the chain in each lane.
+    /// The place of the chain in each lane.
     chains: [usize; LANES],
     /// How many steps that chain has left. A lane with none is idle.
     left: [u8; LANES],
@@ -27,8 +28,8 @@ pub(crate) struct Lanes {
 impl Lanes {
     /// All lanes idle, and all chains still to be taken, of which none has more steps than `most`.
     pub(crate) fn idle(most: u8) -> Lanes
-        ensures { (id : List ℕ) (q : ℕ) (from to : List ℕ) (elements : List (List ℕ))
-            → ((i : ℕ) → i < length elements → slice_index to i ≤ most) → AreUnderWay id q from to elements elements result }
+        ensures { (front : ℕ → List ℕ) (from to : List ℕ) (elements : List (List ℕ))
+            → ((i : ℕ) → i < length elements → slice_index to i ≤ most) → AreUnderWay front from to elements elements result }
     {
         Lanes {
             most,
@@ -46,46 +47,31 @@ impl Lanes {
     }
 
     /// Gives a chain that has steps to each idle lane, as long as there is one.
-    pub(crate) fn fill(
-        &mut self,
-        id: &[u8; 16],
-        q: u32,
-        from: &[u8],
-        to: &[u8],
-        elements: &[[u8; 32]],
-    )
+    pub(crate) fn fill(&mut self, leaves: &TwoLeaves, from: &[u8], to: &[u8], elements: &[[u8; 32]])
         requires numbers { length elements.now ≤ 2 ^ 16 }
         requires from { length from.now ≡ length elements.now }
         requires to { length to.now ≡ length elements.now }
-        ensures under_way { (old : List (List ℕ)) → AreUnderWay id.now q from.now to.now old elements.now self.old
-            → AreUnderWay id.now q from.now to.now old elements.now self.new }
+        ensures under_way { (old : List (List ℕ)) → AreUnderWay (front_in leaves.now) from.now to.now old elements.now self.old
+            → AreUnderWay (front_in leaves.now) from.now to.now old elements.now self.new }
         ensures full { AreFull self.new }
         ensures work { work_left (length elements.now) self.new ≤ work_left (length elements.now) self.old }
     {
         'lanes: for k in 0..LANES {
             if self.left[k] == 0 {
-                self.take(k, id, q, from, to, elements);
+                self.take(k, leaves, from, to, elements);
             }
         }
     }
 
     /// Gives lane k, which is idle, a chain that has steps.
-    fn take(
-        &mut self,
-        k: usize,
-        id: &[u8; 16],
-        q: u32,
-        from: &[u8],
-        to: &[u8],
-        elements: &[[u8; 32]],
-    )
+    fn take(&mut self, k: usize, leaves: &TwoLeaves, from: &[u8], to: &[u8], elements: &[[u8; 32]])
         requires lane { k < lanes }
         requires idle { slice_index self.old.left k ≡ 0 }
         requires numbers { length elements.now ≤ 2 ^ 16 }
         requires from { length from.now ≡ length elements.now }
         requires to { length to.now ≡ length elements.now }
-        ensures under_way { (old : List (List ℕ)) → AreUnderWay id.now q from.now to.now old elements.now self.old
-            → AreUnderWay id.now q from.now to.now old elements.now self.new }
+        ensures under_way { (old : List (List ℕ)) → AreUnderWay (front_in leaves.now) from.now to.now old elements.now self.old
+            → AreUnderWay (front_in leaves.now) from.now to.now old elements.now self.new }
         ensures full { slice_index self.new.left k ≡ 0 → self.new.most ≡ 0 }
         ensures others { (m : ℕ) → m < k → slice_index self.new.left m ≡ slice_index self.old.left m }
         ensures none { self.old.most ≡ 0 → self.new.most ≡ 0 }
@@ -97,7 +83,7 @@ impl Lanes {
             self.next = i + 1;
             self.chains[k] = i;
             self.left[k] = to[i] - from[i];
-            self.messages[k] = element_message(id, q, i as u16, from[i], &elements[i]);
+            self.messages[k] = leaves.message(i, from[i], &elements[i]);
         }
     }
 
@@ -105,8 +91,8 @@ impl Lanes {
     fn seek(&mut self, from: &[u8], to: &[u8])
         requires numbers { length to.now ≤ 2 ^ 16 }
         requires from { length from.now ≡ length to.now }
-        ensures under_way { (id : List ℕ) (q : ℕ) (old now : List (List ℕ)) → length to.now ≡ length old
-            → AreUnderWay id q from.now to.now old now self.old → AreUnderWay id q from.now to.now old now self.new }
+        ensures under_way { (front : ℕ → List ℕ) (old now : List (List ℕ)) → length to.now ≡ length old
+            → AreUnderWay front from.now to.now old now self.old → AreUnderWay front from.now to.now old now self.new }
         ensures found { 0 < self.new.most → (self.new.next < length to.now) × IsInTurn from.now to.now self.new.most self.new.next }
         ensures none { self.old.most ≡ 0 → self.new.most ≡ 0 }
         ensures chains { self.new.chains ≡ self.old.chains }
@@ -128,9 +114,9 @@ impl Lanes {
     pub(crate) fn step(&mut self, to: &[u8], elements: &mut [[u8; 32]])
         requires to { length to.now ≡ length elements.old }
         requires sound { IsSound to.now self.old }
-        ensures under_way { (id : List ℕ) (q : ℕ) (from : List ℕ) (old : List (List ℕ)) → length id ≡ 16
-            → AreUnderWay id q from to.now old elements.old self.old
-            → AreUnderWay id q from to.now old elements.new self.new }
+        ensures under_way { (front : ℕ → List ℕ) (from : List ℕ) (old : List (List ℕ)) → ((i : ℕ) → length (front i) ≡ 22)
+            → AreUnderWay front from to.now old elements.old self.old
+            → AreUnderWay front from to.now old elements.new self.new }
         ensures most { self.new.most ≡ self.old.most }
         ensures next { self.new.next ≡ self.old.next }
         ensures left { self.new.left ≡ map (λ n. n - 1) self.old.left }
@@ -149,10 +135,10 @@ impl Lanes {
         requires busy { 0 < slice_index self.old.left k }
         requires to { length to.now ≡ length elements.old }
         requires sound { IsSound to.now self.old }
-        ensures under_way { (id : List ℕ) (q : ℕ) (from : List ℕ) (old : List (List ℕ)) → length id ≡ 16
+        ensures under_way { (front : ℕ → List ℕ) (from : List ℕ) (old : List (List ℕ)) → ((i : ℕ) → length (front i) ≡ 22)
             → digest.now ≡ sha256 (slice_index_or self.old.messages k [])
-            → AreUnderWay id q from to.now old elements.old self.old
-            → AreUnderWay id q from to.now old elements.new self.new }
+            → AreUnderWay front from to.now old elements.old self.old
+            → AreUnderWay front from to.now old elements.new self.new }
         ensures sound { IsSound to.now self.new }
         ensures most { self.new.most ≡ self.old.most }
         ensures next { self.new.next ≡ self.old.next }

@@ -13,6 +13,8 @@ mod leaves;
 mod param;
 mod refused;
 mod signing;
+mod two_keys;
+mod two_leaves;
 
 pub use chains::{run_chains, run_chains_one_by_one};
 pub use check::candidate;
@@ -22,3 +24,4 @@ pub use leaves::publics;
 pub use param::{OtsParam, sig_len};
 pub use refused::OtsRefused;
 pub use signing::sign;
+pub use two_keys::{Claim, candidates};

@@ -1,7 +1,7 @@
 // One-time signatures against RFC 8554 and Bouncy Castle 1.72, and what becomes of a signature that is changed.
 use hex::FromHex;
 use sha2::{Digest, Sha256};
-use sp_ots::{OtsParam, OtsRefused, candidate, public, sig_len, sign};
+use sp_ots::{Claim, OtsParam, OtsRefused, candidate, candidates, public, sig_len, sign};
 use std::test::Fail;
 use test_vectors::rfc_8554;
 
@@ -189,5 +189,47 @@ fn a_refusal_says_why(rt: HostRuntime) -> Result<(), Fail> {
     assert_eq!(rt; length.as_str(), "the signature has another length");
     let typecode = format!(in rt.alloc(); "{}", OtsRefused::Typecode)?;
     assert_eq!(rt; typecode.as_str(), "the signature has another typecode");
+    Ok(())
+}
+
+#[test]
+fn two_signatures_give_the_keys_that_each_gives_alone(rt: HostRuntime) -> Result<(), Fail> {
+    let mut other_id = ID;
+    other_id[15] ^= 1;
+    for param in PARAMS {
+        let signature = signed(&rt, param)?;
+        let first = Claim {
+            param,
+            id: &ID,
+            q: LEAF,
+            msg: &MESSAGE,
+            sig: &signature,
+        };
+        for other_param in PARAMS {
+            let other_signature = signed(&rt, other_param)?;
+            let second = Claim {
+                param: other_param,
+                id: &other_id,
+                q: LEAF + 1,
+                msg: &MESSAGE[..14],
+                sig: &other_signature,
+            };
+            let key = candidate(
+                other_param,
+                &other_id,
+                LEAF + 1,
+                &MESSAGE[..14],
+                &other_signature,
+            )?;
+            assert_eq!(rt; candidates(&first, &second), Some((key_of(param)?, key)));
+            assert_eq!(rt; candidates(&second, &first), Some((key, key_of(param)?)));
+            let cut = Claim {
+                sig: &other_signature[1..],
+                ..second
+            };
+            assert_eq!(rt; candidates(&first, &cut), None);
+            assert_eq!(rt; candidates(&cut, &first), None);
+        }
+    }
     Ok(())
 }

@@ -1,5 +1,5 @@
 use Rattle.std.proofs.Common.{◌∙◌}
-use Rattle.sp_ots.proofs.Candidates.{key_from_signature}
+use Rattle.sp_ots.proofs.SignedEnds.{key_from_signature}
 use Rattle.sp_ots.proofs.check.candidate_key.Goals as goal
 
 pub returns : goal.returns

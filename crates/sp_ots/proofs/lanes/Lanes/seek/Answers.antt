@@ -5,10 +5,10 @@ use Rattle.sp_ots.proofs.lanes.Lanes.seek.Goals as goal
 
 -- the next chain in turn is found
 pub returns-then-self-to-clause-under_way : goal.returns-then-self-to-clause-under_way
-returns-then-self-to-clause-under_way c = λ id q old now long u.
+returns-then-self-to-clause-under_way c = λ front old now long u.
     let chain = c.next_chain-self.ensures in
     let after : Lanes = record c.turns.self { next = c.next_chain-self.result } in
-    passed id q c.args.from.now c.args.to.now old now c.turns.self after (c.turns.invariant.under_way id q old now long u)
+    passed front c.args.from.now c.args.to.now old now c.turns.self after (c.turns.invariant.under_way front old now long u)
     (omega (arith, chain.low c.if-self-to.true)) chain.others refl refl refl refl
 
 pub turns-preserved : goal.turns-preserved
@@ -17,8 +17,8 @@ turns-preserved c =
     let most = c.turns.self.most in
     let after : Lanes = record c.turns.self { most = most / 3; next = 0 } in
     record {
-      under_way = λ id q old now long u.
-          turned id q c.args.from.now c.args.to.now old now c.turns.self after (c.turns.invariant.under_way id q old now long u)
+      under_way = λ front old now long u.
+          turned front c.args.from.now c.args.to.now old now c.turns.self after (c.turns.invariant.under_way front old now long u)
           (λ i later within. chain.others i later (omega (arith, c.if-self-to.false, long))) refl refl refl refl refl;
       none = λ none. omega (arith, c.turns.invariant.none none);
       chains = c.turns.invariant.chains;

@@ -4,8 +4,8 @@ use Rattle.sp_ots.proofs.lanes.Lanes.seek.Given as goal
 
 abbrev pub invariant-turns : goal.invariant-turns
 invariant-turns l = record {
-  under_way : (id : List ℕ) (q : ℕ) (old now : List (List ℕ)) → length l.to ≡ length old
-      → AreUnderWay id q l.from l.to old now l.fn.self → AreUnderWay id q l.from l.to old now l.self;
+  under_way : (front : ℕ → List ℕ) (old now : List (List ℕ)) → length l.to ≡ length old
+      → AreUnderWay front l.from l.to old now l.fn.self → AreUnderWay front l.from l.to old now l.self;
   none : l.fn.self.most ≡ 0 → l.self.most ≡ 0;
   chains : l.self.chains ≡ l.fn.self.chains;
   left : l.self.left ≡ l.fn.self.left;

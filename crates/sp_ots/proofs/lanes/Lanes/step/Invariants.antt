@@ -4,8 +4,8 @@ use Rattle.sp_ots.proofs.lanes.Lanes.step.Given as goal
 
 abbrev pub invariant-lanes : goal.invariant-lanes
 invariant-lanes l = record {
-  under_way : (id : List ℕ) (q : ℕ) (from : List ℕ) (old : List (List ℕ)) → length id ≡ 16
-      → AreUnderWay id q from l.to old l.fn.elements l.fn.self → AreUnderWay id q from l.to old l.elements l.self;
+  under_way : (front : ℕ → List ℕ) (from : List ℕ) (old : List (List ℕ)) → ((i : ℕ) → length (front i) ≡ 22)
+      → AreUnderWay front from l.to old l.fn.elements l.fn.self → AreUnderWay front from l.to old l.elements l.self;
   whole : length l.elements ≡ length l.fn.elements;
   sound : IsSound l.to l.self;
   most : l.self.most ≡ l.fn.self.most;
