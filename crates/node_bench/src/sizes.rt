@@ -43,7 +43,7 @@ const PEER: usize = size_of::<Store>() + 3 * size_of::<u64>() + 2 * size_of::<Cu
 const PEER_ROW: usize = size_of::<u64>() + size_of::<Cursor>() + size_of::<Vec<u8>>();
 
 /// The parts: the node itself, and what it holds elsewhere.
-fn parts() -> [Part; 14] {
+fn parts() -> [Part; 15] {
     [
         sized("node", size_of::<Node>(), 1),
         sized("keys of nodes", size_of::<NodeKey>(), NODES),
@@ -52,6 +52,7 @@ fn parts() -> [Part; 14] {
         sized("trees and front of the signer", TREES + FRONT, 1),
         sized("verifiers", 8 + size_of::<Verifier>() + 60 + FRONT, NODES),
         sized("rows of weights", size_of::<Option<Kept>>() + 1, 2 * EDGES),
+        sized("weights in effect", size_of::<u32>(), EDGES),
         sized("cycles, ids", size_of::<Cursor>() + 2, NODES),
         sized("windows", size_of::<Window>(), NODES),
         sized("peers of stores", PEER, NEIGHBOURS),

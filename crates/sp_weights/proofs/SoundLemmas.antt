@@ -1,7 +1,7 @@
 -- The rows of the weights stay sound: at the start, and where an update is put into one.
 use Rattle.std.proofs.Common.{◌≡◌, ℕ, ◌*◌, ◌≤◌, zero, suc, Bool, true, false, List, ◌∷◌, length, map, set, replicate, Option, Some, None, refl, sym, ap, ◌∙◌, arith}
 use Rattle.std.specs.Prelude.{is_some}
-use Rattle.std.proofs.lemmas.List.{length-replicate, length-set, map-set}
+use Rattle.std.proofs.lemmas.List.{length-map, length-replicate, length-set, map-set}
 use Rattle.std.proofs.lemmas.List.Elements.{All-replicate, All-set}
 use Rattle.sp_base.specs.declared.limits.TheConstants.{MAX_SEQ}
 use Rattle.sp_msg.specs.Bodies.{HasGoodFields}
@@ -10,18 +10,23 @@ use Rattle.sp_msg.specs.declared.body.Body.TheVariants as bodies
 use Rattle.sp_msg.specs.declared.kept.Kept.{Kept}
 use Rattle.sp_topology.specs.declared.topology.Edge.{Edge}
 use Rattle.sp_rules.specs.Weights.{seq_of, seq_said}
-use Rattle.sp_weights.specs.Sound.{IsSound}
+use Rattle.sp_weights.specs.Sound.{IsSound, effective_by}
+use Rattle.sp_weights.proofs.EffectLemmas.{HasRow, minima_in_effect, weights_with}
 
 -- rows that hold nothing aren't active
 pub none_active : (n : ℕ) → let nothing : Option Kept = None in replicate n false ≡ map is_some (replicate n nothing)
 none_active zero = refl
 none_active (suc n) = ap (λ rest. false ∷ rest) (none_active n)
 
-pub sound_at_start : (edges : List Edge) (rows : List (Option Kept)) (active : List Bool) (count : ℕ) → count ≡ 2 * length edges → rows ≡ replicate count None → active ≡ replicate count false → IsSound edges rows active
-sound_at_start edges rows active count enough none idle = record {
+pub sound_at_start : (edges : List Edge) (rows : List (Option Kept)) (active : List Bool) (weights : List ℕ) (count : ℕ)
+    → count ≡ 2 * length edges → rows ≡ replicate count None → active ≡ replicate count false → weights ≡ map (λ e. e.weight) edges
+    → IsSound edges rows active weights
+sound_at_start edges rows active weights count enough none idle least = record {
   each_end_has_a_row = ap length none ∙ length-replicate count None ∙ enough;
   active_rows = idle ∙ none_active count ∙ ap (λ held. map is_some held) (sym none);
   numbers = rw none (All-replicate (λ held. seq_of held ≤ MAX_SEQ) count None (omega arith));
+  each_edge_has_a_weight = ap length least ∙ length-map edges (λ e. e.weight);
+  in_effect = minima_in_effect edges rows weights count none least;
 }
 
 -- a message with good fields says a number that may be
@@ -32,9 +37,13 @@ seq_in_range (bodies.Ack a) good = omega arith
 seq_in_range (bodies.Weight w) good = good.1.1.0.1
 
 -- a message with good fields is put into a row
-pub sound_with : (edges : List Edge) (rows : List (Option Kept)) (active : List Bool) (row : ℕ) (kept : Kept) → HasGoodFields kept.body → IsSound edges rows active → IsSound edges (set rows row (Some kept)) (set active row true)
-sound_with edges rows active row kept good sound = record {
+pub sound_with : (edges : List Edge) (rows : List (Option Kept)) (active : List Bool) (weights : List ℕ) (edge row weight : ℕ) (kept : Kept)
+    → HasGoodFields kept.body → HasRow edges edge row → weight ≡ effective_by edges (set rows row (Some kept)) edge → IsSound edges rows active weights
+    → IsSound edges (set rows row (Some kept)) (set active row true) (set weights edge weight)
+sound_with edges rows active weights edge row weight kept good has is sound = record {
   each_end_has_a_row = length-set rows row (Some kept) ∙ sound.each_end_has_a_row;
   active_rows = ap (λ flags. set flags row true) sound.active_rows ∙ sym (map-set is_some rows row (Some kept));
   numbers = All-set (λ held. seq_of held ≤ MAX_SEQ) rows row (Some kept) (seq_in_range kept.body good) sound.numbers;
+  each_edge_has_a_weight = length-set weights edge weight ∙ sound.each_edge_has_a_weight;
+  in_effect = weights_with edges rows weights edge row weight (Some kept) sound.each_edge_has_a_weight has is sound.in_effect;
 }

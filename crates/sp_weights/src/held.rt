@@ -1,6 +1,7 @@
 // The rows of updates, and where each stands.
 ghost use Rattle.std.specs.Prelude.{◌≡◌, ◌<◌, ◌*◌, IfSome, length, option_copied};
 ghost use Rattle.sp_rules.specs.Weights.{held_in, row_in, row_of, seq_of, weight_of};
+ghost use Rattle.sp_weights.specs.Sound.{effective_by};
 
 use sp_base::{EdgeId, NodeId};
 use sp_msg::{Body, Kept};
@@ -63,4 +64,15 @@ pub fn weight_in(rows: &[Option<Kept>], row: usize) -> u32
         },
         None => 0,
     }
+}
+
+/// The weight of an edge by what the rows hold: the greatest of the administrator's minimum and the last update of each end.
+pub fn effective_by(edges: &[Edge], rows: &[Option<Kept>], edge: EdgeId) -> u32
+    requires { edge.0 < length edges.now }
+    ensures { result ≡ effective_by edges.now rows.now edge.0 }
+{
+    let row = 2 * edge.0 as usize;
+    let low = weight_in(rows, row);
+    let high = weight_in(rows, row + 1);
+    edges[edge.0 as usize].weight.max(low.max(high))
 }

@@ -1,10 +1,10 @@
 // The updates of weights that a node holds. All memory is taken at the start.
-ghost use Rattle.std.specs.Prelude.{◌≡◌, ◌+◌, ◌*◌, ◌<◌, ◌≤◌, IfOk, length, option_copied, replicate, None as Nothing, false};
+ghost use Rattle.std.specs.Prelude.{◌≡◌, ◌+◌, ◌*◌, ◌<◌, ◌≤◌, IfOk, length, map, option_copied, replicate, None as Nothing, false};
 ghost use Rattle.sp_msg.specs.Bodies.{HasGoodFields};
 ghost use Rattle.sp_rules.specs.Weights.{cycle_at, effective, held, moved, next, next_row, next_seq, offer, offer_of, start};
 ghost use Rattle.sp_topology.specs.Ranges.{IsTopology};
 
-use crate::held::{held_in, row_in, row_of, seq_in, weight_in};
+use crate::held::{effective_by, held_in, row_in, row_of, seq_in};
 use sp_base::{Cursor, EdgeId, Memory, NodeId};
 use sp_msg::{Body, Kept, WeightBody};
 use sp_rules::Offer;
@@ -22,6 +22,8 @@ pub struct Weights {
     active: Vec<bool>,
     /// For each place of a node the row that went to it last.
     cycles: Vec<Cursor>,
+    /// The weight of each edge that is in effect.
+    in_effect: Vec<u32>,
 }
 
 impl Model for Weights {
@@ -32,7 +34,7 @@ impl Model for Weights {
 
     ghost view = { λ w. record { edges = w.edges.items; rows = w.rows.items; cycles = w.cycles.items } };
 
-    ghost invariant = { λ w. IsSound w.edges.items w.rows.items w.active.items };
+    ghost invariant = { λ w. IsSound w.edges.items w.rows.items w.active.items w.in_effect.items };
 }
 
 impl Weights {
@@ -46,11 +48,13 @@ impl Weights {
         let rows = empty_rows(alloc, count)?;
         let active = idle_rows(alloc, count)?;
         let cycles = starts(alloc, topology.nodes.as_slice().len())?;
+        let in_effect = minima(alloc, edges.as_slice())?;
         Ok(Weights {
             edges,
             rows,
             active,
             cycles,
+            in_effect,
         })
     }
 
@@ -83,9 +87,15 @@ impl Weights {
         let Body::Weight(update) = &kept.body else {
             return;
         };
-        if let Some(row) = row_in(self.edges.as_slice(), update.edge, update.origin) {
+        let edge = update.edge;
+        if let Some(row) = row_in(self.edges.as_slice(), edge, update.origin) {
             self.rows[row] = Some(kept);
             self.active[row] = true;
+            self.in_effect[edge.0 as usize] = effective_by(
+                self.edges.as_slice(),
+                self.rows.as_slice(),
+                edge,
+            );
         }
     }
 
@@ -94,10 +104,7 @@ impl Weights {
         requires { edge.0 < length self.now.edges }
         ensures { result ≡ effective self.now edge.0 }
     {
-        let row = 2 * edge.0 as usize;
-        let low = weight_in(self.rows.as_slice(), row);
-        let high = weight_in(self.rows.as_slice(), row + 1);
-        self.edges[edge.0 as usize].weight.max(low.max(high))
+        self.in_effect[edge.0 as usize]
     }
 
     /// The number of the next update of an end of an edge, which is 1 where there is no such end.
@@ -171,4 +178,15 @@ fn starts(alloc: Global, count: usize) -> Result<Vec<Cursor>, Memory>
         cycles.push(Cursor::start())?;
     }
     Ok(cycles)
+}
+
+/// The minimum of each of these edges, which is in effect while no update is held.
+fn minima(alloc: Global, edges: &[Edge]) -> Result<Vec<u32>, Memory>
+    ensures { IfOk result (λ weights. weights.items ≡ map (λ e. e.weight) edges.now) }
+{
+    let mut weights = Vec::with_capacity(alloc, edges.len())?;
+    'edges: for edge in edges {
+        weights.push(edge.weight)?;
+    }
+    Ok(weights)
 }
