@@ -1,26 +1,8 @@
--- The copies beside a message: under another signature, and with the message among them.
-use Rattle.std.proofs.Common.{◌≡◌, ◌≤◌, ℕ, zero, suc, ◌+◌, List, [], ◌∷◌, ◌++◌, All, length, map, replicate, refl, sym, ap, subst, ◌∙◌, arith}
+-- The copies beside a message, with the message among them.
+use Rattle.std.proofs.Common.{◌≡◌, ◌≤◌, ℕ, zero, suc, ◌+◌, List, [], ◌∷◌, ◌++◌, length, replicate, refl, sym, ap, ◌∙◌, arith}
 use Rattle.std.proofs.lemmas.List.{length-replicate}
-use Rattle.std.proofs.lemmas.List.Elements.{All-replicate}
 use Rattle.sp_msg.specs.declared.kept.Kept.{Kept}
-use Rattle.sp_prio.specs.Parcel.{AreBeside, IsSpareOf, Spare, beside_count, signed}
-use Rattle.sp_prio.proofs.MappedLemmas.{map_same}
-
--- each has a signature as long as that of the message
-pub long_beside : (kept : Kept) (copies n room : ℕ) (beside : List Kept) → AreBeside kept copies beside room → length kept.signature ≡ n
-    → All (λ k. length k.signature ≡ n) beside
-long_beside kept copies n room beside stands long =
-    subst (All (λ k. length k.signature ≡ n)) (sym stands.alike) (All-replicate (λ k. length k.signature ≡ n) (beside_count copies) kept long)
-
--- each gets the signature of the message
-pub signed_beside : (signature : List ℕ) (kept like : Kept) (was now : Spare) → IsSpareOf like was
-    → now ≡ record { copies = was.copies; beside = map (signed signature) was.beside; room = was.room } → kept ≡ signed signature like → IsSpareOf kept now
-signed_beside signature kept like was now stands is new =
-    subst (IsSpareOf kept) (sym is) (record {
-      alike = ap (map (signed signature)) stands.alike ∙ map_same (signed signature) (beside_count was.copies) like
-          ∙ ap (replicate (beside_count was.copies)) (sym new);
-      roomy = stands.roomy;
-    })
+use Rattle.sp_prio.specs.Parcel.{AreBeside, beside_count}
 
 -- with the message itself there are enough
 pub enough_beside : (copies : ℕ) → copies ≤ beside_count copies + 1

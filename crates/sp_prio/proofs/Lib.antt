@@ -2,3 +2,4 @@ pub mod MappedLemmas
 pub mod RowLemmas
 pub mod TellLemmas
 mod BesideLemmas
+mod SpareLemmas

@@ -1,7 +1,6 @@
 -- A list of which the first elements are changed, one after another.
-use Rattle.std.proofs.Common.{◌≡◌, ◌≤◌, ◌<◌, ℕ, zero, suc, ◌+◌, List, [], ◌∷◌, length, map, set, get_or, refl, replicate, sym, ap, subst, ◌∙◌, arith}
+use Rattle.std.proofs.Common.{◌≡◌, ◌≤◌, ◌<◌, ℕ, zero, suc, ◌+◌, List, [], ◌∷◌, length, map, set, get_or, refl, sym, ap, subst, ◌∙◌, arith}
 use Rattle.std.specs.Prelude.{All}
-use Rattle.std.proofs.lemmas.List.{length-map}
 use Rattle.std.proofs.lemmas.List.Elements.{All-get_or}
 
 -- the list with its first i elements changed
@@ -48,13 +47,3 @@ mapped_read {X} f i xs ys x so_far is = is ∙ ap (λ (zs : List X). get_or zs i
 pub mapped_holds : {X : Type 0} (P : X → Type 0) (f : X → X) (i : ℕ) (xs ys : List X) (x : X) → ys ≡ mapped f i xs → x ≡ get_or ys i x →
     i < length xs → All P xs → P x
 mapped_holds P f i xs ys x so_far is inside all = subst P (sym (mapped_read f i xs ys x so_far is)) (All-get_or P xs i x inside all)
-
-pub map_same : {X : Type 0} (f : X → X) (n : ℕ) (x : X) → map f (replicate n x) ≡ replicate n (f x)
-map_same f zero x = refl
-map_same {X} f (suc n) x = ap (λ (rest : List X). f x ∷ rest) (map_same f n x)
-
--- equal elements stay equal
-pub mapped_alike : {X : Type 0} (f : X → X) (xs ys : List X) (x y : X) → xs ≡ replicate (length xs) x → ys ≡ map f xs → y ≡ f x → ys ≡ replicate (length ys) y
-mapped_alike {X} f xs ys x y alike is new =
-    let long : length ys ≡ length xs = ap length is ∙ length-map xs f in
-    is ∙ ap (map f) alike ∙ map_same f (length xs) x ∙ ap (λ (n : ℕ). replicate n (f x)) (sym long) ∙ ap (λ (z : X). replicate (length ys) z) (sym new)

@@ -1,4 +1,5 @@
 pub mod Answers
 pub mod Parcel
+pub mod Spare
 pub mod Sound
 pub mod Given

@@ -6,9 +6,11 @@ mod parcel;
 mod peer;
 mod place;
 mod rows;
+mod spare;
 mod table;
 mod windows;
 
-pub use parcel::{Parcel, Spare};
+pub use parcel::Parcel;
 pub use sp_rules::{Entry, Neighbour, PrioJudged};
+pub use spare::Spare;
 pub use table::PrioTable;

@@ -1,6 +1,6 @@
 // A message with a copy for each place that it goes into: all memory is taken before anything changes.
-ghost use Rattle.std.specs.Prelude.{◌≡◌, ◌<◌, ◌+◌, All, IfOk, length, map, replicate, vec_capacity};
-ghost use Rattle.sp_prio.specs.Parcel.{AreBeside, IsSpareFor, IsSpareOf, beside_count, signed};
+ghost use Rattle.std.specs.Prelude.{◌≡◌, ◌<◌, ◌+◌, IfOk, replicate, vec_capacity};
+ghost use Rattle.sp_prio.specs.Parcel.{AreBeside, beside_count};
 
 use sp_base::{Memory, NodeId};
 use sp_msg::Kept;
@@ -14,62 +14,19 @@ use std::marker::Model;
 pub struct Parcel {
     kept: Kept,
     came: Option<NodeId>,
-    spare: Spare,
-}
-
-impl Model for Parcel {
-    ghost use Rattle.sp_prio.specs.Parcel as parcels;
-
-    ghost Value = { parcels.Parcel };
-
-    ghost view = { λ p. record { kept = p.kept; came = p.came; copies = p.spare.copies } };
-
-    ghost invariant = { λ p. parcels.IsSpareOf p.kept p.spare };
-}
-
-/// The copies beside a message that goes into so many places.
-#[derive(Debug, Drop)]
-pub struct Spare {
     copies: usize,
     beside: Vec<Kept>,
 }
 
-impl Model for Spare {
+impl Model for Parcel {
     ghost use Rattle.std.specs.Prelude.{vec_capacity};
     ghost use Rattle.sp_prio.specs.Parcel as parcels;
 
-    ghost Value = { parcels.Spare };
+    ghost Value = { parcels.Parcel };
 
-    ghost view = { λ s. record { copies = s.copies; beside = s.beside.items; room = vec_capacity s.beside } };
-}
+    ghost view = { λ p. record { kept = p.kept; came = p.came; copies = p.copies } };
 
-impl Spare {
-    /// The copies beside a message that goes into so many places.
-    pub(crate) fn new(alloc: Global, kept: &Kept, copies: usize) -> Result<Spare, Memory>
-        ensures of_it { IfOk result (IsSpareOf kept.now) }
-        ensures copies { IfOk result (λ spare. spare.copies ≡ copies) }
-    {
-        let beside = copies_of(alloc, kept, beside_count(copies))?;
-        Ok(Spare { copies, beside })
-    }
-
-    /// The parcel of a message that differs from these copies in the bytes of its signature alone: the signature of all of them becomes its own.
-    pub fn parcel(self, kept: Kept, came: Option<NodeId>) -> Parcel
-        requires { IsSpareFor kept self }
-        ensures { result ≡ record { kept = kept; came = came; copies = self.copies } }
-    {
-        let mut spare = self;
-        spare.set_signature(kept.signature.as_slice());
-        Parcel { kept, came, spare }
-    }
-
-    /// Replaces the signature of each of them by one of the same length.
-    fn set_signature(&mut self, signature: &[u8])
-        requires { All (λ k. length k.signature ≡ length signature.now) self.old.beside }
-        ensures { self.new ≡ record { copies = self.old.copies; beside = map (signed signature.now) self.old.beside; room = self.old.room } }
-    {
-        sign_all(&mut self.beside, signature);
-    }
+    ghost invariant = { λ p. parcels.AreBeside p.kept p.copies p.beside.items (vec_capacity p.beside) };
 }
 
 impl Parcel {
@@ -82,8 +39,26 @@ impl Parcel {
     ) -> Result<Parcel, Memory>
         ensures { IfOk result (λ parcel. parcel ≡ record { kept = kept; came = came; copies = copies }) }
     {
-        let spare = Spare::new(alloc, &kept, copies)?;
-        Ok(Parcel { kept, came, spare })
+        let beside = copies_of(alloc, &kept, beside_count(copies))?;
+        Ok(Parcel::from_parts(kept, came, copies, beside))
+    }
+
+    /// The message with the copies that stand beside it.
+    pub(crate) fn from_parts(
+        kept: Kept,
+        came: Option<NodeId>,
+        copies: usize,
+        beside: Vec<Kept>,
+    ) -> Parcel
+        requires { AreBeside kept copies beside.items (vec_capacity beside) }
+        ensures { result ≡ record { kept = kept; came = came; copies = copies } }
+    {
+        Parcel {
+            kept,
+            came,
+            copies,
+            beside,
+        }
     }
 
     /// The parts: the message, where it came from, and the copies beside it, with room for one more.
@@ -92,23 +67,13 @@ impl Parcel {
         ensures came { result.1 ≡ self.came }
         ensures beside { AreBeside self.kept self.copies result.2.items (vec_capacity result.2) }
     {
-        let Parcel { kept, came, spare } = self;
-        (kept, came, spare.beside)
-    }
-
-    /// Replaces the signature of the message and of all copies by one of the same length.
-    pub fn set_signature(&mut self, signature: &[u8])
-        requires { length signature.now ≡ length self.old.kept.signature }
-        ensures { self.new ≡ record { kept = signed signature.now self.old.kept; came = self.old.came; copies = self.old.copies } }
-    {
-        sign(&mut self.kept, signature);
-        self.spare.set_signature(signature);
+        (self.kept, self.came, self.beside)
     }
 }
 
 /// How many copies stand beside a message that goes into so many places: it is the copy of the last one itself. At a single place, which may be its
 /// destination, its payload is told beside the copy.
-fn beside_count(copies: usize) -> usize
+pub(crate) fn beside_count(copies: usize) -> usize
     ensures { result ≡ beside_count copies }
 {
     if copies <= 1 { copies } else { copies - 1 }
@@ -135,22 +100,4 @@ fn copies_of(alloc: Global, kept: &Kept, count: usize) -> Result<Vec<Kept>, Memo
         copies.push(copy_of(alloc, kept)?)?;
     }
     Ok(copies)
-}
-
-/// Replaces the signature of a message.
-fn sign(kept: &mut Kept, signature: &[u8])
-    requires { length signature.now ≡ length kept.old.signature }
-    ensures { kept.new ≡ signed signature.now kept.old }
-{
-    kept.signature.as_mut_slice().copy_from_slice(signature);
-}
-
-/// Replaces the signature of each of these.
-fn sign_all(copies: &mut [Kept], signature: &[u8])
-    requires { All (λ k. length k.signature ≡ length signature.now) copies.old }
-    ensures { copies.new ≡ map (signed signature.now) copies.old }
-{
-    'copies: for place in 0..copies.len() {
-        sign(&mut copies[place], signature);
-    }
 }

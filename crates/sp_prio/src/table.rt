@@ -5,7 +5,8 @@ ghost use Rattle.sp_msg.specs.Views.{as_body};
 ghost use Rattle.sp_rules.specs.Prio.{acked, acked_effects, admit_prio, carried, expired, expired_effects, expiring, heard, is_node, judge, judge_fields, judge_prio, marked, next_prio, peer_in, places, prio_effects, spread, start, taken};
 ghost use Rattle.sp_rules.specs.Store.{oldest};
 ghost use Rattle.sp_rules.specs.Told.{told};
-ghost use Rattle.sp_prio.specs.Parcel.{AreBeside, IsSpareOf};
+ghost use Rattle.sp_prio.specs.Parcel.{AreBeside};
+ghost use Rattle.sp_prio.specs.Spare.{IsSpareOf};
 ghost use Rattle.sp_rules.specs.declared.store.TheConstants.{IDS};
 
 use crate::field::{dst_of, next_after_own, seq_of, src_of};

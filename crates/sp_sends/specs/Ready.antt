@@ -2,7 +2,7 @@
 use Rattle.std.specs.Prelude.{ℕ, ◌≡◌, ◌<◌, ◌+◌, ◌*◌, ◌^◌, [], All, None, Result, Ok, Err, length}
 use Rattle.sp_msg.specs.declared.refused.SendRefused.{SendRefused}
 use Rattle.sp_msg.specs.declared.refused.SendRefused.TheVariants as refusals
-use Rattle.sp_prio.specs.Parcel.{IsSpareOf}
+use Rattle.sp_prio.specs.Spare.{IsSpareOf}
 use Rattle.sp_rel.specs.Seated.{IsSeated}
 use Rattle.sp_rules.specs.Flow.{flow_said}
 use Rattle.sp_rules.specs.Masks.{IsChoice, graph_of}

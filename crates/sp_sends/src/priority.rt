@@ -10,7 +10,7 @@ ghost use Rattle.sp_sends.specs.Sends.{Sends};
 ghost use Rattle.sp_sends.specs.Messages.{as_send};
 ghost use Rattle.sp_sends.specs.Ready.{IsMaskFor, IsReadyPrio};
 ghost use Rattle.sp_paths.specs.declared.limits.TheConstants.{MAX_PATHS};
-ghost use Rattle.sp_prio.specs.Parcel.{IsSpareFor};
+ghost use Rattle.sp_prio.specs.Spare.{IsSpareFor};
 ghost use Rattle.sp_rules.specs.Masks.{IsChoice, graph_of};
 ghost use Rattle.sp_rules.specs.Node.{signed_now, signed_once};
 ghost use Rattle.sp_rules.specs.Parts.{nodes_of};
@@ -79,7 +79,7 @@ fn may_send(state: &State, message: &Message<'_>) -> Result<(), SendRefused>
     ensures refused { IfErr result (λ refused. prio_refusal state.entry.now (as_send message.now) ≡ There refused) }
     ensures no_want { result ≢ Err SendRefused.Memory }
 {
-    if message.dst.0 == state.fixed.me.0 || !state.core.prio.is_node(message.dst) {
+    if !state.is_other(message.dst) {
         return Err(SendRefused::BadEnd);
     }
     if message.expiry < state.now {

@@ -303,8 +303,13 @@ fn what_is_evicted_at_its_destination_is_delivered_all_the_same(
     runs(&rt, node_of_three(rt.alloc(), 2, 1, 1)?, EVICTED)
 }
 
-/// A message whose signature is replaced before it is admitted.
-fn resigned(alloc: Global, table: &mut PrioTable, kept: &Kept, signature: &[u8]) -> Result<(), Fail>
+/// A message that is signed after the memory of its copies was taken, and then admitted.
+fn signed_late(
+    alloc: Global,
+    table: &mut PrioTable,
+    kept: &Kept,
+    signature: &[u8],
+) -> Result<(), Fail>
     requires fields { HasGoodFields kept.now.body }
     requires same { length signature.now ≡ length kept.now.signature }
 {
@@ -312,9 +317,10 @@ fn resigned(alloc: Global, table: &mut PrioTable, kept: &Kept, signature: &[u8])
         return Err("no id is left".into());
     }
     let mut out = Effects::with_room(alloc, 2 * table.neighbours() + 3)?;
-    let mut parcel = table.parcel(alloc, kept, None)?;
-    parcel.set_signature(signature);
-    table.admit(parcel, &mut out);
+    let spare = table.spare(alloc, kept, None)?;
+    let mut signed = kept.copy(alloc)?;
+    signed.signature.as_mut_slice().copy_from_slice(signature);
+    table.admit(spare.parcel(signed, None), &mut out);
     Ok(())
 }
 
@@ -323,7 +329,7 @@ fn the_signature_of_a_parcel_is_that_of_its_copies(rt: HostRuntime) -> Result<()
     let alloc = rt.alloc();
     let mut table = node_of_rows(alloc)?;
     let kept = message(alloc, fields_of("2 5 1 1 9 7")?, b"--")?;
-    resigned(alloc, &mut table, &kept, b"ok")?;
+    signed_late(alloc, &mut table, &kept, b"ok")?;
     for id in [1, 3, 4] {
         let (_, entry) = table.slot_for(NodeId(id)).ok_or("nothing waits")?;
         assert_eq!(rt; entry.kept.signature.as_slice(), b"ok".as_slice());

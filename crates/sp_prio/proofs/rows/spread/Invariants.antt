@@ -2,7 +2,6 @@ use Rattle.std.proofs.Common.{◌≡◌, ◌≤◌, ◌*◌, ◌-◌, length, dr
 use Rattle.std.specs.Prelude.{count_by}
 use Rattle.std.specs.List.{flat_map}
 use Rattle.sp_rules.specs.PrioPeer.{given, given_effects, goes_to}
-use Rattle.sp_rules.specs.Store.{said}
 use Rattle.sp_rules.specs.Told.{told}
 use Rattle.sp_prio.proofs.MappedLemmas.{mapped}
 use Rattle.sp_prio.proofs.rows.spread.Given as goal
