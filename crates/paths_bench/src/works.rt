@@ -7,21 +7,22 @@ use crate::checked::{Signed, checks, make_signed};
 use crate::dense::dense;
 use sp_base::{MAX_INPUT_BYTES, NodeId};
 use sp_graph::{Graph, read};
-use sp_paths::{check, disjoint};
+use sp_paths::{check, disjoint, disjoint_paths};
 use std::alloc::Global;
 
 /// How many works there are.
-pub const WORKS: u32 = 7;
+pub const WORKS: u32 = 8;
 
 /// The name of the work of this number, counted from 0.
 pub fn name(number: u32) -> &'static str {
     match number {
         0 => "16 nodes, 8 paths",
-        1 => "16 nodes, 4 paths",
-        2 => "16 nodes, 1 path",
-        3 => "8 nodes, 4 paths",
-        4 => "check 16 nodes, 8 paths",
-        5 => "check 8 nodes, 4 paths",
+        1 => "16 nodes, 8 paths alone",
+        2 => "16 nodes, 4 paths",
+        3 => "16 nodes, 1 path",
+        4 => "8 nodes, 4 paths",
+        5 => "check 16 nodes, 8 paths",
+        6 => "check 8 nodes, 4 paths",
         _ => "check a signature",
     }
 }
@@ -46,11 +47,12 @@ pub fn prepare(alloc: Global) -> Option<Bench> {
 pub fn run(alloc: Global, number: u32, count: u32, bench: &Bench) -> u8 {
     match number {
         0 => searches(alloc, count, bench.large.as_str(), 16, 8),
-        1 => searches(alloc, count, bench.large.as_str(), 16, 4),
-        2 => searches(alloc, count, bench.large.as_str(), 16, 1),
-        3 => searches(alloc, count, bench.small.as_str(), 8, 4),
-        4 => judgements(alloc, count, bench.large.as_str(), 16, 8),
-        5 => judgements(alloc, count, bench.small.as_str(), 8, 4),
+        1 => searches_alone(alloc, count, bench.large.as_str(), 16, 8),
+        2 => searches(alloc, count, bench.large.as_str(), 16, 4),
+        3 => searches(alloc, count, bench.large.as_str(), 16, 1),
+        4 => searches(alloc, count, bench.small.as_str(), 8, 4),
+        5 => judgements(alloc, count, bench.large.as_str(), 16, 8),
+        6 => judgements(alloc, count, bench.small.as_str(), 8, 4),
         _ => checks(alloc, count, &bench.signed),
     }
 }
@@ -93,6 +95,24 @@ fn searches(alloc: Global, count: u32, text: &str, nodes: u32, paths: u8) -> u8
         let (from, to) = ends(i, nodes);
         if let Ok(found) = disjoint(alloc, &graph, from, to, paths) {
             sum ^= (found.cost % 251) as u8 ^ (i % 256) as u8;
+        }
+    }
+    sum
+}
+
+/// The same for the paths alone, without their cost and certificate.
+fn searches_alone(alloc: Global, count: u32, text: &str, nodes: u32, paths: u8) -> u8
+    requires nodes { (2 ≤ nodes) × (nodes ≤ 16) }
+    requires count { (1 ≤ paths) × (paths ≤ MAX_PATHS) }
+{
+    let Some(graph) = graph_of(alloc, text) else {
+        return 0;
+    };
+    let mut sum = 0u8;
+    for i in 0..count {
+        let (from, to) = ends(i, nodes);
+        if let Ok(found) = disjoint_paths(alloc, &graph, from, to, paths) {
+            sum ^= (found.as_slice().len() % 251) as u8 ^ (i % 256) as u8;
         }
     }
     sum

@@ -14,7 +14,7 @@ use crate::union::mask_of_all;
 use sp_base::{Listed, Memory, NodeId};
 use sp_graph::Graph;
 use sp_msg::Mask;
-use sp_paths::{PathRefused, disjoint};
+use sp_paths::{PathRefused, disjoint_paths};
 use std::alloc::Global;
 
 /// So many paths that share no node, where each cut is left by as many arcs. Only want of memory refuses.
@@ -34,8 +34,8 @@ fn paths_there(
     if found == 0 {
         return Ok(Listed::from_vec(Vec::new(alloc)));
     }
-    match disjoint(alloc, graph, s, t, found) {
-        Ok(there) => Ok(there.paths),
+    match disjoint_paths(alloc, graph, s, t, found) {
+        Ok(paths) => Ok(paths),
         Err(PathRefused::Memory) => Err(Memory),
         Err(PathRefused::Unknown) => unreachable!(),
         Err(PathRefused::SameEnds) => unreachable!(),
@@ -58,8 +58,8 @@ pub fn cheapest_mask(
     ensures mask { IfOk result (λ mask. IsChoice graph.now s t count (Ok mask)) }
     ensures fewer { IfErr result (SaysFewer graph.now s t count) }
 {
-    match disjoint(alloc, graph, s, t, count) {
-        Ok(found) => Ok(mask_of_all(graph, found.paths.as_slice())),
+    match disjoint_paths(alloc, graph, s, t, count) {
+        Ok(paths) => Ok(mask_of_all(graph, paths.as_slice())),
         Err(PathRefused::Memory) => Err(NoMask::Memory),
         Err(PathRefused::Unknown) => unreachable!(),
         Err(PathRefused::SameEnds) => unreachable!(),

@@ -27,7 +27,7 @@ mod walk;
 mod walked;
 mod walks;
 
-pub use cheapest::disjoint;
+pub use cheapest::{disjoint, disjoint_paths};
 pub use checked::check;
 pub use laws::{what_is_accepted_is_least, what_is_found_is_accepted};
 pub use limits::MAX_PATHS;

@@ -4,9 +4,9 @@ ghost use Rattle.sp_graph.specs.Edges.{IsGraph};
 ghost use Rattle.sp_paths.specs.declared.limits.TheConstants.{MAX_PATHS};
 
 use crate::asked::graph_of;
-use sp_base::NodeId;
+use sp_base::{Listed, NodeId};
 use sp_graph::Graph;
-use sp_paths::{PathRefused, Paths, check, disjoint};
+use sp_paths::{PathRefused, Paths, check, disjoint, disjoint_paths};
 use std::alloc::Global;
 use std::process::Abort;
 use std::test::Fail;
@@ -103,7 +103,17 @@ fn judge(rt: &impl Abort, graph: &Graph, s: NodeId, t: NodeId, paths: &mut Paths
     assert!(rt; check(graph, s, t, paths), "as it was");
 }
 
-/// Asks for some paths of the graph. Gives whether they are there.
+/// Whether the answer has just these paths.
+fn are_same(answer: &Paths, alone: &[Listed<NodeId>]) -> bool {
+    let paths = answer.paths.as_slice();
+    paths.len() == alone.len()
+        && paths
+            .iter()
+            .zip(alone)
+            .all(|(path, other)| path.as_slice() == other.as_slice())
+}
+
+/// Asks for some paths of the graph, whole and alone. Gives whether they are there.
 fn ask(
     rt: &(impl Abort + AllocGlobal),
     graph: &Graph,
@@ -117,6 +127,8 @@ fn ask(
 {
     match disjoint(rt.alloc(), graph, s, t, k) {
         Ok(mut paths) => {
+            let alone = disjoint_paths(rt.alloc(), graph, s, t, k)?;
+            assert!(rt; are_same(&paths, alone.as_slice()), "the paths alone");
             judge(rt, graph, s, t, &mut paths, seed);
             Ok(true)
         }

@@ -1,5 +1,5 @@
 use Rattle.sp_paths.specs.Searched.{IsFew}
-use Rattle.sp_paths.proofs.cheapest.disjoint.Goals as goal
+use Rattle.sp_paths.proofs.cheapest.found.Goals as goal
 
 pub returns-in_ok-cut-in-Few-clause-fewer : goal.returns-in_ok-cut-in-Few-clause-fewer
 returns-in_ok-cut-in-Few-clause-fewer c =
