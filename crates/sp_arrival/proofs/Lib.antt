@@ -2,4 +2,3 @@ pub mod DoneLemmas
 pub mod PrioLemmas
 pub mod RelLemmas
 pub mod RoomLemmas
-pub mod SignedLemmas

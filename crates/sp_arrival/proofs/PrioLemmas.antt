@@ -15,7 +15,7 @@ use Rattle.sp_rules.specs.Handle as rules
 use Rattle.sp_rules.specs.Prio.{PrioState, acked, is_here, is_peer, no_peer, peer_in, places}
 use Rattle.sp_rules.specs.PrioPeer as rows
 use Rattle.sp_rules.specs.PrioPeer.{PrioPeer, goes_to, landed}
-use Rattle.sp_arrival.specs.Ready.{IsPrioReady}
+use Rattle.sp_ready.specs.Ready.{IsPrioReady}
 
 -- ---- a row is replaced by what becomes of it
 

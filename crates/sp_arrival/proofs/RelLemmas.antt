@@ -22,7 +22,7 @@ use Rattle.sp_rules.specs.declared.rel.AckJudged.TheVariants as acks
 use Rattle.sp_rules.specs.declared.rel.RelJudged.{RelJudged}
 use Rattle.sp_rules.specs.declared.rel.RelJudged.TheVariants as rels
 use Rattle.sp_topology.specs.declared.topology.NodeKey.{NodeKey}
-use Rattle.sp_arrival.specs.Ready.{IsAckReady, IsRelReady, StaysReady, may_be_new}
+use Rattle.sp_ready.specs.Ready.{IsAckReady, IsRelReady, StaysReady, may_be_new}
 
 -- ---- a report
 

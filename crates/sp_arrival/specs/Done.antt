@@ -2,17 +2,12 @@
 use Rattle.std.specs.Prelude.{◌≡◌, List, ◌++◌, map}
 use Rattle.sp_frame.specs.Views.{as_list}
 use Rattle.sp_msg.specs.Caused.{Caused}
-use Rattle.sp_rules.specs.Handle as rules
 use Rattle.sp_rules.specs.Handle.{Handled}
 use Rattle.sp_rules.specs.Parts.{Parts}
 use Rattle.sp_rules.specs.Told.{told}
 use Rattle.sp_rules.specs.declared.answers.Item.{Item}
-use Rattle.sp_arrival.specs.declared.arrival.Answers.{Answers}
-use Rattle.sp_arrival.specs.declared.arrival.Arrival.{Arrival}
-use Rattle.sp_arrival.specs.declared.arrival.SlotAnswers.{SlotAnswers}
-
-abbrev pub as_arrival : Arrival → rules.Arrival
-as_arrival a = record { fixed = a.fixed.now; now = a.time; from = a.from }
+use Rattle.sp_arrival.specs.declared.answers.Answers.{Answers}
+use Rattle.sp_arrival.specs.declared.answers.SlotAnswers.{SlotAnswers}
 
 -- it left these parts and gave these answers, and told what was caused after what was told before
 pub record IsDone (done : Handled) (left : Parts) (answers : List Item) (before after : Caused) : Type 0 where

@@ -7,13 +7,13 @@ ghost use Rattle.sp_arrival.specs.Done.{items_of};
 ghost use Rattle.sp_format.specs.Format.{format};
 ghost use Rattle.sp_arrival.specs.Taken.{IsTaken};
 
-use crate::arrival::{Answers, Arrival};
-use crate::ready::make_ready;
+use crate::answers::Answers;
 use crate::taking::take;
 use sp_base::{Listed, Memory, NodeId, push_in_room};
 use sp_core::{Core, Fixed};
 use sp_frame::Sections;
 use sp_msg::Effects;
+use sp_ready::{Arrival, make_ready};
 use sp_rules::Item;
 use sp_sign::Checker;
 use std::alloc::Global;

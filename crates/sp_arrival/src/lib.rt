@@ -1,10 +1,8 @@
-//! The objects of a fresh frame at a node: each judged, checked and copied first, then all taken in the order of the rules.
+//! The objects of a fresh frame at a node: all memory first, then each taken in the order of the rules.
 #![tactic(auto)]
 
-mod arrival;
+mod answers;
 mod arriving;
-mod ready;
-mod signed;
 mod slot;
 mod taking;
 

@@ -4,17 +4,17 @@ ghost use Rattle.sp_frame.specs.Views.{as_list, as_object, as_report};
 ghost use Rattle.sp_msg.specs.Caused.{Caused};
 ghost use Rattle.sp_rules.specs.Handle.{handle_all};
 ghost use Rattle.sp_rules.specs.Pieces.{AckPiece, RelPiece, slot_pieces};
-ghost use Rattle.sp_arrival.specs.Done.{IsDone, as_arrival, slot_items};
+ghost use Rattle.sp_arrival.specs.Done.{IsDone, slot_items};
+ghost use Rattle.sp_ready.specs.Arrival.{as_arrival};
 ghost use Rattle.sp_format.specs.Format.{format};
-ghost use Rattle.sp_arrival.specs.Ready.{IsAckReady, IsRelReady, IsSlotReady, StaysReady};
+ghost use Rattle.sp_ready.specs.Ready.{IsAckReady, IsRelReady, IsSlotReady, StaysReady};
 
-use crate::arrival::{Arrival, SlotAnswers};
-use crate::ready::SlotReady;
-use crate::signed::body_of;
+use crate::answers::SlotAnswers;
 use sp_base::{Bytes, Flow};
 use sp_core::Core;
 use sp_frame::{ObjectRef, Slot};
 use sp_msg::{Effects, Kept};
+use sp_ready::{Arrival, SlotReady, body_of};
 use sp_rel::Seat;
 use sp_rules::Item;
 

@@ -3,18 +3,18 @@ ghost use Rattle.std.specs.Prelude.{◌≡◌, ◌≤◌, ◌<◌, ◌+◌, ◌*
 ghost use Rattle.sp_frame.specs.Views.{as_contents, as_list, as_numbered, as_object};
 ghost use Rattle.sp_rules.specs.Handle.{handle_all};
 ghost use Rattle.sp_rules.specs.Pieces.{PrioAckPiece, PrioPiece, WeightPiece, pieces_of, prio_piece};
-ghost use Rattle.sp_arrival.specs.Done.{IsDone, as_arrival, items_of};
+ghost use Rattle.sp_arrival.specs.Done.{IsDone, items_of};
+ghost use Rattle.sp_ready.specs.Arrival.{as_arrival};
 ghost use Rattle.sp_format.specs.Format.{format};
-ghost use Rattle.sp_arrival.specs.Ready.{IsPrioReady, IsReady, IsWeightReady};
+ghost use Rattle.sp_ready.specs.Ready.{IsPrioReady, IsReady, IsWeightReady};
 
-use crate::arrival::{Answers, Arrival};
-use crate::ready::Ready;
-use crate::signed::body_of;
+use crate::answers::Answers;
 use crate::slot::take_slot;
 use sp_core::Core;
 use sp_frame::{ObjectRef, Sections};
 use sp_msg::{Effects, Kept};
 use sp_prio::Parcel;
+use sp_ready::{Arrival, Ready, body_of};
 use sp_rules::Item;
 
 /// Takes the objects of a frame in the order of the rules.

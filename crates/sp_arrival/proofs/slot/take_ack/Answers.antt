@@ -6,7 +6,7 @@ use Rattle.sp_rules.specs.Parts.{Parts}
 use Rattle.sp_rules.specs.Rel.{RelState, judge_ack_of}
 use Rattle.sp_rules.specs.declared.answers.AckAnswer.{AckAnswer}
 use Rattle.sp_arrival.proofs.RelLemmas.{stays_ready}
-use Rattle.sp_arrival.specs.Ready.{StaysReady}
+use Rattle.sp_ready.specs.Ready.{StaysReady}
 use Rattle.sp_arrival.proofs.slot.take_ack.Goals as goal
 
 pub returns-clause-stays : goal.returns-clause-stays

@@ -4,7 +4,8 @@ use Rattle.sp_frame.specs.declared.object.ObjectRef.{ObjectRef}
 use Rattle.std.specs.Prelude.{option_map}
 use Rattle.sp_rules.specs.Handle.{handle_all}
 use Rattle.sp_rules.specs.Pieces.{AckPiece}
-use Rattle.sp_arrival.specs.Done.{IsDone, as_arrival}
+use Rattle.sp_arrival.specs.Done.{IsDone}
+use Rattle.sp_ready.specs.Arrival.{as_arrival}
 use Rattle.sp_format.specs.Format.{format}
 use Rattle.sp_arrival.proofs.slot.take_acks.Goals as goal
 

@@ -7,7 +7,8 @@ use Rattle.sp_rules.specs.Pieces.{AckPiece, RelPiece, ReportPiece}
 use Rattle.sp_rules.specs.Rel.{reported}
 use Rattle.sp_arrival.proofs.DoneLemmas.{quiet_then}
 use Rattle.sp_arrival.proofs.RelLemmas.{rels_stay}
-use Rattle.sp_arrival.specs.Done.{IsDone, as_arrival}
+use Rattle.sp_arrival.specs.Done.{IsDone}
+use Rattle.sp_ready.specs.Arrival.{as_arrival}
 use Rattle.sp_format.specs.Format.{format}
 use Rattle.sp_arrival.proofs.slot.take_report.Goals as goal
 

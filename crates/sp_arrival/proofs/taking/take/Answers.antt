@@ -3,7 +3,8 @@ use Rattle.std.specs.Prelude.{option_map}
 use Rattle.sp_frame.specs.Views.{as_list, as_numbered, as_object, as_report}
 use Rattle.sp_rules.specs.Pieces.{PrioAckPiece, WeightPiece, prio_piece, slot_pieces}
 use Rattle.sp_arrival.proofs.DoneLemmas.{done_then}
-use Rattle.sp_arrival.specs.Done.{as_arrival, slot_items}
+use Rattle.sp_arrival.specs.Done.{slot_items}
+use Rattle.sp_ready.specs.Arrival.{as_arrival}
 use Rattle.sp_format.specs.Format.{format}
 use Rattle.sp_arrival.proofs.taking.take.Goals as goal
 

@@ -5,8 +5,8 @@ use Rattle.sp_rules.specs.Parts.{Parts}
 use Rattle.sp_rules.specs.Prio.{PrioState, acked_effects}
 use Rattle.sp_arrival.proofs.PrioLemmas.{acked_length, acked_stores, numbered_ready, prio_stays}
 use Rattle.sp_arrival.proofs.RoomLemmas.{acked_room, room_left}
-use Rattle.sp_arrival.specs.Done.{as_arrival}
-use Rattle.sp_arrival.specs.Ready.{IsPrioReady}
+use Rattle.sp_ready.specs.Arrival.{as_arrival}
+use Rattle.sp_ready.specs.Ready.{IsPrioReady}
 use Rattle.sp_arrival.proofs.taking.take_prios.Goals as goal
 
 pub take_prio-requires-clause-ready : goal.take_prio-requires-clause-ready

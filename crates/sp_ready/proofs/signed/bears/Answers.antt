@@ -2,8 +2,8 @@ use Rattle.std.proofs.Common.{◌≡◌, false, true, refl}
 use Rattle.sp_base.proofs.NumberLemmas.{AreBytes-from_places}
 use Rattle.sp_msg.specs.Views.{as_body, signer_of}
 use Rattle.sp_topology.specs.Keys.{key_of}
-use Rattle.sp_arrival.proofs.SignedLemmas.{is_signed, isnt_signed}
-use Rattle.sp_arrival.proofs.signed.bears.Goals as goal
+use Rattle.sp_ready.proofs.SignedLemmas.{is_signed, isnt_signed}
+use Rattle.sp_ready.proofs.signed.bears.Goals as goal
 
 pub returns-in_default-clause-right : goal.returns-in_default-clause-right
 returns-in_default-clause-right c =

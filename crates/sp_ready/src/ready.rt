@@ -4,8 +4,8 @@ ghost use Rattle.sp_frame.specs.Views.{as_object};
 ghost use Rattle.sp_rules.specs.Rel.{judge_ack_of, judge_rel_of};
 ghost use Rattle.sp_msg.specs.Views.{as_body};
 ghost use Rattle.sp_rel.specs.Seated.{IsSeated};
-ghost use Rattle.sp_arrival.specs.Done.{as_arrival};
-ghost use Rattle.sp_arrival.specs.Ready.{IsAckReady, IsPrioReady, IsReady, IsRelReady, IsSlotReady, IsWeightReady, may_be_new};
+ghost use Rattle.sp_ready.specs.Arrival.{as_arrival};
+ghost use Rattle.sp_ready.specs.Ready.{IsAckReady, IsPrioReady, IsReady, IsRelReady, IsSlotReady, IsWeightReady, may_be_new};
 
 use crate::arrival::Arrival;
 use crate::signed::{copy_of, is_right, payload_of};
@@ -21,21 +21,21 @@ use std::alloc::Global;
 
 /// What is ready of the objects of a slot.
 #[derive(Drop)]
-pub(crate) struct SlotReady {
+pub struct SlotReady {
     pub ack: Option<(Kept, Seat)>,
     pub rel: Option<(Kept, Bytes, Seat)>,
 }
 
 /// What is ready of the objects of a frame.
 #[derive(Drop)]
-pub(crate) struct Ready {
+pub struct Ready {
     pub weight: Option<Kept>,
     pub prio: Option<Parcel>,
     pub slot: SlotReady,
 }
 
 /// Makes the objects of a frame ready. It is refused for want of memory alone.
-pub(crate) fn make_ready(
+pub fn make_ready(
     alloc: Global,
     at: &Arrival<'_>,
     core: &Core,

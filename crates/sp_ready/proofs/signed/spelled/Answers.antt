@@ -1,7 +1,7 @@
 use Rattle.sp_base.proofs.NumberLemmas.{AreBytes-from_places}
 use Rattle.sp_msg.specs.Views.{as_body}
-use Rattle.sp_arrival.proofs.SignedLemmas.{good_fields}
-use Rattle.sp_arrival.proofs.signed.spelled.Goals as goal
+use Rattle.sp_ready.proofs.SignedLemmas.{good_fields}
+use Rattle.sp_ready.proofs.signed.spelled.Goals as goal
 
 pub returns-clause-fields : goal.returns-clause-fields
 returns-clause-fields c =

@@ -1,15 +1,5 @@
-// Where the objects of a frame come to, and what is answered to them.
-use sp_base::NodeId;
-use sp_core::Fixed;
+// What is answered to the objects of a frame.
 use sp_rules::Item;
-
-/// The node that a frame comes to, when, and from which neighbour.
-#[derive(Clone, Copy, Debug)]
-pub(crate) struct Arrival<'a> {
-    pub fixed: &'a Fixed,
-    pub time: u64,
-    pub from: NodeId,
-}
 
 /// The answers to the objects of a slot.
 #[derive(Clone, Copy, Debug)]

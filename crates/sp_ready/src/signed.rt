@@ -3,7 +3,7 @@ ghost use Rattle.std.specs.Prelude.{◌≡◌, Ok, IfOk};
 ghost use Rattle.sp_frame.specs.Views.{as_object};
 ghost use Rattle.sp_msg.specs.Bodies.{HasGoodFields, payload_of, read_body};
 ghost use Rattle.sp_msg.specs.Views.{as_body};
-ghost use Rattle.sp_arrival.specs.Ready.{is_right};
+ghost use Rattle.sp_ready.specs.Ready.{is_right};
 
 use sp_base::{Bytes, Memory};
 use sp_frame::ObjectRef;
@@ -32,7 +32,7 @@ fn bears(checker: &mut Checker, bytes: &[u8], body: &BodyRef<'_>, signature: &[u
 }
 
 /// The message of the object: its fields are in their ranges, since bytes spell them.
-pub(crate) fn body_of<'b>(object: &'b ObjectRef<'_>) -> &'b BodyRef<'b>
+pub fn body_of<'b>(object: &'b ObjectRef<'_>) -> &'b BodyRef<'b>
     ensures same { result.now ≡ object.now.body }
     ensures fields { HasGoodFields (as_object object.now).body }
 {

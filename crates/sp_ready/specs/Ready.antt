@@ -26,8 +26,8 @@ use Rattle.sp_rules.specs.declared.weights.Offer.TheVariants as offers
 use Rattle.sp_topology.specs.Keys.{key_of}
 use Rattle.sp_topology.specs.declared.topology.NodeKey.{NodeKey}
 use Rattle.sp_format.specs.Format.{format}
-use Rattle.sp_arrival.specs.declared.ready.Ready.{Ready}
-use Rattle.sp_arrival.specs.declared.ready.SlotReady.{SlotReady}
+use Rattle.sp_ready.specs.declared.ready.Ready.{Ready}
+use Rattle.sp_ready.specs.declared.ready.SlotReady.{SlotReady}
 
 -- the object's signer has a key here, and the signature is valid under it
 abbrev pub is_right : List NodeKey → Kept → Bool
