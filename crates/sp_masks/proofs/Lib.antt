@@ -1,3 +1,3 @@
 pub mod WeighedLemmas
-pub mod UnionLemmas
+pub mod JoinedLemmas
 pub mod ChoiceLemmas

@@ -3,6 +3,7 @@
 
 mod cheapest;
 mod chosen;
+mod joined;
 mod refused;
 mod union;
 mod weighed;

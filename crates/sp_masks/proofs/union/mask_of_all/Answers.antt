@@ -1,15 +1,21 @@
-use Rattle.std.proofs.Common.{◌+◌, List, ◌∷◌, drop, sym, ap, subst, ◌∙◌}
-use Rattle.std.proofs.lemmas.List.{drop_more}
-use Rattle.sp_base.specs.declared.id.NodeId.{NodeId}
-use Rattle.sp_masks.proofs.UnionLemmas.{IsMaskWith, one_more}
+use Rattle.std.proofs.Common.{◌∙◌, ◌||◌, Bool, Some, false, ap, arith}
+use Rattle.std.proofs.lemmas.List.{get_or-replicate}
+use Rattle.sp_graph.proofs.MaskLemmas.{few_edges}
+use Rattle.sp_masks.specs.Joined.{flag_place}
+use Rattle.sp_masks.specs.declared.joined.TheConstants.{FLAGS}
+use Rattle.sp_rules.specs.Masks.{is_used}
+use Rattle.sp_masks.proofs.JoinedLemmas.{mask_is}
 use Rattle.sp_masks.proofs.union.mask_of_all.Goals as goal
 
-pub paths-preserved : goal.paths-preserved
-paths-preserved c =
+pub mask_of_joined-requires-clause-few : goal.mask_of_joined-requires-clause-few
+mask_of_joined-requires-clause-few c = rw c.as_slice.ensures (few_edges c.args.graph.now c.requires)
+
+pub returns : goal.returns
+returns c =
     let g = c.args.graph.now in
     let paths = c.args.paths.now in
-    let rest = drop (c.paths.path-index + 1) paths in
-    let split = drop_more paths c.paths.path-index c.path-item.result c.paths-test.true
-    ∙ ap (λ (path : List NodeId). path ∷ rest) (sym c.path-item.is) in
-    let so_far = subst (λ (left : List (List NodeId)). IsMaskWith g left paths c.paths.mask) split c.paths.invariant in
-    one_more g c.path-item.result rest paths c.paths.mask c.mask_of-mask.result so_far (rw c.as_slice.ensures at c.mask_of-mask.ensures)
+    mask_is c.join_paths.new.flags g.edges paths c.mask_of_joined.result
+    (λ k d inside. let is = c.requires.edges k d inside in (omega (arith, is.1, is.2, c.requires.nodes.1), omega (arith, is.2, c.requires.nodes.1)))
+    (λ e has. c.join_paths.ensures.adds e has
+    ∙ ap (λ (b : Bool). b || is_used paths (Some e)) (get_or-replicate FLAGS (flag_place e.low e.high) false false (omega (arith, has.0, has.1))))
+    (rw c.as_slice.ensures at c.mask_of_joined.ensures)
