@@ -46,11 +46,11 @@ pub fn prepare(alloc: Global) -> Option<Bench> {
 /// Does the work of this number `count` times. The result depends on each.
 pub fn run(alloc: Global, number: u32, count: u32, bench: &Bench) -> u8 {
     match number {
-        0 => searches(alloc, count, bench.large.as_str(), 16, 8),
-        1 => searches_alone(alloc, count, bench.large.as_str(), 16, 8),
-        2 => searches(alloc, count, bench.large.as_str(), 16, 4),
-        3 => searches(alloc, count, bench.large.as_str(), 16, 1),
-        4 => searches(alloc, count, bench.small.as_str(), 8, 4),
+        0 => searches(alloc, count, bench.large.as_str(), 16, 8, Sought::Whole),
+        1 => searches(alloc, count, bench.large.as_str(), 16, 8, Sought::Alone),
+        2 => searches(alloc, count, bench.large.as_str(), 16, 4, Sought::Whole),
+        3 => searches(alloc, count, bench.large.as_str(), 16, 1, Sought::Whole),
+        4 => searches(alloc, count, bench.small.as_str(), 8, 4, Sought::Whole),
         5 => judgements(alloc, count, bench.large.as_str(), 16, 8),
         6 => judgements(alloc, count, bench.small.as_str(), 8, 4),
         _ => checks(alloc, count, &bench.signed),
@@ -82,26 +82,39 @@ fn ends(number: u32, nodes: u32) -> (NodeId, NodeId)
     )
 }
 
-/// Searches for paths between all ends in turn.
-fn searches(alloc: Global, count: u32, text: &str, nodes: u32, paths: u8) -> u8
-    requires nodes { (2 ≤ nodes) × (nodes ≤ 16) }
-    requires count { (1 ≤ paths) × (paths ≤ MAX_PATHS) }
-{
-    let Some(graph) = graph_of(alloc, text) else {
-        return 0;
-    };
-    let mut sum = 0u8;
-    for i in 0..count {
-        let (from, to) = ends(i, nodes);
-        if let Ok(found) = disjoint(alloc, &graph, from, to, paths) {
-            sum ^= (found.cost % 251) as u8 ^ (i % 256) as u8;
-        }
-    }
-    sum
+/// What is sought: paths with their cost and certificate, or the paths alone.
+#[derive(Clone, Copy)]
+enum Sought {
+    Whole,
+    Alone,
 }
 
-/// The same for the paths alone, without their cost and certificate.
-fn searches_alone(alloc: Global, count: u32, text: &str, nodes: u32, paths: u8) -> u8
+/// A search, and a number that depends on what it found: the cost, or how many paths there are.
+fn search(
+    alloc: Global,
+    graph: &Graph,
+    ends: (NodeId, NodeId),
+    paths: u8,
+    sought: Sought,
+) -> Option<u8>
+    requires graph { IsGraph graph.now }
+    requires count { (1 ≤ paths) × (paths ≤ MAX_PATHS) }
+{
+    let (from, to) = ends;
+    match sought {
+        Sought::Whole => {
+            let found = disjoint(alloc, graph, from, to, paths).ok()?;
+            Some((found.cost % 251) as u8)
+        }
+        Sought::Alone => {
+            let found = disjoint_paths(alloc, graph, from, to, paths).ok()?;
+            Some((found.as_slice().len() % 251) as u8)
+        }
+    }
+}
+
+/// Searches for paths between all ends in turn.
+fn searches(alloc: Global, count: u32, text: &str, nodes: u32, paths: u8, sought: Sought) -> u8
     requires nodes { (2 ≤ nodes) × (nodes ≤ 16) }
     requires count { (1 ≤ paths) × (paths ≤ MAX_PATHS) }
 {
@@ -110,9 +123,8 @@ fn searches_alone(alloc: Global, count: u32, text: &str, nodes: u32, paths: u8) 
     };
     let mut sum = 0u8;
     for i in 0..count {
-        let (from, to) = ends(i, nodes);
-        if let Ok(found) = disjoint_paths(alloc, &graph, from, to, paths) {
-            sum ^= (found.as_slice().len() % 251) as u8 ^ (i % 256) as u8;
+        if let Some(found) = search(alloc, &graph, ends(i, nodes), paths, sought) {
+            sum ^= found ^ (i % 256) as u8;
         }
     }
     sum
