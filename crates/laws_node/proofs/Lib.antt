@@ -12,3 +12,11 @@ pub mod Steps
 pub mod Tables
 pub mod Updates
 pub mod Worked
+-- ---- laws of its parts
+pub mod FreshLemmas
+pub mod UpdateRows
+pub mod LastWeights
+pub mod GreatestWeights
+pub mod WindowMarks
+pub mod StoreShares
+pub mod StoreTurns

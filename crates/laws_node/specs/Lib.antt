@@ -7,3 +7,9 @@ pub mod Sizes
 pub mod Stores
 pub mod Story
 pub mod Updates
+-- ---- laws of its parts
+pub mod LinkArrivals
+pub mod LinkLaws
+pub mod HeldUpdates
+pub mod WeightLaws
+pub mod PriorityLaws

@@ -1,6 +1,20 @@
 //! The laws of every step of a node: whatever is called and whatever arrives, what the node keeps stays within its bounds, in its ranges,
-//! signed and counted.
+//! signed and counted. And those of its parts over every list of their own events: links, weights, windows and stores.
 #![tactic(auto)]
+
+mod link_laws;
+mod priority_laws;
+mod weight_laws;
+
+pub use link_laws::{a_link_keeps_the_greatest_pair, no_frame_is_fresh_twice};
+pub use priority_laws::{
+    a_full_store_leaves_fair_shares, a_window_sees_its_marks_and_all_numbers_far_below,
+    an_entry_is_next_unless_the_store_is_empty, what_is_marked_is_seen, what_is_seen_stays_seen,
+};
+pub use weight_laws::{
+    an_effective_weight_is_never_below_the_minimum,
+    an_effective_weight_is_the_greatest_of_the_last_ones,
+};
 
 ghost use Rattle.laws_node.specs.Acknowledgement.{AcknowledgementIsWorked};
 ghost use Rattle.laws_node.specs.Laws.{BootKeeps, EachStepKeeps, ExtendKeeps, FramesFit};

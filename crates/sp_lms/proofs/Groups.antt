@@ -2,7 +2,7 @@
 use Rattle.std.proofs.Common.{◌≡◌, ℕ, ◌+◌, ◌-◌, ◌*◌, ◌/◌, ◌<◌, List, [], map, get_or, refl, ◌∙◌, ap, arith}
 use Rattle.std.specs.List.{range_with_len}
 use Rattle.std.proofs.lemmas.List.FromFn.{get_or-map-range_with_len}
-use Rattle.sp_lanes.specs.Lanes.{lanes}
+use Rattle.sp_ots.specs.Lanes.{lanes}
 use Rattle.sp_ots.specs.declared.param.OtsParam.{OtsParam}
 use Rattle.sp_ots.specs.Keys.{public_key}
 use Rattle.sp_lms.specs.declared.param.LmsParam.{LmsParam}

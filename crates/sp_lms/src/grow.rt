@@ -1,13 +1,13 @@
 // Growing the tree of a key: leaf after leaf, each with the nodes that are whole by it.
 ghost use Rattle.std.specs.Prelude.{◌≡◌, ◌+◌, ◌^◌, ◌<◌, ◌≤◌, ℕ, List, length};
-ghost use Rattle.sp_lanes.specs.Lanes.{lanes};
+ghost use Rattle.sp_ots.specs.Lanes.{lanes};
 ghost use Rattle.sp_lms.specs.Parameters.{height, leaf_count};
 ghost use Rattle.sp_lms.specs.Keys.{seed_leaf};
 ghost use Rattle.sp_lms.specs.Nodes.{HasGrown, HasNodes};
 
 use crate::LmsParam;
 use crate::hashes::{inner_hash, leaf_hash};
-use sp_lanes::LANES;
+use sp_ots::LANES;
 use sp_ots::{OtsParam, publics};
 
 /// Writes every node of the seed's tree at the place of its number, several leaves at once.

@@ -2,7 +2,7 @@
 use Rattle.std.proofs.Common.{◌≡◌, ◌<◌, ◌^◌, [], Some, arith}
 use Rattle.std.specs.List.{All}
 use Rattle.sp_base.specs.declared.id.NodeId.{NodeId}
-use Rattle.sp_format.specs.Format.{format}
+use Rattle.sp_node_core.specs.Format.{format}
 use Rattle.sp_frame.specs.Ranges.{IsContents}
 use Rattle.sp_msg.specs.Bodies.{HasGoodFields}
 use Rattle.sp_msg.specs.declared.body.Ack.{Ack}
@@ -18,7 +18,7 @@ use Rattle.laws_node.proofs.Reliable.{due_fits}
 use Rattle.laws_node.proofs.Tables.{all_first, all_weaker}
 use Rattle.laws_node.specs.Nodes.{IsKept, LinkHolds}
 use Rattle.laws_node.specs.Stores.{PrioPeerHolds}
-use Rattle.sp_state.proofs.Sizes.{sizes}
+use Rattle.sp_node_state.proofs.Sizes.{sizes}
 
 -- ---- a poll
 

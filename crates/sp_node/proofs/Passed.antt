@@ -1,7 +1,7 @@
 -- What its link makes of a datagram is what the rules say.
 use Rattle.std.proofs.Common.{rules, ◌≡◌, ◌∙◌, ℕ, Bool, true, false, List, [], Ok, Err, refl, sym, ap, cond}
 use Rattle.sp_base.specs.declared.id.NodeId.{NodeId}
-use Rattle.sp_format.specs.Format.{format}
+use Rattle.sp_node_core.specs.Format.{format}
 use Rattle.sp_frame.specs.Frames.{head_of, opened}
 use Rattle.sp_frame.specs.declared.refused.FrameRefused.{FrameRefused}
 use Rattle.sp_frame.specs.declared.refused.FrameRefused.TheVariants as frames

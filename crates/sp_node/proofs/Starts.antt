@@ -3,7 +3,7 @@ use Rattle.std.proofs.Common.{◌≡◌, ◌<◌, ◌^◌, ℕ, ◌==◌, Bool, 
 use Rattle.std.proofs.lemmas.Bool.Decides.{nat_tests}
 use Rattle.sp_base.specs.declared.id.EdgeId.{EdgeId}
 use Rattle.sp_base.specs.declared.id.NodeId.{NodeId}
-use Rattle.sp_format.specs.Format.{format}
+use Rattle.sp_node_core.specs.Format.{format}
 use Rattle.sp_hss.specs.KeyTree.{signature_len}
 use Rattle.sp_sign.specs.Heights.{param_of}
 use Rattle.sp_sign.specs.NodeSigner.{NodeSigner}
@@ -15,9 +15,9 @@ use Rattle.sp_topology.specs.declared.topology.NodeKey.{NodeKey}
 use Rattle.laws_node.proofs.Boot.{boot_keeps}
 use Rattle.laws_node.specs.Nodes.{IsKept, SignerHolds}
 use Rattle.laws_node.specs.Sizes.{IsNode}
-use Rattle.sp_state.specs.Boots.{IsBootable, booted_of, fixed_of}
-use Rattle.sp_state.specs.States.{signer_in}
-use Rattle.sp_state.specs.declared.boot.NodeConfig.{NodeConfig}
+use Rattle.sp_node_state.specs.Boots.{IsBootable, booted_of, fixed_of}
+use Rattle.sp_node_state.specs.States.{signer_in}
+use Rattle.sp_node_state.specs.declared.boot.NodeConfig.{NodeConfig}
 
 found_in : (height : LmsHeight) (before : ℕ) (nodes : List NodeKey) (me : NodeId) (key : List ℕ) → AreNodes height before nodes → key_of me.0 nodes ≡ Some key
     → IsNode me

@@ -3,7 +3,7 @@ use Rattle.std.proofs.Common.{◌≡◌, ◌<◌, ◌≤◌, ◌^◌, ℕ, List,
 use Rattle.sp_base.specs.Spelling.{AreBytes}
 use Rattle.sp_base.specs.declared.id.NodeId.{NodeId}
 use Rattle.sp_base.specs.declared.limits.TheConstants.{MAX_PAYLOAD_BYTES, MAX_WEIGHT}
-use Rattle.sp_format.specs.Format.{format}
+use Rattle.sp_node_core.specs.Format.{format}
 use Rattle.sp_msg.specs.declared.refused.SendRefused.{SendRefused}
 use Rattle.sp_msg.specs.declared.refused.SendRefused.TheVariants as sends
 use Rattle.sp_rules.specs.Node.{NodeState, extended}
@@ -17,7 +17,7 @@ use Rattle.sp_rules.specs.declared.node.TickReply.{TickReply}
 use Rattle.laws_node.specs.Inputs.{ArtsFit, InputFits, PrioSendFits}
 use Rattle.laws_node.specs.Nodes.{IsKept}
 use Rattle.laws_node.proofs.Steps.{each_step_keeps, extend_keeps}
-use Rattle.sp_sends.specs.Sends.{Sends}
+use Rattle.sp_node_state.specs.Sends.{Sends}
 use Rattle.sp_node.specs.Calls.{Datagrams, Polls, Ticks}
 
 pub kept_by_poll : (n new : NodeState) (v : NodeId) (r : Result (List ℕ) NodeRefused) → ArtsFit format n.fixed n.signer → IsKept format n → Polls n v r new

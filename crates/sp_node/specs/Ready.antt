@@ -11,7 +11,7 @@ use Rattle.sp_rules.specs.declared.node.TickReply.{TickReply}
 use Rattle.sp_sign.specs.declared.blank.Blank.{Blank}
 use Rattle.sp_node.specs.declared.tick.Due.{Due}
 use Rattle.sp_node.specs.declared.tick.Due.TheVariants as dues
-use Rattle.sp_state.specs.Ready.{IsReadyBlank}
+use Rattle.sp_node_state.specs.ReadyStates.{IsReadyBlank}
 
 -- one is due, and the signer refuses
 pub record IsRefused (n : NodeState) (reply : TickReply) : Type 0 where

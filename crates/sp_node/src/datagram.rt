@@ -4,23 +4,23 @@ ghost use Rattle.sp_base.specs.Rows.{replace_where};
 ghost use Rattle.sp_rules.specs.Node.{called, is_link, with_link};
 ghost use Rattle.sp_rules.specs.declared.node.TheConstants.{MAX_CALLS};
 ghost use Rattle.laws_node.specs.Nodes.{IsKept};
-ghost use Rattle.sp_arrival.specs.Taken.{IsTaken};
-ghost use Rattle.sp_format.specs.Format.{format};
+ghost use Rattle.sp_node_arrivals.specs.Taken.{IsTaken};
+ghost use Rattle.sp_node_core.specs.Format.{format};
 ghost use Rattle.sp_frame.specs.Frames.{head_of, opened};
 ghost use Rattle.sp_node.specs.Arrived.{pieces_with};
 ghost use Rattle.sp_node.specs.Calls.{Datagrams};
-ghost use Rattle.sp_state.specs.Ready.{IsAnswered};
+ghost use Rattle.sp_node_state.specs.ReadyStates.{IsAnswered};
 ghost use Rattle.sp_rules.specs.Arrivals.{arrival_at, link_after, no_frame, of_fresh, of_link, pieces_in, pieces_where, reply_at, sections_in};
 ghost use Rattle.sp_rules.specs.Handle.{handle_all};
 
-use sp_arrival::{Arrived, arrive};
+use sp_node_arrivals::{Arrived, arrive};
 use sp_base::{Listed, Memory, NodeId};
-use sp_core::Fixed;
+use sp_node_core::Fixed;
 use sp_frame::{Frame, FrameRefused, Sections};
 use sp_link::Link;
 use sp_msg::Effects;
 use sp_rules::{LinkAnswer, LinkReply, NodeRefused, Step, Taken};
-use sp_state::State;
+use sp_node_state::State;
 use std::alloc::Global;
 
 /// What became of a datagram at its link: the reply, the link after it, and the sections that are to be handled, if any.

@@ -2,7 +2,7 @@
 ghost use Rattle.std.specs.Prelude.{◌≡◌, ◌≤◌, IfErr, IfOk, IsOk, None as Nothing, length};
 ghost use Rattle.laws_node.specs.Nodes.{IsKept};
 ghost use Rattle.sp_base.specs.declared.limits.TheConstants.{MAX_PAYLOAD_BYTES, MAX_PRIORITY, MAX_WEIGHT};
-ghost use Rattle.sp_format.specs.Format.{format};
+ghost use Rattle.sp_node_core.specs.Format.{format};
 ghost use Rattle.sp_paths.specs.declared.limits.TheConstants.{MAX_PATHS};
 ghost use Rattle.sp_rules.specs.Node.{extended, link_in};
 ghost use Rattle.sp_rules.specs.Prio.{expiring};
@@ -10,10 +10,10 @@ ghost use Rattle.sp_rules.specs.Rel.{due, position_in};
 ghost use Rattle.sp_rules.specs.Sends.{PrioSend, prio_refusal, rel_refusal, weight_refusal};
 ghost use Rattle.sp_rules.specs.Steps.{SendPrio, SendRel, SetWeight};
 ghost use Rattle.sp_rules.specs.Ticks.{time_after};
-ghost use Rattle.sp_state.specs.Boots.{IsBootable, booted_of};
+ghost use Rattle.sp_node_state.specs.Boots.{IsBootable, booted_of};
 ghost use Rattle.sp_node.specs.Calls.{Datagrams, Polls, TakesPrio, TakesRel, Ticks};
-ghost use Rattle.sp_sends.specs.Sends.{Sends};
-ghost use Rattle.sp_state.specs.States.{is_other};
+ghost use Rattle.sp_node_state.specs.Sends.{Sends};
+ghost use Rattle.sp_node_state.specs.States.{is_other};
 
 use crate::datagram::datagram;
 use crate::poll::poll;
@@ -22,9 +22,9 @@ use crate::tick::tick;
 use sp_base::{Bytes, Flow, NodeId};
 use sp_msg::SendRefused;
 use sp_rules::{Entry, NodeRefused, Step, Taken, TickReply};
-use sp_sends::{Message, send_prio, send_rel, set_weight};
+use sp_node_state::{Message, send_prio, send_rel, set_weight};
 use sp_sign::NodeSigner;
-use sp_state::{NodeConfig, State};
+use sp_node_state::{NodeConfig, State};
 use std::alloc::Global;
 use std::marker::Model;
 
@@ -39,7 +39,7 @@ pub struct Node {
 
 impl Model for Node {
     ghost use Rattle.laws_node.specs.Nodes.{IsKept};
-    ghost use Rattle.sp_format.specs.Format.{format};
+    ghost use Rattle.sp_node_core.specs.Format.{format};
     ghost use Rattle.sp_rules.specs.Node.{NodeState};
 
     ghost Value = { NodeState };

@@ -1,11 +1,11 @@
 // A poll: the next frame to a neighbour.
 ghost use Rattle.std.specs.Prelude.{◌≡◌, ◌<◌, ◌^◌, All, IfOk, Some as There, length, option_map, position, replicate};
 ghost use Rattle.laws_node.specs.Nodes.{IsKept};
-ghost use Rattle.sp_format.specs.Format.{format};
+ghost use Rattle.sp_node_core.specs.Format.{format};
 ghost use Rattle.sp_frame.specs.Frames.{frame_bytes};
 ghost use Rattle.sp_frame.specs.Ranges.{IsContents};
 ghost use Rattle.sp_node.specs.Calls.{Polls};
-ghost use Rattle.sp_state.specs.Ready.{IsAnswered};
+ghost use Rattle.sp_node_state.specs.ReadyStates.{IsAnswered};
 ghost use Rattle.sp_base.specs.Rows.{first_where, replace_where};
 ghost use Rattle.sp_rules.specs.Link as rules;
 ghost use Rattle.sp_rules.specs.Link.{advanced, next_head};
@@ -17,13 +17,13 @@ ghost use Rattle.sp_rules.specs.Rel.{served};
 ghost use Rattle.sp_rules.specs.Weights.{moved};
 
 use sp_base::{Bytes, Memory, NodeId};
-use sp_core::{Core, Fixed};
+use sp_node_core::{Core, Fixed};
 use sp_frame::{Head, write};
 use sp_link::Link;
 use sp_msg::Kept;
 use sp_prio::PrioTable;
 use sp_rules::NodeRefused;
-use sp_state::State;
+use sp_node_state::State;
 use sp_topology::NodeKey;
 use std::alloc::Global;
 

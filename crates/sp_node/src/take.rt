@@ -6,7 +6,7 @@ ghost use Rattle.sp_rules.specs.Store as stores;
 
 use sp_base::{Bytes, NodeId};
 use sp_rules::Entry;
-use sp_state::State;
+use sp_node_state::State;
 
 /// The oldest reliable message from a node, which leaves its inbox.
 pub fn take_rel(state: &mut State, src: NodeId) -> Option<Bytes>

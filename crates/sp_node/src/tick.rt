@@ -1,7 +1,7 @@
 // A tick: the time goes on, what expired leaves, and the acknowledgement that is due is signed.
 ghost use Rattle.std.specs.Prelude.{◌≡◌, ◌≤◌, ◌+◌, ◌-◌, ◌++◌, IfOk, IsOk, [], None as Nothing};
 ghost use Rattle.laws_node.specs.Nodes.{IsKept};
-ghost use Rattle.sp_format.specs.Format.{format};
+ghost use Rattle.sp_node_core.specs.Format.{format};
 ghost use Rattle.sp_node.specs.Calls.{Ticks};
 ghost use Rattle.sp_node.specs.Ready.{IsDue, told_of};
 ghost use Rattle.sp_rules.specs.Prio.{expired, expired_effects, expiring};
@@ -11,11 +11,11 @@ ghost use Rattle.sp_rules.specs.Ticks.{ack_effects, settled_by, tick_reply_of, t
 ghost use Rattle.sp_rules.specs.Told.{told};
 
 use sp_base::Memory;
-use sp_core::Core;
+use sp_node_core::Core;
 use sp_msg::{Ack, Body, Effect, Effects, SendRefused};
 use sp_rules::{NodeRefused, Step, TickReply};
 use sp_sign::Blank;
-use sp_state::State;
+use sp_node_state::State;
 use std::alloc::Global;
 
 /// The acknowledgement that is due at a tick.

@@ -1,9 +1,9 @@
 -- What an offline command answers for its whole input: a verdict and the output.
 use Rattle.std.specs.Prelude.{ℕ, Bool, List}
-use Rattle.sp_admin.specs.Answers as drafts
-use Rattle.sp_admin.specs.declared.answer.Answer.TheVariants as draft_answers
-use Rattle.sp_routes.specs.Answers as routes
-use Rattle.sp_routes.specs.declared.answer.Answer.TheVariants as route_answers
+use Rattle.sp_offline.specs.DraftAnswers as drafts
+use Rattle.sp_offline.specs.declared.draft_answer.DraftAnswer.TheVariants as draft_answers
+use Rattle.sp_offline.specs.PathsAnswers as routes
+use Rattle.sp_offline.specs.declared.paths_answer.PathsAnswer.TheVariants as route_answers
 use Rattle.sp_offline.specs.declared.command.Offline.{Offline}
 use Rattle.sp_offline.specs.declared.command.Offline.TheVariants as commands
 use Rattle.sp_offline.specs.declared.answered.Verdict.{Verdict}

@@ -1,2 +1,13 @@
 pub mod Words
 pub mod Answers
+-- ---- `topology`
+pub mod DraftRefusals
+pub mod SignedDrafts
+pub mod DraftAnswers
+-- ---- `paths`
+pub mod PathsWords
+pub mod PathsLines
+pub mod PathsRefusals
+pub mod PathsAnswers
+-- ---- what proofs and the parts of this crate use among themselves
+pub mod SignedKeys

@@ -1,7 +1,7 @@
 -- The words of the offline commands. Each command has one list of words.
 use Rattle.std.specs.Prelude.{List, [], ◌∷◌, codes}
 use Rattle.sp_text.specs.Spelling.{Word}
-use Rattle.sp_routes.specs.Words.{IsQuery, query_words}
+use Rattle.sp_offline.specs.PathsWords.{IsQuery, query_words}
 use Rattle.sp_offline.specs.declared.command.Offline.{Offline}
 use Rattle.sp_offline.specs.declared.command.Offline.TheVariants as commands
 

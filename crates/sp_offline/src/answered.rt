@@ -1,14 +1,12 @@
 // What an offline command answers.
 ghost use Rattle.std.specs.Prelude.{◌≡◌, ◌≤◌, IfOk, length};
 ghost use Rattle.sp_base.specs.declared.limits.TheConstants.{MAX_INPUT_BYTES};
-ghost use Rattle.sp_routes.specs.Words.{IsQuery};
+ghost use Rattle.sp_offline.specs.PathsWords.{IsQuery};
 ghost use Rattle.sp_offline.specs.Answers.{IsAnswered};
 ghost use Rattle.sp_offline.specs.Words.{IsOffline};
 
-use crate::Offline;
-use sp_admin::signed_topology;
+use crate::{DraftAnswer, Offline, PathsAnswer, Query, cheapest_paths, signed_topology};
 use sp_base::{Bytes, Memory};
-use sp_routes::{Query, cheapest_paths};
 use std::alloc::Global;
 
 /// How a command came out.
@@ -50,8 +48,8 @@ fn of_draft(alloc: Global, text: &[u8], is_cut: bool) -> Result<Answered, Memory
     ensures { IfOk result (λ a. IsAnswered Offline.Topology text.now is_cut a.verdict a.text) }
 {
     let (verdict, text) = match signed_topology(alloc, text, is_cut)? {
-        sp_admin::Answer::Signed(out) => (Verdict::Done, out),
-        sp_admin::Answer::Refused(out) => (Verdict::Refused, out),
+        DraftAnswer::Signed(out) => (Verdict::Done, out),
+        DraftAnswer::Refused(out) => (Verdict::Refused, out),
     };
     Ok(Answered { verdict, text })
 }
@@ -62,9 +60,9 @@ fn of_graph(alloc: Global, query: &Query, text: &[u8], is_cut: bool) -> Result<A
     ensures { IfOk result (λ a. IsAnswered (Offline.Paths query.now) text.now is_cut a.verdict a.text) }
 {
     let (verdict, text) = match cheapest_paths(alloc, query, text, is_cut)? {
-        sp_routes::Answer::Found(out) => (Verdict::Done, out),
-        sp_routes::Answer::Fewer(out) => (Verdict::Fewer, out),
-        sp_routes::Answer::Refused(out) => (Verdict::Refused, out),
+        PathsAnswer::Found(out) => (Verdict::Done, out),
+        PathsAnswer::Fewer(out) => (Verdict::Fewer, out),
+        PathsAnswer::Refused(out) => (Verdict::Refused, out),
     };
     Ok(Answered { verdict, text })
 }

@@ -4,7 +4,7 @@ ghost use Rattle.std.specs.String.{string_bytes};
 ghost use Rattle.sp_base.specs.Finds.{Finds};
 ghost use Rattle.sp_offline.specs.Words.{IsOffline, offline_words, topology_words};
 
-use sp_routes::{Query, query_of};
+use crate::{Query, query_of};
 
 /// A command that works offline.
 #[derive(Clone, Copy, Debug, PartialEq, Eq)]

@@ -6,7 +6,7 @@ use Rattle.std.proofs.lemmas.List.{append-nil, append_assoc, ext_get_or, get_or-
 use Rattle.std.proofs.lemmas.List.Folds.{concat-append}
 use Rattle.std.proofs.lemmas.List.FromFn.{get_or-map-range_with_len, length-map-range_with_len, map-range_with_len_more}
 use Rattle.sha2.specs.Sha256.{sha256}
-use Rattle.sp_lanes.specs.Lanes.{lanes}
+use Rattle.sp_ots.specs.Lanes.{lanes}
 use Rattle.sp_ots.specs.declared.param.OtsParam.{OtsParam}
 use Rattle.sp_ots.specs.Parameters.{chain_count, last_step}
 use Rattle.sp_ots.specs.Strings.{u8str}

@@ -10,3 +10,11 @@ pub mod UnderWay
 pub mod EachLeaf
 pub mod Validity
 pub mod Written
+-- ---- of SHA-256 of four messages at once
+pub mod Padding
+pub mod Windows
+pub mod Rotations
+pub mod ChMaj
+pub mod EachLane
+pub mod Cuts
+pub mod HashValues

@@ -5,7 +5,7 @@ use Rattle.std.proofs.lemmas.List.{ext_get_or, get_or-set_other, get_or-set_same
 use Rattle.std.proofs.lemmas.List.Sums.{sum_by-cons}
 use Rattle.std.proofs.lemmas.List.FromFn.{get_or-map-range_with_len, length-map-range_with_len}
 use Rattle.sha2.specs.Sha256.{sha256}
-use Rattle.sp_lanes.specs.Lanes.{lanes}
+use Rattle.sp_ots.specs.Lanes.{lanes}
 use Rattle.sp_ots.specs.declared.lanes.Lanes.{Lanes}
 use Rattle.sp_ots.specs.Strings.{u8str}
 use Rattle.sp_ots.specs.TwoLeaves.{element_at, run_ends, stepped_behind}

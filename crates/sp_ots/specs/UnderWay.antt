@@ -1,6 +1,6 @@
 -- Chains that are on their way, each in a lane: what the lanes hold, and what stands in the place of each element.
 use Rattle.std.specs.Prelude.{◌≡◌, ℕ, ◌+◌, ◌-◌, ◌*◌, ◌/◌, ◌<◌, ◌≤◌, ◌≢◌, ◌⊎◌, List, [], ◌++◌, length, sum, slice_index, slice_index_or}
-use Rattle.sp_lanes.specs.Lanes.{lanes}
+use Rattle.sp_ots.specs.Lanes.{lanes}
 use Rattle.sp_ots.specs.declared.lanes.Lanes.{Lanes}
 use Rattle.sp_ots.specs.Strings.{u8str}
 use Rattle.sp_ots.specs.TwoLeaves.{element_at}

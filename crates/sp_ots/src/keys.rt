@@ -1,7 +1,7 @@
 // The key pair that a seed gives for a leaf (RFC 8554, section 4.3 and appendix A).
 ghost use Rattle.std.specs.Prelude.{◌≡◌, ◌+◌, ◌≤◌, ◌^◌, length, map};
 ghost use Rattle.std.specs.List.{range_with_len};
-ghost use Rattle.sp_lanes.specs.Lanes.{lanes};
+ghost use Rattle.sp_ots.specs.Lanes.{lanes};
 ghost use Rattle.sp_ots.specs.Parameters.{chain_count};
 ghost use Rattle.sp_ots.specs.Keys.{private_start, public_key};
 
@@ -10,7 +10,7 @@ use crate::chains::run_chains;
 use crate::hashes::{element_message, key_of_ends};
 use crate::param::MOST_CHAINS;
 use sha2::{Digest, Sha256};
-use sp_lanes::{LANES, digests};
+use crate::{LANES, digests};
 
 /// What stands in place of a step where a seed is hashed (RFC 8554, appendix A).
 pub(crate) const SEED_STEP: u8 = 0xff;

@@ -2,13 +2,13 @@
 // no lane waits long for the others at the end.
 ghost use Rattle.std.specs.Prelude.{◌≡◌, ℕ, ◌+◌, ◌-◌, ◌<◌, ◌≤◌, ◌^◌, ◌++◌, ◌↔◌, IsTrue, List, [], length, map, take, drop, replicate, slice_index, slice_index_or, slice_set};
 ghost use Rattle.sha2.specs.Sha256.{sha256};
-ghost use Rattle.sp_lanes.specs.Lanes.{lanes};
+ghost use Rattle.sp_ots.specs.Lanes.{lanes};
 ghost use Rattle.sp_ots.specs.Strings.{u8str};
 ghost use Rattle.sp_ots.specs.TwoLeaves.{front_in};
 ghost use Rattle.sp_ots.specs.UnderWay.{AreUnderWay, AreFull, IsInTurn, IsSound, work_left};
 
 use crate::two_leaves::TwoLeaves;
-use sp_lanes::{LANES, digests};
+use crate::{LANES, digests};
 
 /// What each lane holds of the chains that are on their way.
 #[derive(Drop)]

@@ -1,7 +1,7 @@
 // The public keys of as many leaves as there are lanes, each leaf in a lane of its own (RFC 8554, section 4.3).
 ghost use Rattle.std.specs.Prelude.{◌≡◌, ◌+◌, ◌*◌, ◌<◌, ◌≤◌, ◌^◌, ◌++◌, ℕ, [], map, slice_index_or, take};
 ghost use Rattle.std.specs.List.{range_with_len};
-ghost use Rattle.sp_lanes.specs.Lanes.{lanes};
+ghost use Rattle.sp_ots.specs.Lanes.{lanes};
 ghost use Rattle.sp_ots.specs.Strings.{u8str};
 ghost use Rattle.sp_ots.specs.Keys.{public_key};
 ghost use Rattle.sp_ots.specs.Leaves.{end_of_start, front_of};
@@ -11,7 +11,7 @@ use crate::hashes::{D_PBLC, element_message};
 use crate::keys::SEED_STEP;
 use crate::lanes::renew;
 use crate::param::MOST_CHAINS;
-use sp_lanes::{LANES, digests, prefix_digests};
+use crate::{LANES, digests, prefix_digests};
 
 /// Where the ends of the chains begin in the message that a public key is the hash of.
 const FRONT: usize = 22;

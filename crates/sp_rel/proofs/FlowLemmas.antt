@@ -4,7 +4,7 @@ use Rattle.std.proofs.lemmas.List.{get_or-map, length-map, map-set}
 use Rattle.std.specs.List.{position, prefix_len}
 use Rattle.sp_base.proofs.RowLemmas.{is_first, first_where-read, first_where-no_position, replace_where-position, replace_where-no_position}
 use Rattle.sp_base.specs.declared.id.Flow.{Flow}
-use Rattle.sp_rows.specs.Rows.{RowState}
+use Rattle.sp_rel.specs.Rows.{RowState}
 use Rattle.sp_rules.specs.Flow.{FlowState, is_flow, no_flow}
 use Rattle.sp_base.specs.declared.id.NodeId.{NodeId}
 use Rattle.sp_rules.specs.Rel.{flow_in, put_flow, is_due}

@@ -5,7 +5,7 @@ use Rattle.sp_base.specs.declared.id.Flow.{Flow}
 use Rattle.sp_base.specs.declared.id.NodeId.{NodeId}
 use Rattle.sp_msg.specs.declared.body.Body.{Body}
 use Rattle.sp_msg.specs.declared.body.Body.TheVariants as bodies
-use Rattle.sp_rows.specs.Seats.{SeatState}
+use Rattle.sp_rel.specs.Seats.{SeatState}
 use Rattle.sp_rules.specs.Flow.{FlowState, ends, flow_said, is_flow}
 use Rattle.sp_rules.specs.Rel.{RelState, are_ends, flow_in, is_node, judge_ack, judge_ack_of, judge_rel, judge_rel_of, put_flow, with_flow}
 use Rattle.sp_rules.specs.declared.rel.AckJudged.{AckJudged}

@@ -6,10 +6,10 @@ use Rattle.std.proofs.Math.Seq.{map-set_same}
 use Rattle.std.proofs.lemmas.List.Elements.{All-get_or, All-map, All-set}
 use Rattle.sp_base.specs.declared.id.Flow.{Flow}
 use Rattle.sp_base.specs.declared.id.NodeId.{NodeId}
-use Rattle.sp_rows.specs.Changes.{CanChange, changed}
-use Rattle.sp_rows.specs.Rows.{IsSeated, RowState, with_state}
-use Rattle.sp_rows.specs.Seats.{SeatState}
-use Rattle.sp_rows.specs.declared.change.Change.{Change}
+use Rattle.sp_rel.specs.Changes.{CanChange, changed}
+use Rattle.sp_rel.specs.Rows.{IsSeated, RowState, with_state}
+use Rattle.sp_rel.specs.Seats.{SeatState}
+use Rattle.sp_rel.specs.declared.change.Change.{Change}
 use Rattle.sp_rules.specs.Flow.{FlowState, after_take, is_flow, no_flow, IsStanding}
 use Rattle.sp_rules.specs.Rel.{flow_in, is_due, put_flow}
 use Rattle.sp_rel.specs.Tables.{AreSound, IsSoundRow, idle_row, states}

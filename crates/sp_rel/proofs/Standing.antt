@@ -1,9 +1,9 @@
 -- What always holds of a flow at a node, after each change of its row.
 use Rattle.std.specs.Prelude.{ℕ}
 use Rattle.sp_base.specs.declared.id.NodeId.{NodeId}
-use Rattle.sp_rows.specs.Changes.{CanChange, changed}
-use Rattle.sp_rows.specs.declared.change.Change.{Change}
-use Rattle.sp_rows.specs.declared.change.Change.TheVariants as changes
+use Rattle.sp_rel.specs.Changes.{CanChange, changed}
+use Rattle.sp_rel.specs.declared.change.Change.{Change}
+use Rattle.sp_rel.specs.declared.change.Change.TheVariants as changes
 use Rattle.sp_rules.proofs.Standing.{standing_acknowledged, standing_concluded, standing_pushed, standing_received}
 use Rattle.sp_rules.specs.Flow.{FlowState, IsStanding}
 

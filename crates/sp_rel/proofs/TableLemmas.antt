@@ -2,8 +2,8 @@
 use Rattle.std.proofs.Common.{true, sym, ap, ◌∙◌}
 use Rattle.sp_base.specs.declared.id.Flow.{Flow}
 use Rattle.sp_rel.specs.Seated.{IsSeated}
-use Rattle.sp_rows.specs.Rows as rows
-use Rattle.sp_rows.specs.Seats.{SeatState}
+use Rattle.sp_rel.specs.Rows as rows
+use Rattle.sp_rel.specs.Seats.{SeatState}
 use Rattle.sp_rules.proofs.FlowJudged.{found_ends}
 use Rattle.sp_rules.specs.Rel.{RelState, flow_in}
 

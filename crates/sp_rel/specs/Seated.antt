@@ -1,7 +1,7 @@
 -- When a call has the memory that it needs: the flow is active, or the seat holds its memory.
 use Rattle.std.specs.Prelude.{◌≡◌, false, true, not}
 use Rattle.sp_base.specs.declared.id.Flow.{Flow}
-use Rattle.sp_rows.specs.Seats.{SeatState}
+use Rattle.sp_rel.specs.Seats.{SeatState}
 use Rattle.sp_rules.specs.Rel.{RelState, flow_in}
 
 abbrev pub IsSeated : RelState → Flow → SeatState → Type 0

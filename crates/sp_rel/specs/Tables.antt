@@ -2,7 +2,7 @@
 use Rattle.std.specs.Prelude.{ℕ, ◌≡◌, Bool, List, All, map}
 use Rattle.sp_base.specs.declared.id.Flow.{Flow}
 use Rattle.sp_base.specs.declared.id.NodeId.{NodeId}
-use Rattle.sp_rows.specs.Rows.{RowState}
+use Rattle.sp_rel.specs.Rows.{RowState}
 use Rattle.sp_rules.specs.Flow.{FlowState, IsStanding, no_flow}
 use Rattle.sp_rules.specs.Rel.{put_flow, is_due}
 

@@ -2,15 +2,17 @@
 ghost use Rattle.std.specs.Prelude.{◌≡◌, ◌==◌, ◌≤◌, ◌<◌, ◌+◌, All, IfOk, IfSome, IfNone, false, true, length, map, position, replicate, slice_get};
 ghost use Rattle.sp_base.specs.Cursor.{next_after};
 ghost use Rattle.sp_base.specs.declared.limits.TheConstants.{MAX_SEQ};
-ghost use Rattle.sp_rows.specs.Changes.{CanChange, changed};
-ghost use Rattle.sp_rows.specs.Rows.{IsSeated};
+ghost use Rattle.sp_rel.specs.Changes.{CanChange, changed};
+ghost use Rattle.sp_rel.specs.Rows.{IsSeated};
 ghost use Rattle.sp_rules.specs.Flow.{IsStanding, after_take, is_flow, no_flow};
 ghost use Rattle.sp_rules.specs.Rel.{flow_at, flow_in, is_due};
 ghost use Rattle.sp_rel.specs.Tables.{idle_row, put_in};
 
 use sp_base::{Bytes, Cursor, Flow, Memory, NodeId};
 use sp_msg::Kept;
-use sp_rows::{Change, FlowRow, Numbers, Seat};
+use crate::change::Change;
+use crate::row::{FlowRow, Numbers};
+use crate::seat::Seat;
 use std::alloc::Global;
 use std::marker::Model;
 

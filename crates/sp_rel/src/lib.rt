@@ -2,13 +2,19 @@
 //! to end by its destination.
 #![tactic(auto)]
 
+mod change;
 mod flows;
+mod held;
+mod inbox;
 mod pairs;
 mod peers;
+mod row;
+mod seat;
 mod table;
 mod view;
 
-pub use sp_rows::{ROW_BYTES, Seat};
+pub use row::ROW_BYTES;
+pub use seat::Seat;
 pub use sp_rules::{AckJudged, RelJudged, RelRefused};
 pub use table::RelTable;
 pub use view::VIEW_BYTES;

@@ -11,7 +11,7 @@ mod tree;
 mod work;
 
 use measure::{Counts, measure};
-use sp_lanes::LANES;
+use sp_ots::LANES;
 use std::env::Env;
 use std::{env, io};
 use work::{WORKS, Work, prepare, row, run};

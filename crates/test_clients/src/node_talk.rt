@@ -2,7 +2,7 @@
 use sp_base::{EdgeId, Limits, Listed, NodeId};
 use sp_client::Clients;
 use sp_hss::{LmsParam, Signer, public_key};
-use sp_local::LocalNode;
+use sp_client_node::LocalNode;
 use sp_node::{Node, NodeConfig, can_boot};
 use sp_sign::NodeSigner;
 use sp_topology::Topology;

@@ -1,7 +1,7 @@
 // SHA-256 of four messages at once, held against published digests in each lane, and against `sha2` in the others.
 use hex::FromHex;
 use sha2::{Digest, Sha256};
-use sp_lanes::{LANES, digests, hash_blocks, prefix_digests};
+use sp_ots::{LANES, digests, hash_blocks, prefix_digests};
 use std::test::Fail;
 
 /// Messages of at most 55 bytes and their digests: the example of FIPS 180-4 for one block, and of the values

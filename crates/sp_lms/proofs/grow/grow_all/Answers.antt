@@ -1,5 +1,5 @@
 use Rattle.std.proofs.Common.{◌≡◌, ◌+◌, ◌*◌, ◌^◌, arith}
-use Rattle.sp_lanes.specs.Lanes.{lanes}
+use Rattle.sp_ots.specs.Lanes.{lanes}
 use Rattle.sp_lms.specs.Parameters.{height}
 use Rattle.sp_lms.specs.Keys.{seed_leaf}
 use Rattle.sp_lms.proofs.Growth.{nothing_grown, all_grown}

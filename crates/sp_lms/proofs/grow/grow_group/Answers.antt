@@ -1,5 +1,5 @@
 use Rattle.std.proofs.Common.{◌≡◌, ◌+◌, arith}
-use Rattle.sp_lanes.specs.Lanes.{lanes}
+use Rattle.sp_ots.specs.Lanes.{lanes}
 use Rattle.sp_lms.specs.Keys.{seed_leaf}
 use Rattle.sp_lms.proofs.Groups.{leaf_at}
 use Rattle.sp_lms.proofs.grow.grow_group.Goals as goal

@@ -1,5 +1,5 @@
 use Rattle.std.proofs.Common.{rules, ◌≡◌, ◌≢◌, ℕ, IsTrue, List, length, sum, replicate, slice_index, ap, ◌∙◌, arith}
-use Rattle.sp_lanes.specs.Lanes.{lanes}
+use Rattle.sp_ots.specs.Lanes.{lanes}
 use Rattle.sp_ots.specs.TwoLeaves.{front_in}
 use Rattle.sp_ots.proofs.TwoLeaves.{length-front_in}
 use Rattle.sp_ots.proofs.UnderWay.{all_ended, fewer_left_if_busy}

@@ -1,7 +1,7 @@
 use Rattle.std.proofs.Common.{rules, ◌≡◌, ◌+◌, ◌-◌, ◌*◌, length, map, min, take, ap, ◌∙◌, arith}
 use Rattle.std.specs.List.{range_with_len}
 use Rattle.std.proofs.lemmas.Slice.{overwrites}
-use Rattle.sp_lanes.specs.Lanes.{lanes}
+use Rattle.sp_ots.specs.Lanes.{lanes}
 use Rattle.sp_ots.specs.Keys.{private_start}
 use Rattle.sp_ots.proofs.Places.{filled_all, group_filled}
 use Rattle.sp_ots.proofs.keys.private_starts.Goals as goal

@@ -1,6 +1,6 @@
 use Rattle.std.proofs.Common.{◌≡◌, ◌*◌, length, map, min, take}
 use Rattle.std.specs.List.{range_with_len}
-use Rattle.sp_lanes.specs.Lanes.{lanes}
+use Rattle.sp_ots.specs.Lanes.{lanes}
 use Rattle.sp_ots.specs.Keys.{private_start}
 use Rattle.sp_ots.proofs.keys.private_starts.Given as goal
 

@@ -1,5 +1,5 @@
 use Rattle.std.proofs.Common.{◌≡◌, ◌+◌, ◌<◌, ℕ, [], get_or, ap, ◌∙◌, arith}
-use Rattle.sp_lanes.specs.Lanes.{lanes}
+use Rattle.sp_ots.specs.Lanes.{lanes}
 use Rattle.sp_ots.specs.Leaves.{end_of_start}
 use Rattle.sp_ots.proofs.EachLeaf.{digest_at, first_elements, next_elements}
 use Rattle.sp_ots.proofs.leaves.ends.Goals as goal

@@ -1,7 +1,7 @@
 use Rattle.std.proofs.Common.{◌∙◌, ap, sym, subst}
 use Rattle.std.specs.List.{position}
-use Rattle.sp_rows.specs.Changes.{CanChange, changed}
-use Rattle.sp_rows.specs.Rows.{IsSeated}
+use Rattle.sp_rel.specs.Changes.{CanChange, changed}
+use Rattle.sp_rel.specs.Rows.{IsSeated}
 use Rattle.sp_rules.specs.Flow.{is_flow}
 use Rattle.sp_rules.specs.Rel.{flow_in}
 use Rattle.sp_rel.specs.Tables.{FlowsState, put_in}

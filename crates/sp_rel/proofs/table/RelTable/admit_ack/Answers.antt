@@ -1,7 +1,7 @@
 use Rattle.std.proofs.Common.{sym, subst}
 use Rattle.sp_base.specs.declared.id.Flow.{Flow}
 use Rattle.sp_rules.specs.Changes.{CanAcknowledge}
-use Rattle.sp_rows.specs.Rows.{IsSeated}
+use Rattle.sp_rel.specs.Rows.{IsSeated}
 use Rattle.sp_rules.specs.Flow.{flow_said}
 use Rattle.sp_rules.specs.Rel.{RelState, flow_in}
 use Rattle.sp_rules.proofs.FlowJudged.{can_acknowledge}

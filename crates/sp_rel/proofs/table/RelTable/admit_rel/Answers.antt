@@ -2,7 +2,7 @@ use Rattle.std.proofs.Common.{◌≡◌, ap, arith, sym, subst, true, false}
 use Rattle.std.proofs.lemmas.Bool.Decides.{nat_tests}
 use Rattle.sp_base.specs.declared.id.Flow.{Flow}
 use Rattle.sp_rules.specs.Changes.{CanPush, CanReceive}
-use Rattle.sp_rows.specs.Rows.{IsSeated}
+use Rattle.sp_rel.specs.Rows.{IsSeated}
 use Rattle.sp_rules.specs.Flow.{flow_said}
 use Rattle.sp_rules.specs.Rel.{RelState, flow_in, is_to}
 use Rattle.sp_rules.proofs.FlowJudged.{can_push, can_receive}

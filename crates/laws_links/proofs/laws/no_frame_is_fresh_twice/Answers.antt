@@ -1,5 +1,0 @@
-use Rattle.laws_links.proofs.FreshLemmas.{fresh_frames_rise}
-use Rattle.laws_links.proofs.laws.no_frame_is_fresh_twice.Goals as goal
-
-pub returns : goal.returns
-returns c = fresh_frames_rise

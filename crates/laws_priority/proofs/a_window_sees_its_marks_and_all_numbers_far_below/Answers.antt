@@ -1,5 +1,0 @@
-use Rattle.laws_priority.proofs.Windows.{window_sees}
-use Rattle.laws_priority.proofs.a_window_sees_its_marks_and_all_numbers_far_below.Goals as goal
-
-pub returns : goal.returns
-returns c = window_sees

@@ -1,5 +1,0 @@
-use Rattle.laws_priority.proofs.Served.{an_entry_is_next}
-use Rattle.laws_priority.proofs.an_entry_is_next_unless_the_store_is_empty.Goals as goal
-
-pub returns : goal.returns
-returns c = an_entry_is_next

@@ -1,2 +1,0 @@
-pub mod GoodDrafts
-pub mod Keys

@@ -1,4 +1,0 @@
-pub mod DoneLemmas
-pub mod PrioLemmas
-pub mod RelLemmas
-pub mod RoomLemmas

@@ -1,3 +1,0 @@
-pub mod WeighedLemmas
-pub mod JoinedLemmas
-pub mod ChoiceLemmas

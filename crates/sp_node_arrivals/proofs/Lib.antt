@@ -1,0 +1,5 @@
+pub mod SignedLemmas
+pub mod DoneLemmas
+pub mod PrioLemmas
+pub mod RelLemmas
+pub mod RoomLemmas

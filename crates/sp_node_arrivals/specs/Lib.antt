@@ -1,0 +1,4 @@
+pub mod Arrival
+pub mod Ready
+pub mod Done
+pub mod Taken

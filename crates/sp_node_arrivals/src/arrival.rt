@@ -1,0 +1,11 @@
+// Where the objects of a frame come to.
+use sp_base::NodeId;
+use sp_node_core::Fixed;
+
+/// The node that a frame comes to, when, and from which neighbour.
+#[derive(Clone, Copy, Debug)]
+pub struct Arrival<'a> {
+    pub fixed: &'a Fixed,
+    pub time: u64,
+    pub from: NodeId,
+}

@@ -1,0 +1,70 @@
+// Whether an object bears its signer's signature, and what its bytes say of its fields.
+ghost use Rattle.std.specs.Prelude.{◌≡◌, Ok, IfOk};
+ghost use Rattle.sp_frame.specs.Views.{as_object};
+ghost use Rattle.sp_msg.specs.Bodies.{HasGoodFields, payload_of, read_body};
+ghost use Rattle.sp_msg.specs.Views.{as_body};
+ghost use Rattle.sp_node_arrivals.specs.Ready.{is_right};
+
+use sp_base::{Bytes, Memory};
+use sp_frame::ObjectRef;
+use sp_msg::{BodyRef, Kept, keep};
+use sp_sign::Checker;
+use std::alloc::Global;
+
+/// Whether the object bears its signer's signature.
+pub(crate) fn is_right(checker: &mut Checker, object: &ObjectRef<'_>) -> bool
+    ensures right { result ≡ is_right checker.old (as_object object.now) }
+    ensures keys { checker.new ≡ checker.old }
+{
+    bears(checker, object.bytes, &object.body, object.signature)
+}
+
+/// The same of the bytes that spell a message.
+fn bears(checker: &mut Checker, bytes: &[u8], body: &BodyRef<'_>, signature: &[u8]) -> bool
+    requires { read_body bytes.now ≡ Ok (as_body body.now) }
+    ensures right { result ≡ is_right checker.old (record { body = as_body body.now; signature = signature.now }) }
+    ensures keys { checker.new ≡ checker.old }
+{
+    let Ok(()) = checker.check(bytes, body, signature) else {
+        return false;
+    };
+    true
+}
+
+/// The message of the object: its fields are in their ranges, since bytes spell them.
+pub fn body_of<'b>(object: &'b ObjectRef<'_>) -> &'b BodyRef<'b>
+    ensures same { result.now ≡ object.now.body }
+    ensures fields { HasGoodFields (as_object object.now).body }
+{
+    spelled(object.bytes, &object.body)
+}
+
+fn spelled<'b>(bytes: &[u8], body: &'b BodyRef<'b>) -> &'b BodyRef<'b>
+    requires { read_body bytes.now ≡ Ok (as_body body.now) }
+    ensures same { result.now ≡ body.now }
+    ensures fields { HasGoodFields (as_body body.now) }
+{
+    body
+}
+
+/// A copy of the object.
+pub(crate) fn copy_of(alloc: Global, object: &ObjectRef<'_>) -> Result<Kept, Memory>
+    ensures { IfOk result (λ kept. kept ≡ as_object object.now) }
+{
+    match keep(alloc, &object.body, object.signature) {
+        Ok(kept) => Ok(kept),
+        Err(_) => Err(Memory),
+    }
+}
+
+/// A copy of what the object carries.
+pub(crate) fn payload_of(alloc: Global, object: &ObjectRef<'_>) -> Result<Bytes, Memory>
+    ensures { IfOk result (λ payload. payload ≡ payload_of (as_object object.now).body) }
+{
+    let payload = match &object.body {
+        BodyRef::Prio(prio) => prio.payload,
+        BodyRef::Rel(rel) => rel.payload,
+        BodyRef::Ack(_) | BodyRef::Weight(_) => &[],
+    };
+    Bytes::copy(alloc, payload)
+}

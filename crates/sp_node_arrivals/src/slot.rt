@@ -1,0 +1,138 @@
+// Taking a slot: its report, its acknowledgement, its message.
+ghost use Rattle.std.specs.Prelude.{◌≤◌, [], ◌∷◌, false, IfSome, is_some, map, option_map};
+ghost use Rattle.sp_frame.specs.Views.{as_list, as_object, as_report};
+ghost use Rattle.sp_msg.specs.Caused.{Caused};
+ghost use Rattle.sp_rules.specs.Handle.{handle_all};
+ghost use Rattle.sp_rules.specs.Pieces.{AckPiece, RelPiece, slot_pieces};
+ghost use Rattle.sp_node_arrivals.specs.Done.{IsDone, slot_items};
+ghost use Rattle.sp_node_arrivals.specs.Arrival.{as_arrival};
+ghost use Rattle.sp_node_core.specs.Format.{format};
+ghost use Rattle.sp_node_arrivals.specs.Ready.{IsAckReady, IsRelReady, IsSlotReady, StaysReady};
+
+use crate::answers::SlotAnswers;
+use sp_base::{Bytes, Flow};
+use sp_node_core::Core;
+use sp_frame::{ObjectRef, Slot};
+use sp_msg::{Effects, Kept};
+use crate::{Arrival, SlotReady, body_of};
+use sp_rel::Seat;
+use sp_rules::Item;
+
+/// Takes the slot of a frame, where it has one.
+pub(crate) fn take_slot(
+    at: &Arrival<'_>,
+    core: &mut Core,
+    slot: &Option<Slot<'_>>,
+    ready: SlotReady,
+    out: &mut Effects,
+) -> SlotAnswers
+    requires ready { IfSome slot.now (λ s. IsSlotReady at.now.fixed.now.topology.nodes core.old.rel s ready) }
+    requires room { 1 ≤ out.old.room }
+    ensures { IsDone
+        (handle_all format (as_arrival at.now) core.old (slot_pieces (option_map as_report slot.now)))
+        core.new (slot_items result) out.old out.new }
+{
+    match slot {
+        Some(slot) => take_report(at, core, slot, ready, out),
+        None => SlotAnswers {
+            ack: None,
+            rel: None,
+        },
+    }
+}
+
+fn take_report(
+    at: &Arrival<'_>,
+    core: &mut Core,
+    slot: &Slot<'_>,
+    ready: SlotReady,
+    out: &mut Effects,
+) -> SlotAnswers
+    requires ready { IsSlotReady at.now.fixed.now.topology.nodes core.old.rel slot.now ready }
+    requires room { 1 ≤ out.old.room }
+    ensures { IsDone
+        (handle_all format (as_arrival at.now) core.old (slot_pieces (option_map as_report (Some slot.now))))
+        core.new (slot_items result) out.old out.new }
+{
+    let SlotReady { ack, rel } = ready;
+    core.take_report(at.from, slot.flow, slot.base, slot.have);
+    let ack = take_acks(at, core, slot.flow, &slot.ack, ack);
+    let rel = take_rels(at, core, slot.flow, &slot.rel, rel, out);
+    SlotAnswers { ack, rel }
+}
+
+fn take_acks(
+    at: &Arrival<'_>,
+    core: &mut Core,
+    flow: Flow,
+    ack: &Option<ObjectRef<'_>>,
+    ready: Option<(Kept, Seat)>,
+) -> Option<Item>
+    requires ready { IfSome (option_map as_object ack.now) (λ o. IsAckReady at.now.fixed.now.topology.nodes core.old.rel flow o ready) }
+    ensures done { (c : Caused) → IsDone
+        (handle_all format (as_arrival at.now) core.old (map (AckPiece flow) (as_list (option_map as_object ack.now))))
+        core.new (as_list result) c c }
+    ensures stays { StaysReady (is_some ready) at.now.fixed.now.topology.nodes flow core.old.rel core.new.rel }
+{
+    match ack {
+        Some(object) => Some(take_ack(at, core, flow, object, ready)),
+        None => None,
+    }
+}
+
+fn take_ack(
+    at: &Arrival<'_>,
+    core: &mut Core,
+    flow: Flow,
+    object: &ObjectRef<'_>,
+    ready: Option<(Kept, Seat)>,
+) -> Item
+    requires ready { IsAckReady at.now.fixed.now.topology.nodes core.old.rel flow (as_object object.now) ready }
+    ensures done { (c : Caused) → IsDone
+        (handle_all format (as_arrival at.now) core.old (AckPiece flow (as_object object.now) ∷ []))
+        core.new (result ∷ []) c c }
+    ensures stays { StaysReady (is_some ready) at.now.fixed.now.topology.nodes flow core.old.rel core.new.rel }
+{
+    let _body = body_of(object);
+    let answer = core.take_ack(flow, object, ready);
+    Item::Ack(answer)
+}
+
+fn take_rels(
+    at: &Arrival<'_>,
+    core: &mut Core,
+    flow: Flow,
+    rel: &Option<ObjectRef<'_>>,
+    ready: Option<(Kept, Bytes, Seat)>,
+    out: &mut Effects,
+) -> Option<Item>
+    requires ready { IfSome (option_map as_object rel.now) (λ o. IsRelReady false at.now.fixed.now.topology.nodes core.old.rel flow o ready) }
+    requires room { 1 ≤ out.old.room }
+    ensures { IsDone
+        (handle_all format (as_arrival at.now) core.old (map (RelPiece flow) (as_list (option_map as_object rel.now))))
+        core.new (as_list result) out.old out.new }
+{
+    match rel {
+        Some(object) => Some(take_rel(at, core, flow, object, ready, out)),
+        None => None,
+    }
+}
+
+fn take_rel(
+    at: &Arrival<'_>,
+    core: &mut Core,
+    flow: Flow,
+    object: &ObjectRef<'_>,
+    ready: Option<(Kept, Bytes, Seat)>,
+    out: &mut Effects,
+) -> Item
+    requires ready { IsRelReady false at.now.fixed.now.topology.nodes core.old.rel flow (as_object object.now) ready }
+    requires room { 1 ≤ out.old.room }
+    ensures { IsDone
+        (handle_all format (as_arrival at.now) core.old (RelPiece flow (as_object object.now) ∷ []))
+        core.new (result ∷ []) out.old out.new }
+{
+    let _body = body_of(object);
+    let answer = core.take_rel(flow, object, ready, out);
+    Item::Rel(answer)
+}

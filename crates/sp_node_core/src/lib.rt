@@ -1,0 +1,13 @@
+//! What a node is made of: its three parts in memory, and the arts of this format, which its rules leave open.
+//!
+//! For each object of a frame all memory is taken first; then one call takes it, which can't fail.
+#![tactic(auto)]
+
+mod fixed;
+mod format;
+mod parts;
+mod taking;
+
+pub use fixed::Fixed;
+pub use format::the_arts_of_the_format_fit;
+pub use parts::Core;

@@ -1,0 +1,74 @@
+-- What a client may send is in its ranges, and is new to the part that takes it.
+use Rattle.std.proofs.Common.{◌≡◌, ◌≤◌, ◌∙◌, ℕ, ◌+◌, Bool, true, false, List, length, Option, Some, None, Ok, refl, sym, ap, arith, cond, nat_lt, nat_le}
+use Rattle.std.specs.Prelude.{slice_get}
+use Rattle.std.proofs.lemmas.Bool.Decides.{nat_tests}
+use Rattle.sp_base.specs.Cursor.{or_else}
+use Rattle.sp_base.specs.declared.id.NodeId.{NodeId}
+use Rattle.sp_base.specs.declared.limits.TheConstants.{MAX_PAYLOAD_BYTES}
+use Rattle.sp_node_core.specs.Format.{format}
+use Rattle.sp_msg.specs.Bodies.{HasGoodFields}
+use Rattle.sp_msg.specs.declared.kept.Kept.{Kept}
+use Rattle.sp_msg.specs.declared.refused.SendRefused.{SendRefused}
+use Rattle.sp_msg.specs.declared.refused.SendRefused.TheVariants as refusals
+use Rattle.sp_rules.specs.Masks.{IsChoice, graph_of}
+use Rattle.sp_rules.specs.Node.{NodeState}
+use Rattle.sp_rules.specs.Parts.{edge_to}
+use Rattle.sp_rules.specs.Sends.{PrioSend, no_paths, prio_body, prio_refusal, rel_refusal, send_prio_refusal, signer_refusal, weight_body, weight_refusal, weight_refusal_at}
+use Rattle.sp_rules.specs.Weights.{held_in, minimum, minimum_of, next_seq, offer_of, offer_on, row_if, row_in, seq_after, seq_of}
+use Rattle.sp_rules.specs.declared.weights.Offer.TheVariants as offers
+use Rattle.sp_topology.specs.declared.topology.Edge.{Edge}
+use Rattle.laws_node.proofs.Own.{RelSent, prio_sent_fits, rel_sent_fits}
+use Rattle.laws_node.proofs.Updates.{own_row}
+use Rattle.laws_node.specs.Inputs.{PrioSendFits}
+use Rattle.laws_node.specs.Nodes.{IsKept}
+use Rattle.sp_node_state.proofs.Sizes.{sizes}
+
+pub rel_sent : (n : NodeState) (dst : NodeId) (payload : List ℕ) → length payload ≤ MAX_PAYLOAD_BYTES → rel_refusal n dst ≡ None → IsKept format n
+    → RelSent (sizes n) n dst payload
+rel_sent n dst payload short free kept = rel_sent_fits (sizes n) n dst payload short free kept
+
+-- ---- an own update is new
+
+offer_new : (edge seq weight : ℕ) (me : NodeId) (o : Option Edge) (rows : List (Option Kept)) (row : ℕ) → row_if edge o me.0 ≡ Some row
+    → nat_lt weight (minimum_of o) ≡ false → seq ≡ seq_of (held_in rows row) + 1
+    → offer_on o rows (record { origin = me; edge = record { 0 = edge }; seq = seq; weight = weight }) ≡ offers.New
+offer_new edge seq weight me None rows row is low next = absurd (cc)
+offer_new edge seq weight me (Some e) rows row is low next =
+    let old : nat_le seq (seq_of (held_in rows row)) ≡ false = grind (arith, nat_tests, next) in
+    rw (is, low, old) refl
+
+-- the number of the next update of this node's end of an edge
+abbrev own_seq : NodeState → ℕ → ℕ
+own_seq n edge = next_seq n.parts.weights edge n.fixed.me.0
+
+pub own_is_new : (n : NodeState) (v : NodeId) (weight : ℕ) → weight_refusal n v weight ≡ None → IsKept format n
+    → offer_of n.parts.weights (weight_body n v weight) ≡ offers.New
+own_is_new n v weight free kept = go (edge_to n.fixed v) refl free
+  where
+    low_is : (t : Bool) (x : ℕ) → cond t (Some (refusals.Low x)) (signer_refusal n.signer) ≡ None → t ≡ false
+    low_is true x e = absurd (cc)
+    low_is false x e = refl
+
+    at : (edge : ℕ) → edge_to n.fixed v ≡ Some edge → nat_lt weight (minimum n.parts.weights edge) ≡ false
+        → offer_on (slice_get n.parts.weights.edges edge) n.parts.weights.rows
+        (record { origin = n.fixed.me; edge = record { 0 = edge }; seq = own_seq n edge; weight = weight }) ≡ offers.New
+    at edge is low =
+        let row = own_row n.fixed.topology.edges edge n.fixed.me.0 v.0 is in
+        let same : n.parts.weights.edges ≡ n.fixed.topology.edges = kept.parts.weights.edges ∙ sym kept.fixed.edges in
+        let place : row_in n.parts.weights.edges edge n.fixed.me.0 ≡ Some row.0 = ap (λ (es : List Edge). row_in es edge n.fixed.me.0) same ∙ row.1 in
+        offer_new edge (own_seq n edge) weight n.fixed.me (slice_get n.parts.weights.edges edge) n.parts.weights.rows row.0 place low
+        (ap (seq_after n.parts.weights.rows) place)
+
+    go : (o : Option ℕ) → edge_to n.fixed v ≡ o → weight_refusal_at n o weight ≡ None → offer_of n.parts.weights (weight_body n v weight) ≡ offers.New
+    go None is e = absurd (cc)
+    go (Some edge) is e =
+        let low = low_is (nat_lt weight (minimum n.parts.weights edge)) (minimum n.parts.weights edge) e in
+        rw is (at edge is low)
+
+-- ---- an own priority message
+
+pub prio_sent : (n : NodeState) (m : PrioSend) (mask : ℕ) → PrioSendFits m → prio_refusal n m ≡ None
+    → IsChoice (graph_of n.fixed.topology n.parts.weights) n.fixed.me m.dst m.paths (Ok mask) → IsKept format n → HasGoodFields (prio_body n m mask)
+prio_sent n m mask fits free is kept =
+    let none : send_prio_refusal n m (Ok mask) ≡ None = ap (λ (o : Option SendRefused). or_else o (no_paths (Ok mask))) free in
+    (prio_sent_fits (sizes n) n m (Ok mask) fits none is kept).fields

@@ -1,0 +1,45 @@
+use Rattle.std.proofs.Common.{◌≡◌, ◌≤◌, ◌∙◌, ℕ, true, sym, ap, subst}
+use Rattle.sp_base.specs.declared.limits.TheConstants.{MAX_WEIGHT}
+use Rattle.sp_node_state.proofs.Ends.{ends_of}
+use Rattle.sp_node_state.proofs.InEffect.{effective_small}
+use Rattle.sp_node_state.proofs.Sizes.{sizes}
+use Rattle.sp_node_state.specs.Messages.{as_send}
+use Rattle.sp_rules.specs.Node.{NodeState}
+use Rattle.sp_rules.specs.Parts.{nodes_of}
+use Rattle.sp_rules.specs.Prio.{is_node}
+use Rattle.sp_rules.specs.Weights.{effective}
+use Rattle.sp_topology.specs.Keys.{key_of}
+use Rattle.sp_topology.specs.Ranges.{IsTopology}
+use Rattle.sp_node_state.proofs.priority.mask_for.Goals as goal
+
+pub choose-requires-clause-topology : goal.choose-requires-clause-topology
+choose-requires-clause-topology c = subst (λ (n : NodeState). IsTopology n.fixed.topology) (sym c.state.view_is) c.requires.kept.fixed.topology
+
+pub choose-requires-clause-edges : goal.choose-requires-clause-edges
+choose-requires-clause-edges c =
+    subst (λ (n : NodeState). n.parts.weights.edges ≡ n.fixed.topology.edges) (sym c.state.view_is)
+    (c.requires.kept.parts.weights.edges ∙ sym c.requires.kept.fixed.edges)
+
+pub choose-requires-clause-small : goal.choose-requires-clause-small
+choose-requires-clause-small c =
+    let n = c.args.state.now in
+    subst (λ (n : NodeState). (edge : ℕ) → effective n.parts.weights edge ≤ MAX_WEIGHT) (sym c.state.view_is)
+    (effective_small n.fixed.topology (sizes n) n.signer.index n.parts.weights c.requires.kept.fixed.topology (sym c.requires.kept.fixed.edges) c.requires.kept.parts.weights)
+
+pub choose-requires-clause-from : goal.choose-requires-clause-from
+choose-requires-clause-from c =
+    let mine = ap (λ (n : NodeState). key_of n.fixed.me.0 n.fixed.topology.nodes) (sym c.state.view_is) ∙ c.state.invariant.is_mine in
+    subst (λ (n : NodeState). is_node (nodes_of n.fixed.topology) n.fixed.me.0 ≡ true) (sym c.state.view_is)
+    (ends_of c.args.state.now (as_send c.args.message.now) _ mine c.requires.free c.requires.kept).0
+
+pub choose-requires-clause-to : goal.choose-requires-clause-to
+choose-requires-clause-to c =
+    let mine = ap (λ (n : NodeState). key_of n.fixed.me.0 n.fixed.topology.nodes) (sym c.state.view_is) ∙ c.state.invariant.is_mine in
+    subst (λ (n : NodeState). is_node (nodes_of n.fixed.topology) c.args.message.now.dst.0 ≡ true) (sym c.state.view_is)
+    (ends_of c.args.state.now (as_send c.args.message.now) _ mine c.requires.free c.requires.kept).1
+
+pub choose-requires-clause-other : goal.choose-requires-clause-other
+choose-requires-clause-other c =
+    let mine = ap (λ (n : NodeState). key_of n.fixed.me.0 n.fixed.topology.nodes) (sym c.state.view_is) ∙ c.state.invariant.is_mine in
+    λ e. (ends_of c.args.state.now (as_send c.args.message.now) _ mine c.requires.free c.requires.kept).2
+    (ap (λ (n : NodeState). n.fixed.me) (sym c.state.view_is) ∙ e)

@@ -1,0 +1,29 @@
+-- What a node is made of at the start of one of its lives.
+use Rattle.std.specs.Prelude.{ℕ, ◌≡◌, ◌≤◌, Some, map}
+use Rattle.sp_hss.specs.KeyTree.{public_key, signature_len}
+use Rattle.sp_rules.specs.Node.{NodeState, booted}
+use Rattle.sp_rules.specs.Parts.{Fixed, neighbours_of}
+use Rattle.sp_sign.specs.Heights.{param_of}
+use Rattle.sp_sign.specs.NodeSigner.{NodeSigner}
+use Rattle.sp_topology.specs.Keys.{key_of}
+use Rattle.sp_topology.specs.Ranges.{IsTopology}
+use Rattle.sp_node_state.specs.States.{signer_in}
+use Rattle.sp_node_state.specs.declared.boot.NodeConfig.{NodeConfig}
+
+-- what stays as it is in this life
+abbrev pub fixed_of : NodeConfig → ℕ → Fixed
+fixed_of c boot = record { me = c.me; boot = boot; topology = c.topology; signature_len = signature_len (param_of c.topology.height) }
+
+-- the node is one of the topology, the signer is its own, with the key that the topology has for it, and there is a link key for each of its
+-- edges, in their order
+pub record IsBootable (c : NodeConfig) (own : NodeSigner) (boot : ℕ) : Type 0 where
+  pub topology : IsTopology c.topology
+  pub node : own.node ≡ c.me
+  pub height : own.signer.height ≡ param_of c.topology.height
+  pub is_mine : key_of c.me.0 c.topology.nodes ≡ Some (public_key own.signer.height own.signer.seed)
+  pub keys : map (λ k. k.0) c.keys ≡ map (λ n. n.1) (neighbours_of (fixed_of c boot))
+  pub life : 1 ≤ boot
+
+-- nothing was sent, heard or kept
+abbrev pub booted_of : NodeConfig → NodeSigner → ℕ → NodeState
+booted_of c own boot = booted (fixed_of c boot) (signer_in own) (map (λ k. k.1) c.keys) c.limits.buffer c.limits.store

@@ -1,0 +1,6 @@
+-- A client's priority message as the rules see it.
+use Rattle.sp_rules.specs.Sends.{PrioSend}
+use Rattle.sp_node_state.specs.declared.priority.Message.{Message}
+
+abbrev pub as_send : Message → PrioSend
+as_send m = record { dst = m.dst; prio = m.prio; expiry = m.expiry; paths = m.paths; payload = m.payload.now }

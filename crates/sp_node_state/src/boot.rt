@@ -1,0 +1,153 @@
+// What a node is made of at the start of one of its lives.
+ghost use Rattle.std.specs.Prelude.{◌≡◌, ◌<◌, ◌^◌, ◌↔◌, IfErr, IfOk, IsTrue, Some as There, length, map, zip};
+ghost use Rattle.laws_node.specs.Nodes.{SignerHolds};
+ghost use Rattle.sp_node_state.specs.Boots.{IsBootable, booted_of};
+ghost use Rattle.sp_rules.specs.Link.{new_link};
+ghost use Rattle.sp_rules.specs.Parts.{neighbours_of};
+ghost use Rattle.sp_sign.specs.Heights.{param_of};
+ghost use Rattle.sp_topology.specs.Keys.{key_of};
+ghost use Rattle.sp_topology.specs.Neighbours.{neighbours_from};
+ghost use Rattle.sp_topology.specs.Ranges.{IsTopology};
+
+use crate::state::State;
+use sp_base::{EdgeId, Limits, Listed, Memory, NodeId};
+use sp_node_core::{Core, Fixed};
+use sp_link::Link;
+use sp_rules::NodeRefused;
+use sp_sign::{Checker, NodeSigner, param_of};
+use sp_topology::{Edge, LmsHeight, Topology};
+use std::alloc::Global;
+
+/// Who the node is, the topology that it runs under, how much it keeps, and the key that it shares with the neighbour at each of its edges,
+/// ascending by edge.
+#[derive(Debug, Drop)]
+pub struct NodeConfig {
+    pub me: NodeId,
+    pub topology: Topology,
+    pub limits: Limits,
+    pub keys: Listed<(EdgeId, [u8; 32])>,
+}
+
+/// Whether a node may start a life with these: what `Node::boot` asks for. It takes no memory.
+pub fn can_boot(config: &NodeConfig, signer: &NodeSigner, boot: u64) -> bool
+    requires { IsTopology config.now.topology }
+    ensures { IsTrue result ↔ IsBootable config.now signer.now boot }
+{
+    let topology = &config.topology;
+    boot >= 1
+        && signer.node() == config.me
+        && has_height(signer, topology.height)
+        && has_key(topology, config.me, &signer.public())
+        && has_keys(topology.edges.as_slice(), config.me, config.keys.as_slice())
+}
+
+/// Whether the key has trees of this height.
+#[tactic(auto, using(crate::proofs::Starts::one_height))]
+fn has_height(signer: &NodeSigner, height: LmsHeight) -> bool
+    ensures { IsTrue result ↔ (signer.now.signer.height ≡ param_of height) }
+{
+    let leaves = u64::from(param_of(height).leaf_count());
+    signer.total() == leaves * leaves
+}
+
+/// Whether the topology has this key for the node.
+fn has_key(topology: &Topology, node: NodeId, key: &[u8; 60]) -> bool
+    ensures { IsTrue result ↔ (key_of node.0 topology.now.nodes ≡ There key.now) }
+{
+    match topology.key_of(node) {
+        Some(known) => known == key,
+        None => false,
+    }
+}
+
+/// Whether the keys are those of the node's edges, in their order.
+fn has_keys(edges: &[Edge], node: NodeId, keys: &[(EdgeId, [u8; 32])]) -> bool
+    requires { length edges.now < 2 ^ 16 }
+    ensures { IsTrue result ↔ (map (λ k. k.0) keys.now ≡ map (λ n. n.1) (neighbours_from node.0 0 edges.now)) }
+{
+    let mut rest = keys;
+    'edges: for (place, edge) in edges.iter().enumerate() {
+        if edge.other_end(node).is_none() {
+            continue;
+        }
+        let Some((first, others)) = rest.split_first() else {
+            return false;
+        };
+        if first.0.0 as usize != place {
+            return false;
+        }
+        rest = others;
+    }
+    rest.is_empty()
+}
+
+impl State {
+    /// A node of which nothing was sent, heard or kept.
+    pub fn boot(
+        alloc: Global,
+        config: NodeConfig,
+        signer: NodeSigner,
+        boot: u64,
+    ) -> Result<State, NodeRefused>
+        requires { IsBootable config signer boot }
+        ensures state { IfOk result (λ state. state ≡ booted_of config signer boot) }
+        ensures signer { IfOk result (λ state. SignerHolds state.signer) }
+        ensures memory { IfErr result (λ refused. refused ≡ NodeRefused.Memory) }
+    {
+        let NodeConfig {
+            me,
+            topology,
+            limits,
+            keys,
+        } = config;
+        let fixed = Fixed {
+            me,
+            boot,
+            topology,
+            signature_len: signer.signature_len(),
+        };
+        let links = links_of(alloc, &fixed, keys.as_slice())?;
+        let checker = Checker::make(alloc, &fixed.topology)?;
+        let core = Core::new(alloc, me, &fixed.topology, limits)?;
+        let _reserved = (signer.index(), signer.bound());
+        Ok(State {
+            fixed,
+            now: 0,
+            calls: 0,
+            links,
+            signer,
+            checker,
+            core,
+        })
+    }
+}
+
+/// A link to each neighbour, with the key of the edge to it.
+fn links_of(alloc: Global, fixed: &Fixed, keys: &[(EdgeId, [u8; 32])]) -> Result<Vec<Link>, Memory>
+    requires { IsTopology fixed.now.topology }
+    ensures { IfOk result (λ links. links.items ≡ map (λ p. new_link fixed.now.me p.0.0 fixed.now.boot p.1.1) (zip (neighbours_of fixed.now) keys.now)) }
+{
+    let Ok(neighbours) = fixed.topology.neighbours(alloc, fixed.me) else {
+        return Err(Memory);
+    };
+    let links = keyed(alloc, fixed.me, fixed.boot, &neighbours, keys)?;
+    Ok(links)
+}
+
+/// A link to each of these with the key in its place.
+fn keyed(
+    alloc: Global,
+    me: NodeId,
+    boot: u64,
+    neighbours: &[(NodeId, EdgeId)],
+    keys: &[(EdgeId, [u8; 32])],
+) -> Result<Vec<Link>, Memory>
+    ensures { IfOk result (λ links. links.items ≡ map (λ p. new_link me p.0.0 boot p.1.1) (zip neighbours.now keys.now)) }
+{
+    let links = neighbours
+        .iter()
+        .zip(keys.iter())
+        .map(|(neighbour, key)| Link::new(me, neighbour.0, boot, key.1))
+        .collect(alloc)?;
+    Ok(links)
+}

@@ -1,0 +1,214 @@
+// A client sends a priority message.
+ghost use Rattle.std.specs.Prelude.{ℕ, ◌≡◌, ◌≢◌, ◌≤◌, ◌<◌, ◌+◌, ◌*◌, ◌^◌, All, IfErr, IfOk, None as Nothing, Some as There, Ok, ◌∷◌, length, true};
+ghost use Rattle.sp_base.specs.declared.limits.TheConstants.{MAX_WEIGHT};
+ghost use Rattle.laws_node.specs.Inputs.{PrioSendFits};
+ghost use Rattle.laws_node.specs.Nodes.{IsKept};
+ghost use Rattle.sp_node_core.specs.Format.{format};
+ghost use Rattle.sp_node_state.specs.Fewer.{SaysFewer};
+ghost use Rattle.sp_msg.specs.Bodies.{HasGoodFields};
+ghost use Rattle.sp_node_state.specs.Sends.{Sends};
+ghost use Rattle.sp_node_state.specs.Messages.{as_send};
+ghost use Rattle.sp_node_state.specs.ReadySends.{IsMaskFor, IsReadyPrio};
+ghost use Rattle.sp_paths.specs.declared.limits.TheConstants.{MAX_PATHS};
+ghost use Rattle.sp_prio.specs.Spare.{IsSpareFor};
+ghost use Rattle.sp_rules.specs.Masks.{IsChoice, graph_of};
+ghost use Rattle.sp_rules.specs.Node.{signed_now, signed_once};
+ghost use Rattle.sp_rules.specs.Parts.{nodes_of};
+ghost use Rattle.sp_rules.specs.Prio.{admit_prio, is_node, places, prio_effects};
+ghost use Rattle.sp_rules.specs.Sends.{prio_body, prio_refusal, signed_effect};
+ghost use Rattle.sp_rules.specs.Steps.{SendPrio};
+ghost use Rattle.sp_rules.specs.Told.{told};
+ghost use Rattle.sp_rules.specs.Weights.{effective};
+ghost use Rattle.sp_topology.specs.Ranges.{IsTopology};
+
+use sp_base::{Bytes, Memory, NodeId};
+use sp_node_core::{Core, Fixed};
+use crate::{NoMask, mask_to};
+use sp_msg::{Body, Effect, Effects, Kept, Mask, Prio, SendRefused};
+use sp_prio::Spare;
+use sp_rules::Step;
+use sp_sign::Blank;
+use crate::State;
+use std::alloc::Global;
+
+/// A priority message of a client: to whom, how urgent, until when, and over how many paths that share no node, where 0 means all edges.
+#[derive(Clone, Copy, Debug)]
+pub struct Message<'a> {
+    pub dst: NodeId,
+    pub prio: u8,
+    pub expiry: u64,
+    pub paths: u8,
+    pub payload: &'a [u8],
+}
+
+/// All that a priority message needs: itself, a copy for each further place that it goes into, and room for what it causes.
+#[derive(Drop)]
+pub struct ReadyPrio {
+    pub blank: Blank,
+    pub spare: Spare,
+    pub effects: Effects,
+}
+
+/// A message of a client is signed and goes into its places, under the number of this node's next priority message.
+pub fn send_prio(
+    state: &mut State,
+    alloc: Global,
+    message: &Message<'_>,
+) -> Result<Step<u64>, SendRefused>
+    requires kept { IsKept format state.old }
+    requires fits { PrioSendFits (as_send message.now) }
+    requires few { message.now.paths ≤ MAX_PATHS }
+    ensures { Sends (SendPrio (as_send message.now)) (prio_refusal state.old (as_send message.now)) state.old result state.new }
+{
+    may_send(state, message)?;
+    let mask = mask_for(state, alloc, message)?;
+    let Ok(ready) = ready_prio(state, alloc, message, mask) else {
+        return Err(SendRefused::Memory);
+    };
+    let number = next_number(state);
+    let effects = admit_own(state, ready);
+    Ok(Step {
+        reply: number,
+        effects,
+    })
+}
+
+/// Why the message isn't sent, but for its paths.
+fn may_send(state: &State, message: &Message<'_>) -> Result<(), SendRefused>
+    ensures free { IfOk result (λ _. prio_refusal state.entry.now (as_send message.now) ≡ Nothing) }
+    ensures refused { IfErr result (λ refused. prio_refusal state.entry.now (as_send message.now) ≡ There refused) }
+    ensures no_want { result ≢ Err SendRefused.Memory }
+{
+    if !state.is_other(message.dst) {
+        return Err(SendRefused::BadEnd);
+    }
+    if message.expiry < state.now {
+        return Err(SendRefused::Expired { now: state.now });
+    }
+    match state.signer_refusal() {
+        Some(refused) => Err(refused),
+        None => Ok(()),
+    }
+}
+
+/// The edges that the message takes.
+fn mask_for(state: &State, alloc: Global, message: &Message<'_>) -> Result<Mask, SendRefused>
+    requires kept { IsKept format state.now }
+    requires few { message.now.paths ≤ MAX_PATHS }
+    requires free { prio_refusal state.now (as_send message.now) ≡ Nothing }
+    ensures { IsMaskFor state.entry.now (as_send message.now) result }
+{
+    match choose(alloc, &state.fixed, &state.core, message) {
+        Ok(mask) => Ok(mask),
+        Err(NoMask::Fewer { found }) => Err(SendRefused::NoPaths { found }),
+        Err(NoMask::Memory) => Err(SendRefused::Memory),
+    }
+}
+
+/// The number of the next own priority message.
+fn next_number(state: &State) -> u64
+    ensures { result ≡ state.entry.now.parts.prio.next }
+{
+    state.core.prio.next_seq()
+}
+
+/// The message that takes these edges.
+fn prio_body(
+    state: &State,
+    alloc: Global,
+    message: &Message<'_>,
+    mask: Mask,
+) -> Result<Body, Memory>
+    ensures { IfOk result (λ body. body ≡ prio_body state.entry.now (as_send message.now) mask) }
+{
+    Ok(Body::Prio(Prio {
+        src: state.fixed.me,
+        dst: message.dst,
+        seq: next_number(state),
+        prio: message.prio,
+        expiry: message.expiry,
+        mask,
+        payload: Bytes::copy(alloc, message.payload)?,
+    }))
+}
+
+/// All that the message needs that takes these edges.
+fn ready_prio(
+    state: &State,
+    alloc: Global,
+    message: &Message<'_>,
+    mask: Mask,
+) -> Result<ReadyPrio, Memory>
+    requires kept { IsKept format state.now }
+    requires fits { PrioSendFits (as_send message.now) }
+    requires free { prio_refusal state.now (as_send message.now) ≡ Nothing }
+    requires mask { IsMaskFor state.now (as_send message.now) (Ok mask) }
+    ensures ready { IfOk result (IsReadyPrio state.entry.now) }
+    ensures body { IfOk result (λ ready. ready.blank.kept.body ≡ prio_body state.entry.now (as_send message.now) mask) }
+{
+    let body = prio_body(state, alloc, message, mask)?;
+    let blank = state.blank(alloc, body)?;
+    let spare = state.core.prio.spare(alloc, &blank.kept, None)?;
+    match Effects::with_room(alloc, 1 + 2 * state.core.prio.neighbours() + 3) {
+        Ok(effects) => Ok(ReadyPrio {
+            blank,
+            spare,
+            effects,
+        }),
+        Err(_) => Err(Memory),
+    }
+}
+
+/// Signs a message that is ready, and puts it into its places.
+fn admit_own(state: &mut State, ready: ReadyPrio) -> Effects
+    requires { IsReadyPrio state.old ready }
+    ensures state { state.new ≡ signed_once state.old (record state.old.parts { prio = admit_prio state.old.parts.prio (signed_now format state.old ready.blank.kept.body) Nothing }) }
+    ensures told { result.list ≡ signed_effect ready.blank.kept.body ∷ prio_effects state.old.parts.prio (signed_now format state.old ready.blank.kept.body) Nothing }
+{
+    state.is_fit();
+    let ReadyPrio {
+        blank,
+        spare,
+        mut effects,
+    } = ready;
+    let Blank { kept, bytes } = state.sign(blank);
+    effects.push(Effect::Signed(bytes));
+    place_own(&mut state.core, kept, spare, &mut effects);
+    effects
+}
+
+/// The edges that a message takes, by the weights in effect.
+fn choose(alloc: Global, fixed: &Fixed, core: &Core, message: &Message<'_>) -> Result<Mask, NoMask>
+    requires topology { IsTopology fixed.now.topology }
+    requires edges { core.now.weights.edges ≡ fixed.now.topology.edges }
+    requires small { (edge : ℕ) → effective core.now.weights edge ≤ MAX_WEIGHT }
+    requires from { is_node (nodes_of fixed.now.topology) fixed.now.me.0 ≡ true }
+    requires to { is_node (nodes_of fixed.now.topology) message.now.dst.0 ≡ true }
+    requires other { fixed.now.me ≢ message.now.dst }
+    requires few { message.now.paths ≤ MAX_PATHS }
+    ensures mask { IfOk result (λ mask. IsChoice (graph_of fixed.now.topology core.now.weights) fixed.now.me message.now.dst message.now.paths (Ok mask)) }
+    ensures fewer { IfErr result (SaysFewer (graph_of fixed.now.topology core.now.weights) fixed.now.me message.now.dst message.now.paths) }
+{
+    mask_to(
+        alloc,
+        &fixed.topology,
+        &core.weights,
+        fixed.me,
+        message.dst,
+        message.paths,
+    )
+}
+
+/// Puts a message that is signed into its places, with the copies that were made before.
+fn place_own(core: &mut Core, kept: Kept, spare: Spare, out: &mut Effects)
+    requires spare { IsSpareFor kept spare }
+    requires copies { spare.copies ≡ places core.old.prio kept.body Nothing }
+    requires fields { HasGoodFields kept.body }
+    requires inbox { core.old.prio.inbox.last < 2 ^ 63 }
+    requires stores { All (λ q. q.store.last < 2 ^ 63) core.old.prio.peers }
+    requires room { 2 * length core.old.prio.peers + 3 ≤ out.old.room }
+    ensures core { core.new ≡ record core.old { prio = admit_prio core.old.prio kept Nothing } }
+    ensures told { out.new ≡ told out.old (prio_effects core.old.prio kept Nothing) }
+{
+    core.prio.admit(spare.parcel(kept, None), out);
+}

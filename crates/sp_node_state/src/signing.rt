@@ -1,0 +1,59 @@
+// Signing the messages of this node: memory first, and then the signature of the next index.
+ghost use Rattle.std.specs.Prelude.{◌≡◌, IfOk, None as Nothing};
+ghost use Rattle.sp_node_core.specs.Format.{format};
+ghost use Rattle.sp_msg.specs.Bodies.{HasGoodFields, encoded};
+ghost use Rattle.sp_msg.specs.Views.{signer_of};
+ghost use Rattle.sp_node_state.specs.ReadyStates.{IsReadyBlank};
+ghost use Rattle.sp_rules.specs.Node.{signed_now, signed_once};
+ghost use Rattle.sp_rules.specs.Sends.{signer_refusal};
+
+use crate::state::State;
+use sp_base::Memory;
+use sp_msg::{Body, SendRefused};
+use sp_sign::Blank;
+use std::alloc::Global;
+
+impl State {
+    /// Why the signer signs nothing now. None exactly where it does.
+    pub fn signer_refusal(&self) -> Option<SendRefused>
+        ensures { result ≡ signer_refusal self.entry.now.signer }
+    {
+        let index = self.signer.index();
+        let bound = self.signer.bound();
+        if index == self.signer.total() {
+            return Some(SendRefused::Spent { index });
+        }
+        if index == bound {
+            return Some(SendRefused::NotReserved { bound });
+        }
+        None
+    }
+
+    /// A message of this node with the memory for its signature.
+    pub fn blank(&self, alloc: Global, body: Body) -> Result<Blank, Memory>
+        requires free { signer_refusal self.now.signer ≡ Nothing }
+        requires mine { signer_of body ≡ self.now.fixed.me }
+        requires fields { HasGoodFields body }
+        ensures ready { IfOk result (IsReadyBlank self.entry.now) }
+        ensures body { IfOk result (λ blank. blank.kept.body ≡ body) }
+    {
+        match self.signer.blank(alloc, body) {
+            Ok(blank) => Ok(blank),
+            Err(_) => Err(Memory),
+        }
+    }
+
+    /// The message with the signature of the next index, which is used then.
+    pub fn sign(&mut self, blank: Blank) -> Blank
+        requires { IsReadyBlank self.old blank }
+        ensures kept { result.kept ≡ signed_now format self.old blank.kept.body }
+        ensures bytes { result.bytes ≡ encoded blank.kept.body }
+        ensures state { self.new ≡ signed_once self.old self.old.parts }
+    {
+        let mut blank = blank;
+        let Ok(()) = self.signer.sign(&mut blank) else {
+            unreachable!()
+        };
+        blank
+    }
+}

@@ -1,2 +1,0 @@
-pub mod Arrival
-pub mod Ready

@@ -1,0 +1,258 @@
+// One flow at one node: each call is one of the rules' equations.
+ghost use Rattle.std.specs.Prelude.{◌≡◌, ◌==◌, ◌+◌, ◌<◌, ◌≤◌, true, false, length, option_copied, slice_get};
+ghost use Rattle.sp_base.specs.Position.{message_of};
+ghost use Rattle.sp_base.specs.declared.limits.TheConstants.{MAX_SEQ};
+ghost use Rattle.sp_rules.specs.Flow.{acknowledged_by, after_take, concluded, ends, is_flow, is_full, no_flow, number_said, pushed, received};
+ghost use Rattle.sp_rules.specs.Rel.{is_due};
+ghost use Rattle.sp_rel.specs.Changes.{CanChange, changed};
+ghost use Rattle.sp_rel.specs.Rows.{IsSeated, with_state};
+
+use crate::held::Held;
+use crate::change::Change;
+use crate::seat::Seat;
+use sp_base::{Bytes, Flow, NodeId};
+use sp_msg::{Body, Kept};
+use std::marker::Model;
+use std::mem::size_of;
+
+/// A flow at a node.
+#[derive(Debug, Drop)]
+pub struct FlowRow {
+    me: NodeId,
+    bound: u16,
+    flow: Flow,
+    held: Held,
+    /// The acknowledgement that raised base last.
+    ack: Option<Kept>,
+}
+
+/// How many bytes a row takes in its table, beside the messages that it holds.
+pub const ROW_BYTES: usize = size_of::<FlowRow>();
+
+const _: () = prove!(ROW_BYTES <= 256);
+
+/// The numbers of a flow at a node.
+#[derive(Clone, Copy, Debug, PartialEq, Eq)]
+pub struct Numbers {
+    pub active: bool,
+    pub base: u64,
+    pub have: u64,
+    /// How many messages wait for the clients of the destination.
+    pub waiting: usize,
+}
+
+impl Model for FlowRow {
+    ghost use Rattle.sp_rel.specs.Rows.{RowState};
+    ghost use Rattle.sp_rel.specs.Sound.{Fits, row_of};
+
+    ghost Value = { RowState };
+
+    ghost view = { λ r. row_of r.me r.bound r.flow r.held r.ack };
+
+    ghost invariant = { λ r. Fits r.me r.bound r.flow r.held };
+}
+
+impl FlowRow {
+    /// The flow before its first message. It holds no memory of messages.
+    pub fn new(me: NodeId, bound: u16, flow: Flow) -> FlowRow
+        ensures { result ≡ record { me = me; bound = bound; state = no_flow flow } }
+    {
+        FlowRow {
+            me,
+            bound,
+            flow,
+            held: Held::Idle,
+            ack: None,
+        }
+    }
+
+    /// Its ends.
+    pub fn flow(&self) -> Flow
+        ensures { result ≡ ends self.now.state }
+    {
+        self.flow
+    }
+
+    /// Whether it is the row of this flow.
+    pub fn is_of(&self, flow: Flow) -> bool
+        ensures { result ≡ is_flow flow self.now.state }
+    {
+        self.flow.src.0 == flow.src.0 && self.flow.dst.0 == flow.dst.0
+    }
+
+    /// Whether a message or an acknowledgement of it came.
+    pub fn is_active(&self) -> bool
+        ensures { result ≡ self.now.state.active }
+    {
+        match &self.held {
+            Held::Idle => false,
+            _ => true,
+        }
+    }
+
+    /// Where the flow stands.
+    pub fn numbers(&self) -> Numbers
+        ensures active { result.active ≡ self.now.state.active }
+        ensures base { result.base ≡ self.now.state.at.base }
+        ensures have { result.have ≡ self.now.state.at.have }
+        ensures waiting { result.waiting ≡ length self.now.state.inbox }
+    {
+        match &self.held {
+            Held::Idle => Numbers {
+                active: false,
+                base: 0,
+                have: 0,
+                waiting: 0,
+            },
+            Held::Relay(buffer) => Numbers {
+                active: true,
+                base: buffer.base(),
+                have: buffer.have(),
+                waiting: 0,
+            },
+            Held::End(inbox) => Numbers {
+                active: true,
+                base: inbox.base(),
+                have: inbox.have(),
+                waiting: inbox.len(),
+            },
+        }
+    }
+
+    /// Whether this node is its destination and owes an acknowledgement.
+    pub fn is_due(&self) -> bool
+        ensures { result ≡ is_due self.now.me self.now.state }
+    {
+        let numbers = self.numbers();
+        self.flow.dst.0 == self.me.0 && numbers.base < numbers.have
+    }
+
+    /// The acknowledgement that raised base last.
+    pub fn ack(&self) -> Option<&Kept>
+        ensures { option_copied result ≡ self.now.state.ack }
+    {
+        self.ack.as_ref()
+    }
+
+    /// The message that follows this number, where it is kept here.
+    #[tactic(auto, using(sp_base::proofs::PositionLemmas::message_past))]
+    pub fn message_after(&self, number: u64) -> Option<&Kept>
+        ensures { option_copied result ≡ message_of self.now.state.at (number + 1) }
+    {
+        match &self.held {
+            Held::Relay(buffer) => {
+                if number >= buffer.have() {
+                    return None;
+                }
+                buffer.get(number + 1)
+            }
+            _ => None,
+        }
+    }
+
+    /// What happened to the flow. Where it wasn't active, it is from now on, with the memory of the seat.
+    pub fn change(&mut self, change: Change, seat: Seat)
+        requires can { CanChange self.old.me self.old.bound self.old.state change }
+        requires seat { IsSeated self.old.me self.old.bound self.old.state seat }
+        ensures { self.new ≡ with_state self.old (changed change self.old.state) }
+    {
+        self.open(seat);
+        match change {
+            Change::Push(message) => self.push(message),
+            Change::Receive(payload) => self.receive(payload),
+            Change::Acknowledge(ack) => self.acknowledge(ack),
+            Change::Conclude(ack) => self.conclude(ack),
+        }
+    }
+
+    /// The flow becomes active. Where it is, the seat is dropped.
+    fn open(&mut self, seat: Seat)
+        requires { IsSeated self.old.me self.old.bound self.old.state seat }
+        ensures { self.new ≡ with_state self.old (record self.old.state { active = true }) }
+    {
+        if let Held::Idle = self.held {
+            let Seat { held, .. } = seat;
+            self.held = held;
+        }
+    }
+
+    /// Message have + 1 goes to the end of the list.
+    fn push(&mut self, message: Kept)
+        requires active { self.old.state.active ≡ true }
+        requires relay { (self.old.state.dst.0 == self.old.me.0) ≡ false }
+        requires room { is_full self.old.bound self.old.state ≡ false }
+        requires number { self.old.state.at.have < MAX_SEQ }
+        ensures { self.new ≡ with_state self.old (pushed self.old.state message) }
+    {
+        match &mut self.held {
+            Held::Relay(buffer) => match buffer.push(message) {
+                Ok(()) => {}
+                Err(_) => unreachable!(),
+            },
+            _ => unreachable!(),
+        }
+    }
+
+    /// Message have + 1 is delivered at the destination.
+    fn receive(&mut self, payload: Bytes)
+        requires active { self.old.state.active ≡ true }
+        requires end { (self.old.state.dst.0 == self.old.me.0) ≡ true }
+        requires room { (length self.old.state.inbox == self.old.bound) ≡ false }
+        requires number { self.old.state.at.have < MAX_SEQ }
+        ensures { self.new ≡ with_state self.old (received self.old.state payload) }
+    {
+        match &mut self.held {
+            Held::End(inbox) => inbox.receive(payload),
+            _ => unreachable!(),
+        }
+    }
+
+    /// An acknowledgement came: what it acknowledges is dropped here, and it is kept.
+    fn acknowledge(&mut self, ack: Kept)
+        requires active { self.old.state.active ≡ true }
+        requires relay { (self.old.state.dst.0 == self.old.me.0) ≡ false }
+        ensures { self.new ≡ with_state self.old (acknowledged_by self.old.state ack) }
+    {
+        match &mut self.held {
+            Held::Relay(buffer) => buffer.ack(number_said(&ack.body)),
+            _ => unreachable!(),
+        }
+        self.ack = Some(ack);
+    }
+
+    /// The destination signed an acknowledgement of all that came, and keeps it.
+    fn conclude(&mut self, ack: Kept)
+        requires active { self.old.state.active ≡ true }
+        requires end { (self.old.state.dst.0 == self.old.me.0) ≡ true }
+        requires sound { self.old.state.at.base ≤ self.old.state.at.have }
+        ensures { self.new ≡ with_state self.old (concluded self.old.state ack) }
+    {
+        match &mut self.held {
+            Held::End(inbox) => inbox.conclude(),
+            _ => unreachable!(),
+        }
+        self.ack = Some(ack);
+    }
+
+    /// The oldest message of the inbox, which leaves it.
+    pub fn take(&mut self) -> Option<Bytes>
+        ensures taken { result ≡ slice_get self.old.state.inbox 0 }
+        ensures rest { self.new ≡ with_state self.old (after_take self.old.state) }
+    {
+        match &mut self.held {
+            Held::End(inbox) => inbox.take(),
+            _ => None,
+        }
+    }
+}
+
+/// The number of a reliable message or an acknowledgement.
+fn number_said(body: &Body) -> u64
+    ensures { result ≡ number_said body.now }
+{
+    match body {
+        Body::Rel(rel) => rel.seq,
+        Body::Ack(ack) => ack.seq,
+        _ => 0,
+    }
+}

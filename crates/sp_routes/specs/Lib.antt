@@ -1,4 +1,0 @@
-pub mod Words
-pub mod Routes
-pub mod Refusals
-pub mod Answers

@@ -1,6 +1,0 @@
-pub mod Changes
-pub mod Inboxes
-pub mod Rows
-pub mod Seats
--- ---- what the parts of this crate use among themselves
-pub mod Sound

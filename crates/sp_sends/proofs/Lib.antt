@@ -1,4 +1,0 @@
-pub mod Ends
-pub mod InEffect
-pub mod Sent
-pub mod Urgent

@@ -1,4 +1,0 @@
-pub mod Messages
-pub mod Sends
--- ---- what the parts of this crate use among themselves
-pub mod Ready

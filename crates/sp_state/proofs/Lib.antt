@@ -1,4 +1,0 @@
-pub mod Fitted
-pub mod Links
-pub mod Sizes
-pub mod Starts
