@@ -18,4 +18,4 @@ pub use limits::{
 pub use listed::{Bytes, Listed};
 pub use memory::Memory;
 pub use reader::{Reader, Short};
-pub use room::push_in_room;
+pub use room::{push, push_in_room};

@@ -1,5 +1,7 @@
-// A push for which there is room: it takes no memory, so it can't be refused.
-ghost use Rattle.std.specs.Prelude.{◌≡◌, ◌<◌, ◌≤◌, ◌∷◌, ◌++◌, [], vec_capacity, vec_len};
+// Appending an item: where there is room it takes no memory, so it can't be refused; else want of memory is told by its one word.
+ghost use Rattle.std.specs.Prelude.{◌≡◌, ◌<◌, ◌≤◌, ◌∷◌, ◌++◌, [], OnErr, OnOk, vec_capacity, vec_len};
+
+use crate::Memory;
 
 /// Appends an item where the vector has room for one more. It takes no memory.
 pub fn push_in_room<T: Drop>(items: &mut Vec<T>, item: T)
@@ -11,4 +13,12 @@ pub fn push_in_room<T: Drop>(items: &mut Vec<T>, item: T)
         Ok(()) => {}
         Err(_) => unreachable!(),
     }
+}
+
+/// Appends an item. It is refused for want of memory alone, and then nothing has changed.
+pub fn push<T: Drop>(items: &mut Vec<T>, item: T) -> Result<(), Memory>
+    ensures items { OnOk result (items.new.items ≡ items.old.items ++ item ∷ []) }
+    ensures as_before { OnErr result (items.new.items ≡ items.old.items) }
+{
+    Ok(items.push(item)?)
 }

@@ -25,7 +25,8 @@ const BUFFER: u16 = 16;
 const STORE: u16 = 64;
 
 /// What a daemon is told: who it is, the signed topology and its administrator's key, its ports, where its counts go on, and its bounds.
-#[derive(Debug, Drop)]
+/// A debug line says neither the seed nor a key.
+#[derive(Drop)]
 pub struct Config {
     pub node: NodeId,
     pub seed: [u8; 32],
@@ -43,8 +44,8 @@ pub struct Config {
     pub peers: Listed<Peer>,
 }
 
-/// A neighbour: where it listens, and the key of the link.
-#[derive(Clone, Copy, Debug, PartialEq, Eq)]
+/// A neighbour: where it listens, and the key of the link, which no debug line says.
+#[derive(Clone, Copy, PartialEq, Eq)]
 pub struct Peer {
     pub id: NodeId,
     pub port: u16,

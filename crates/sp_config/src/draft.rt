@@ -18,7 +18,8 @@ use std::alloc::Global;
 use toml::{Table, Value};
 
 /// The topology that an administrator wants, with the seeds of the nodes and the administrator's own seed and next index.
-#[derive(Debug, Drop)]
+/// A debug line says no seed.
+#[derive(Drop)]
 pub struct Draft {
     pub version: u32,
     pub height: LmsHeight,
@@ -28,7 +29,8 @@ pub struct Draft {
     pub edges: Listed<DraftEdge>,
 }
 
-#[derive(Clone, Copy, Debug, PartialEq, Eq)]
+/// A node with its seed, which no debug line says.
+#[derive(Clone, Copy, PartialEq, Eq)]
 pub struct DraftNode {
     pub id: NodeId,
     pub seed: [u8; 32],

@@ -8,6 +8,7 @@ mod draft;
 mod keys;
 mod refused;
 mod steps;
+mod unsaid;
 mod values;
 mod walks;
 

@@ -1,7 +1,6 @@
 // Why a configuration or a draft is refused.
 use sp_base::{Bytes, Memory};
 use sp_topology::TopologyRefused;
-use std::alloc::{AllocError, AllocFailed};
 use thiserror::Error;
 
 /// Why a configuration or a draft is refused: the first that applies, in this order.
@@ -32,28 +31,6 @@ impl From<Memory> for ConfigRefused {
     ghost from_gives = { λ _ refused. refused ≡ NoMemory };
 
     fn from(_: Memory) -> Self {
-        ConfigRefused::Memory
-    }
-}
-
-impl From<AllocError> for ConfigRefused {
-    ghost use Rattle.std.specs.Prelude.{◌≡◌};
-    ghost use Rattle.sp_config.specs.declared.refused.ConfigRefused.TheVariants.{Memory as NoMemory};
-
-    ghost from_gives = { λ _ refused. refused ≡ NoMemory };
-
-    fn from(_: AllocError) -> Self {
-        ConfigRefused::Memory
-    }
-}
-
-impl<T: Drop> From<AllocFailed<T>> for ConfigRefused {
-    ghost use Rattle.std.specs.Prelude.{◌≡◌};
-    ghost use Rattle.sp_config.specs.declared.refused.ConfigRefused.TheVariants.{Memory as NoMemory};
-
-    ghost from_gives = { λ _ refused. refused ≡ NoMemory };
-
-    fn from(_: AllocFailed<T>) -> Self {
         ConfigRefused::Memory
     }
 }

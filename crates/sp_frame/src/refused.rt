@@ -1,6 +1,5 @@
 // Why a datagram is no frame, and why its sections aren't read.
-use sp_base::{Memory, Short};
-use std::alloc::{AllocError, AllocFailed};
+use sp_base::Short;
 use thiserror::Error;
 
 /// Why a datagram is no frame.
@@ -18,9 +17,6 @@ pub enum FrameRefused {
     /// It is a frame of another version.
     #[error("a frame is of another version")]
     Version,
-    /// No memory was left for the frame.
-    #[error("no memory is left")]
-    Memory,
 }
 
 /// Why sections aren't read: the first thing from the left that is wrong.
@@ -48,38 +44,5 @@ impl From<Short> for SectionRefused {
 
     fn from(_: Short) -> Self {
         SectionRefused::Cut
-    }
-}
-
-impl From<Memory> for FrameRefused {
-    ghost use Rattle.std.specs.Prelude.{◌≡◌};
-    ghost use Rattle.sp_frame.specs.declared.refused.FrameRefused.TheVariants.{Memory as no_memory};
-
-    ghost from_gives = { λ _ refused. refused ≡ no_memory };
-
-    fn from(_: Memory) -> Self {
-        FrameRefused::Memory
-    }
-}
-
-impl From<AllocError> for FrameRefused {
-    ghost use Rattle.std.specs.Prelude.{◌≡◌};
-    ghost use Rattle.sp_frame.specs.declared.refused.FrameRefused.TheVariants.{Memory as no_memory};
-
-    ghost from_gives = { λ _ refused. refused ≡ no_memory };
-
-    fn from(_: AllocError) -> Self {
-        FrameRefused::Memory
-    }
-}
-
-impl<T: Drop> From<AllocFailed<T>> for FrameRefused {
-    ghost use Rattle.std.specs.Prelude.{◌≡◌};
-    ghost use Rattle.sp_frame.specs.declared.refused.FrameRefused.TheVariants.{Memory as no_memory};
-
-    ghost from_gives = { λ _ refused. refused ≡ no_memory };
-
-    fn from(_: AllocFailed<T>) -> Self {
-        FrameRefused::Memory
     }
 }

@@ -1,5 +1,5 @@
 // A frame, written into memory that is taken at once.
-ghost use Rattle.std.specs.Prelude.{◌≡◌, ◌≤◌, ◌∷◌, ◌++◌, length, IfErr, IfOk, IfSome, OnOk, option_map, replicate};
+ghost use Rattle.std.specs.Prelude.{◌≡◌, ◌≤◌, ◌∷◌, ◌++◌, length, IfOk, IfSome, OnOk, option_map, replicate};
 ghost use Rattle.byteorder.specs.Endian.{big_bytes};
 ghost use Rattle.sp_frame.specs.Frames.{ends_bytes, frame_bytes, head_bytes, numbers_bytes};
 ghost use Rattle.sp_frame.specs.Objects.{object_bytes};
@@ -10,10 +10,10 @@ ghost use Rattle.sp_frame.specs.Weights.{weights_bytes};
 ghost use Rattle.sp_frame.specs.Writing.{IsWritable, IsWritableSlot, out_report};
 
 use crate::frame::{HEAD_BYTES, NAME, TAG_BYTES, VERSION};
-use crate::{FrameRefused, Head};
-use sp_base::{Bytes, Flow};
+use crate::Head;
+use sp_base::{Bytes, Flow, Memory};
 use sp_msg::{Kept, encoded_len, push_body};
-use std::alloc::{AllocError, Global};
+use std::alloc::Global;
 
 /// A report on a flow, to be written, with an acknowledgement and a message of the flow.
 #[derive(Clone, Copy, Debug)]
@@ -34,7 +34,7 @@ pub fn write(
     prio_ack: u64,
     prio: Option<(u64, &Kept)>,
     slot: Option<&OutSlot<'_>>,
-) -> Result<Bytes, FrameRefused>
+) -> Result<Bytes, Memory>
     requires weight { IfSome weight (λ o. IsWritable o.now) }
     requires prio { IfSome prio (λ p. IsWritable p.1.now) }
     requires slot { IfSome slot (λ s. IsWritableSlot s.now) }
@@ -44,7 +44,6 @@ pub fn write(
       prios = as_list (option_map (λ p. (p.0, p.1.now)) prio.entry);
       slot = option_map (λ s. out_report s.now) slot.entry;
     }) (replicate 32 0)) }
-    ensures memory { IfErr result (λ e. e ≡ FrameRefused.Memory) }
 {
     let room = HEAD_BYTES + counted_len(weight) + 8 + prio_len(prio) + slot_len(slot) + TAG_BYTES;
     let mut out = Vec::with_capacity(alloc, room)?;
@@ -58,7 +57,7 @@ pub fn write(
 }
 
 #[tactic(auto, unfolding(crate::specs::Frames::head_bytes))]
-fn push_head(out: &mut Vec<u8>, head: &Head) -> Result<(), AllocError>
+fn push_head(out: &mut Vec<u8>, head: &Head) -> Result<(), Memory>
     ensures { OnOk result (out.new.items ≡ out.old.items ++ head_bytes head.now) }
 {
     push_ends(out, head)?;
@@ -66,7 +65,7 @@ fn push_head(out: &mut Vec<u8>, head: &Head) -> Result<(), AllocError>
 }
 
 #[tactic(auto, unfolding(crate::specs::Frames::ends_bytes))]
-fn push_ends(out: &mut Vec<u8>, head: &Head) -> Result<(), AllocError>
+fn push_ends(out: &mut Vec<u8>, head: &Head) -> Result<(), Memory>
     ensures { OnOk result (out.new.items ≡ out.old.items ++ ends_bytes head.now) }
 {
     push_u16(out, NAME)?;
@@ -76,7 +75,7 @@ fn push_ends(out: &mut Vec<u8>, head: &Head) -> Result<(), AllocError>
 }
 
 #[tactic(auto, unfolding(crate::specs::Frames::numbers_bytes))]
-fn push_numbers(out: &mut Vec<u8>, head: &Head) -> Result<(), AllocError>
+fn push_numbers(out: &mut Vec<u8>, head: &Head) -> Result<(), Memory>
     ensures { OnOk result (out.new.items ≡ out.old.items ++ numbers_bytes head.now) }
 {
     push_u64(out, head.boot)?;
@@ -86,7 +85,7 @@ fn push_numbers(out: &mut Vec<u8>, head: &Head) -> Result<(), AllocError>
 }
 
 #[tactic(auto, unfolding(crate::specs::Weights::weights_bytes))]
-fn push_weight(out: &mut Vec<u8>, weight: Option<&Kept>) -> Result<(), AllocError>
+fn push_weight(out: &mut Vec<u8>, weight: Option<&Kept>) -> Result<(), Memory>
     requires { IfSome weight (λ o. IsWritable o.now) }
     ensures { OnOk result (out.new.items ≡ out.old.items ++ weights_bytes (as_list (option_map (λ o. o.now) weight.entry))) }
 {
@@ -98,7 +97,7 @@ fn push_weight(out: &mut Vec<u8>, weight: Option<&Kept>) -> Result<(), AllocErro
 }
 
 #[tactic(auto, unfolding(crate::specs::Prioritized::prios_bytes, crate::specs::Prioritized::numbered_bytes))]
-fn push_prio(out: &mut Vec<u8>, prio: Option<(u64, &Kept)>) -> Result<(), AllocError>
+fn push_prio(out: &mut Vec<u8>, prio: Option<(u64, &Kept)>) -> Result<(), Memory>
     requires { IfSome prio (λ p. IsWritable p.1.now) }
     ensures { OnOk result (out.new.items ≡ out.old.items ++ prios_bytes (as_list (option_map (λ p. (p.0, p.1.now)) prio.entry))) }
 {
@@ -111,7 +110,7 @@ fn push_prio(out: &mut Vec<u8>, prio: Option<(u64, &Kept)>) -> Result<(), AllocE
 }
 
 #[tactic(auto, unfolding(crate::specs::Reliable::slot_bytes))]
-fn push_slot(out: &mut Vec<u8>, slot: Option<&OutSlot<'_>>) -> Result<(), AllocError>
+fn push_slot(out: &mut Vec<u8>, slot: Option<&OutSlot<'_>>) -> Result<(), Memory>
     requires { IfSome slot (λ s. IsWritableSlot s.now) }
     ensures { OnOk result (out.new.items ≡ out.old.items ++ slot_bytes (option_map (λ s. out_report s.now) slot.entry)) }
 {
@@ -123,7 +122,7 @@ fn push_slot(out: &mut Vec<u8>, slot: Option<&OutSlot<'_>>) -> Result<(), AllocE
 }
 
 #[tactic(auto, unfolding(crate::specs::Reliable::report_bytes))]
-fn push_report(out: &mut Vec<u8>, slot: &OutSlot<'_>) -> Result<(), AllocError>
+fn push_report(out: &mut Vec<u8>, slot: &OutSlot<'_>) -> Result<(), Memory>
     requires { IsWritableSlot slot.now }
     ensures { OnOk result (out.new.items ≡ out.old.items ++ report_bytes (out_report slot.now)) }
 {
@@ -133,7 +132,7 @@ fn push_report(out: &mut Vec<u8>, slot: &OutSlot<'_>) -> Result<(), AllocError>
 }
 
 #[tactic(auto, unfolding(crate::specs::Reliable::place_bytes))]
-fn push_place(out: &mut Vec<u8>, slot: &OutSlot<'_>) -> Result<(), AllocError>
+fn push_place(out: &mut Vec<u8>, slot: &OutSlot<'_>) -> Result<(), Memory>
     ensures { OnOk result (out.new.items ≡ out.old.items ++ place_bytes (out_report slot.now)) }
 {
     push_u8(out, slot.flow.src.0)?;
@@ -143,7 +142,7 @@ fn push_place(out: &mut Vec<u8>, slot: &OutSlot<'_>) -> Result<(), AllocError>
 }
 
 #[tactic(auto, unfolding(crate::specs::Reliable::ack_bytes))]
-fn push_ack(out: &mut Vec<u8>, ack: Option<&Kept>) -> Result<(), AllocError>
+fn push_ack(out: &mut Vec<u8>, ack: Option<&Kept>) -> Result<(), Memory>
     requires { IfSome ack (λ o. IsWritable o.now) }
     ensures { OnOk result (out.new.items ≡ out.old.items ++ ack_bytes (option_map (λ o. o.now) ack.entry)) }
 {
@@ -155,7 +154,7 @@ fn push_ack(out: &mut Vec<u8>, ack: Option<&Kept>) -> Result<(), AllocError>
 }
 
 #[tactic(auto, unfolding(crate::specs::Reliable::rels_bytes))]
-fn push_rel(out: &mut Vec<u8>, rel: Option<&Kept>) -> Result<(), AllocError>
+fn push_rel(out: &mut Vec<u8>, rel: Option<&Kept>) -> Result<(), Memory>
     requires { IfSome rel (λ o. IsWritable o.now) }
     ensures { OnOk result (out.new.items ≡ out.old.items ++ rels_bytes (as_list (option_map (λ o. o.now) rel.entry))) }
 {
@@ -167,7 +166,7 @@ fn push_rel(out: &mut Vec<u8>, rel: Option<&Kept>) -> Result<(), AllocError>
 }
 
 #[tactic(auto, unfolding(crate::specs::Objects::object_bytes), using(crate::proofs::LengthLemmas::encoded_fits))]
-fn push_object(out: &mut Vec<u8>, object: &Kept) -> Result<(), AllocError>
+fn push_object(out: &mut Vec<u8>, object: &Kept) -> Result<(), Memory>
     requires { IsWritable object.now }
     ensures { OnOk result (out.new.items ≡ out.old.items ++ object_bytes object.now) }
 {
@@ -175,7 +174,7 @@ fn push_object(out: &mut Vec<u8>, object: &Kept) -> Result<(), AllocError>
     push_body(out, &object.body)?;
     let signature = object.signature.as_slice();
     push_u16(out, signature.len() as u16)?;
-    out.extend_from_slice(signature)
+    Ok(out.extend_from_slice(signature)?)
 }
 
 // ---- how many bytes a part has
@@ -220,26 +219,26 @@ fn object_len(object: &Kept) -> usize
 
 // ---- one number
 
-fn push_u8(out: &mut Vec<u8>, number: u8) -> Result<(), AllocError>
+fn push_u8(out: &mut Vec<u8>, number: u8) -> Result<(), Memory>
     ensures { OnOk result (out.new.items ≡ out.old.items ++ big_bytes 1 number) }
 {
-    out.extend_from_slice(&number.to_be_bytes())
+    Ok(out.extend_from_slice(&number.to_be_bytes())?)
 }
 
-fn push_u16(out: &mut Vec<u8>, number: u16) -> Result<(), AllocError>
+fn push_u16(out: &mut Vec<u8>, number: u16) -> Result<(), Memory>
     ensures { OnOk result (out.new.items ≡ out.old.items ++ big_bytes 2 number) }
 {
-    out.extend_from_slice(&number.to_be_bytes())
+    Ok(out.extend_from_slice(&number.to_be_bytes())?)
 }
 
-fn push_u32(out: &mut Vec<u8>, number: u32) -> Result<(), AllocError>
+fn push_u32(out: &mut Vec<u8>, number: u32) -> Result<(), Memory>
     ensures { OnOk result (out.new.items ≡ out.old.items ++ big_bytes 4 number) }
 {
-    out.extend_from_slice(&number.to_be_bytes())
+    Ok(out.extend_from_slice(&number.to_be_bytes())?)
 }
 
-fn push_u64(out: &mut Vec<u8>, number: u64) -> Result<(), AllocError>
+fn push_u64(out: &mut Vec<u8>, number: u64) -> Result<(), Memory>
     ensures { OnOk result (out.new.items ≡ out.old.items ++ big_bytes 8 number) }
 {
-    out.extend_from_slice(&number.to_be_bytes())
+    Ok(out.extend_from_slice(&number.to_be_bytes())?)
 }

@@ -1,7 +1,6 @@
 // Why the text of a graph is refused.
 use sp_base::Memory;
 use sp_text::TextRefused;
-use std::alloc::{AllocError, AllocFailed};
 use thiserror::Error;
 
 /// Why the text of a graph is refused: what is wrong with its first bad line. Lines are counted from 1.
@@ -47,28 +46,6 @@ impl From<Memory> for GraphRefused {
     ghost from_gives = { λ _ refused. refused ≡ NoMemory };
 
     fn from(_: Memory) -> Self {
-        GraphRefused::Memory
-    }
-}
-
-impl From<AllocError> for GraphRefused {
-    ghost use Rattle.std.specs.Prelude.{◌≡◌};
-    ghost use Rattle.sp_graph.specs.declared.refused.GraphRefused.TheVariants.{Memory as NoMemory};
-
-    ghost from_gives = { λ _ refused. refused ≡ NoMemory };
-
-    fn from(_: AllocError) -> Self {
-        GraphRefused::Memory
-    }
-}
-
-impl<T: Drop> From<AllocFailed<T>> for GraphRefused {
-    ghost use Rattle.std.specs.Prelude.{◌≡◌};
-    ghost use Rattle.sp_graph.specs.declared.refused.GraphRefused.TheVariants.{Memory as NoMemory};
-
-    ghost from_gives = { λ _ refused. refused ≡ NoMemory };
-
-    fn from(_: AllocFailed<T>) -> Self {
         GraphRefused::Memory
     }
 }

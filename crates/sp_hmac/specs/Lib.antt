@@ -1,2 +1,3 @@
 pub mod Hmac
 pub mod Keyed
+pub mod Same

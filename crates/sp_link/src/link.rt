@@ -8,10 +8,11 @@ ghost use Rattle.sp_rules.specs.Link.{advanced, after_frame, link_answer, new_li
 use sp_base::{Bytes, NodeId};
 use sp_frame::{Frame, Head, TAG_BYTES};
 use sp_rules::LinkAnswer;
+use std::fmt;
 use std::marker::Model;
 
-/// A link to a neighbour: what this node knows of it, and the key that the two share.
-#[derive(Clone, Copy, Debug)]
+/// A link to a neighbour: what this node knows of it, and the key that the two share, which no debug line says.
+#[derive(Clone, Copy)]
 pub struct Link {
     pub me: NodeId,
     pub peer: NodeId,
@@ -34,6 +35,19 @@ impl Model for Link {
     ghost view = { λ l. record { me = l.me; peer = l.peer; boot = l.boot; peer_boot = l.peer_boot; sent = l.sent; seen = l.seen; key = l.key } };
 
     ghost inverse = { λ l. record { me = l.me; peer = l.peer; boot = l.boot; peer_boot = l.peer_boot; sent = l.sent; seen = l.seen; key = l.key } };
+}
+
+impl fmt::Debug for Link {
+    fn fmt<W: fmt::Write>(&self, f: &mut fmt::Formatter<W>) -> fmt::Result {
+        f.debug_struct("Link")
+            .field("me", &self.me)
+            .field("peer", &self.peer)
+            .field("boot", &self.boot)
+            .field("peer_boot", &self.peer_boot)
+            .field("sent", &self.sent)
+            .field("seen", &self.seen)
+            .finish_non_exhaustive()
+    }
 }
 
 impl Link {

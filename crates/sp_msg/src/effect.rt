@@ -2,7 +2,7 @@
 ghost use Rattle.std.specs.Prelude.{◌≡◌, ◌-◌, ◌<◌, ◌++◌, [], ◌∷◌, IfErr, IfOk, IsOk};
 
 use crate::MsgRefused;
-use sp_base::{Bytes, EdgeId, NodeId, push_in_room};
+use sp_base::{Memory, Bytes, EdgeId, NodeId, push_in_room};
 use std::alloc::Global;
 use std::marker::Model;
 
@@ -85,7 +85,7 @@ impl Effects {
         ensures memory { IfErr result (λ e. e ≡ MsgRefused.Memory) }
     {
         Ok(Effects {
-            list: Vec::with_capacity(alloc, n)?,
+            list: Vec::with_capacity(alloc, n).map_err(Memory::from)?,
             room: n,
         })
     }

@@ -6,7 +6,7 @@ ghost use Rattle.sp_msg.specs.declared.body.Body.TheVariants as bodies;
 
 use crate::body::{ACK, PRIO, REL, WEIGHT};
 use crate::{Ack, Body, MsgRefused, Prio, Rel, WeightBody};
-use sp_base::{Bytes, MAX_PAYLOAD_BYTES};
+use sp_base::{Memory, Bytes, MAX_PAYLOAD_BYTES};
 use std::alloc::{AllocError, Global};
 
 /// How many bytes a message has before its payload, or in all where it has none.
@@ -25,7 +25,7 @@ pub fn encode(alloc: Global, body: &Body) -> Result<Bytes, MsgRefused>
     ensures memory { IfErr result (λ e. e ≡ MsgRefused.Memory) }
 {
     let mut out = Vec::new(alloc);
-    push_body(&mut out, body)?;
+    push_body(&mut out, body).map_err(Memory::from)?;
     Ok(Bytes::from_vec(out))
 }
 

@@ -1,6 +1,5 @@
 // Why bytes are no message, and why a message isn't sent.
 use sp_base::{Memory, Short};
-use std::alloc::AllocError;
 use thiserror::Error;
 
 /// A field of a message that has a range.
@@ -55,17 +54,6 @@ impl From<Memory> for MsgRefused {
     ghost from_gives = { λ _ e. e ≡ no_memory };
 
     fn from(_: Memory) -> Self {
-        MsgRefused::Memory
-    }
-}
-
-impl From<AllocError> for MsgRefused {
-    ghost use Rattle.std.specs.Prelude.{◌≡◌};
-    ghost use Rattle.sp_msg.specs.declared.refused.MsgRefused.TheVariants.{Memory as no_memory};
-
-    ghost from_gives = { λ _ e. e ≡ no_memory };
-
-    fn from(_: AllocError) -> Self {
         MsgRefused::Memory
     }
 }

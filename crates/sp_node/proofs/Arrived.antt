@@ -1,7 +1,7 @@
 -- A datagram that is answered is a step of the rules.
 use Rattle.std.proofs.Common.{◌≡◌, ◌∙◌, ℕ, List, map, Option, None, Ok, sym, ap}
 use Rattle.sp_base.specs.declared.id.NodeId.{NodeId}
-use Rattle.sp_node_arrivals.specs.Taken.{IsTaken}
+use Rattle.sp_node_arrivals.specs.Admitted.{IsAdmitted}
 use Rattle.sp_node_core.specs.Format.{format}
 use Rattle.sp_msg.specs.declared.effect.Effect.{Effect}
 use Rattle.sp_msg.specs.declared.kept.Kept.{Kept}
@@ -43,7 +43,7 @@ state_is n v bytes link parts free link_is parts_are =
 pub arrived_so : (n new : NodeState) (v : NodeId) (bytes : List ℕ) (step : Step Taken) (pieces : List Piece) (link : Link) (parts : Parts)
     → call_refusal n v ≡ None → step.reply.link ≡ reply_at format n v bytes
     → pieces ≡ pieces_where (reply_at format n v bytes) (pieces_in (sections_in format n.fixed bytes))
-    → IsTaken (handle_all format (arrival_at n v) n.parts pieces) parts step.reply.items step.effects.list → link ≡ link_after format n v bytes
+    → IsAdmitted (handle_all format (arrival_at n v) n.parts pieces) parts step.reply.items step.effects.list → link ≡ link_after format n v bytes
     → new ≡ called n (with_link n v link) parts → Datagrams n v bytes (Ok step) new
 arrived_so n new v bytes step pieces link parts free reply are taken link_is is =
     let done : handle_all format (arrival_at n v) n.parts pieces ≡ handled format n v bytes = ap (handle_all format (arrival_at n v) n.parts) are in (

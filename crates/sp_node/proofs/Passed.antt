@@ -39,7 +39,6 @@ none_of frames.TooLong pieces = refl
 none_of (frames.Short short) pieces = refl
 none_of frames.Magic pieces = refl
 none_of frames.Version pieces = refl
-none_of frames.Memory pieces = refl
 
 pub no_pieces : (n : NodeState) (v : NodeId) (bytes : List ℕ) (refused : FrameRefused) (pieces : List Piece) → opened bytes ≡ Err refused
     → [] ≡ pieces_where (reply_at format n v bytes) pieces

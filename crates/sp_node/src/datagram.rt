@@ -4,7 +4,7 @@ ghost use Rattle.sp_base.specs.Rows.{replace_where};
 ghost use Rattle.sp_rules.specs.Node.{called, is_link, with_link};
 ghost use Rattle.sp_rules.specs.declared.node.TheConstants.{MAX_CALLS};
 ghost use Rattle.laws_node.specs.Nodes.{IsKept};
-ghost use Rattle.sp_node_arrivals.specs.Taken.{IsTaken};
+ghost use Rattle.sp_node_arrivals.specs.Admitted.{IsAdmitted};
 ghost use Rattle.sp_node_core.specs.Format.{format};
 ghost use Rattle.sp_frame.specs.Frames.{head_of, opened};
 ghost use Rattle.sp_node.specs.Arrived.{pieces_with};
@@ -43,7 +43,7 @@ pub fn datagram(
 {
     let place = state.place_for(from)?;
     let passage = passed(state, place, from, bytes);
-    let arrived = take_sections(state, alloc, from, &passage.sections)?;
+    let arrived = admit_sections(state, alloc, from, &passage.sections)?;
     answered(state, place, from, passage.link);
     Ok(Step {
         reply: Taken {
@@ -93,19 +93,19 @@ fn answered(state: &mut State, place: usize, v: NodeId, link: Link)
 }
 
 /// Takes the objects of these sections, if there are any. After `Memory` the node is as before.
-fn take_sections(
+fn admit_sections(
     state: &mut State,
     alloc: Global,
     from: NodeId,
     sections: &Option<Sections<'_>>,
 ) -> Result<Arrived, Memory>
     requires { IsKept format state.old }
-    ensures taken { IfOk result (λ a. IsTaken (handle_all format (arrival_at state.old from) state.old.parts (pieces_with sections.now)) state.new.parts a.items a.effects.list) }
+    ensures taken { IfOk result (λ a. IsAdmitted (handle_all format (arrival_at state.old from) state.old.parts (pieces_with sections.now)) state.new.parts a.items a.effects.list) }
     ensures others { IfOk result (λ _. state.new ≡ record state.old { parts = state.new.parts }) }
     ensures as_before { OnErr result (state.new ≡ state.old) }
 {
     match sections {
-        None => nothing_taken(alloc),
+        None => nothing_admitted(alloc),
         Some(sections) => arrive(
             alloc,
             &state.fixed,
@@ -129,7 +129,7 @@ fn put_link(links: &mut Vec<Link>, place: usize, v: NodeId, link: Link)
 }
 
 /// Nothing was taken. It takes no memory.
-fn nothing_taken(alloc: Global) -> Result<Arrived, Memory>
+fn nothing_admitted(alloc: Global) -> Result<Arrived, Memory>
     ensures items { IfOk result (λ a. a.items ≡ []) }
     ensures effects { IfOk result (λ a. a.effects.list ≡ []) }
 {
@@ -151,7 +151,6 @@ fn no_frame(refused: FrameRefused) -> LinkReply
         FrameRefused::Short(short) => LinkReply::Short(short),
         FrameRefused::Magic => LinkReply::Magic,
         FrameRefused::Version => LinkReply::Version,
-        FrameRefused::Memory => LinkReply::TooLong,
     }
 }
 

@@ -75,7 +75,7 @@ impl Node {
     pub fn poll(&mut self, alloc: Global, v: NodeId) -> Result<Bytes, NodeRefused>
         ensures { Polls self.old v result self.new }
     {
-        self.state.is_fit();
+        self.state.recall();
         poll(&mut self.state, alloc, v)
     }
 
@@ -92,7 +92,7 @@ impl Node {
     ) -> Result<Step<Taken>, NodeRefused>
         ensures { Datagrams self.old from bytes.now result self.new }
     {
-        self.state.is_fit();
+        self.state.recall();
         datagram(&mut self.state, alloc, from, bytes)
     }
 
@@ -104,7 +104,7 @@ impl Node {
         ensures step { Ticks self.old now result self.new }
         ensures quiet { due self.old.parts.rel ≡ Nothing → expiring self.old.parts.prio (time_after self.old now) ≡ 0 → IsOk result }
     {
-        self.state.is_fit();
+        self.state.recall();
         tick(&mut self.state, alloc, now)
     }
 
@@ -121,7 +121,7 @@ impl Node {
         requires { length payload.now ≤ MAX_PAYLOAD_BYTES }
         ensures { Sends (SendRel dst payload.now) (rel_refusal self.old dst) self.old result self.new }
     {
-        self.state.is_fit();
+        self.state.recall();
         send_rel(&mut self.state, alloc, dst, payload)
     }
 
@@ -145,7 +145,7 @@ impl Node {
         requires short { length payload.now ≤ MAX_PAYLOAD_BYTES }
         ensures { let m : PrioSend = record { dst = dst; prio = prio; expiry = expiry; paths = paths; payload = payload.now } in Sends (SendPrio m) (prio_refusal self.old m) self.old result self.new }
     {
-        self.state.is_fit();
+        self.state.recall();
         let message = Message {
             dst,
             prio,
@@ -170,7 +170,7 @@ impl Node {
         requires most { weight ≤ MAX_WEIGHT }
         ensures { Sends (SetWeight peer weight) (weight_refusal self.old peer weight) self.old result self.new }
     {
-        self.state.is_fit();
+        self.state.recall();
         set_weight(&mut self.state, alloc, peer, weight)
     }
 
@@ -179,7 +179,7 @@ impl Node {
     pub fn take_rel(&mut self, src: NodeId) -> Option<Bytes>
         ensures { TakesRel self.old src result self.new }
     {
-        self.state.is_fit();
+        self.state.recall();
         take_rel(&mut self.state, src)
     }
 
@@ -188,7 +188,7 @@ impl Node {
     pub fn take_prio(&mut self) -> Option<Entry>
         ensures { TakesPrio self.old result self.new }
     {
-        self.state.is_fit();
+        self.state.recall();
         take_prio(&mut self.state)
     }
 

@@ -12,7 +12,7 @@ use Rattle.sp_rules.specs.Pieces.{Piece}
 use Rattle.sp_rules.specs.Told.{told}
 use Rattle.sp_rules.specs.declared.answers.Item.{Item}
 use Rattle.sp_node_arrivals.specs.Done.{IsDone}
-use Rattle.sp_node_arrivals.specs.Taken.{IsTaken}
+use Rattle.sp_node_arrivals.specs.Admitted.{IsAdmitted}
 
 handled : Parts → List (Kept × Item) → List Effect → Handled
 handled parts answered effects = record { parts = parts; answered = answered; effects = effects }
@@ -84,7 +84,7 @@ none_done arts at p c = record { parts = refl; items = refl; effects = sym (told
 
 -- where nothing was told before, all that was told is what was caused
 pub all_taken : (done : Handled) (left : Parts) (answers : List Item) (before now : Caused) (room : ℕ) → IsDone done left answers before now
-    → before ≡ record { list = []; room = room } → IsTaken done left answers now.list
+    → before ≡ record { list = []; room = room } → IsAdmitted done left answers now.list
 all_taken done left answers before now room all none = record {
   parts = all.parts;
   items = all.items;

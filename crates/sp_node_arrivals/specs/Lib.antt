@@ -1,4 +1,5 @@
 pub mod Arrival
 pub mod Ready
+pub mod Work
 pub mod Done
-pub mod Taken
+pub mod Admitted

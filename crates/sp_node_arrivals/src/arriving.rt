@@ -5,10 +5,11 @@ ghost use Rattle.sp_rules.specs.Handle.{handle_all};
 ghost use Rattle.sp_rules.specs.Pieces.{pieces_of};
 ghost use Rattle.sp_node_arrivals.specs.Done.{items_of};
 ghost use Rattle.sp_node_core.specs.Format.{format};
-ghost use Rattle.sp_node_arrivals.specs.Taken.{IsTaken};
+ghost use Rattle.sp_node_arrivals.specs.Admitted.{IsAdmitted};
+ghost use Rattle.sp_node_arrivals.specs.Work.{frame_checks};
 
 use crate::answers::Answers;
-use crate::taking::take;
+use crate::admitting::admit;
 use sp_base::{Listed, Memory, NodeId, push_in_room};
 use sp_node_core::{Core, Fixed};
 use sp_frame::Sections;
@@ -31,8 +32,8 @@ pub struct Arrived {
 /// Takes the objects of a fresh frame from a neighbour in the order of the rules: the update of a weight, the acknowledged link number, the
 /// priority message, and the slot with its report, its acknowledgement and its message.
 ///
-/// All memory is taken before anything changes, so it is refused for want of memory alone, and then nothing has changed. A signature is looked
-/// at once at most, and only where its object may be new when its turn comes.
+/// All memory is taken before anything changes, so it is refused for want of memory alone, and then nothing has changed. A signature is checked
+/// once for each object that may be new when its turn comes, and for no other.
 pub fn arrive(
     alloc: Global,
     fixed: &Fixed,
@@ -42,14 +43,16 @@ pub fn arrive(
     from: NodeId,
     sections: &Sections<'_>,
 ) -> Result<Arrived, Memory>
-    requires keys { checker.old ≡ fixed.now.topology.nodes }
+    requires keys { checker.old.nodes ≡ fixed.now.topology.nodes }
     requires inbox { core.old.prio.inbox.last < 2 ^ 63 }
     requires stores { All (λ q. q.store.last < 2 ^ 63) core.old.prio.peers }
-    ensures taken { IfOk result (λ a. IsTaken
+    ensures taken { IfOk result (λ a. IsAdmitted
         (handle_all format (record { fixed = fixed.now; now = now; from = from }) core.old (pieces_of (as_contents sections.now)))
         core.new a.items a.effects.list) }
     ensures as_before { OnErr result (core.new ≡ core.old) }
-    ensures keys { checker.new ≡ checker.old }
+    ensures keys { checker.new.nodes ≡ checker.old.nodes }
+    ensures work { checker.new.checks ≤ checker.old.checks
+        + frame_checks (record { fixed = fixed.now; now = now; from = from }) core.old sections.now }
 {
     let at = Arrival {
         fixed,
@@ -59,7 +62,7 @@ pub fn arrive(
     let ready = make_ready(alloc, &at, core, checker, sections)?;
     let mut effects = with_room(alloc, core)?;
     let items = Vec::with_capacity(alloc, MOST_OBJECTS)?;
-    let answers = take(&at, core, sections, ready, &mut effects);
+    let answers = admit(&at, core, sections, ready, &mut effects);
     Ok(Arrived {
         items: listed(items, answers),
         effects,

@@ -8,9 +8,9 @@ mod arriving;
 mod ready;
 mod signed;
 mod slot;
-mod taking;
+mod admitting;
 
 pub use arrival::Arrival;
 pub use arriving::{Arrived, arrive};
 pub use ready::{Ready, SlotReady, make_ready};
-pub use signed::body_of;
+pub use signed::recall;

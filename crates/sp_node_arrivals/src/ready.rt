@@ -1,11 +1,12 @@
 // What is made ready before anything changes: of each object that may be new and bears its signature, a copy with all memory that taking it needs.
-ghost use Rattle.std.specs.Prelude.{◌≡◌, IfOk};
+ghost use Rattle.std.specs.Prelude.{◌≡◌, ◌≤◌, ◌+◌, ◌&&◌, IfOk, is_some};
 ghost use Rattle.sp_frame.specs.Views.{as_object};
 ghost use Rattle.sp_rules.specs.Rel.{judge_ack_of, judge_rel_of};
 ghost use Rattle.sp_msg.specs.Views.{as_body};
 ghost use Rattle.sp_rel.specs.Seated.{IsSeated};
 ghost use Rattle.sp_node_arrivals.specs.Arrival.{as_arrival};
-ghost use Rattle.sp_node_arrivals.specs.Ready.{IsAckReady, IsPrioReady, IsReady, IsRelReady, IsSlotReady, IsWeightReady, may_be_new};
+ghost use Rattle.sp_node_arrivals.specs.Ready.{IsAckReady, IsPrioReady, IsReady, IsRelReady, IsSlotReady, IsWeightReady, is_right, may_be_new};
+ghost use Rattle.sp_node_arrivals.specs.Work.{ack_checks, frame_checks, is_new_ack, prio_checks, rel_checks, slot_checks, weight_checks};
 
 use crate::arrival::Arrival;
 use crate::signed::{copy_of, is_right, payload_of};
@@ -34,7 +35,8 @@ pub struct Ready {
     pub slot: SlotReady,
 }
 
-/// Makes the objects of a frame ready. It is refused for want of memory alone.
+/// Makes the objects of a frame ready. It is refused for want of memory alone. A signature is checked once for each object that may be new when
+/// its turn comes, and for no other, so at most four times.
 pub fn make_ready(
     alloc: Global,
     at: &Arrival<'_>,
@@ -42,9 +44,10 @@ pub fn make_ready(
     checker: &mut Checker,
     sections: &Sections<'_>,
 ) -> Result<Ready, Memory>
-    requires keys { checker.old ≡ at.now.fixed.now.topology.nodes }
+    requires keys { checker.old.nodes ≡ at.now.fixed.now.topology.nodes }
     ensures ready { IfOk result (IsReady (as_arrival at.now) core.now sections.now) }
-    ensures keys { checker.new ≡ checker.old }
+    ensures keys { checker.new.nodes ≡ checker.old.nodes }
+    ensures work { checker.new.checks ≤ checker.old.checks + frame_checks (as_arrival at.now) core.now sections.now }
 {
     let weight = match &sections.weight {
         Some(object) => ready_weight(alloc, at, core, checker, object)?,
@@ -71,9 +74,10 @@ fn ready_weight(
     checker: &mut Checker,
     object: &ObjectRef<'_>,
 ) -> Result<Option<Kept>, Memory>
-    requires keys { checker.old ≡ at.now.fixed.now.topology.nodes }
+    requires keys { checker.old.nodes ≡ at.now.fixed.now.topology.nodes }
     ensures ready { IfOk result (IsWeightReady at.now.fixed.now.me at.now.fixed.now.topology.nodes core.now.weights (as_object object.now)) }
-    ensures keys { checker.new ≡ checker.old }
+    ensures keys { checker.new.nodes ≡ checker.old.nodes }
+    ensures work { checker.new.checks ≤ checker.old.checks + weight_checks at.now.fixed.now.me core.now.weights (as_object object.now) }
 {
     let fixed = at.fixed;
     let Offer::New = core.offer(fixed.me, &object.body) else {
@@ -92,9 +96,10 @@ fn ready_prio(
     checker: &mut Checker,
     object: &ObjectRef<'_>,
 ) -> Result<Option<Parcel>, Memory>
-    requires keys { checker.old ≡ at.now.fixed.now.topology.nodes }
+    requires keys { checker.old.nodes ≡ at.now.fixed.now.topology.nodes }
     ensures ready { IfOk result (IsPrioReady (as_arrival at.now) core.now.prio (as_object object.now)) }
-    ensures keys { checker.new ≡ checker.old }
+    ensures keys { checker.new.nodes ≡ checker.old.nodes }
+    ensures work { checker.new.checks ≤ checker.old.checks + prio_checks (as_arrival at.now) core.now.prio (as_object object.now) }
 {
     let PrioJudged::New = core.prio.judge_ref(&object.body, at.time) else {
         return Ok(None);
@@ -113,9 +118,10 @@ fn ready_slot(
     checker: &mut Checker,
     slot: &Slot<'_>,
 ) -> Result<SlotReady, Memory>
-    requires keys { checker.old ≡ at.now.fixed.now.topology.nodes }
+    requires keys { checker.old.nodes ≡ at.now.fixed.now.topology.nodes }
     ensures ready { IfOk result (IsSlotReady at.now.fixed.now.topology.nodes core.now.rel slot.now) }
-    ensures keys { checker.new ≡ checker.old }
+    ensures keys { checker.new.nodes ≡ checker.old.nodes }
+    ensures work { checker.new.checks ≤ checker.old.checks + slot_checks at.now.fixed.now.topology.nodes core.now.rel slot.now }
 {
     let ack = match &slot.ack {
         Some(object) => ready_ack(alloc, core, checker, slot.flow, object)?,
@@ -135,8 +141,10 @@ fn ready_ack(
     flow: Flow,
     object: &ObjectRef<'_>,
 ) -> Result<Option<(Kept, Seat)>, Memory>
-    ensures ready { IfOk result (IsAckReady checker.old core.now.rel flow (as_object object.now)) }
-    ensures keys { checker.new ≡ checker.old }
+    ensures ready { IfOk result (IsAckReady checker.old.nodes core.now.rel flow (as_object object.now)) }
+    ensures keys { checker.new.nodes ≡ checker.old.nodes }
+    ensures work { checker.new.checks ≤ checker.old.checks + ack_checks core.now.rel flow (as_object object.now) }
+    ensures new { IfOk result (λ ready. is_some ready ≡ is_new_ack (judge_ack_of core.now.rel flow (as_object object.now).body) && is_right checker.old.nodes (as_object object.now)) }
 {
     let AckJudged::New = judge_ack_of(core, flow, &object.body) else {
         return Ok(None);
@@ -157,8 +165,9 @@ fn ready_rel(
     object: &ObjectRef<'_>,
     acked: bool,
 ) -> Result<Option<(Kept, Bytes, Seat)>, Memory>
-    ensures ready { IfOk result (IsRelReady acked checker.old core.now.rel flow (as_object object.now)) }
-    ensures keys { checker.new ≡ checker.old }
+    ensures ready { IfOk result (IsRelReady acked checker.old.nodes core.now.rel flow (as_object object.now)) }
+    ensures keys { checker.new.nodes ≡ checker.old.nodes }
+    ensures work { checker.new.checks ≤ checker.old.checks + rel_checks acked core.now.rel flow (as_object object.now) }
 {
     if !may_be_new(acked, judge_rel_of(core, flow, &object.body)) {
         return Ok(None);

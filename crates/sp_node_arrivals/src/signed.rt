@@ -1,5 +1,5 @@
 // Whether an object bears its signer's signature, and what its bytes say of its fields.
-ghost use Rattle.std.specs.Prelude.{◌≡◌, Ok, IfOk};
+ghost use Rattle.std.specs.Prelude.{◌≡◌, ◌≤◌, ◌+◌, Ok, IfOk};
 ghost use Rattle.sp_frame.specs.Views.{as_object};
 ghost use Rattle.sp_msg.specs.Bodies.{HasGoodFields, payload_of, read_body};
 ghost use Rattle.sp_msg.specs.Views.{as_body};
@@ -13,8 +13,9 @@ use std::alloc::Global;
 
 /// Whether the object bears its signer's signature.
 pub(crate) fn is_right(checker: &mut Checker, object: &ObjectRef<'_>) -> bool
-    ensures right { result ≡ is_right checker.old (as_object object.now) }
-    ensures keys { checker.new ≡ checker.old }
+    ensures right { result ≡ is_right checker.old.nodes (as_object object.now) }
+    ensures keys { checker.new.nodes ≡ checker.old.nodes }
+    ensures work { checker.new.checks ≤ checker.old.checks + 1 }
 {
     bears(checker, object.bytes, &object.body, object.signature)
 }
@@ -22,8 +23,9 @@ pub(crate) fn is_right(checker: &mut Checker, object: &ObjectRef<'_>) -> bool
 /// The same of the bytes that spell a message.
 fn bears(checker: &mut Checker, bytes: &[u8], body: &BodyRef<'_>, signature: &[u8]) -> bool
     requires { read_body bytes.now ≡ Ok (as_body body.now) }
-    ensures right { result ≡ is_right checker.old (record { body = as_body body.now; signature = signature.now }) }
-    ensures keys { checker.new ≡ checker.old }
+    ensures right { result ≡ is_right checker.old.nodes (record { body = as_body body.now; signature = signature.now }) }
+    ensures keys { checker.new.nodes ≡ checker.old.nodes }
+    ensures work { checker.new.checks ≤ checker.old.checks + 1 }
 {
     let Ok(()) = checker.check(bytes, body, signature) else {
         return false;
@@ -31,20 +33,19 @@ fn bears(checker: &mut Checker, bytes: &[u8], body: &BodyRef<'_>, signature: &[u
     true
 }
 
-/// The message of the object: its fields are in their ranges, since bytes spell them.
-pub fn body_of<'b>(object: &'b ObjectRef<'_>) -> &'b BodyRef<'b>
-    ensures same { result.now ≡ object.now.body }
-    ensures fields { HasGoodFields (as_object object.now).body }
+/// For the prover alone, it does nothing when it runs: the fields of an object are in their ranges, since bytes spell them.
+pub fn recall(object: &ObjectRef<'_>)
+    ensures { HasGoodFields (as_object object.now).body }
 {
-    spelled(object.bytes, &object.body)
+    recall_spelled(object.bytes, &object.body);
 }
 
-fn spelled<'b>(bytes: &[u8], body: &'b BodyRef<'b>) -> &'b BodyRef<'b>
+/// The same of the bytes that spell a message.
+fn recall_spelled(bytes: &[u8], body: &BodyRef<'_>)
     requires { read_body bytes.now ≡ Ok (as_body body.now) }
-    ensures same { result.now ≡ body.now }
-    ensures fields { HasGoodFields (as_body body.now) }
+    ensures { HasGoodFields (as_body body.now) }
 {
-    body
+    let _spelled = (bytes, body);
 }
 
 /// A copy of the object.

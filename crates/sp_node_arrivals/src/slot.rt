@@ -14,12 +14,12 @@ use sp_base::{Bytes, Flow};
 use sp_node_core::Core;
 use sp_frame::{ObjectRef, Slot};
 use sp_msg::{Effects, Kept};
-use crate::{Arrival, SlotReady, body_of};
+use crate::{Arrival, SlotReady, recall};
 use sp_rel::Seat;
 use sp_rules::Item;
 
 /// Takes the slot of a frame, where it has one.
-pub(crate) fn take_slot(
+pub(crate) fn admit_slot(
     at: &Arrival<'_>,
     core: &mut Core,
     slot: &Option<Slot<'_>>,
@@ -33,7 +33,7 @@ pub(crate) fn take_slot(
         core.new (slot_items result) out.old out.new }
 {
     match slot {
-        Some(slot) => take_report(at, core, slot, ready, out),
+        Some(slot) => admit_report(at, core, slot, ready, out),
         None => SlotAnswers {
             ack: None,
             rel: None,
@@ -41,7 +41,7 @@ pub(crate) fn take_slot(
     }
 }
 
-fn take_report(
+fn admit_report(
     at: &Arrival<'_>,
     core: &mut Core,
     slot: &Slot<'_>,
@@ -55,13 +55,13 @@ fn take_report(
         core.new (slot_items result) out.old out.new }
 {
     let SlotReady { ack, rel } = ready;
-    core.take_report(at.from, slot.flow, slot.base, slot.have);
-    let ack = take_acks(at, core, slot.flow, &slot.ack, ack);
-    let rel = take_rels(at, core, slot.flow, &slot.rel, rel, out);
+    core.admit_report(at.from, slot.flow, slot.base, slot.have);
+    let ack = admit_acks(at, core, slot.flow, &slot.ack, ack);
+    let rel = admit_rels(at, core, slot.flow, &slot.rel, rel, out);
     SlotAnswers { ack, rel }
 }
 
-fn take_acks(
+fn admit_acks(
     at: &Arrival<'_>,
     core: &mut Core,
     flow: Flow,
@@ -75,12 +75,12 @@ fn take_acks(
     ensures stays { StaysReady (is_some ready) at.now.fixed.now.topology.nodes flow core.old.rel core.new.rel }
 {
     match ack {
-        Some(object) => Some(take_ack(at, core, flow, object, ready)),
+        Some(object) => Some(admit_ack(at, core, flow, object, ready)),
         None => None,
     }
 }
 
-fn take_ack(
+fn admit_ack(
     at: &Arrival<'_>,
     core: &mut Core,
     flow: Flow,
@@ -93,12 +93,12 @@ fn take_ack(
         core.new (result ∷ []) c c }
     ensures stays { StaysReady (is_some ready) at.now.fixed.now.topology.nodes flow core.old.rel core.new.rel }
 {
-    let _body = body_of(object);
-    let answer = core.take_ack(flow, object, ready);
+    recall(object);
+    let answer = core.admit_ack(flow, object, ready);
     Item::Ack(answer)
 }
 
-fn take_rels(
+fn admit_rels(
     at: &Arrival<'_>,
     core: &mut Core,
     flow: Flow,
@@ -113,12 +113,12 @@ fn take_rels(
         core.new (as_list result) out.old out.new }
 {
     match rel {
-        Some(object) => Some(take_rel(at, core, flow, object, ready, out)),
+        Some(object) => Some(admit_rel(at, core, flow, object, ready, out)),
         None => None,
     }
 }
 
-fn take_rel(
+fn admit_rel(
     at: &Arrival<'_>,
     core: &mut Core,
     flow: Flow,
@@ -132,7 +132,7 @@ fn take_rel(
         (handle_all format (as_arrival at.now) core.old (RelPiece flow (as_object object.now) ∷ []))
         core.new (result ∷ []) out.old out.new }
 {
-    let _body = body_of(object);
-    let answer = core.take_rel(flow, object, ready, out);
+    recall(object);
+    let answer = core.admit_rel(flow, object, ready, out);
     Item::Rel(answer)
 }

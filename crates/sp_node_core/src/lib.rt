@@ -6,7 +6,7 @@
 mod fixed;
 mod format;
 mod parts;
-mod taking;
+mod objects;
 
 pub use fixed::Fixed;
 pub use format::the_arts_of_the_format_fit;

@@ -18,13 +18,12 @@ signer_in own = record { seed = own.signer.seed; index = own.signer.index; bound
 abbrev pub state_of : Fixed → (now calls : ℕ) → List Link → NodeSigner → Parts → NodeState
 state_of f now calls links own parts = record { fixed = f; now = now; calls = calls; links = links; signer = signer_in own; parts = parts }
 
--- the signer is this node's, with the key that the topology has for it, and signatures are checked under the keys of the topology
-pub record IsFitted (f : Fixed) (own : NodeSigner) (keys : List NodeKey) : Type 0 where
+-- the signer is this node's, with the key that the topology has for it
+pub record IsFitted (f : Fixed) (own : NodeSigner) : Type 0 where
   pub node : own.node ≡ f.me
   pub height : own.signer.height ≡ param_of f.topology.height
   pub signature_len : f.signature_len ≡ signature_len own.signer.height
   pub is_mine : key_of f.me.0 f.topology.nodes ≡ Some (public_key own.signer.height own.signer.seed)
-  pub known : keys ≡ f.topology.nodes
 
 -- another node of the overlay
 abbrev pub is_other : NodeState → NodeId → Bool

@@ -14,18 +14,28 @@ use sp_base::{EdgeId, Limits, Listed, Memory, NodeId};
 use sp_node_core::{Core, Fixed};
 use sp_link::Link;
 use sp_rules::NodeRefused;
-use sp_sign::{Checker, NodeSigner, param_of};
+use sp_sign::{NodeSigner, param_of};
 use sp_topology::{Edge, LmsHeight, Topology};
 use std::alloc::Global;
+use std::fmt;
 
 /// Who the node is, the topology that it runs under, how much it keeps, and the key that it shares with the neighbour at each of its edges,
-/// ascending by edge.
-#[derive(Debug, Drop)]
+/// ascending by edge. A debug line says no key.
+#[derive(Drop)]
 pub struct NodeConfig {
     pub me: NodeId,
     pub topology: Topology,
     pub limits: Limits,
     pub keys: Listed<(EdgeId, [u8; 32])>,
+}
+
+impl fmt::Debug for NodeConfig {
+    fn fmt<W: fmt::Write>(&self, f: &mut fmt::Formatter<W>) -> fmt::Result {
+        f.debug_struct("NodeConfig")
+            .field("me", &self.me)
+            .field("limits", &self.limits)
+            .finish_non_exhaustive()
+    }
 }
 
 /// Whether a node may start a life with these: what `Node::boot` asks for. It takes no memory.
@@ -107,7 +117,6 @@ impl State {
             signature_len: signer.signature_len(),
         };
         let links = links_of(alloc, &fixed, keys.as_slice())?;
-        let checker = Checker::make(alloc, &fixed.topology)?;
         let core = Core::new(alloc, me, &fixed.topology, limits)?;
         let _reserved = (signer.index(), signer.bound());
         Ok(State {
@@ -116,7 +125,6 @@ impl State {
             calls: 0,
             links,
             signer,
-            checker,
             core,
         })
     }

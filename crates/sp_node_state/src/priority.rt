@@ -165,7 +165,7 @@ fn admit_own(state: &mut State, ready: ReadyPrio) -> Effects
     ensures state { state.new ≡ signed_once state.old (record state.old.parts { prio = admit_prio state.old.parts.prio (signed_now format state.old ready.blank.kept.body) Nothing }) }
     ensures told { result.list ≡ signed_effect ready.blank.kept.body ∷ prio_effects state.old.parts.prio (signed_now format state.old ready.blank.kept.body) Nothing }
 {
-    state.is_fit();
+    state.recall();
     let ReadyPrio {
         blank,
         spare,

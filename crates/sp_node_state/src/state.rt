@@ -11,7 +11,7 @@ use sp_base::NodeId;
 use sp_node_core::{Core, Fixed};
 use sp_link::Link;
 use sp_rules::{MAX_CALLS, NodeRefused};
-use sp_sign::{Checker, NodeSigner};
+use sp_sign::NodeSigner;
 use std::marker::Model;
 
 /// What a node keeps from call to call. `Node` has all of it, and promises more.
@@ -22,7 +22,6 @@ pub struct State {
     pub calls: u64,
     pub links: Vec<Link>,
     pub signer: NodeSigner,
-    pub checker: Checker,
     pub core: Core,
 }
 
@@ -34,13 +33,13 @@ impl Model for State {
 
     ghost view = { λ s. state_of s.fixed s.now s.calls s.links.items s.signer s.core };
 
-    ghost invariant = { λ s. IsFitted s.fixed s.signer s.checker };
+    ghost invariant = { λ s. IsFitted s.fixed s.signer };
 }
 
 impl State {
-    /// The arts of the format fit the node.
+    /// For the prover alone, it does nothing when it runs: the arts of the format fit the node.
     #[tactic(auto, using(crate::proofs::Fitted::fitted))]
-    pub fn is_fit(&self)
+    pub fn recall(&self)
         ensures { ArtsFit format self.entry.now.fixed self.entry.now.signer }
     {
         let _me = &self.fixed;

@@ -87,7 +87,7 @@ impl Flows {
         ensures sound { result.base ≤ result.have }
         ensures small { result.have ≤ MAX_SEQ }
     {
-        self.are_standing();
+        self.recall();
         match self.row(flow) {
             Some(row) => row.numbers(),
             None => FlowRow::new(self.me, self.bound, flow).numbers(),
@@ -146,8 +146,8 @@ impl Flows {
         }
     }
 
-    /// What always holds of the flows.
-    pub fn are_standing(&self)
+    /// For the prover alone, it does nothing when it runs: what always holds of the flows.
+    pub fn recall(&self)
         ensures { All (IsStanding self.now.me self.now.bound) self.now.flows }
     {
         let _rows = &self.rows;

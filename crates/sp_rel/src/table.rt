@@ -11,7 +11,7 @@ ghost use Rattle.sp_rules.specs.Rel.{oldest, position_in, pushed_in, rel_effects
 use crate::flows::Flows;
 use crate::pairs::pairs_of;
 use crate::peers::Peers;
-use sp_base::{Bytes, Cursor, Flow, NodeId};
+use sp_base::{Bytes, Cursor, Flow, Memory, NodeId};
 use sp_frame::OutSlot;
 use sp_msg::{Ack, Body, Effect, Effects, Kept};
 use crate::change::Change;
@@ -60,7 +60,7 @@ impl RelTable {
     {
         let pairs = pairs_of(alloc, nodes)?;
         Ok(RelTable {
-            nodes: Vec::from_slice(alloc, nodes)?,
+            nodes: Vec::from_slice(alloc, nodes).map_err(Memory::from)?,
             flows: Flows::new(alloc, me, buffer, pairs.as_slice())?,
             peers: Peers::new(alloc, pairs.as_slice(), neighbours)?,
             signed: Cursor::start(),
@@ -292,7 +292,7 @@ impl RelTable {
         requires fields { HasGoodFields ack.body }
         ensures { self.new ≡ settled self.old ack }
     {
-        self.flows.are_standing();
+        self.flows.recall();
         if let Some(place) = self.flows.next_due(self.signed) {
             let flow = flow_said(&ack.body);
             let seat = Seat::none(self.flows.me(), self.flows.bound(), flow);
@@ -313,11 +313,11 @@ impl RelTable {
         self.flows.take(flow)
     }
 
-    /// What always holds: each flow is a position with its messages, within the bound.
-    pub fn are_standing(&self)
+    /// For the prover alone, it does nothing when it runs: each flow is a position with its messages, within the bound.
+    pub fn recall(&self)
         ensures { AreStanding self.now }
     {
-        self.flows.are_standing();
+        self.flows.recall();
     }
 
     /// Whether these are the ends of the flow, and two different nodes.

@@ -29,7 +29,6 @@ no_frame frames.TooLong = replies.TooLong
 no_frame (frames.Short short) = replies.Short short
 no_frame frames.Magic = replies.Magic
 no_frame frames.Version = replies.Version
-no_frame frames.Memory = replies.TooLong
 
 abbrev pub of_sections : Result Contents SectionRefused → LinkReply
 of_sections (Ok contents) = replies.Fresh

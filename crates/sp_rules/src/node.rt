@@ -3,7 +3,6 @@ use crate::answers::Item;
 use sp_base::{Listed, Memory, Short};
 use sp_frame::SectionRefused;
 use sp_msg::Effects;
-use std::alloc::AllocError;
 use thiserror::Error;
 
 /// How many polls and datagrams a node answers in one of its lives.
@@ -82,17 +81,6 @@ impl From<Memory> for NodeRefused {
     ghost from_gives = { λ _ e. e ≡ no_memory };
 
     fn from(_: Memory) -> Self {
-        NodeRefused::Memory
-    }
-}
-
-impl From<AllocError> for NodeRefused {
-    ghost use Rattle.std.specs.Prelude.{◌≡◌};
-    ghost use Rattle.sp_rules.specs.declared.node.NodeRefused.TheVariants.{Memory as no_memory};
-
-    ghost from_gives = { λ _ e. e ≡ no_memory };
-
-    fn from(_: AllocError) -> Self {
         NodeRefused::Memory
     }
 }

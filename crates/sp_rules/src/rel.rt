@@ -1,6 +1,5 @@
 // What a node answers to the parts of a slot, and why it takes no message of a client.
 use sp_base::Memory;
-use std::alloc::AllocError;
 use thiserror::Error;
 
 /// What a node says of an acknowledgement in a slot, but for its signature: the first that fits.
@@ -54,17 +53,6 @@ impl From<Memory> for RelRefused {
     ghost from_gives = { λ _ e. e ≡ no_memory };
 
     fn from(_: Memory) -> Self {
-        RelRefused::Memory
-    }
-}
-
-impl From<AllocError> for RelRefused {
-    ghost use Rattle.std.specs.Prelude.{◌≡◌};
-    ghost use Rattle.sp_rules.specs.declared.rel.RelRefused.TheVariants.{Memory as no_memory};
-
-    ghost from_gives = { λ _ e. e ≡ no_memory };
-
-    fn from(_: AllocError) -> Self {
         RelRefused::Memory
     }
 }

@@ -1,5 +1,5 @@
 // Checking the signatures of all nodes of a topology: of each node, the half that its signatures share is checked once.
-ghost use Rattle.std.specs.Prelude.{◌≡◌, ◌<◌, ◌↔◌, Some, None, Ok, Err, IfOk, IfSome, IsNone, IsOk, IsTrue, map};
+ghost use Rattle.std.specs.Prelude.{◌≡◌, ◌<◌, ◌≤◌, ◌+◌, ◌↔◌, Some, None, Ok, Err, IfOk, IfSome, IsNone, IsOk, IsTrue, map};
 ghost use Rattle.sp_msg.specs.Bodies.{read_body};
 ghost use Rattle.sp_msg.specs.Views.{as_body, signer_of};
 ghost use Rattle.sp_topology.specs.Keys.{key_of};
@@ -24,26 +24,27 @@ pub(crate) struct NodeVerifier {
 /// The keys of all nodes of a topology. Each remembers what the last valid signature under it began with, so the next signature by the
 /// same lower tree is checked in about half the time.
 ///
-/// A contract sees the nodes with their keys, and not what is remembered: no answer depends on it. All memory is taken by `make`.
+/// A contract sees the nodes with their keys, and how many signatures were checked. It doesn't see what is remembered: no answer depends on
+/// it. All memory is taken by `make`.
 #[derive(Drop)]
 pub struct Checker {
     nodes: Vec<NodeVerifier>,
+    checks: u64,
 }
 
 impl Model for Checker {
-    ghost use Rattle.std.specs.Prelude.{List, map};
-    ghost use Rattle.sp_topology.specs.declared.topology.NodeKey.{NodeKey};
-    ghost use Rattle.sp_sign.specs.Checker.{as_key};
+    ghost use Rattle.std.specs.Prelude.{map};
+    ghost use Rattle.sp_sign.specs.Checker.{Checking, as_key};
 
-    ghost Value = { List NodeKey };
+    ghost Value = { Checking };
 
-    ghost view = { λ c. map as_key c.nodes.items };
+    ghost view = { λ c. record { nodes = map as_key c.nodes.items; checks = c.checks } };
 }
 
 impl Checker {
-    /// A checker for the nodes of a topology. Nothing is remembered yet.
+    /// A checker for the nodes of a topology. Nothing is checked or remembered yet.
     pub fn make(alloc: Global, topology: &Topology) -> Result<Checker, Memory>
-        ensures { IfOk result (λ checker. checker ≡ topology.now.nodes) }
+        ensures { IfOk result (λ checker. checker ≡ record { nodes = topology.now.nodes; checks = 0 }) }
     {
         let keys = topology.nodes.as_slice();
         let mut nodes = Vec::with_capacity(alloc, keys.len())?;
@@ -53,11 +54,11 @@ impl Checker {
             };
             nodes.push(NodeVerifier { id: named.id, key })?;
         }
-        Ok(Checker { nodes })
+        Ok(Checker { nodes, checks: 0 })
     }
 
     /// Whether these bytes of a message bear its signer's signature: the answer of `check`, whatever is remembered
-    /// (RFC 8554, section 6.3). The body is what is read of the bytes.
+    /// (RFC 8554, section 6.3). The body is what is read of the bytes. Each call counts as one check at most: none where the signer is unknown.
     pub fn check(
         &mut self,
         bytes: &[u8],
@@ -65,14 +66,17 @@ impl Checker {
         signature: &[u8],
     ) -> Result<(), SignRefused>
         requires body { read_body bytes.now ≡ Ok (as_body body.now) }
-        ensures ok { IsOk result ↔ IsSigned (key_of (signer_of (as_body body.now)).0 self.old) bytes.now signature.now }
-        ensures unknown { (result ≡ Err SignRefused.UnknownSigner) ↔ (key_of (signer_of (as_body body.now)).0 self.old ≡ None) }
-        ensures bad { (result ≡ Err SignRefused.BadSignature) ↔ IsForged (key_of (signer_of (as_body body.now)).0 self.old) bytes.now signature.now }
-        ensures nodes { self.new ≡ self.old }
+        ensures ok { IsOk result ↔ IsSigned (key_of (signer_of (as_body body.now)).0 self.old.nodes) bytes.now signature.now }
+        ensures unknown { (result ≡ Err SignRefused.UnknownSigner) ↔ (key_of (signer_of (as_body body.now)).0 self.old.nodes ≡ None) }
+        ensures bad { (result ≡ Err SignRefused.BadSignature) ↔ IsForged (key_of (signer_of (as_body body.now)).0 self.old.nodes) bytes.now signature.now }
+        ensures nodes { self.new.nodes ≡ self.old.nodes }
+        ensures counted { self.new.checks ≤ self.old.checks + 1 }
+        ensures uncounted { result ≡ Err SignRefused.UnknownSigner → self.new.checks ≡ self.old.checks }
     {
         let Some(place) = place_of(&self.nodes, signer(body)) else {
             return Err(SignRefused::UnknownSigner);
         };
+        self.checks = self.checks.saturating_add(1);
         let is_valid = self.nodes[place].key.verify(bytes, signature);
         if !is_valid {
             return Err(SignRefused::BadSignature);

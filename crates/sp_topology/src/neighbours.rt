@@ -4,7 +4,7 @@ ghost use Rattle.sp_topology.specs.Neighbours.{Ascend, joins, neighbours_from, o
 ghost use Rattle.sp_topology.specs.Ranges.{IsTopology};
 
 use crate::{Edge, Topology, TopologyRefused};
-use sp_base::{EdgeId, NodeId};
+use sp_base::{EdgeId, NodeId, push};
 use std::alloc::Global;
 
 impl Edge {
@@ -45,7 +45,7 @@ impl Topology {
         let mut found = Vec::new(alloc);
         'edges: for (place, edge) in self.edges.as_slice().iter().enumerate() {
             if let Some(other) = edge.other_end(node) {
-                found.push((other, EdgeId(place as u16)))?;
+                push(&mut found, (other, EdgeId(place as u16)))?;
             }
         }
         Ok(found)

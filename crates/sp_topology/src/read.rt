@@ -11,7 +11,7 @@ use crate::fault::{
     edge_count_fault, ends_fault, id_fault, key_fault, node_count_fault, weight_fault,
 };
 use crate::{Edge, LmsHeight, NodeKey, Topology, TopologyRefused};
-use sp_base::{Listed, NodeId, Reader};
+use sp_base::{Listed, Memory, NodeId, Reader, push};
 use std::alloc::Global;
 
 impl Topology {
@@ -80,12 +80,12 @@ fn read_nodes(
 ) -> Result<Vec<NodeKey>, TopologyRefused>
     ensures { GivesInMemory (λ nodes. (nodes.items, reader.new)) result (nodes_at height count 0 reader.old) }
 {
-    let mut nodes = Vec::with_capacity(alloc, count as usize)?;
+    let mut nodes = Vec::with_capacity(alloc, count as usize).map_err(Memory::from)?;
     let mut before = 0;
     'nodes: for _done in 0..count {
         let node = read_node(reader, height, before)?;
         before = node.id.0;
-        nodes.push(node)?;
+        push(&mut nodes, node)?;
     }
     Ok(nodes)
 }
@@ -135,12 +135,12 @@ fn read_edges(
 ) -> Result<Vec<Edge>, TopologyRefused>
     ensures { GivesInMemory (λ edges. (edges.items, reader.new)) result (edges_at (ids_of nodes.now) count (0, 0) reader.old) }
 {
-    let mut edges = Vec::with_capacity(alloc, count as usize)?;
+    let mut edges = Vec::with_capacity(alloc, count as usize).map_err(Memory::from)?;
     let mut before = (0, 0);
     'edges: for _done in 0..count {
         let edge = read_edge(reader, nodes, before)?;
         before = (edge.low.0, edge.high.0);
-        edges.push(edge)?;
+        push(&mut edges, edge)?;
     }
     Ok(edges)
 }

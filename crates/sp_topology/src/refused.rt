@@ -1,6 +1,5 @@
 // Why a topology is refused.
 use sp_base::{Memory, Short};
-use std::alloc::{AllocError, AllocFailed};
 use thiserror::Error;
 
 /// Why a topology is refused: the first thing from the left that is wrong.
@@ -63,28 +62,6 @@ impl From<Memory> for TopologyRefused {
     ghost from_gives = { λ _ refused. refused ≡ NoMemory };
 
     fn from(_: Memory) -> Self {
-        TopologyRefused::Memory
-    }
-}
-
-impl From<AllocError> for TopologyRefused {
-    ghost use Rattle.std.specs.Prelude.{◌≡◌};
-    ghost use Rattle.sp_topology.specs.declared.refused.TopologyRefused.TheVariants.{Memory as NoMemory};
-
-    ghost from_gives = { λ _ refused. refused ≡ NoMemory };
-
-    fn from(_: AllocError) -> Self {
-        TopologyRefused::Memory
-    }
-}
-
-impl<T: Drop> From<AllocFailed<T>> for TopologyRefused {
-    ghost use Rattle.std.specs.Prelude.{◌≡◌};
-    ghost use Rattle.sp_topology.specs.declared.refused.TopologyRefused.TheVariants.{Memory as NoMemory};
-
-    ghost from_gives = { λ _ refused. refused ≡ NoMemory };
-
-    fn from(_: AllocFailed<T>) -> Self {
         TopologyRefused::Memory
     }
 }

@@ -8,8 +8,8 @@ ghost use Rattle.sp_topology.specs.Ranges.{IsTopology};
 use crate::document::{EDGE_BYTES, FORMAT, FRONT_BYTES, NAME, NODE_BYTES};
 use crate::{Edge, NodeKey, Topology, TopologyRefused};
 use byteorder::{BigEndian, ByteOrder};
-use sp_base::{Bytes, Listed};
-use std::alloc::{AllocError, Global};
+use sp_base::{Bytes, Listed, Memory};
+use std::alloc::Global;
 
 impl Topology {
     /// The document of the topology, which has no other. Only want of memory refuses.
@@ -21,7 +21,7 @@ impl Topology {
         let nodes = self.nodes.as_slice();
         let edges = self.edges.as_slice();
         let room = FRONT_BYTES + nodes.len() * NODE_BYTES + 2 + edges.len() * EDGE_BYTES;
-        let mut out = Vec::with_capacity(alloc, room)?;
+        let mut out = Vec::with_capacity(alloc, room).map_err(Memory::from)?;
         push_front(&mut out, self)?;
         push_nodes(&mut out, nodes)?;
         push_u16(&mut out, edges.len() as u16)?;
@@ -30,7 +30,7 @@ impl Topology {
     }
 }
 
-fn push_front(out: &mut Vec<u8>, topology: &Topology) -> Result<(), AllocError>
+fn push_front(out: &mut Vec<u8>, topology: &Topology) -> Result<(), Memory>
     requires { length topology.now.nodes ≤ MAX_NODES }
     ensures { OnOk result (out.new.items ≡ out.old.items ++ front_bytes (front_of topology.now)) }
 {
@@ -41,7 +41,7 @@ fn push_front(out: &mut Vec<u8>, topology: &Topology) -> Result<(), AllocError>
     push_u8(out, topology.nodes.as_slice().len() as u8)
 }
 
-fn push_nodes(out: &mut Vec<u8>, nodes: &[NodeKey]) -> Result<(), AllocError>
+fn push_nodes(out: &mut Vec<u8>, nodes: &[NodeKey]) -> Result<(), Memory>
     ensures { OnOk result (out.new.items ≡ out.old.items ++ flat_map node_bytes nodes.now) }
 {
     'nodes: for node in nodes {
@@ -51,7 +51,7 @@ fn push_nodes(out: &mut Vec<u8>, nodes: &[NodeKey]) -> Result<(), AllocError>
     Ok(())
 }
 
-fn push_edges(out: &mut Vec<u8>, edges: &[Edge]) -> Result<(), AllocError>
+fn push_edges(out: &mut Vec<u8>, edges: &[Edge]) -> Result<(), Memory>
     ensures { OnOk result (out.new.items ≡ out.old.items ++ flat_map edge_bytes edges.now) }
 {
     'edges: for edge in edges {
@@ -62,24 +62,24 @@ fn push_edges(out: &mut Vec<u8>, edges: &[Edge]) -> Result<(), AllocError>
     Ok(())
 }
 
-fn push_u8(out: &mut Vec<u8>, n: u8) -> Result<(), AllocError>
+fn push_u8(out: &mut Vec<u8>, n: u8) -> Result<(), Memory>
     ensures { OnOk result (out.new.items ≡ out.old.items ++ big_bytes 1 n) }
 {
     Ok(out.push(n)?)
 }
 
-fn push_u16(out: &mut Vec<u8>, n: u16) -> Result<(), AllocError>
+fn push_u16(out: &mut Vec<u8>, n: u16) -> Result<(), Memory>
     ensures { OnOk result (out.new.items ≡ out.old.items ++ big_bytes 2 n) }
 {
     let mut piece = [0u8; 2];
     BigEndian::write_u16(&mut piece, n);
-    out.extend_from_slice(piece.as_slice())
+    Ok(out.extend_from_slice(piece.as_slice())?)
 }
 
-fn push_u32(out: &mut Vec<u8>, n: u32) -> Result<(), AllocError>
+fn push_u32(out: &mut Vec<u8>, n: u32) -> Result<(), Memory>
     ensures { OnOk result (out.new.items ≡ out.old.items ++ big_bytes 4 n) }
 {
     let mut piece = [0u8; 4];
     BigEndian::write_u32(&mut piece, n);
-    out.extend_from_slice(piece.as_slice())
+    Ok(out.extend_from_slice(piece.as_slice())?)
 }

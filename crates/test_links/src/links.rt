@@ -32,7 +32,6 @@ pub fn answer(alloc: Global, link: &mut Link, bytes: &[u8]) -> Result<String, Fa
         }
         Err(FrameRefused::Magic) => return Ok("magic".to_string(alloc)?),
         Err(FrameRefused::Version) => return Ok("version".to_string(alloc)?),
-        Err(FrameRefused::Memory) => return Ok("memory".to_string(alloc)?),
     };
     Ok(match link.accept(&frame) {
         LinkAnswer::NotForMe => "notforme".to_string(alloc)?,

@@ -5,4 +5,4 @@ use Rattle.sp_node.proofs.node.Node.datagram.Goals as goal
 pub invariant_of-self : goal.invariant_of-self
 invariant_of-self c =
     kept_by_datagram c.self.inside.state c.datagram.new.state c.args.from c.args.bytes.now c.datagram.result
-    (AreBytes-from_places c.args.bytes.now (λ i. (c.type_inv.bytes i).fits)) c.is_fit.ensures c.self.invariant c.datagram.ensures
+    (AreBytes-from_places c.args.bytes.now (λ i. (c.type_inv.bytes i).fits)) c.recall.ensures c.self.invariant c.datagram.ensures

@@ -5,4 +5,4 @@ pub invariant_of-self : goal.invariant_of-self
 invariant_of-self c =
     kept_by_prio c.self.inside.state c.send_prio.new.state
     (record { dst = c.args.dst; prio = c.args.prio; expiry = c.args.expiry; paths = c.args.paths; payload = c.args.payload.now })
-    c.send_prio.result (c.requires.prio.0, c.requires.prio.1, c.ranges.expiry.fits, c.requires.short) c.is_fit.ensures c.self.invariant c.send_prio.ensures
+    c.send_prio.result (c.requires.prio.0, c.requires.prio.1, c.ranges.expiry.fits, c.requires.short) c.recall.ensures c.self.invariant c.send_prio.ensures

@@ -3,4 +3,4 @@ use Rattle.sp_node.proofs.node.Node.take_rel.Goals as goal
 
 pub invariant_of-self : goal.invariant_of-self
 invariant_of-self c =
-    kept_by_take_rel c.self.inside.state c.take_rel.new.state c.args.src c.is_fit.ensures c.self.invariant c.take_rel.ensures.state
+    kept_by_take_rel c.self.inside.state c.take_rel.new.state c.args.src c.recall.ensures c.self.invariant c.take_rel.ensures.state

@@ -7,10 +7,10 @@ use Rattle.sp_rules.specs.Pieces.{AckPiece}
 use Rattle.sp_node_arrivals.specs.Done.{IsDone}
 use Rattle.sp_node_arrivals.specs.Arrival.{as_arrival}
 use Rattle.sp_node_core.specs.Format.{format}
-use Rattle.sp_node_arrivals.proofs.slot.take_acks.Goals as goal
+use Rattle.sp_node_arrivals.proofs.slot.admit_acks.Goals as goal
 
 pub returns-in-Some-clause-done : goal.returns-in-Some-clause-done
 returns-in-Some-clause-done c told =
     let at = as_arrival c.args.at.now in
     subst (λ (o : Option ObjectRef). IsDone (handle_all format at c.args.core.now (map (AckPiece c.args.flow) (as_list (option_map as_object o))))
-    c.take_ack.new.core (c.take_ack.result ∷ []) told told) (sym c.in-Some.is) (c.take_ack.ensures.done told)
+    c.admit_ack.new.core (c.admit_ack.result ∷ []) told told) (sym c.in-Some.is) (c.admit_ack.ensures.done told)

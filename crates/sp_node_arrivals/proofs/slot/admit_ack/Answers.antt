@@ -7,15 +7,15 @@ use Rattle.sp_rules.specs.Rel.{RelState, judge_ack_of}
 use Rattle.sp_rules.specs.declared.answers.AckAnswer.{AckAnswer}
 use Rattle.sp_node_arrivals.proofs.RelLemmas.{stays_ready}
 use Rattle.sp_node_arrivals.specs.Ready.{StaysReady}
-use Rattle.sp_node_arrivals.proofs.slot.take_ack.Goals as goal
+use Rattle.sp_node_arrivals.proofs.slot.admit_ack.Goals as goal
 
 pub returns-clause-stays : goal.returns-clause-stays
 returns-clause-stays c =
     let o = as_object c.args.object.now in
     let p = c.args.core.now in
     let keys = c.args.at.now.fixed.now.topology.nodes in
-    let is : ack_handled (ack_answer (is_some c.args.ready) (judge_ack_of p.rel c.args.flow o.body)) o p ≡ ack_handled c.take_ack-answer.result o p =
-    ap (λ (a : AckAnswer). ack_handled a o p) (sym c.take_ack-answer.ensures.answer) in
-    let left = ap (λ h. h.parts.rel) is ∙ ap (λ (q : Parts). q.rel) (sym c.take_ack-answer.ensures.parts) in
+    let is : ack_handled (ack_answer (is_some c.args.ready) (judge_ack_of p.rel c.args.flow o.body)) o p ≡ ack_handled c.admit_ack-answer.result o p =
+    ap (λ (a : AckAnswer). ack_handled a o p) (sym c.admit_ack-answer.ensures.answer) in
+    let left = ap (λ h. h.parts.rel) is ∙ ap (λ (q : Parts). q.rel) (sym c.admit_ack-answer.ensures.parts) in
     subst (λ (r : RelState). StaysReady (is_some c.args.ready) keys c.args.flow p.rel r) left
     (stays_ready (is_some c.args.ready) keys c.args.flow (judge_ack_of p.rel c.args.flow o.body) o p)

@@ -9,16 +9,16 @@ ghost use Rattle.sp_node_core.specs.Format.{format};
 ghost use Rattle.sp_node_arrivals.specs.Ready.{IsPrioReady, IsReady, IsWeightReady};
 
 use crate::answers::Answers;
-use crate::slot::take_slot;
+use crate::slot::admit_slot;
 use sp_node_core::Core;
 use sp_frame::{ObjectRef, Sections};
 use sp_msg::{Effects, Kept};
 use sp_prio::Parcel;
-use crate::{Arrival, Ready, body_of};
+use crate::{Arrival, Ready, recall};
 use sp_rules::Item;
 
 /// Takes the objects of a frame in the order of the rules.
-pub(crate) fn take(
+pub(crate) fn admit(
     at: &Arrival<'_>,
     core: &mut Core,
     sections: &Sections<'_>,
@@ -34,13 +34,13 @@ pub(crate) fn take(
         core.new (items_of result) out.old out.new }
 {
     let Ready { weight, prio, slot } = ready;
-    let weight = take_weights(at, core, &sections.weight, weight, out);
-    let prio = take_prios(at, core, sections.prio_ack, &sections.prio, prio, out);
-    let slot = take_slot(at, core, &sections.slot, slot, out);
+    let weight = admit_weights(at, core, &sections.weight, weight, out);
+    let prio = admit_prios(at, core, sections.prio_ack, &sections.prio, prio, out);
+    let slot = admit_slot(at, core, &sections.slot, slot, out);
     Answers { weight, prio, slot }
 }
 
-fn take_weights(
+fn admit_weights(
     at: &Arrival<'_>,
     core: &mut Core,
     weight: &Option<ObjectRef<'_>>,
@@ -58,12 +58,12 @@ fn take_weights(
     ensures room { out.old.room ≤ out.new.room + 1 }
 {
     match weight {
-        Some(object) => Some(take_weight(at, core, object, ready, out)),
+        Some(object) => Some(admit_weight(at, core, object, ready, out)),
         None => None,
     }
 }
 
-fn take_weight(
+fn admit_weight(
     at: &Arrival<'_>,
     core: &mut Core,
     object: &ObjectRef<'_>,
@@ -79,13 +79,13 @@ fn take_weight(
     ensures rel { core.new.rel ≡ core.old.rel }
     ensures room { out.old.room ≤ out.new.room + 1 }
 {
-    let _body = body_of(object);
+    recall(object);
     let fixed = at.fixed;
-    let answer = core.take_weight(fixed.me, object, ready, out);
+    let answer = core.admit_weight(fixed.me, object, ready, out);
     Item::Weight(answer)
 }
 
-fn take_prios(
+fn admit_prios(
     at: &Arrival<'_>,
     core: &mut Core,
     prio_ack: u64,
@@ -103,14 +103,14 @@ fn take_prios(
     ensures rel { core.new.rel ≡ core.old.rel }
     ensures room { out.old.room ≤ out.new.room + (2 * length core.old.prio.peers + 4) }
 {
-    core.take_prio_ack(at.from, prio_ack, out);
+    core.admit_prio_ack(at.from, prio_ack, out);
     match prio {
-        Some((number, object)) => Some(take_prio(at, core, *number, object, ready, out)),
+        Some((number, object)) => Some(admit_prio(at, core, *number, object, ready, out)),
         None => None,
     }
 }
 
-fn take_prio(
+fn admit_prio(
     at: &Arrival<'_>,
     core: &mut Core,
     number: u64,
@@ -128,7 +128,7 @@ fn take_prio(
     ensures rel { core.new.rel ≡ core.old.rel }
     ensures room { out.old.room ≤ out.new.room + (2 * length core.old.prio.peers + 3) }
 {
-    let _body = body_of(object);
-    let answer = core.take_prio(at.time, at.from, number, object, ready, out);
+    recall(object);
+    let answer = core.admit_prio(at.time, at.from, number, object, ready, out);
     Item::Prio(answer)
 }

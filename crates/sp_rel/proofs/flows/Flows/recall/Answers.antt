@@ -3,7 +3,7 @@ use Rattle.std.specs.List.{All}
 use Rattle.sp_rules.specs.Flow.{IsStanding}
 use Rattle.sp_rel.specs.Tables.{FlowsState}
 use Rattle.sp_rel.proofs.SoundLemmas.{all_standing}
-use Rattle.sp_rel.proofs.flows.Flows.are_standing.Goals as goal
+use Rattle.sp_rel.proofs.flows.Flows.recall.Goals as goal
 
 pub returns : goal.returns
 returns c =

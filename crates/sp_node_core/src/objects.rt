@@ -31,7 +31,7 @@ impl Core {
     }
 
     /// Takes an update of a weight. `ready` is a copy of it where its signature is right.
-    pub fn take_weight(
+    pub fn admit_weight(
         &mut self,
         me: NodeId,
         object: &ObjectRef<'_>,
@@ -69,7 +69,7 @@ impl Core {
     }
 
     /// The neighbour heard the priority messages of this node up to this link number.
-    pub fn take_prio_ack(&mut self, from: NodeId, number: u64, out: &mut Effects)
+    pub fn admit_prio_ack(&mut self, from: NodeId, number: u64, out: &mut Effects)
         requires room { 1 ≤ out.old.room }
         ensures parts { self.new ≡ record self.old { prio = acked self.old.prio from.0 number } }
         ensures told { out.new ≡ told out.old (acked_effects self.old.prio from.0 number) }
@@ -78,7 +78,7 @@ impl Core {
     }
 
     /// Takes a priority message under its link number. `ready` is a parcel of it where its signature is right.
-    pub fn take_prio(
+    pub fn admit_prio(
         &mut self,
         now: u64,
         from: NodeId,
@@ -119,7 +119,7 @@ impl Core {
     }
 
     /// The neighbour reports where it stands in a flow.
-    pub fn take_report(&mut self, from: NodeId, flow: Flow, base: u64, have: u64)
+    pub fn admit_report(&mut self, from: NodeId, flow: Flow, base: u64, have: u64)
         ensures { self.new ≡ record self.old { rel = reported self.old.rel from flow base have } }
     {
         self.rel.report(from, flow, base, have);
@@ -127,7 +127,7 @@ impl Core {
 
     /// Takes the acknowledgement of a slot. `ready` is a copy of it where its signature is right, with memory for its flow.
     #[tactic(auto, using(crate::proofs::Slots::ack_flow, crate::proofs::Slots::ack_again))]
-    pub fn take_ack(
+    pub fn admit_ack(
         &mut self,
         flow: Flow,
         object: &ObjectRef<'_>,
@@ -158,7 +158,7 @@ impl Core {
 
     /// Takes the message of a slot. `ready` is a copy of it where its signature is right, with memory for its delivery and for its flow.
     #[tactic(auto, using(crate::proofs::Slots::rel_flow, crate::proofs::Slots::rel_again))]
-    pub fn take_rel(
+    pub fn admit_rel(
         &mut self,
         flow: Flow,
         object: &ObjectRef<'_>,

@@ -5,7 +5,7 @@ use Rattle.sp_msg.specs.Views.{as_body, as_rel}
 use Rattle.sp_msg.specs.declared.body.Body.TheVariants as bodies
 use Rattle.sp_msg.specs.declared.kept.Kept.{Kept}
 use Rattle.sp_node_core.proofs.Slots.{rel_again}
-use Rattle.sp_node_core.proofs.parts.Core.take_rel.Goals as goal
+use Rattle.sp_node_core.proofs.parts.Core.admit_rel.Goals as goal
 
 pub admit_rel-requires-clause-new : goal.admit_rel-requires-clause-new
 admit_rel-requires-clause-new c =

@@ -3,9 +3,9 @@ use Rattle.laws_node.specs.Inputs.{ArtsFit}
 use Rattle.sp_node_core.specs.Format.{format}
 use Rattle.sp_rules.specs.Node.{NodeState}
 use Rattle.sp_node_state.proofs.Fitted.{fitted}
-use Rattle.sp_node_state.proofs.state.State.is_fit.Goals as goal
+use Rattle.sp_node_state.proofs.state.State.recall.Goals as goal
 
 pub returns : goal.returns
 returns c =
     subst (λ (n : NodeState). ArtsFit format n.fixed n.signer) c.self.view_is
-    (fitted c.self.inside.fixed c.self.inside.signer c.self.inside.checker c.self.invariant)
+    (fitted c.self.inside.fixed c.self.inside.signer c.self.invariant)

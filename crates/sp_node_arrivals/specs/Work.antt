@@ -1,0 +1,81 @@
+-- How many signatures may be checked for a frame: one for each object that may be new when its turn comes, and none else.
+use Rattle.std.specs.Prelude.{ℕ, ◌+◌, ◌&&◌, Bool, true, false, List, Option, None, Some, option_map}
+use Rattle.sp_base.specs.declared.id.Flow.{Flow}
+use Rattle.sp_base.specs.declared.id.NodeId.{NodeId}
+use Rattle.sp_frame.specs.Views.{as_numbered, as_object}
+use Rattle.sp_frame.specs.declared.sections.Sections.{Sections}
+use Rattle.sp_frame.specs.declared.sections.Slot.{Slot}
+use Rattle.sp_msg.specs.declared.kept.Kept.{Kept}
+use Rattle.sp_rules.specs.Handle as rules
+use Rattle.sp_rules.specs.Handle.{offer_to}
+use Rattle.sp_rules.specs.Parts.{Parts}
+use Rattle.sp_rules.specs.Prio.{PrioState, judge_prio}
+use Rattle.sp_rules.specs.Rel.{RelState, judge_ack_of, judge_rel_of}
+use Rattle.sp_rules.specs.Weights.{WeightState}
+use Rattle.sp_rules.specs.declared.prio.PrioJudged.{PrioJudged}
+use Rattle.sp_rules.specs.declared.prio.PrioJudged.TheVariants as prios
+use Rattle.sp_rules.specs.declared.rel.AckJudged.{AckJudged}
+use Rattle.sp_rules.specs.declared.rel.AckJudged.TheVariants as acks
+use Rattle.sp_rules.specs.declared.weights.Offer.{Offer}
+use Rattle.sp_rules.specs.declared.weights.Offer.TheVariants as offers
+use Rattle.sp_topology.specs.declared.topology.NodeKey.{NodeKey}
+use Rattle.sp_node_arrivals.specs.Ready.{is_right, may_be_new}
+
+-- one check where the object may be new
+abbrev pub one_if : Bool → ℕ
+one_if true = 1
+one_if false = 0
+
+-- ---- one object, as the rules judge it before its signature
+
+-- an update of a weight that is new
+abbrev pub is_new_offer : Offer → Bool
+is_new_offer offers.New = true
+is_new_offer _ = false
+
+-- a priority message that is new
+abbrev pub is_new_prio : PrioJudged → Bool
+is_new_prio prios.New = true
+is_new_prio _ = false
+
+-- an acknowledgement that is new
+abbrev pub is_new_ack : AckJudged → Bool
+is_new_ack acks.New = true
+is_new_ack _ = false
+
+abbrev pub weight_checks : NodeId → WeightState → Kept → ℕ
+weight_checks me s o = one_if (is_new_offer (offer_to me s o.body))
+
+abbrev pub prio_checks : rules.Arrival → PrioState → Kept → ℕ
+prio_checks at s o = one_if (is_new_prio (judge_prio s o.body at.now))
+
+abbrev pub ack_checks : RelState → Flow → Kept → ℕ
+ack_checks r flow o = one_if (is_new_ack (judge_ack_of r flow o.body))
+
+-- a reliable message: it is new now, or may be new after the acknowledgement before it
+abbrev pub rel_checks : Bool → RelState → Flow → Kept → ℕ
+rel_checks acked r flow o = one_if (may_be_new acked (judge_rel_of r flow o.body))
+
+-- ---- a frame
+
+-- the number for an object that may be there
+abbrev pub of_some : {A : Type 0} → (A → ℕ) → Option A → ℕ
+of_some checks None = 0
+of_some checks (Some o) = checks o
+
+-- the slot begins with an acknowledgement that is new: by its judgement and by its signature
+abbrev pub is_acked : List NodeKey → RelState → Flow → Option Kept → Bool
+is_acked keys r flow None = false
+is_acked keys r flow (Some o) = is_new_ack (judge_ack_of r flow o.body) && is_right keys o
+
+abbrev pub slot_checks : List NodeKey → RelState → Slot → ℕ
+slot_checks keys r slot =
+    of_some (ack_checks r slot.flow) (option_map as_object slot.ack)
+    + of_some (rel_checks (is_acked keys r slot.flow (option_map as_object slot.ack)) r slot.flow) (option_map as_object slot.rel)
+
+-- the signatures of a frame whose objects may be new: four at most, since it has so many objects
+abbrev pub frame_checks : rules.Arrival → Parts → Sections → ℕ
+frame_checks at p sections =
+    of_some (weight_checks at.fixed.me p.weights) (option_map as_object sections.weight)
+    + of_some (λ m. prio_checks at p.prio m.1) (option_map as_numbered sections.prio)
+    + of_some (slot_checks at.fixed.topology.nodes p.rel) sections.slot
