@@ -1,4 +1,6 @@
+pub mod Asked
 pub mod Boot
+pub mod Carried
 pub mod Flows
 pub mod Frames
 pub mod Handles
@@ -11,6 +13,7 @@ pub mod Reliable
 pub mod Steps
 pub mod Tables
 pub mod Updates
+pub mod Weaker
 pub mod Worked
 -- ---- laws of its parts
 pub mod FreshLemmas
