@@ -1,14 +1,12 @@
 -- What a poll carries is kept by the node, so all holds of it that is asked of messages that are kept.
-use Rattle.std.proofs.Common.{◌≡◌, ℕ, ◌+◌, ◌-◌, nat_le, nat_lt, max, Bool, true, List, [], ◌∷◌, ◌++◌, length, filter, map, Option, Some, None, arith}
+use Rattle.std.proofs.Common.{ℕ, ◌+◌, ◌-◌, nat_le, nat_lt, max, List, [], ◌∷◌, ◌++◌, map, Option, Some, None}
 use Rattle.std.specs.Prelude.{IfSome}
 use Rattle.std.specs.List.{All, slice_get}
 use Rattle.std.specs.Option.{option_and_then, option_map}
 use Rattle.std.proofs.lemmas.List.Elements.{All-head, All-tail}
 use Rattle.sp_base.specs.Cursor.{or_else}
 use Rattle.sp_base.specs.Position.{message_of}
-use Rattle.sp_base.specs.declared.id.Flow.{Flow}
 use Rattle.sp_base.specs.declared.id.NodeId.{NodeId}
-use Rattle.sp_frame.specs.Reliable.{Report}
 use Rattle.sp_frame.specs.Views.{as_list}
 use Rattle.sp_msg.specs.declared.kept.Kept.{Kept}
 use Rattle.sp_rules.specs.Arts.{Arts}
@@ -30,8 +28,9 @@ use Rattle.laws_node.specs.Nodes.{NodeHolds}
 use Rattle.laws_node.specs.Sizes.{Fits, Sizes}
 use Rattle.laws_node.specs.Stores.{EntryHolds, PrioPeerHolds}
 use Rattle.laws_node.specs.Updates.{UpdateHolds, WeightsHold}
-use Rattle.laws_node.proofs.Asked.{NewKeep, new_both}
-use Rattle.laws_node.proofs.Frames.{flying_holds, get_holds, next_holds, weaker}
+use Rattle.laws_node.specs.Asked.{NewKeep}
+use Rattle.laws_node.proofs.AskedLemmas.{new_both}
+use Rattle.laws_node.proofs.Frames.{flying_holds, get_holds, next_holds}
 use Rattle.laws_node.proofs.Priority.{no_peer_holds}
 use Rattle.laws_node.proofs.Reliable.{read}
 use Rattle.laws_node.proofs.Tables.{all_first, cond_either}
@@ -128,8 +127,7 @@ module _ (k : Sizes) where
       let flow = ends row in
       let f = flow_in r.flows flow in
       let w = view_in (rel_peer_in r.peers v).views flow in
-      let holds = read k index r.flows flow there.src there.dst h.flows in
-      (
+      let holds = read k index r.flows flow there.src there.dst h.flows in (
         tt,
         all_both k.keeps (map (AckPiece flow) (as_list (slot_of r v flow).ack)) (map (RelPiece flow) (slot_of r v flow).rels)
             (maybe (AckPiece flow) (λ o fits. fits.holds) (slot_of r v flow).ack
@@ -157,8 +155,7 @@ module _ (k : Sizes) where
       let s = contents_to n.fixed n.parts v in
       let q = peer_in n.parts.prio v.0 in
       all_both k.keeps (map WeightPiece s.weights) (PrioAckPiece s.prio_ack ∷ (map prio_piece s.prios ++ slot_pieces s.slot))
-      (maybe WeightPiece (λ o fits. fits.holds) (next n.parts.weights (place_of n.fixed v)) (weight_kept n.signer.index (place_of n.fixed v) n.parts.weights h.parts.weights))
-      (
+      (maybe WeightPiece (λ o fits. fits.holds) (next n.parts.weights (place_of n.fixed v)) (weight_kept n.signer.index (place_of n.fixed v) n.parts.weights h.parts.weights)) (
         tt,
         all_both k.keeps (map prio_piece s.prios) (slot_pieces s.slot)
             (message_kept n.calls _ q (all_first (PrioPeerHolds k n.calls _) (is_peer v.0) no_peer n.parts.prio.peers h.parts.prio.peers (no_peer_holds k n.calls _)))

@@ -29,7 +29,8 @@ use Rattle.sp_rules.specs.declared.weights.Offer.TheVariants as offers
 use Rattle.laws_node.specs.Nodes.{PartsHold}
 use Rattle.laws_node.specs.Sizes.{Fits, Sizes}
 use Rattle.laws_node.specs.Stores.{IsPrio, PrioHolds}
-use Rattle.laws_node.proofs.Asked.{NewKeep, new_both, new_left, new_right}
+use Rattle.laws_node.specs.Asked.{NewKeep}
+use Rattle.laws_node.proofs.AskedLemmas.{new_both, new_left, new_right}
 use Rattle.laws_node.proofs.Priority.{acked_holds, admit_holds, heard_holds, prio_more}
 use Rattle.laws_node.proofs.Reliable.{admit_ack_holds, admit_rel_holds, reported_holds}
 use Rattle.laws_node.proofs.Tables.{cond_where}

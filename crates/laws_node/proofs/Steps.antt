@@ -1,19 +1,9 @@
 -- What each step of a node keeps: one lemma for each case.
-use Rattle.std.proofs.Common.{◌≡◌, ◌<◌, ◌≤◌, ℕ, ◌+◌, ◌^◌, ◌==◌, not, Bool, true, false, List, [], ◌∷◌, ◌++◌, length, map, Option, Some, None, Result, Ok, Err, refl, sym, ap, ◌∙◌, subst, arith, cond}
-use Rattle.std.specs.Prelude.{IfSome, IsTrue}
-use Rattle.std.specs.List.{All}
+use Rattle.std.proofs.Common.{◌≡◌, ◌<◌, ◌≤◌, ℕ, ◌+◌, ◌^◌, ◌==◌, not, Bool, true, false, List, [], ◌∷◌, ◌++◌, length, Option, Some, None, Result, refl, sym, ap, ◌∙◌, subst, arith, cond}
+use Rattle.std.specs.Prelude.{IsTrue}
 use Rattle.std.proofs.lemmas.Bool.Decides.{nat_tests}
-use Rattle.std.proofs.lemmas.List.Elements.{All-cons, All-head, All-tail}
 use Rattle.sp_base.specs.Spelling.{AreBytes}
 use Rattle.sp_base.specs.declared.id.NodeId.{NodeId}
-use Rattle.sp_frame.specs.Objects.{IsObject}
-use Rattle.sp_frame.specs.Ranges.{IsContents, IsNumbered, IsReport}
-use Rattle.sp_frame.specs.Reliable.{Report}
-use Rattle.sp_frame.specs.Sections.{Contents}
-use Rattle.sp_frame.specs.Views.{as_list}
-use Rattle.sp_frame.specs.declared.kind.Kind.{Kind}
-use Rattle.sp_frame.specs.declared.kind.Kind.TheVariants as kinds
-use Rattle.sp_frame.specs.declared.refused.SectionRefused.{SectionRefused}
 use Rattle.sp_msg.specs.declared.body.Ack.{Ack}
 use Rattle.sp_msg.specs.declared.body.Body.TheVariants as bodies
 use Rattle.sp_msg.specs.declared.kept.Kept.{Kept}
@@ -29,59 +19,54 @@ use Rattle.sp_rules.specs.Link.{advanced}
 use Rattle.sp_rules.specs.Masks.{IsChoice, graph_of}
 use Rattle.sp_rules.specs.Node.{NodeState, Signer, call_refusal, called, is_neighbour, kept_or, link_in, signed_now, signed_once, with_link}
 use Rattle.sp_rules.specs.Parts.{Fixed, Parts, is_signed, nodes_of, place_of}
-use Rattle.sp_rules.specs.Pieces.{Piece, PrioAckPiece, PrioPiece, ReportPiece, WeightPiece, AckPiece, RelPiece, pieces_of, prio_piece, slot_pieces}
 use Rattle.sp_rules.specs.Polls.{polled}
 use Rattle.sp_rules.specs.Handle.{weight_effects}
 use Rattle.sp_rules.specs.Prio.{admit_prio, expired_effects, prio_effects}
 use Rattle.sp_rules.specs.Rel.{due, pushed_in, settled}
-use Rattle.sp_rules.specs.Sends.{PrioSend, after_take_prio, after_take_rel, mask_in, no_paths, own_prio, prio_body, prio_refusal, prio_sent, rel_body, rel_number, rel_refusal, rel_sent, send_prio_refusal, signer_refusal, weight_body, weight_number, weight_refusal, weight_sent}
+use Rattle.sp_rules.specs.Sends.{PrioSend, mask_in, no_paths, own_prio, prio_body, prio_refusal, prio_sent, rel_body, rel_number, rel_refusal, rel_sent, send_prio_refusal, signer_refusal, weight_body, weight_number, weight_refusal, weight_sent}
 use Rattle.sp_rules.specs.Steps.{Input, NodeStep, Output, accepted, arrived, refused_call, refused_send, tick_output, Poll, Datagram, Tick, SendRel, SendPrio, SetWeight, TakeRel, TakePrio}
 use Rattle.sp_rules.specs.Ticks.{ack_effects, after_tick, at_time, settled_by, time_after}
 use Rattle.sp_rules.specs.Weights.{held}
-use Rattle.sp_rules.specs.declared.node.LinkReply.{LinkReply}
-use Rattle.sp_rules.specs.declared.node.LinkReply.TheVariants as replies
 use Rattle.sp_rules.specs.declared.node.NodeRefused.{NodeRefused}
 use Rattle.sp_rules.specs.declared.node.NodeRefused.TheVariants as refusals
 use Rattle.sp_rules.specs.declared.node.TheConstants.{MAX_CALLS}
 use Rattle.sp_base.specs.declared.limits.TheConstants.{MAX_PAYLOAD_BYTES, MAX_WEIGHT}
 use Rattle.laws_node.specs.Inputs.{ArtsFit, InputFits, PrioSendFits}
 use Rattle.laws_node.specs.Laws.{EachStepKeeps, ExtendKeeps}
-use Rattle.laws_node.specs.Nodes.{IsKept, NodeHolds, PartsHold, SignerHolds}
-use Rattle.laws_node.specs.Sizes.{Sizes, ids_after, most_messages}
-use Rattle.laws_node.proofs.Asked.{NewKeep, OwnKeep, none_new}
-use Rattle.laws_node.proofs.Carried.{AllKeep, PieceKeeps}
-use Rattle.laws_node.proofs.Handles.{AllFit, InRange, PieceFits, all_hold, messages, messages_in, new_is_signed}
+use Rattle.laws_node.specs.Nodes.{NodeHolds, PartsHold, SignerHolds, sizes_of}
+use Rattle.laws_node.specs.Shapes.{Shape}
+use Rattle.laws_node.specs.Sizes.{Sizes, ids_after}
+use Rattle.laws_node.specs.Asked.{NewKeep, OwnKeep, WhatIsNewIsKept}
+use Rattle.laws_node.proofs.Arrived.{sections_fit, where_fits}
+use Rattle.laws_node.proofs.AskedLemmas.{none_new}
+use Rattle.laws_node.proofs.Handles.{all_hold, new_is_signed}
 use Rattle.laws_node.proofs.Links.{advanced_holds, link_after_holds, with_link_holds}
 use Rattle.laws_node.proofs.Own.{either, free, left, own_fits, own_is_signed, prio_sent_fits, rel_sent_fits, weight_sent_fits}
 use Rattle.laws_node.proofs.Priority.{carried_holds, expired_holds, prio_more, sent_holds, taken_holds}
 use Rattle.laws_node.proofs.Reliable.{due_fits, pushed_in_holds, rel_more, served_holds, settled_holds, took_holds}
-use Rattle.laws_node.proofs.Tables.{all_weaker}
+use Rattle.laws_node.proofs.Shapes.{shapes_stay}
 use Rattle.laws_node.proofs.Updates.{held_holds, moved_holds, weights_more}
 
 -- ---- the sizes of a node are those of the one before
 
--- what is asked under arts
-abbrev sizes_with : Arts → Fixed → (buffer store : ℕ) → Sizes
-sizes_with arts f buffer store =
-    record {
-      me = f.me;
-      nodes = nodes_of f.topology;
-      edges = f.topology.edges;
-      signature_len = f.signature_len;
-      buffer = buffer;
-      store = store;
-      keeps = λ o. IsTrue (is_signed arts f o);
-    }
-
-abbrev sizes_in : Arts → NodeState → Sizes
-sizes_in arts n = sizes_with arts n.fixed n.parts.rel.bound n.parts.prio.inbox.capacity
+-- what is asked of a node with these bounds
+abbrev sizes_with : (Kept → Type 0) → Fixed → (buffer store : ℕ) → Sizes
+sizes_with P f buffer store = record {
+  me = f.me;
+  nodes = nodes_of f.topology;
+  edges = f.topology.edges;
+  signature_len = f.signature_len;
+  buffer = buffer;
+  store = store;
+  keeps = P;
+}
 
 -- the same sizes are read off what was kept
-renamed : (arts : Arts) (f : Fixed) (buffer store : ℕ) (n : NodeState) → n.fixed ≡ f → NodeHolds (sizes_with arts f buffer store) n → IsKept arts n
-renamed arts f buffer store n same h =
-    subst (λ (c : ℕ). NodeHolds (sizes_with arts n.fixed n.parts.rel.bound c) n) (sym h.parts.prio.capacity)
-    (subst (λ (b : ℕ). NodeHolds (sizes_with arts n.fixed b store) n) (sym h.parts.rel.bound)
-    (subst (λ (g : Fixed). NodeHolds (sizes_with arts g buffer store) n) (sym same) h))
+renamed : (P : Kept → Type 0) (f : Fixed) (buffer store : ℕ) (n : NodeState) → n.fixed ≡ f → NodeHolds (sizes_with P f buffer store) n → NodeHolds (sizes_of P n) n
+renamed P f buffer store n same h =
+    subst (λ (c : ℕ). NodeHolds (sizes_with P n.fixed n.parts.rel.bound c) n) (sym h.parts.prio.capacity)
+    (subst (λ (b : ℕ). NodeHolds (sizes_with P n.fixed b store) n) (sym h.parts.rel.bound)
+    (subst (λ (g : Fixed). NodeHolds (sizes_with P g buffer store) n) (sym same) h))
 
 -- ---- refusals
 
@@ -127,104 +112,6 @@ poll_keeps k n v most h = record {
 
 -- ---- a datagram
 
-all_pieces : (k : Sizes) (one : Kept → Piece) → ((o : Kept) → InRange k o → PieceFits k (one o)) → (os : List Kept) → All (InRange k) os → AllFit k (map one os)
-all_pieces k one fits [] all = tt
-all_pieces k one fits (o ∷ os) all = (fits o (All-head (InRange k) o os all), all_pieces k one fits os (All-tail (InRange k) o os all))
-
-join_fits : (k : Sizes) (ps qs : List Piece) → AllFit k ps → AllFit k qs → AllFit k (ps ++ qs)
-join_fits k [] qs one two = two
-join_fits k (p ∷ ps) qs one two = (one.0, join_fits k ps qs one.1 two)
-
-list_of : (k : Sizes) (o : Option Kept) → IfSome o (InRange k) → All (InRange k) (as_list o)
-list_of k None fits = λ i d within. absurd (omega (arith, within))
-list_of k (Some o) fits = All-cons (InRange k) o [] fits (λ i d within. absurd (omega (arith, within)))
-
-in_range : (k : Sizes) (kind : Kind) (len : ℕ) → len ≡ k.signature_len → (o : Kept) → IsObject kind len o → InRange k o
-in_range k kind len same o is = record { fields = is.fields; long = is.long ∙ same }
-
-prio_pieces : (k : Sizes) (len : ℕ) → len ≡ k.signature_len → (ms : List (ℕ × Kept)) → All (IsNumbered len) ms → AllFit k (map prio_piece ms)
-prio_pieces k len same [] all = tt
-prio_pieces k len same (m ∷ ms) all =
-    let first = All-head (IsNumbered len) m ms all in
-    ((first.number, in_range k kinds.Prio len same m.1 first.object), prio_pieces k len same ms (All-tail (IsNumbered len) m ms all))
-
-report_pieces : (k : Sizes) (len : ℕ) → len ≡ k.signature_len → (slot : Option Report) → IfSome slot (IsReport len) → AllFit k (slot_pieces slot)
-report_pieces k len same None is = tt
-report_pieces k len same (Some r) is = (
-  tt,
-  join_fits k (map (AckPiece r.flow) (as_list r.ack)) (map (RelPiece r.flow) r.rels)
-      (all_pieces k (AckPiece r.flow) (λ o fits. fits) (as_list r.ack) (list_of k r.ack (in_some r.ack is.ack)))
-      (all_pieces k (RelPiece r.flow) (λ o fits. fits) r.rels
-      (all_weaker (IsObject kinds.Rel len) (InRange k) r.rels (in_range k kinds.Rel len same) is.rels)),
-)
-  where
-    in_some : (o : Option Kept) → IfSome o (IsObject kinds.Ack len) → IfSome o (InRange k)
-    in_some None is = tt
-    in_some (Some o) is = in_range k kinds.Ack len same o is
-
-contents_fit : (k : Sizes) (len : ℕ) → len ≡ k.signature_len → (s : Contents) → IsContents len s → AllFit k (pieces_of s)
-contents_fit k len same s is =
-    join_fits k (map WeightPiece s.weights) _
-    (all_pieces k WeightPiece (λ o fits. fits) s.weights (all_weaker (IsObject kinds.Weight len) (InRange k) s.weights (in_range k kinds.Weight len same) is.weights))
-    (tt, join_fits k (map prio_piece s.prios) (slot_pieces s.slot) (prio_pieces k len same s.prios is.prios) (report_pieces k len same s.slot is.slot))
-
--- how many priority messages are among them
-messages_both : (ps qs : List Piece) → messages (ps ++ qs) ≡ messages ps + messages qs
-messages_both [] qs = omega arith
-messages_both (p ∷ ps) qs = let rest = messages_both ps qs in omega (arith, rest)
-
-no_messages : (one : Kept → Piece) → ((o : Kept) → messages_in (one o) ≡ 0) → (os : List Kept) → messages (map one os) ≡ 0
-no_messages one none [] = refl
-no_messages one none (o ∷ os) = let rest = no_messages one none os in omega (arith, rest, none o)
-
-prio_messages : (ms : List (ℕ × Kept)) → messages (map prio_piece ms) ≡ length ms
-prio_messages [] = refl
-prio_messages (m ∷ ms) = let rest = prio_messages ms in omega (arith, rest)
-
-slot_messages : (slot : Option Report) → messages (slot_pieces slot) ≡ 0
-slot_messages None = refl
-slot_messages (Some r) =
-    let acks = no_messages (AckPiece r.flow) (λ o. refl) (as_list r.ack) in
-    let rels = no_messages (RelPiece r.flow) (λ o. refl) r.rels in
-    omega (arith, acks, rels, messages_both (map (AckPiece r.flow) (as_list r.ack)) (map (RelPiece r.flow) r.rels))
-
-few_messages : (len : ℕ) (s : Contents) → IsContents len s → messages (pieces_of s) ≤ most_messages
-few_messages len s is =
-    let weights = no_messages WeightPiece (λ o. refl) s.weights in
-    let prios = prio_messages s.prios in
-    let slot = slot_messages s.slot in
-    let inner = messages_both (map prio_piece s.prios) (slot_pieces s.slot) in
-    let outer = messages_both (map WeightPiece s.weights) (PrioAckPiece s.prio_ack ∷ (map prio_piece s.prios ++ slot_pieces s.slot)) in
-    omega (arith, weights, prios, slot, inner, outer, is.few_prios)
-
--- pieces that fit, and few of them messages
-record FewFit (k : Sizes) (pieces : List Piece) : Type 0 where
-  fit : AllFit k pieces
-  few : messages pieces ≤ most_messages
-
-none_fit : (k : Sizes) → FewFit k []
-none_fit k = record { fit = tt; few = omega arith }
-
-sections_fit : (k : Sizes) (arts : Arts) (f : Fixed) (signer : Signer) (bytes : List ℕ) → ArtsFit arts f signer → AreBytes bytes → f.signature_len ≡ k.signature_len
-    → (s : Result Contents SectionRefused) → sections_in arts f bytes ≡ s → FewFit k (pieces_in s)
-sections_fit k arts f signer bytes fits are same (Ok s) is =
-    let contents = fits.sections bytes s are is in
-    record { fit = contents_fit k f.signature_len same s contents; few = few_messages f.signature_len s contents }
-sections_fit k arts f signer bytes fits are same (Err e) is = none_fit k
-
-where_fits : (k : Sizes) (pieces : List Piece) (reply : LinkReply) → FewFit k pieces → FewFit k (pieces_where reply pieces)
-where_fits k pieces replies.Fresh h = h
-where_fits k pieces replies.TooLong h = none_fit k
-where_fits k pieces (replies.Short short) h = none_fit k
-where_fits k pieces replies.Magic h = none_fit k
-where_fits k pieces replies.Version h = none_fit k
-where_fits k pieces replies.NotForMe h = none_fit k
-where_fits k pieces replies.BadTag h = none_fit k
-where_fits k pieces (replies.Learned boot) h = none_fit k
-where_fits k pieces (replies.Stale boot counter) h = none_fit k
-where_fits k pieces (replies.OtherTopology theirs) h = none_fit k
-where_fits k pieces (replies.Section refused) h = none_fit k
-
 parts_more : (k : Sizes) (numbers more ids further index : ℕ) (p : Parts) → numbers ≤ more → ids ≤ further → PartsHold k numbers ids index p
     → PartsHold k more further index p
 parts_more k numbers more ids further index p one two h = record {
@@ -250,27 +137,6 @@ datagram_keeps k arts n v bytes fits are new most h =
       parts = parts_more k n.calls (n.calls + 1) _ (ids_after (n.calls + 1) n.signer.index) n.signer.index (handled arts n v bytes).parts (omega arith)
           (omega (arith, pieces.few)) done;
     }
-
--- ---- what is new has its fields in their ranges
-
-fit_pieces : (k : Sizes) (pieces : List Piece) → AllFit k pieces → AllKeep (λ o. HasGoodFields o.body) pieces
-fit_pieces k [] h = tt
-fit_pieces k (piece ∷ pieces) h = (one piece h.0, fit_pieces k pieces h.1)
-  where
-    one : (p : Piece) → PieceFits k p → PieceKeeps (λ o. HasGoodFields o.body) p
-    one (WeightPiece o) h = h.fields
-    one (PrioAckPiece number) h = tt
-    one (PrioPiece number o) h = h.1.fields
-    one (ReportPiece flow base have) h = tt
-    one (AckPiece flow o) h = h.fields
-    one (RelPiece flow o) h = h.fields
-
--- in a step, too
-pub step_fields : (k : Sizes) (arts : Arts) (n : NodeState) (v : NodeId) (bytes : List ℕ) → ArtsFit arts n.fixed n.signer → AreBytes bytes → NodeHolds k n
-    → AllKeep (λ o. HasGoodFields o.body) (pieces_where (reply_at arts n v bytes) (pieces_in (sections_in arts n.fixed bytes)))
-step_fields k arts n v bytes fits are h =
-    fit_pieces k _ (where_fits k (pieces_in (sections_in arts n.fixed bytes)) (reply_at arts n v bytes)
-    (sections_fit k arts n.fixed n.signer bytes fits are h.fixed.signature_len (sections_in arts n.fixed bytes) refl)).fit
 
 -- ---- a signature was made
 
@@ -468,28 +334,6 @@ step_holds k arts n TakePrio output new fits input news own s h =
       };
     })
 
--- ---- what stays as it is in a life
-
-pub record SameLife (old new : NodeState) : Type 0 where
-  pub fixed : new.fixed ≡ old.fixed
-  pub seed : new.signer.seed ≡ old.signer.seed
-  pub total : new.signer.total ≡ old.signer.total
-
-pub step_stays : (arts : Arts) (n : NodeState) (input : Input) (output : Output) (new : NodeState) → NodeStep arts n input output new → SameLife n new
-step_stays arts n (Poll v) output new s = subst (SameLife n) (sym s.1) (or_holds (SameLife n) n _ (call_refusal n v) (record { fixed = refl; seed = refl; total = refl }) (λ e. record { fixed = refl; seed = refl; total = refl }))
-step_stays arts n (Datagram v bytes) output new s = subst (SameLife n) (sym s.1) (or_holds (SameLife n) n _ (call_refusal n v) (record { fixed = refl; seed = refl; total = refl }) (λ e. (record { fixed = refl; seed = refl; total = refl })))
-step_stays arts n (Tick now) output new s = subst (SameLife n) (sym s.1) (settled (due n.parts.rel) (signer_refusal n.signer))
-  where
-    settled : (o : Option Ack) (r : Option SendRefused) → SameLife n (settled_by arts (at_time n now) o r)
-    settled None r = record { fixed = refl; seed = refl; total = refl }
-    settled (Some ack) (Some refusal) = record { fixed = refl; seed = refl; total = refl }
-    settled (Some ack) None = record { fixed = refl; seed = refl; total = refl }
-step_stays arts n (SendRel dst payload) output new s = subst (SameLife n) (sym s.1) (or_holds (SameLife n) n _ (rel_refusal n dst) (record { fixed = refl; seed = refl; total = refl }) (λ e. (record { fixed = refl; seed = refl; total = refl })))
-step_stays arts n (SendPrio m) output new s = subst (SameLife n) (sym s.new_is) (or_holds (SameLife n) n _ (send_prio_refusal n m s.choice) (record { fixed = refl; seed = refl; total = refl }) (λ e. (record { fixed = refl; seed = refl; total = refl })))
-step_stays arts n (SetWeight v weight) output new s = subst (SameLife n) (sym s.1) (or_holds (SameLife n) n _ (weight_refusal n v weight) (record { fixed = refl; seed = refl; total = refl }) (λ e. (record { fixed = refl; seed = refl; total = refl })))
-step_stays arts n (TakeRel src) output new s = subst (SameLife n) (sym s.1) (record { fixed = refl; seed = refl; total = refl })
-step_stays arts n TakePrio output new s = subst (SameLife n) (sym s.1) (record { fixed = refl; seed = refl; total = refl })
-
 -- ---- with the own signatures valid
 
 none_answered : (o : Output) (r : Option NodeRefused) → o.answered ≡ [] → (refused_call r o).answered ≡ []
@@ -519,11 +363,25 @@ step_new arts n (SetWeight v weight) output new s = none_new _ output.answered (
 step_new arts n (TakeRel src) output new s = none_new _ output.answered (ap (λ (o : Output). o.answered) s.0)
 step_new arts n TakePrio output new s = none_new _ output.answered (ap (λ (o : Output). o.answered) s.0)
 
+step_fixed : (arts : Arts) (n : NodeState) (input : Input) (output : Output) (new : NodeState) → NodeStep arts n input output new → new.fixed ≡ n.fixed
+step_fixed arts n input output new s = ap (λ (x : Shape). x.fixed) (shapes_stay arts n input output new s)
+
+-- whatever is asked of messages
+step_keeps : (P : Kept → Type 0) (arts : Arts) (n : NodeState) (input : Input) (output : Output) (new : NodeState) → ArtsFit arts n.fixed n.signer
+    → InputFits input → NodeStep arts n input output new → NewKeep P output.answered → OwnKeep arts P n output.effects → NodeHolds (sizes_of P n) n
+    → NodeHolds (sizes_of P new) new
+step_keeps P arts n input output new fits input_fits s news own h =
+    renamed P n.fixed n.parts.rel.bound n.parts.prio.inbox.capacity new (step_fixed arts n input output new s)
+    (step_holds (sizes_of P n) arts n input output new fits input_fits news own s h)
+
+pub what_is_new_is_kept : WhatIsNewIsKept
+what_is_new_is_kept keeps = step_keeps (λ o. IsTrue (keeps o))
+
 pub each_step_keeps : EachStepKeeps
 each_step_keeps arts n input output new fits input_fits s h =
-    renamed arts n.fixed n.parts.rel.bound n.parts.prio.inbox.capacity new (step_stays arts n input output new s).fixed
-    (step_holds (sizes_in arts n) arts n input output new fits input_fits (step_new arts n input output new s)
-    (λ body own. own_is_signed arts n body fits own.left own.mine) s h)
+    subst (λ (f : Fixed). NodeHolds (sizes_of (λ o. IsTrue (is_signed arts f o)) new) new) (sym (step_fixed arts n input output new s))
+    (step_keeps (λ o. IsTrue (is_signed arts n.fixed o)) arts n input output new fits input_fits s (step_new arts n input output new s)
+    (λ body own. own_is_signed arts n body fits own.left own.mine) h)
 
 pub extend_keeps : ExtendKeeps
 extend_keeps arts n upto above within h = record {

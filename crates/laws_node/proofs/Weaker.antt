@@ -1,10 +1,9 @@
 -- What is asked of the messages that a node keeps may be asked less.
-use Rattle.std.proofs.Common.{ℕ, List, Option, None, Some, arith}
+use Rattle.std.proofs.Common.{ℕ, Option, None, Some}
 use Rattle.std.specs.Prelude.{IfSome}
 use Rattle.sp_msg.specs.declared.kept.Kept.{Kept}
 use Rattle.sp_rules.specs.Flow.{FlowState, ends}
 use Rattle.sp_rules.specs.Node.{NodeState}
-use Rattle.sp_rules.specs.Prio.{PrioState}
 use Rattle.sp_rules.specs.PrioPeer.{PrioPeer}
 use Rattle.sp_rules.specs.Store.{Store}
 use Rattle.sp_rules.specs.declared.store.Entry.{Entry}
