@@ -7,6 +7,8 @@ pub mod Flows
 pub mod Frames
 pub mod Handles
 pub mod Ids
+pub mod LifeLinks
+pub mod LifeWeights
 pub mod Links
 pub mod Lost
 pub mod Masks
@@ -16,6 +18,7 @@ pub mod Priority
 pub mod Reliable
 pub mod Shapes
 pub mod Steps
+pub mod TableReads
 pub mod Tables
 pub mod Updates
 pub mod Weaker

@@ -5,6 +5,8 @@ pub mod Flows
 pub mod Ids
 pub mod Inputs
 pub mod Laws
+pub mod LifeLaws
+pub mod Lives
 pub mod Nodes
 pub mod Objects
 pub mod Shapes
