@@ -9,6 +9,7 @@ pub mod Handles
 pub mod Ids
 pub mod LifeLinks
 pub mod LifeWeights
+pub mod LifeWindows
 pub mod Links
 pub mod Lost
 pub mod Masks

@@ -1,10 +1,9 @@
 -- What each step says of a link, and a life of all of them.
-use Rattle.std.proofs.Common.{◌≡◌, ℕ, ◌==◌, ◌&&◌, ◌||◌, Bool, true, false, cond, not, List, [], ◌∷◌, ◌++◌, map, Option, Some, None, Result, Ok, Err, refl, sym, ap, subst, ◌∙◌, inl, inr, arith}
+use Rattle.std.proofs.Common.{◌≡◌, ℕ, ◌==◌, Bool, true, false, cond, not, List, [], ◌∷◌, ◌++◌, map, Option, Some, None, Result, Ok, Err, refl, sym, ap, subst, ◌∙◌, inl, inr}
 use Rattle.std.specs.Prelude.{zip}
-use Rattle.std.specs.List.{list_any}
-use Rattle.std.proofs.lemmas.Bool.{cases_Bool, eqb-true, eq-eqb, ne_eqb}
+use Rattle.std.proofs.lemmas.Bool.{cases_Bool, eqb-true, eq-eqb}
 use Rattle.std.proofs.lemmas.List.{append-nil}
-use Rattle.sp_base.specs.Rows.{first_where, replace_where}
+use Rattle.sp_base.specs.Rows.{first_where}
 use Rattle.sp_base.specs.declared.id.EdgeId.{EdgeId}
 use Rattle.sp_base.specs.declared.id.NodeId.{NodeId}
 use Rattle.sp_frame.specs.Frames.{opened}
@@ -17,13 +16,13 @@ use Rattle.sp_msg.specs.declared.body.Ack.{Ack}
 use Rattle.sp_msg.specs.declared.refused.SendRefused.{SendRefused}
 use Rattle.sp_rules.specs.Arrivals.{handled, link_after, link_says, link_with, no_frame, of_frame, of_fresh, of_link, of_sections, reply_at, sections_in}
 use Rattle.sp_rules.specs.Arts.{Arts, is_right}
-use Rattle.sp_rules.specs.Link.{Link, advanced, after_answer, is_above, link_answer, new_link, pair_of}
-use Rattle.sp_rules.specs.Node.{NodeState, Signer, booted, call_refusal, called, is_link, is_neighbour, kept_or, link_in, link_of, with_link}
+use Rattle.sp_rules.specs.Link.{Link, advanced, after_answer, is_above, new_link, pair_of}
+use Rattle.sp_rules.specs.Node.{NodeState, booted, call_refusal, called, is_link, is_neighbour, kept_or, link_in, link_of, with_link}
 use Rattle.sp_rules.specs.Parts.{Fixed, neighbours_of}
-use Rattle.sp_rules.specs.Polls.{frame_to, polled}
+use Rattle.sp_rules.specs.Polls.{polled}
 use Rattle.sp_rules.specs.Rel.{due}
 use Rattle.sp_rules.specs.Sends.{rel_refusal, send_prio_refusal, signer_refusal, weight_refusal}
-use Rattle.sp_rules.specs.Steps.{Input, NodeStep, Output, Poll, Datagram, Tick, SendRel, SendPrio, SetWeight, TakeRel, TakePrio, Frame, arrived, refused_call, replied}
+use Rattle.sp_rules.specs.Steps.{Input, NodeStep, Output, Poll, Datagram, Tick, SendRel, SendPrio, SetWeight, TakeRel, TakePrio, arrived, refused_call}
 use Rattle.sp_rules.specs.Ticks.{at_time, settled_by}
 use Rattle.sp_rules.specs.declared.link.LinkAnswer.{LinkAnswer}
 use Rattle.sp_rules.specs.declared.link.LinkAnswer.TheVariants as answers
@@ -78,7 +77,7 @@ comes arts f l bytes (Ok frame) known =
     let a = link_says arts l bytes in
     let goes = one l h (is_right arts l.key bytes) known in
     let all : (fresh_pair h a ++ learned_pair a) ++ [] ≡ pair_told (pair_of h) (of_link a (of_fresh f.topology.version h.topology (sections_in arts f bytes))) =
-        append-nil (fresh_pair h a ++ learned_pair a) ∙ sym (answer_told arts f bytes a) in
+    append-nil (fresh_pair h a ++ learned_pair a) ∙ sym (answer_told arts f bytes a) in
     record { known = goes.known; most = sym (goes.most []) ∙ ap (greatest l.seen) all }
 
 -- ---- which link
@@ -115,13 +114,13 @@ one_link n u v new told there peer known goes =
       | inl t ↦
           let is : u ≡ v = same_id u v t in
           let found : first_where (is_link v) (new_link n.fixed.me v 0 []) (with_link n u new) ≡ new =
-              subst (λ (w : NodeId). first_where (is_link w) (new_link n.fixed.me w 0 []) (with_link n u new) ≡ new) is
-              (first_replaced (is_link u) (new_link n.fixed.me u 0 []) new n.links mine there) in
+          subst (λ (w : NodeId). first_where (is_link w) (new_link n.fixed.me w 0 []) (with_link n u new) ≡ new) is
+          (first_replaced (is_link u) (new_link n.fixed.me u 0 []) new n.links mine there) in
           let done = subst (λ (w : NodeId). (link_in n w).seen.0 ≡ (link_in n w).peer_boot → Goes (link_in n w) told new) is goes known in
           rw t (subst (λ (l : Link). Goes (link_in n v) told l) (sym found) done)
       | inr t ↦
           let found : first_where (is_link v) (new_link n.fixed.me v 0 []) (with_link n u new) ≡ link_in n v =
-              other_replaced (is_link u) (is_link v) (new_link n.fixed.me v 0 []) new n.links (λ l is. apart u v l t is) (apart u v new t mine) in
+          other_replaced (is_link u) (is_link v) (new_link n.fixed.me v 0 []) new n.links (λ l is. apart u v l t is) (apart u v new t mine) in
           rw t (subst (λ (l : Link). Goes (link_in n v) [] l) (sym found) (rests (link_in n v) (link_in n v) refl refl known))
     ]
 

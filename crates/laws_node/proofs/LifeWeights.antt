@@ -1,5 +1,5 @@
 -- What each step tells of weights, and a life of all of them.
-use Rattle.std.proofs.Common.{◌≡◌, ℕ, ◌+◌, ◌*◌, ◌==◌, ◌&&◌, max, Bool, true, false, cond, List, [], ◌∷◌, ◌++◌, length, map, replicate, Option, Some, None, refl, sym, ap, subst, ◌∙◌, inl, inr, arith, nat_lt}
+use Rattle.std.proofs.Common.{◌≡◌, ℕ, ◌+◌, ◌*◌, ◌==◌, ◌&&◌, max, Bool, true, false, cond, List, [], ◌∷◌, ◌++◌, length, map, Option, Some, None, refl, sym, ap, subst, ◌∙◌, inl, inr, nat_lt}
 use Rattle.std.specs.List.{flat_map, slice_get}
 use Rattle.std.proofs.lemmas.Bool.{cases_Bool}
 use Rattle.std.proofs.lemmas.List.{length-replicate}
@@ -20,8 +20,8 @@ use Rattle.sp_rules.specs.Arts.{Arts}
 use Rattle.sp_rules.specs.Flow.{flow_said}
 use Rattle.sp_rules.specs.Handle.{Arrival, handle, handle_all, heard_where, offer_to, weight_effects}
 use Rattle.sp_rules.specs.Link.{advanced}
-use Rattle.sp_rules.specs.Node.{NodeState, Signer, booted, call_refusal, called, kept_or, link_in, signed_now, signed_once, with_link}
-use Rattle.sp_rules.specs.Parts.{Fixed, Parts, edge_to, is_signed}
+use Rattle.sp_rules.specs.Node.{NodeState, booted, call_refusal, called, kept_or, link_in, signed_now, signed_once, with_link}
+use Rattle.sp_rules.specs.Parts.{Parts, edge_to, is_signed}
 use Rattle.sp_rules.specs.Pieces.{Piece, WeightPiece, PrioAckPiece, PrioPiece, ReportPiece, AckPiece, RelPiece}
 use Rattle.sp_rules.specs.Polls.{frame_to, polled}
 use Rattle.sp_rules.specs.Prio as prio
@@ -33,7 +33,7 @@ use Rattle.sp_rules.specs.Sends.{after_take_prio, after_take_rel, edge_or, mask_
 use Rattle.sp_rules.specs.Steps.{Input, NodeStep, Output, Poll, Datagram, Tick, SendRel, SendPrio, SetWeight, TakeRel, TakePrio, Frame, accepted, arrived, refused_call, refused_send, replied}
 use Rattle.sp_rules.specs.Store.{Store, evicted, expired_entries, oldest}
 use Rattle.sp_rules.specs.Ticks.{ack_effects, at_time, settled_by, time_after}
-use Rattle.sp_rules.specs.Weights.{WeightState, effective, held, held_in, minimum, minimum_of, offer, offer_of, row_for, row_if, row_in, start, weight_of}
+use Rattle.sp_rules.specs.Weights.{WeightState, held, held_in, minimum, minimum_of, offer, offer_of, row_for, row_if, row_in, start, weight_of}
 use Rattle.sp_rules.specs.declared.answers.Item.TheVariants as items
 use Rattle.sp_rules.specs.declared.answers.PrioAnswer.{PrioAnswer}
 use Rattle.sp_rules.specs.declared.answers.PrioAnswer.TheVariants as prios
@@ -103,7 +103,7 @@ silent_prio p o came = elim (cases_Bool (prio.is_here p o.body)) [
       rw t all
   | inr t ↦
       let all = silent_flat (rows.given_effects o came)
-          (λ q. silent_either (rows.goes_to o.body came q) (rows.put_effects q.peer q.store o) (silent_put q.peer q.store o)) p.peers in
+      (λ q. silent_either (rows.goes_to o.body came q) (rows.put_effects q.peer q.store o) (silent_put q.peer q.store o)) p.peers in
       rw t all
 ]
 
@@ -264,9 +264,11 @@ own_placed n v weight same free = go (edge_to n.fixed v) refl free
         → (row : ℕ) × (row_in n.parts.weights.edges (edge_or (edge_to n.fixed v)) n.fixed.me.0 ≡ Some row)
     go None is free = absurd (cc)
     go (Some edge) is free =
-        let own = own_row n.fixed.topology.edges edge n.fixed.me.0 v.0 is in
-        (own.0, ap (λ (es : List Edge). row_in es (edge_or (edge_to n.fixed v)) n.fixed.me.0) same
-        ∙ ap (λ (o : Option ℕ). row_in n.fixed.topology.edges (edge_or o) n.fixed.me.0) is ∙ own.1)
+        let own = own_row n.fixed.topology.edges edge n.fixed.me.0 v.0 is in (
+          own.0,
+          ap (λ (es : List Edge). row_in es (edge_or (edge_to n.fixed v)) n.fixed.me.0) same
+              ∙ ap (λ (o : Option ℕ). row_in n.fixed.topology.edges (edge_or o) n.fixed.me.0) is ∙ own.1,
+        )
 
 pub step_turns : (arts : Arts) (n : NodeState) (input : Input) (output : Output) (new : NodeState) → NodeStep arts n input output new
     → n.parts.weights.edges ≡ n.fixed.topology.edges → HasRows n.parts.weights → Done n output new
@@ -375,11 +377,11 @@ weights_of_lives arts f signer keys buffer store steps last good life edge e the
     let here : slice_get s.edges edge ≡ Some e = ap (λ (es : List Edge). slice_get es edge) turns.edges ∙ there in
     let below = ends_differ (ids_of t.nodes) (0, 0) t.edges edge e good.graph.are_edges there in
     let low : row_said s (2 * edge) ≡ last_told edge e.low.0 0 told =
-        turns.said edge e.low.0 (2 * edge) (record { joined = e; there = there; placed = low_row edge e })
-        ∙ ap (λ (w : ℕ). last_told edge e.low.0 w told) (nothing_held (2 * length t.edges) (2 * edge)) in
+    turns.said edge e.low.0 (2 * edge) (record { joined = e; there = there; placed = low_row edge e })
+    ∙ ap (λ (w : ℕ). last_told edge e.low.0 w told) (nothing_held (2 * length t.edges) (2 * edge)) in
     let high : row_said s (2 * edge + 1) ≡ last_told edge e.high.0 0 told =
-        turns.said edge e.high.0 (2 * edge + 1) (record { joined = e; there = there; placed = high_row edge e below })
-        ∙ ap (λ (w : ℕ). last_told edge e.high.0 w told) (nothing_held (2 * length t.edges) (2 * edge + 1)) in
+    turns.said edge e.high.0 (2 * edge + 1) (record { joined = e; there = there; placed = high_row edge e below })
+    ∙ ap (λ (w : ℕ). last_told edge e.high.0 w told) (nothing_held (2 * length t.edges) (2 * edge + 1)) in
     let least : minimum s edge ≡ e.weight = ap minimum_of here in
     ap (λ (m : ℕ). max m (max (row_said s (2 * edge)) (row_said s (2 * edge + 1)))) least
     ∙ ap (λ (m : ℕ). max e.weight (max m (row_said s (2 * edge + 1)))) low ∙ ap (λ (m : ℕ). max e.weight (max (last_told edge e.low.0 0 told) m)) high

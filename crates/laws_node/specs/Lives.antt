@@ -1,5 +1,5 @@
 -- The life of a node from its start on: its steps, each with what came and what was answered, and what they say of its links, weights and windows.
-use Rattle.std.specs.Prelude.{ℕ, ◌≡◌, ◌==◌, ◌&&◌, List, [], ◌∷◌, ◌++◌, map, if◌then◌else◌}
+use Rattle.std.specs.Prelude.{ℕ, ◌≡◌, ◌==◌, ◌&&◌, List, [], ◌∷◌, ◌++◌, if◌then◌else◌}
 use Rattle.std.specs.List.{flat_map}
 use Rattle.sp_base.specs.declared.id.NodeId.{NodeId}
 use Rattle.sp_msg.specs.declared.body.Body.{Body}
@@ -15,17 +15,11 @@ use Rattle.sp_rules.specs.Steps.{Input, NodeStep, Output, Reply, Datagram, SendP
 use Rattle.sp_rules.specs.declared.answers.Item.{Item}
 use Rattle.sp_rules.specs.declared.node.LinkReply.{LinkReply}
 use Rattle.sp_rules.specs.declared.node.LinkReply.TheVariants as replies
-use Rattle.laws_node.specs.Inputs.{InputFits}
 
 -- from this state on these came and were answered, one after the other, and led to that state
 abbrev pub Life : Arts → NodeState → List (Input × Output) → NodeState → Type 0
 Life arts first [] last = last ≡ first
 Life arts first (step ∷ steps) last = (next : NodeState) × NodeStep arts first step.0 step.1 next × Life arts next steps last
-
--- what came is in its ranges
-abbrev pub LifeFits : List (Input × Output) → Type 0
-LifeFits [] = Unit {0}
-LifeFits (step ∷ steps) = InputFits step.0 × LifeFits steps
 
 -- ---- what is said of a link
 

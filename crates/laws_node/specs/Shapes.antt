@@ -102,7 +102,8 @@ shape_of n = record {
 -- ---- the laws
 
 abbrev pub ShapesStay : Type 0
-ShapesStay = (arts : Arts) (old : NodeState) (input : Input) (output : Output) (new : NodeState) → NodeStep arts old input output new → shape_of new ≡ shape_of old
+ShapesStay = (arts : Arts) (old : NodeState) (input : Input) (output : Output) (new : NodeState) → NodeStep arts old input output new
+    → shape_of new ≡ shape_of old
 
 -- rows for the ordered pairs of two nodes and for the neighbours, each with a view of each pair, a window for each node, and the bounds that were given
 abbrev pub shape_at_start : Fixed → Signer → List (List ℕ) → (buffer store : ℕ) → Shape
@@ -134,4 +135,5 @@ shape_at_start f signer keys buffer store =
 
 abbrev pub ShapesBegin : Type 0
 ShapesBegin =
-    (f : Fixed) (signer : Signer) (keys : List (List ℕ)) (buffer store : ℕ) → shape_of (booted f signer keys buffer store) ≡ shape_at_start f signer keys buffer store
+    (f : Fixed) (signer : Signer) (keys : List (List ℕ)) (buffer store : ℕ)
+    → shape_of (booted f signer keys buffer store) ≡ shape_at_start f signer keys buffer store

@@ -1,7 +1,9 @@
 //! The laws of every step of a node: whatever is called and whatever arrives, what the node keeps stays within its bounds, in its ranges,
-//! signed and counted. And those of its parts over every list of their own events: links, weights, windows and stores.
+//! signed and counted; and who it is, its bounds and its rows stay. Those of its whole life, and those of its parts over every list of
+//! their own events: links, weights, windows and stores.
 #![tactic(auto)]
 
+mod life_laws;
 mod link_laws;
 mod priority_laws;
 mod step_laws;
@@ -10,6 +12,10 @@ mod weight_laws;
 ghost use Rattle.laws_node.specs.Acknowledgement.{AcknowledgementIsWorked};
 ghost use Rattle.laws_node.specs.Laws.{BootKeeps, EachStepKeeps, ExtendKeeps, FramesFit};
 
+pub use life_laws::{
+    a_node_keeps_the_greatest_pair_of_each_neighbour, a_window_holds_what_a_life_marked,
+    an_effective_weight_is_what_a_life_tells,
+};
 pub use link_laws::{a_link_keeps_the_greatest_pair, no_frame_is_fresh_twice};
 pub use priority_laws::{
     a_full_store_has_a_victim, a_full_store_leaves_fair_shares,
@@ -28,8 +34,8 @@ pub use weight_laws::{
 };
 
 /// A law: at the start of its life and after each step, a node holds at most as many messages of each flow and entries of each store as its
-/// own bounds say, each in its place and its ranges, with its signer's valid signature; that these bounds stay is a law of its own; ids and numbers are at most the calls and signatures made; and
-/// each frame that it makes is in the ranges of its grammar.
+/// own bounds say, each in its place and its ranges, with its signer's valid signature; ids and numbers are at most the calls and signatures
+/// made; and each frame that it makes is in the ranges of its grammar. That the bounds stay as they were given is a law of its own.
 pub fn each_step_keeps_what_a_node_keeps()
     ensures boot { BootKeeps }
     ensures step { EachStepKeeps }
