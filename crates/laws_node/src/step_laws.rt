@@ -13,7 +13,7 @@ pub fn no_step_changes_who_a_node_is_nor_its_bounds_nor_its_rows()
     ensures stay { ShapesStay }
 {}
 
-/// A law: in each place of a node the ids of its entries rise, so they differ.
+/// A law: in each place of a node the ids of its entries rise, so they differ; and a place that has given an id never gives it again.
 pub fn each_entry_of_a_place_has_an_id_of_its_own()
     ensures { IdsStayOwn }
 {}
