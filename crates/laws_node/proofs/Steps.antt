@@ -10,7 +10,7 @@ use Rattle.sp_msg.specs.declared.kept.Kept.{Kept}
 use Rattle.sp_msg.specs.declared.effect.Effect.{Effect}
 use Rattle.sp_msg.specs.declared.effect.Effect.TheVariants.{Signed}
 use Rattle.sp_msg.specs.declared.refused.SendRefused.{SendRefused}
-use Rattle.sp_msg.specs.Bodies.{HasGoodFields, encoded}
+use Rattle.sp_msg.specs.Bodies.{HasGoodFields, encoded, payload_of}
 use Rattle.sp_msg.specs.Views.{signer_of}
 use Rattle.sp_msg.specs.declared.body.Body.{Body}
 use Rattle.sp_rules.specs.Arrivals.{arrival_at, handled, link_after, pieces_in, pieces_where, reply_at, sections_in}
@@ -36,7 +36,7 @@ use Rattle.laws_node.specs.Laws.{EachStepKeeps, ExtendKeeps}
 use Rattle.laws_node.specs.Nodes.{NodeHolds, PartsHold, SignerHolds, sizes_of}
 use Rattle.laws_node.specs.Shapes.{Shape}
 use Rattle.laws_node.specs.Sizes.{Sizes, ids_after}
-use Rattle.laws_node.specs.Asked.{NewKeep, OwnKeep, WhatIsNewIsKept}
+use Rattle.laws_node.specs.Asked.{NewKeep, OwnKeep, WhatIsNewIsKept, payload_in}
 use Rattle.laws_node.proofs.Arrived.{sections_fit, where_fits}
 use Rattle.laws_node.proofs.AskedLemmas.{none_new}
 use Rattle.laws_node.proofs.Handles.{all_hold, new_is_signed}
@@ -254,14 +254,14 @@ or_holds P old done (Some x) h new = h
 or_holds P old done None h new = new refl
 
 -- the message that was signed first
-first_own : (k : Sizes) (arts : Arts) (n : NodeState) (output : Output) (body : Body) (after : List Effect) → output.effects ≡ Signed (encoded body) ∷ after
-    → OwnKeep arts k.keeps n output.effects → Owns k arts n body
-first_own k arts n output body after told own mine fields left =
-    own body (record { mine = mine; fields = fields; left = left; before = []; after = after; told = told })
+first_own : (k : Sizes) (arts : Arts) (n : NodeState) (input : Input) (output : Output) (body : Body) (after : List Effect)
+    → payload_of body ≡ payload_in input → output.effects ≡ Signed (encoded body) ∷ after → OwnKeep arts k.keeps n input output.effects → Owns k arts n body
+first_own k arts n input output body after payload told own mine fields left =
+    own body (record { mine = mine; fields = fields; payload = payload; left = left; before = []; after = after; told = told })
 
 -- after what expired
 tick_holds : (k : Sizes) (arts : Arts) (n : NodeState) (now : ℕ) (output : Output) → ArtsFit arts n.fixed n.signer → now < 2 ^ 64 → output ≡ tick_output n now
-    → OwnKeep arts k.keeps n output.effects → NodeHolds k n → NodeHolds k (after_tick arts n now)
+    → OwnKeep arts k.keeps n (Tick now) output.effects → NodeHolds k n → NodeHolds k (after_tick arts n now)
 tick_holds k arts n now output fits small is own h = go (due n.parts.rel) refl (signer_refusal n.signer) refl
   where
     later : NodeHolds k (at_time n now)
@@ -276,6 +276,7 @@ tick_holds k arts n now output fits small is own h = go (due n.parts.rel) refl (
         own (bodies.Ack ack) (record {
           mine = mine;
           fields = fields;
+          payload = refl;
           left = left;
           before = expired_effects n.parts.prio (time_after n now);
           after = [];
@@ -286,7 +287,7 @@ tick_holds k arts n now output fits small is own h = go (due n.parts.rel) refl (
         is_due e later
 
 pub step_holds : (k : Sizes) (arts : Arts) (n : NodeState) (input : Input) (output : Output) (new : NodeState) → ArtsFit arts n.fixed n.signer → InputFits input
-    → NewKeep k.keeps output.answered → OwnKeep arts k.keeps n output.effects → NodeStep arts n input output new → NodeHolds k n → NodeHolds k new
+    → NewKeep k.keeps output.answered → OwnKeep arts k.keeps n input output.effects → NodeStep arts n input output new → NodeHolds k n → NodeHolds k new
 step_holds k arts n (Poll v) output new fits input news own s h =
     subst (NodeHolds k) (sym s.1) (or_holds (NodeHolds k) n _ (call_refusal n v) h (λ e. poll_keeps k n v (not_worn n v e h.calls) h))
 step_holds k arts n (Datagram v bytes) output new fits input news own s h =
@@ -298,18 +299,18 @@ step_holds k arts n (Tick now) output new fits input news own s h = subst (NodeH
 step_holds k arts n (SendRel dst payload) output new fits input news own s h =
     subst (NodeHolds k) (sym s.1) (or_holds (NodeHolds k) n _ (rel_refusal n dst) h
     (λ e. rel_sent_keeps k arts n dst payload fits input
-    (first_own k arts n output (rel_body n dst payload) []
+    (first_own k arts n (SendRel dst payload) output (rel_body n dst payload) [] refl
     (ap (λ (o : Output). o.effects) s.0 ∙ ap (λ (r : Option SendRefused). (refused_send r (accepted (rel_number n dst) (rel_sent n dst payload))).effects) e) own) e h))
 step_holds k arts n (SendPrio m) output new fits input news own s h =
     subst (NodeHolds k) (sym s.new_is) (or_holds (NodeHolds k) n _ (send_prio_refusal n m s.choice) h
     (λ e. prio_sent_keeps k arts n m s.choice fits input
-    (first_own k arts n output (prio_body n m (mask_in s.choice)) (prio_effects n.parts.prio (own_prio arts n m s.choice) None)
+    (first_own k arts n (SendPrio m) output (prio_body n m (mask_in s.choice)) (prio_effects n.parts.prio (own_prio arts n m s.choice) None) refl
     (ap (λ (o : Output). o.effects) s.output_is ∙ ap (λ (r : Option SendRefused). (refused_send r (accepted n.parts.prio.next (prio_sent arts n m s.choice))).effects) e) own)
     e (s.is_choice (either (prio_refusal n m) (no_paths s.choice) e).0) h))
 step_holds k arts n (SetWeight v weight) output new fits input news own s h =
     subst (NodeHolds k) (sym s.1) (or_holds (NodeHolds k) n _ (weight_refusal n v weight) h
     (λ e. weight_sent_keeps k arts n v weight fits input.0 input.1
-    (first_own k arts n output (weight_body n v weight) (weight_effects (weight_body n v weight))
+    (first_own k arts n (SetWeight v weight) output (weight_body n v weight) (weight_effects (weight_body n v weight)) refl
     (ap (λ (o : Output). o.effects) s.0 ∙ ap (λ (r : Option SendRefused). (refused_send r (accepted (weight_number n v) (weight_sent n v weight))).effects) e) own) e h))
 step_holds k arts n (TakeRel src) output new fits input news own s h =
     subst (NodeHolds k) (sym s.1) (record {
@@ -336,11 +337,11 @@ step_holds k arts n TakePrio output new fits input news own s h =
 
 -- ---- with the own signatures valid
 
-none_answered : (o : Output) (r : Option NodeRefused) → o.answered ≡ [] → (refused_call r o).answered ≡ []
-none_answered o None e = e
-none_answered o (Some refused) e = refl
+pub none_called : (o : Output) (r : Option NodeRefused) → o.answered ≡ [] → (refused_call r o).answered ≡ []
+none_called o None e = e
+none_called o (Some refused) e = refl
 
-none_sent : (o : Output) (r : Option SendRefused) → o.answered ≡ [] → (refused_send r o).answered ≡ []
+pub none_sent : (o : Output) (r : Option SendRefused) → o.answered ≡ [] → (refused_send r o).answered ≡ []
 none_sent o None e = e
 none_sent o (Some refused) e = refl
 
@@ -351,7 +352,7 @@ called_new P o (Some refused) new = tt
 -- what is new in a step is signed
 pub step_new : (arts : Arts) (n : NodeState) (input : Input) (output : Output) (new : NodeState) → NodeStep arts n input output new
     → NewKeep (λ o. IsTrue (is_signed arts n.fixed o)) output.answered
-step_new arts n (Poll v) output new s = none_new _ output.answered (ap (λ (o : Output). o.answered) s.0 ∙ none_answered _ (call_refusal n v) refl)
+step_new arts n (Poll v) output new s = none_new _ output.answered (ap (λ (o : Output). o.answered) s.0 ∙ none_called _ (call_refusal n v) refl)
 step_new arts n (Datagram v bytes) output new s =
     subst (λ (o : Output). NewKeep (λ x. IsTrue (is_signed arts n.fixed x)) o.answered) (sym s.0)
     (called_new (λ x. IsTrue (is_signed arts n.fixed x)) (arrived arts n v bytes) (call_refusal n v)
@@ -368,7 +369,7 @@ step_fixed arts n input output new s = ap (λ (x : Shape). x.fixed) (shapes_stay
 
 -- whatever is asked of messages
 step_keeps : (P : Kept → Type 0) (arts : Arts) (n : NodeState) (input : Input) (output : Output) (new : NodeState) → ArtsFit arts n.fixed n.signer
-    → InputFits input → NodeStep arts n input output new → NewKeep P output.answered → OwnKeep arts P n output.effects → NodeHolds (sizes_of P n) n
+    → InputFits input → NodeStep arts n input output new → NewKeep P output.answered → OwnKeep arts P n input output.effects → NodeHolds (sizes_of P n) n
     → NodeHolds (sizes_of P new) new
 step_keeps P arts n input output new fits input_fits s news own h =
     renamed P n.fixed n.parts.rel.bound n.parts.prio.inbox.capacity new (step_fixed arts n input output new s)
