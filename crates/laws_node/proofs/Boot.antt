@@ -12,7 +12,7 @@ use Rattle.sp_base.specs.declared.id.NodeId.{NodeId}
 use Rattle.sp_base.specs.declared.limits.TheConstants.{MAX_NODES}
 use Rattle.sp_msg.specs.declared.kept.Kept.{Kept}
 use Rattle.sp_rules.specs.Flow.{ends, no_flow}
-use Rattle.sp_rules.specs.Node.{booted, link_of}
+use Rattle.sp_rules.specs.Node.{Signer, booted, link_of}
 use Rattle.sp_rules.specs.Parts.{Fixed, as_neighbour, is_signed, neighbours_of, nodes_of}
 use Rattle.sp_rules.specs.PrioPeer.{new_peer}
 use Rattle.sp_rules.specs.Rel.{flows_from, pairs_of}
@@ -25,7 +25,8 @@ use Rattle.sp_topology.specs.declared.topology.LmsHeight.{LmsHeight}
 use Rattle.sp_topology.specs.declared.topology.NodeKey.{NodeKey}
 use Rattle.laws_node.specs.Flows.{Differ, FlowHolds}
 use Rattle.laws_node.specs.Laws.{BootKeeps}
-use Rattle.laws_node.specs.Nodes.{LinkHolds, sizes_of}
+use Rattle.laws_node.specs.Inputs.{Boots}
+use Rattle.laws_node.specs.Nodes.{LinkHolds, NodeHolds, sizes_of}
 use Rattle.laws_node.specs.Sizes.{IsNode, Sizes}
 use Rattle.laws_node.specs.Stores.{EntryHolds, PrioPeerHolds}
 use Rattle.laws_node.specs.Updates.{UpdateHolds}
@@ -39,7 +40,7 @@ use Rattle.laws_node.proofs.Tables.{all_weaker, cond_either, or_where}
 abbrev Other : NodeId → NodeId → Type 0
 Other u v = ¬ (u ≡ v)
 
-nodes_hold : (height : LmsHeight) (before : ℕ) (nodes : List NodeKey) → AreNodes height before nodes → All IsNode (map (λ n. n.id) nodes)
+pub nodes_hold : (height : LmsHeight) (before : ℕ) (nodes : List NodeKey) → AreNodes height before nodes → All IsNode (map (λ n. n.id) nodes)
 nodes_hold height before [] are = All-nil IsNode
 nodes_hold height before (n ∷ nodes) are =
     All-cons IsNode n.id (map (λ m. m.id) nodes) (omega (arith, are.0.0), are.0.1) (nodes_hold height n.id.0 nodes are.2)
@@ -51,7 +52,7 @@ above height before (n ∷ nodes) are =
     (all_weaker (λ (u : NodeId). n.id.0 < u.0) (λ (u : NodeId). before < u.0) (map (λ m. m.id) nodes) (λ u far. omega (arith, far, are.0.0))
     (above height n.id.0 nodes are.2))
 
-nodes_once : (height : LmsHeight) (before : ℕ) (nodes : List NodeKey) → AreNodes height before nodes → AllPairs Other (map (λ n. n.id) nodes)
+pub nodes_once : (height : LmsHeight) (before : ℕ) (nodes : List NodeKey) → AreNodes height before nodes → AllPairs Other (map (λ n. n.id) nodes)
 nodes_once height before [] are = λ i j d below within. absurd (omega (arith, within))
 nodes_once height before (n ∷ nodes) are =
     AllPairs-cons Other n.id (map (λ m. m.id) nodes)
@@ -126,7 +127,7 @@ flows_in_range nodes (s ∷ srcs) all each =
     (filter (λ dst. not (dst.0 == s.0)) nodes) (all_filter IsNode (λ dst. not (dst.0 == s.0)) nodes all))
     (flows_in_range nodes srcs all (All-tail IsNode s srcs each)))
 
-same_ends : (flows : List Flow) → map ends (map no_flow flows) ≡ flows
+pub same_ends : (flows : List Flow) → map ends (map no_flow flows) ≡ flows
 same_ends [] = refl
 same_ends (f ∷ flows) = ap (λ (fs : List Flow). f ∷ fs) (same_ends flows)
 
@@ -182,11 +183,13 @@ peers_hold k (n ∷ ns) =
       heard = omega arith;
     }) (peers_hold k ns)
 
-pub boot_keeps : BootKeeps
-boot_keeps arts f signer keys buffer store boots =
+-- whatever is asked of messages, since none is kept
+pub boot_holds : (P : Kept → Type 0) (f : Fixed) (signer : Signer) (keys : List (List ℕ)) (buffer store : ℕ) → Boots f signer
+    → NodeHolds (sizes_of P (booted f signer keys buffer store)) (booted f signer keys buffer store)
+boot_holds P f signer keys buffer store boots =
     let t = f.topology in
     let n = booted f signer keys buffer store in
-    let k = sizes_of (λ o. IsTrue (is_signed arts n.fixed o)) n in
+    let k = sizes_of P n in
     let nodes = nodes_hold t.height 0 t.nodes boots.topology.nodes in
     let once = nodes_once t.height 0 t.nodes boots.topology.nodes in
     let pairs = pairs_of (nodes_of t) in
@@ -225,7 +228,11 @@ boot_keeps arts f signer keys buffer store boots =
           nodes = nodes;
           flows = all_map (λ (fl : Flow). IsNode fl.src × IsNode fl.dst) (FlowHolds k signer.index) no_flow (λ fl both. no_flow_holds k signer.index fl both.0 both.1) pairs
               (flows_in_range (nodes_of t) (nodes_of t) nodes nodes);
+          keys = same_ends pairs;
           once = subst (AllPairs Differ) (sym (same_ends pairs)) (flows_once (nodes_of t) (nodes_of t) once once);
         };
       };
     }
+
+pub boot_keeps : BootKeeps
+boot_keeps arts f signer keys buffer store boots = boot_holds (λ o. IsTrue (is_signed arts f o)) f signer keys buffer store boots

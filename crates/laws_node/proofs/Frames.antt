@@ -1,5 +1,5 @@
 -- What a poll writes is in the ranges of a frame.
-use Rattle.std.proofs.Common.{◌≡◌, ◌<◌, ◌≤◌, ℕ, ◌+◌, ◌-◌, ◌^◌, nat_le, nat_lt, max, Bool, true, List, [], ◌∷◌, length, filter, Option, Some, None, refl, ◌∙◌, arith}
+use Rattle.std.proofs.Common.{◌≡◌, ◌<◌, ◌≤◌, ℕ, ◌+◌, ◌-◌, ◌^◌, nat_le, nat_lt, max, Bool, true, List, [], ◌∷◌, length, filter, Option, Some, None, refl, sym, ◌∙◌, arith}
 use Rattle.std.specs.Prelude.{IfSome, IsTrue}
 use Rattle.std.specs.List.{All, find, slice_get}
 use Rattle.std.specs.Option.{option_and_then, option_map}
@@ -9,7 +9,7 @@ use Rattle.sp_base.specs.Position.{message_of}
 use Rattle.sp_base.specs.declared.id.Flow.{Flow}
 use Rattle.sp_base.specs.declared.id.NodeId.{NodeId}
 use Rattle.sp_frame.specs.Objects.{IsObject, is_of}
-use Rattle.sp_frame.specs.Ranges.{IsNumbered, IsReport}
+use Rattle.sp_frame.specs.Ranges.{IsContents, IsNumbered, IsReport}
 use Rattle.sp_frame.specs.Views.{as_list}
 use Rattle.sp_frame.specs.declared.kind.Kind.{Kind}
 use Rattle.sp_frame.specs.declared.kind.Kind.TheVariants as kinds
@@ -20,7 +20,8 @@ use Rattle.sp_rules.proofs.ChoiceLemmas.{first_is_there}
 use Rattle.sp_rules.specs.Choices.{first_by}
 use Rattle.sp_rules.specs.Flow.{AreMessages, FlowState, IsMessage, ends}
 use Rattle.sp_rules.specs.Parts.{is_signed, place_of}
-use Rattle.sp_rules.specs.Polls.{as_message}
+use Rattle.sp_rules.specs.Node.{NodeState}
+use Rattle.sp_rules.specs.Polls.{as_message, contents_to}
 use Rattle.sp_rules.specs.Prio.{is_peer, no_peer, peer_in}
 use Rattle.sp_rules.specs.PrioPeer as rows
 use Rattle.sp_rules.specs.PrioPeer.{PrioPeer, flying, numbered}
@@ -30,7 +31,7 @@ use Rattle.sp_rules.specs.Weights.{WeightState, held_in, next, next_row}
 use Rattle.sp_rules.specs.declared.store.Entry.{Entry}
 use Rattle.laws_node.specs.Flows.{AckKept, FlowHolds, IsAckOf, RelHolds}
 use Rattle.laws_node.specs.Laws.{FramesFit}
-use Rattle.laws_node.specs.Nodes.{sizes_of}
+use Rattle.laws_node.specs.Nodes.{NodeHolds, sizes_of}
 use Rattle.laws_node.specs.Sizes.{Fits, Sizes}
 use Rattle.laws_node.specs.Stores.{EntryHolds, IsPrio, PrioPeerHolds, StoreHolds}
 use Rattle.laws_node.specs.Updates.{IsUpdate, UpdateHolds, WeightsHold}
@@ -104,14 +105,14 @@ chosen_holds P R xs all = go (first_by R xs) refl
     go None is = tt
     go (Some x) is = All-contains P xs x all (first_is_there R xs x is)
 
-flying_holds : (k : Sizes) (ids : ℕ) (q : PrioPeer) → StoreHolds k ids q.store → IfSome (flying q) (EntryHolds k q.store.last)
+pub flying_holds : (k : Sizes) (ids : ℕ) (q : PrioPeer) → StoreHolds k ids q.store → IfSome (flying q) (EntryHolds k q.store.last)
 flying_holds k ids q h = go q.flight
   where
     go : (id : Option ℕ) → IfSome (option_and_then (entry_in q.store) id) (EntryHolds k q.store.last)
     go None = tt
     go (Some id) = found_holds (EntryHolds k q.store.last) (has_id id) q.store.entries h.entries
 
-next_holds : (k : Sizes) (ids : ℕ) (s : Store) (last : Option ℕ) → StoreHolds k ids s → IfSome (next_entry s last) (EntryHolds k s.last)
+pub next_holds : (k : Sizes) (ids : ℕ) (s : Store) (last : Option ℕ) → StoreHolds k ids s → IfSome (next_entry s last) (EntryHolds k s.last)
 next_holds k ids s last h = go (next_source s.entries last)
   where
     go : (source : Option ℕ) → IfSome (option_and_then (highest s.entries) source) (EntryHolds k s.last)
@@ -143,7 +144,7 @@ messages_are flow after [] are = All-nil (λ m. is_of kinds.Rel m.body ≡ true)
 messages_are flow after (m ∷ ms) are =
     All-cons (λ (x : Kept). is_of kinds.Rel x.body ≡ true) m ms (is_rel flow (after + 1) m.body are.0) (messages_are flow (after + 1) ms are.1)
 
-get_holds : {X : Type 0} (P : X → Type 0) (xs : List X) (i : ℕ) → All P xs → IfSome (slice_get xs i) P
+pub get_holds : {X : Type 0} (P : X → Type 0) (xs : List X) (i : ℕ) → All P xs → IfSome (slice_get xs i) P
 get_holds P xs i all = go (slice_get xs i) refl
   where
     go : (o : Option _) → slice_get xs i ≡ o → IfSome o P
@@ -153,7 +154,7 @@ get_holds P xs i all = go (slice_get xs i) refl
 both_hold : {X : Type 0} (P Q : X → Type 0) (xs : List X) → All P xs → All Q xs → All (λ x. P x × Q x) xs
 both_hold P Q xs p q = λ i d within. (p i d within, q i d within)
 
-weaker : {X : Type 0} (P Q : X → Type 0) (o : Option X) → ((x : X) → P x → Q x) → IfSome o P → IfSome o Q
+pub weaker : {X : Type 0} (P Q : X → Type 0) (o : Option X) → ((x : X) → P x → Q x) → IfSome o P → IfSome o Q
 weaker P Q None step p = tt
 weaker P Q (Some x) step p = step x p
 
@@ -202,20 +203,23 @@ slot_fits k index len r v same short h = go (next_place r v)
 
 -- ---- the frame
 
-pub frames_fit : FramesFit
-frames_fit arts n v h =
-    let k = sizes_of (λ o. IsTrue (is_signed arts n.fixed o)) n in
+pub contents_fit : (k : Sizes) (n : NodeState) (v : NodeId) → NodeHolds k n → IsContents n.fixed.signature_len (contents_to n.fixed n.parts v)
+contents_fit k n v h =
     let len = n.fixed.signature_len in
+    let same : k.signature_len ≡ len = sym h.fixed.signature_len in
     let q = peer_in n.parts.prio v.0 in
     let row = all_first (PrioPeerHolds k n.calls _) (is_peer v.0) no_peer n.parts.prio.peers h.parts.prio.peers (no_peer_holds k n.calls _) in
     let weights = list_of (IsObject kinds.Weight len) (next n.parts.weights (place_of n.fixed v))
-    (weight_fits k n.signer.index len n.parts.weights (place_of n.fixed v) refl h.fixed.short h.parts.weights) in
-    let prios = list_of (IsNumbered len) (option_map as_message (rows.next_prio q)) (message_holds k n.calls _ len q refl h.fixed.short (omega (arith, h.calls)) row) in
+    (weight_fits k n.signer.index len n.parts.weights (place_of n.fixed v) same h.fixed.short h.parts.weights) in
+    let prios = list_of (IsNumbered len) (option_map as_message (rows.next_prio q)) (message_holds k n.calls _ len q same h.fixed.short (omega (arith, h.calls)) row) in
     record {
       few_weights = weights.few;
       weights = weights.all;
       prio_ack = row.heard;
       few_prios = prios.few;
       prios = prios.all;
-      slot = slot_fits k n.signer.index len n.parts.rel v refl h.fixed.short h.parts.rel;
+      slot = slot_fits k n.signer.index len n.parts.rel v same h.fixed.short h.parts.rel;
     }
+
+pub frames_fit : FramesFit
+frames_fit arts n v h = contents_fit (sizes_of (λ o. IsTrue (is_signed arts n.fixed o)) n) n v h

@@ -25,10 +25,10 @@ lower_boot boot peer_boot p known = elim (cases_Bool (nat_lt peer_boot boot)) [
 ]
 
 -- what an answer leaves
-record Goes (l : Link) (h : Head) (answer : LinkAnswer) : Type 0 where
-  known : (after_answer l h answer).seen.0 ≡ (after_answer l h answer).peer_boot
-  rise : (qs : List (ℕ × ℕ)) → Rise (after_answer l h answer).seen qs → Rise l.seen (fresh_pair h answer ++ qs)
-  most : (qs : List (ℕ × ℕ)) → greatest l.seen ((fresh_pair h answer ++ learned_pair answer) ++ qs) ≡ greatest (after_answer l h answer).seen qs
+pub record Goes (l : Link) (h : Head) (answer : LinkAnswer) : Type 0 where
+  pub known : (after_answer l h answer).seen.0 ≡ (after_answer l h answer).peer_boot
+  pub rise : (qs : List (ℕ × ℕ)) → Rise (after_answer l h answer).seen qs → Rise l.seen (fresh_pair h answer ++ qs)
+  pub most : (qs : List (ℕ × ℕ)) → greatest l.seen ((fresh_pair h answer ++ learned_pair answer) ++ qs) ≡ greatest (after_answer l h answer).seen qs
 
 learned : (l : Link) (h : Head) (boot : ℕ) → l.seen.0 ≡ l.peer_boot → l.peer_boot ≤ boot → Goes l h (answers.Learned boot)
 learned l h boot known most = elim (cases_Bool (nat_lt l.peer_boot boot)) [
@@ -40,7 +40,7 @@ learned l h boot known most = elim (cases_Bool (nat_lt l.peer_boot boot)) [
       record { known = rw t (grind (arith, nat_tests)); rise = rw t (λ qs r. r); most = rw t (λ qs. rw above refl) }
 ]
 
-one : (l : Link) (h : Head) (right : Bool) → l.seen.0 ≡ l.peer_boot → Goes l h (link_answer l h right)
+pub one : (l : Link) (h : Head) (right : Bool) → l.seen.0 ≡ l.peer_boot → Goes l h (link_answer l h right)
 one l h right known = elim (cases_Bool ((h.from.0 == l.peer.0) && (h.to.0 == l.me.0))) [
   | inr t ↦ rw t (record { known = known; rise = λ qs r. r; most = λ qs. refl })
   | inl t ↦ rw t (elim (cases_Bool right) [

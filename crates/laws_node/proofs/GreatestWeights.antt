@@ -14,10 +14,10 @@ use Rattle.laws_node.specs.WeightLaws.{EffectiveIsGreatest}
 use Rattle.laws_node.proofs.UpdateRows.{ends_differ, nothing_held}
 use Rattle.laws_node.proofs.LastWeights.{At, edges_after, many_said, said}
 
-low_row : (edge : ℕ) (e : Edge) → row_of edge e e.low.0 ≡ Some (2 * edge)
+pub low_row : (edge : ℕ) (e : Edge) → row_of edge e e.low.0 ≡ Some (2 * edge)
 low_row edge e = let is : (e.low.0 == e.low.0) ≡ true = grind (arith, nat_tests) in rw is refl
 
-high_row : (edge : ℕ) (e : Edge) → e.low.0 < e.high.0 → row_of edge e e.high.0 ≡ Some (2 * edge + 1)
+pub high_row : (edge : ℕ) (e : Edge) → e.low.0 < e.high.0 → row_of edge e e.high.0 ≡ Some (2 * edge + 1)
 high_row edge e below =
     let not : (e.low.0 == e.high.0) ≡ false = grind (arith, nat_tests) in
     let is : (e.high.0 == e.high.0) ≡ true = grind (arith, nat_tests) in

@@ -29,6 +29,8 @@ use Rattle.sp_rules.specs.declared.weights.Offer.TheVariants as offers
 use Rattle.laws_node.specs.Nodes.{PartsHold}
 use Rattle.laws_node.specs.Sizes.{Fits, Sizes}
 use Rattle.laws_node.specs.Stores.{IsPrio, PrioHolds}
+use Rattle.laws_node.specs.Asked.{NewKeep}
+use Rattle.laws_node.proofs.AskedLemmas.{new_both, new_left, new_right}
 use Rattle.laws_node.proofs.Priority.{acked_holds, admit_holds, heard_holds, prio_more}
 use Rattle.laws_node.proofs.Reliable.{admit_ack_holds, admit_rel_holds, reported_holds}
 use Rattle.laws_node.proofs.Tables.{cond_where}
@@ -61,38 +63,33 @@ abbrev pub messages : List Piece → ℕ
 messages [] = 0
 messages (piece ∷ pieces) = messages_in piece + messages pieces
 
--- where pieces arrive: at this node, and what is signed is what is asked of a message
-pub record Trusts (k : Sizes) (arts : Arts) (at : Arrival) : Type 0 where
-  pub me : at.fixed.me ≡ k.me
-  pub signed : (o : Kept) → IsTrue (is_signed arts at.fixed o) → k.keeps o
-
-fits_where : (k : Sizes) (arts : Arts) (at : Arrival) (o : Kept) → Trusts k arts at → InRange k o → is_signed arts at.fixed o ≡ true → Fits k o
-fits_where k arts at o trusts range right = record { fields = range.fields; long = range.long; holds = trusts.signed o right }
+fits_where : (k : Sizes) (o : Kept) → k.keeps o → InRange k o → Fits k o
+fits_where k o keeps range = record { fields = range.fields; long = range.long; holds = keeps }
 
 -- ---- a new object was judged new, and is signed
 
-new_weight : (right : Bool) (o : Offer) → is_new (items.Weight (weight_answer right o)) ≡ true → (right ≡ true) × (o ≡ offers.New)
+pub new_weight : (right : Bool) (o : Offer) → is_new (items.Weight (weight_answer right o)) ≡ true → (right ≡ true) × (o ≡ offers.New)
 new_weight true offers.New e = (refl, refl)
 new_weight false offers.New e = absurd (cc)
 new_weight right offers.Foreign e = absurd (cc)
 new_weight right (offers.Low least) e = absurd (cc)
 new_weight right (offers.Old seq) e = absurd (cc)
 
-new_prio : (right : Bool) (j : PrioJudged) → is_new (items.Prio (prio_answer right j)) ≡ true → (right ≡ true) × (j ≡ judged.New)
+pub new_prio : (right : Bool) (j : PrioJudged) → is_new (items.Prio (prio_answer right j)) ≡ true → (right ≡ true) × (j ≡ judged.New)
 new_prio true judged.New e = (refl, refl)
 new_prio false judged.New e = absurd (cc)
 new_prio right judged.BadEnd e = absurd (cc)
 new_prio right judged.Expired e = absurd (cc)
 new_prio right judged.Seen e = absurd (cc)
 
-new_ack : (right : Bool) (j : AckJudged) → is_new (items.Ack (ack_answer right j)) ≡ true → (right ≡ true) × (j ≡ acks.New)
+pub new_ack : (right : Bool) (j : AckJudged) → is_new (items.Ack (ack_answer right j)) ≡ true → (right ≡ true) × (j ≡ acks.New)
 new_ack true acks.New e = (refl, refl)
 new_ack false acks.New e = absurd (cc)
 new_ack right acks.BadEnd e = absurd (cc)
 new_ack right acks.Old e = absurd (cc)
 new_ack right acks.Ahead e = absurd (cc)
 
-new_rel : (right : Bool) (j : RelJudged) → is_new (items.Rel (rel_answer right j)) ≡ true → (right ≡ true) × (j ≡ rels.New)
+pub new_rel : (right : Bool) (j : RelJudged) → is_new (items.Rel (rel_answer right j)) ≡ true → (right ≡ true) × (j ≡ rels.New)
 new_rel true rels.New e = (refl, refl)
 new_rel false rels.New e = absurd (cc)
 new_rel right rels.BadEnd e = absurd (cc)
@@ -102,7 +99,7 @@ new_rel right rels.Gap e = absurd (cc)
 new_rel right rels.Full e = absurd (cc)
 new_rel right rels.InboxFull e = absurd (cc)
 
-is_prio : (p : PrioState) (body : Body) (now : ℕ) → judge_prio p body now ≡ judged.New → IsPrio body
+pub is_prio : (p : PrioState) (body : Body) (now : ℕ) → judge_prio p body now ≡ judged.New → IsPrio body
 is_prio p (bodies.Prio b) now e = tt
 is_prio p (bodies.Rel b) now e = absurd (cc)
 is_prio p (bodies.Ack b) now e = absurd (cc)
@@ -110,7 +107,7 @@ is_prio p (bodies.Weight b) now e = absurd (cc)
 
 -- ---- each piece
 
-module _ (k : Sizes) (arts : Arts) (at : Arrival) (trusts : Trusts k arts at) (numbers : ℕ) where
+module _ (k : Sizes) (arts : Arts) (at : Arrival) (me : at.fixed.me ≡ k.me) (numbers : ℕ) where
   parts_more : (ids more index : ℕ) (p : Parts) → ids ≤ more → PartsHold k numbers ids index p → PartsHold k numbers more index p
   parts_more ids more index p up h = record {
     weights = h.weights;
@@ -118,36 +115,36 @@ module _ (k : Sizes) (arts : Arts) (at : Arrival) (trusts : Trusts k arts at) (n
     rel = h.rel;
   }
 
-  weight_holds : (ids index : ℕ) (p : Parts) (o : Kept) → InRange k o → PartsHold k numbers ids index p
+  weight_holds : (ids index : ℕ) (p : Parts) (o : Kept) → (is_new (items.Weight (weight_answer (is_signed arts at.fixed o) (offer_to at.fixed.me p.weights o.body))) ≡ true → k.keeps o) → InRange k o → PartsHold k numbers ids index p
       → PartsHold k numbers ids index (handle arts at p (WeightPiece o)).parts
-  weight_holds ids index p o range h =
+  weight_holds ids index p o keeps range h =
       cond_where (PartsHold k numbers ids index) (is_new (items.Weight (weight_answer (is_signed arts at.fixed o) (offer_to at.fixed.me p.weights o.body))))
       (record p { weights = held p.weights o }) p
       (λ new.
       let both = new_weight (is_signed arts at.fixed o) (offer_to at.fixed.me p.weights o.body) new in
-      let offered : offer_to k.me p.weights o.body ≡ offers.New = ap (λ (u : NodeId). offer_to u p.weights o.body) (sym trusts.me) ∙ both.1 in
-      let update = new_update k index p.weights o offered (fits_where k arts at o trusts range both.0) h.weights in
+      let offered : offer_to k.me p.weights o.body ≡ offers.New = ap (λ (u : NodeId). offer_to u p.weights o.body) (sym me) ∙ both.1 in
+      let update = new_update k index p.weights o offered (fits_where k o (keeps new) range) h.weights in
       record { weights = held_holds k index index update.row p.weights o (omega arith) update.holds h.weights; prio = h.prio; rel = h.rel })
       (λ old. h)
 
-  ack_holds : (ids index : ℕ) (p : Parts) (flow : Flow) (o : Kept) → InRange k o → PartsHold k numbers ids index p
+  ack_holds : (ids index : ℕ) (p : Parts) (flow : Flow) (o : Kept) → (is_new (items.Ack (ack_answer (is_signed arts at.fixed o) (judge_ack_of p.rel flow o.body))) ≡ true → k.keeps o) → InRange k o → PartsHold k numbers ids index p
       → PartsHold k numbers ids index (handle arts at p (AckPiece flow o)).parts
-  ack_holds ids index p flow o range h =
+  ack_holds ids index p flow o keeps range h =
       cond_where (PartsHold k numbers ids index) (is_new (items.Ack (ack_answer (is_signed arts at.fixed o) (judge_ack_of p.rel flow o.body))))
       (record p { rel = admit_ack p.rel o }) p
       (λ new.
       let both = new_ack (is_signed arts at.fixed o) (judge_ack_of p.rel flow o.body) new in
-      record { weights = h.weights; prio = h.prio; rel = admit_ack_holds k index p.rel flow o both.1 (fits_where k arts at o trusts range both.0) h.rel })
+      record { weights = h.weights; prio = h.prio; rel = admit_ack_holds k index p.rel flow o both.1 (fits_where k o (keeps new) range) h.rel })
       (λ old. h)
 
-  rel_holds : (ids index : ℕ) (p : Parts) (flow : Flow) (o : Kept) → InRange k o → PartsHold k numbers ids index p
+  rel_holds : (ids index : ℕ) (p : Parts) (flow : Flow) (o : Kept) → (is_new (items.Rel (rel_answer (is_signed arts at.fixed o) (judge_rel_of p.rel flow o.body))) ≡ true → k.keeps o) → InRange k o → PartsHold k numbers ids index p
       → PartsHold k numbers ids index (handle arts at p (RelPiece flow o)).parts
-  rel_holds ids index p flow o range h =
+  rel_holds ids index p flow o keeps range h =
       cond_where (PartsHold k numbers ids index) (is_new (items.Rel (rel_answer (is_signed arts at.fixed o) (judge_rel_of p.rel flow o.body))))
       (record p { rel = admit_rel p.rel o }) p
       (λ new.
       let both = new_rel (is_signed arts at.fixed o) (judge_rel_of p.rel flow o.body) new in
-      record { weights = h.weights; prio = h.prio; rel = admit_rel_holds k index p.rel flow o both.1 (fits_where k arts at o trusts range both.0) h.rel })
+      record { weights = h.weights; prio = h.prio; rel = admit_rel_holds k index p.rel flow o both.1 (fits_where k o (keeps new) range) h.rel })
       (λ old. h)
 
   with_prio : (ids index : ℕ) (p : Parts) (q : PrioState) → PrioHolds k numbers ids index q → PartsHold k numbers ids index p
@@ -164,9 +161,9 @@ module _ (k : Sizes) (arts : Arts) (at : Arrival) (trusts : Trusts k arts at) (n
   heard_where_holds ids index prios.Expired number p small h = h
   heard_where_holds ids index prios.BadSig number p small h = h
 
-  prio_holds : (ids index : ℕ) (p : Parts) (number : ℕ) (o : Kept) → number < 2 ^ 64 → InRange k o → PartsHold k numbers ids index p
+  prio_holds : (ids index : ℕ) (p : Parts) (number : ℕ) (o : Kept) → number < 2 ^ 64 → (is_new (items.Prio (prio_answer (is_signed arts at.fixed o) (judge_prio p.prio o.body at.now))) ≡ true → k.keeps o) → InRange k o → PartsHold k numbers ids index p
       → PartsHold k numbers (ids + 1) index (handle arts at p (PrioPiece number o)).parts
-  prio_holds ids index p number o small range h =
+  prio_holds ids index p number o small keeps range h =
       let right = is_signed arts at.fixed o in
       let answer = prio_answer right (judge_prio p.prio o.body at.now) in
       let admitted = record p { prio = admit_prio p.prio o (Some at.from) } in
@@ -176,35 +173,56 @@ module _ (k : Sizes) (arts : Arts) (at : Arrival) (trusts : Trusts k arts at) (n
       let both = new_prio right (judge_prio p.prio o.body at.now) new in
       record {
         weights = h.weights;
-        prio = admit_holds k numbers ids index p.prio o at.from (is_prio p.prio o.body at.now both.1) (fits_where k arts at o trusts range both.0) h.prio;
+        prio = admit_holds k numbers ids index p.prio o at.from (is_prio p.prio o.body at.now both.1) (fits_where k o (keeps new) range) h.prio;
         rel = h.rel;
       })
       (λ old. parts_more ids (ids + 1) index p (omega arith) h))
 
-  pub handle_holds : (ids index : ℕ) (p : Parts) (piece : Piece) → PieceFits k piece → PartsHold k numbers ids index p
+  pub handle_holds : (ids index : ℕ) (p : Parts) (piece : Piece) → NewKeep k.keeps (handle arts at p piece).answered → PieceFits k piece → PartsHold k numbers ids index p
       → PartsHold k numbers (ids + messages_in piece) index (handle arts at p piece).parts
-  handle_holds ids index p (WeightPiece o) fits h =
-      parts_more ids (ids + 0) index (handle arts at p (WeightPiece o)).parts (omega arith) (weight_holds ids index p o fits h)
-  handle_holds ids index p (PrioAckPiece number) fits h = record {
+  handle_holds ids index p (WeightPiece o) new fits h =
+      parts_more ids (ids + 0) index (handle arts at p (WeightPiece o)).parts (omega arith) (weight_holds ids index p o new.0 fits h)
+  handle_holds ids index p (PrioAckPiece number) new fits h = record {
     weights = h.weights;
     prio = prio_more k numbers numbers ids (ids + 0) index index _ (omega arith) (omega arith) (omega arith) (acked_holds k numbers ids index p.prio at.from.0 number h.prio);
     rel = h.rel;
   }
-  handle_holds ids index p (PrioPiece number o) fits h = prio_holds ids index p number o fits.0 fits.1 h
-  handle_holds ids index p (ReportPiece flow base have) fits h = record {
+  handle_holds ids index p (PrioPiece number o) new fits h = prio_holds ids index p number o fits.0 new.0 fits.1 h
+  handle_holds ids index p (ReportPiece flow base have) new fits h = record {
     weights = h.weights;
     prio = prio_more k numbers numbers ids (ids + 0) index index p.prio (omega arith) (omega arith) (omega arith) h.prio;
     rel = reported_holds k index p.rel at.from flow base have h.rel;
   }
-  handle_holds ids index p (AckPiece flow o) fits h =
-      parts_more ids (ids + 0) index (handle arts at p (AckPiece flow o)).parts (omega arith) (ack_holds ids index p flow o fits h)
-  handle_holds ids index p (RelPiece flow o) fits h =
-      parts_more ids (ids + 0) index (handle arts at p (RelPiece flow o)).parts (omega arith) (rel_holds ids index p flow o fits h)
+  handle_holds ids index p (AckPiece flow o) new fits h =
+      parts_more ids (ids + 0) index (handle arts at p (AckPiece flow o)).parts (omega arith) (ack_holds ids index p flow o new.0 fits h)
+  handle_holds ids index p (RelPiece flow o) new fits h =
+      parts_more ids (ids + 0) index (handle arts at p (RelPiece flow o)).parts (omega arith) (rel_holds ids index p flow o new.0 fits h)
 
-  pub all_hold : (ids index : ℕ) (p : Parts) (pieces : List Piece) → AllFit k pieces → PartsHold k numbers ids index p
+  pub all_hold : (ids index : ℕ) (p : Parts) (pieces : List Piece) → NewKeep k.keeps (handle_all arts at p pieces).answered → AllFit k pieces → PartsHold k numbers ids index p
       → PartsHold k numbers (ids + messages pieces) index (handle_all arts at p pieces).parts
-  all_hold ids index p [] fits h = parts_more ids (ids + 0) index p (omega arith) h
-  all_hold ids index p (piece ∷ pieces) fits h =
-      let first = handle_holds ids index p piece fits.0 h in
-      let rest = all_hold (ids + messages_in piece) index (handle arts at p piece).parts pieces fits.1 first in
+  all_hold ids index p [] new fits h = parts_more ids (ids + 0) index p (omega arith) h
+  all_hold ids index p (piece ∷ pieces) new fits h =
+      let done = handle arts at p piece in
+      let others = handle_all arts at done.parts pieces in
+      let first = handle_holds ids index p piece (new_left k.keeps done.answered others.answered new) fits.0 h in
+      let rest = all_hold (ids + messages_in piece) index done.parts pieces (new_right k.keeps done.answered others.answered new) fits.1 first in
       parts_more (ids + messages_in piece + messages pieces) (ids + (messages_in piece + messages pieces)) index _ (omega arith) rest
+
+-- ---- what is new is signed
+
+abbrev IsRight : Arts → Arrival → Kept → Type 0
+IsRight arts at o = IsTrue (is_signed arts at.fixed o)
+
+piece_is_signed : (arts : Arts) (at : Arrival) (p : Parts) (piece : Piece) → NewKeep (IsRight arts at) (handle arts at p piece).answered
+piece_is_signed arts at p (WeightPiece o) = (λ new. (new_weight (is_signed arts at.fixed o) (offer_to at.fixed.me p.weights o.body) new).0, tt)
+piece_is_signed arts at p (PrioAckPiece number) = tt
+piece_is_signed arts at p (PrioPiece number o) = (λ new. (new_prio (is_signed arts at.fixed o) (judge_prio p.prio o.body at.now) new).0, tt)
+piece_is_signed arts at p (ReportPiece flow base have) = tt
+piece_is_signed arts at p (AckPiece flow o) = (λ new. (new_ack (is_signed arts at.fixed o) (judge_ack_of p.rel flow o.body) new).0, tt)
+piece_is_signed arts at p (RelPiece flow o) = (λ new. (new_rel (is_signed arts at.fixed o) (judge_rel_of p.rel flow o.body) new).0, tt)
+
+pub new_is_signed : (arts : Arts) (at : Arrival) (p : Parts) (pieces : List Piece) → NewKeep (λ o. IsTrue (is_signed arts at.fixed o)) (handle_all arts at p pieces).answered
+new_is_signed arts at p [] = tt
+new_is_signed arts at p (piece ∷ pieces) =
+    let done = handle arts at p piece in
+    new_both (IsRight arts at) done.answered (handle_all arts at done.parts pieces).answered (piece_is_signed arts at p piece) (new_is_signed arts at done.parts pieces)

@@ -21,15 +21,15 @@ abbrev pub said : WeightState → ℕ → ℕ
 said s row = weight_of (held_in s.rows row)
 
 -- a new message is an update of an end of an edge, and has its row
-record IsUpdateAt (s : WeightState) (b : Body) : Type 0 where
-  update : WeightBody
-  is : b ≡ bodies.Weight update
-  edge : Edge
-  there : slice_get s.edges update.edge.0 ≡ Some edge
-  row : ℕ
-  placed : row_of update.edge.0 edge update.origin.0 ≡ Some row
+pub record IsUpdateAt (s : WeightState) (b : Body) : Type 0 where
+  pub update : WeightBody
+  pub is : b ≡ bodies.Weight update
+  pub edge : Edge
+  pub there : slice_get s.edges update.edge.0 ≡ Some edge
+  pub row : ℕ
+  pub placed : row_of update.edge.0 edge update.origin.0 ≡ Some row
 
-new_at : (s : WeightState) (b : Body) → offer_of s b ≡ offers.New → IsUpdateAt s b
+pub new_at : (s : WeightState) (b : Body) → offer_of s b ≡ offers.New → IsUpdateAt s b
 new_at s (bodies.Prio p) new = absurd cc
 new_at s (bodies.Rel r) new = absurd cc
 new_at s (bodies.Ack a) new = absurd cc
@@ -59,14 +59,11 @@ pub record At (s : WeightState) (edge end row : ℕ) : Type 0 where
   pub there : slice_get s.edges edge ≡ Some joined
   pub placed : row_of edge joined end ≡ Some row
 
--- a row after a message that was new
-new_said : (s : WeightState) (kept : Kept) (edge end row : ℕ) → HasRows s → At s edge end row → offer_of s kept.body ≡ offers.New →
+-- a row after an update that is held
+pub held_said : (s : WeightState) (kept : Kept) (edge end row : ℕ) → HasRows s → At s edge end row → (at : IsUpdateAt s kept.body) →
     said (held s kept) row ≡ last_weight edge end (said s row) (kept ∷ [])
-new_said s kept edge end row whole here new = go (is_of edge end kept.body) refl
+held_said s kept edge end row whole here at = go (is_of edge end kept.body) refl
   where
-    at : IsUpdateAt s kept.body
-    at = new_at s kept.body new
-
     sees : is_of edge end kept.body ≡ ((at.update.edge.0 == edge) && (at.update.origin.0 == end))
     sees = ap (is_of edge end) at.is
 
@@ -114,7 +111,7 @@ one_said s kept edge end row whole here = go (offer_of s kept.body) refl
     go offers.Foreign is = refl
     go (offers.Low least) is = refl
     go (offers.Old number) is = refl
-    go offers.New is = new_said s kept edge end row whole here is
+    go offers.New is = held_said s kept edge end row whole here (new_at s kept.body is)
 
 edges_stay : (s : WeightState) (kept : Kept) (o : Offer) → (held_if o s kept).edges ≡ s.edges
 edges_stay s kept offers.Foreign = refl
@@ -122,7 +119,7 @@ edges_stay s kept (offers.Low least) = refl
 edges_stay s kept (offers.Old number) = refl
 edges_stay s kept offers.New = refl
 
-length_stays : (rows : List (Option Kept)) (kept : Kept) (row : Option ℕ) → length (rows_with row rows kept) ≡ length rows
+pub length_stays : (rows : List (Option Kept)) (kept : Kept) (row : Option ℕ) → length (rows_with row rows kept) ≡ length rows
 length_stays rows kept None = refl
 length_stays rows kept (Some row) = length-set rows row (Some kept)
 

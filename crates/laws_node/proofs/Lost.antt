@@ -1,5 +1,5 @@
--- Lists that lose elements, and that a full store loses exactly one.
-use Rattle.std.proofs.Common.{◌≡◌, ◌<◌, ◌≤◌, ℕ, suc, ◌+◌, Bool, true, false, List, [], ◌∷◌, ◌++◌, length, get_or, filter, Option, Some, None, refl, ap, ◌∙◌, arith, nat_lt}
+-- Lists that lose elements, and that a full store loses exactly one entry.
+use Rattle.std.proofs.Common.{◌≡◌, ◌<◌, ◌≤◌, ℕ, suc, ◌+◌, Bool, true, false, List, [], ◌∷◌, ◌++◌, length, get_or, filter, Option, Some, None, refl, sym, ap, ◌∙◌, arith, cond, length-append, nat_lt}
 use Rattle.std.specs.List.{All, list_any}
 use Rattle.std.proofs.lemmas.Bool.Decides.{nat_tests}
 use Rattle.std.proofs.lemmas.List.Elements.{All-cons, All-head, All-tail}
@@ -7,9 +7,10 @@ use Rattle.std.proofs.lemmas.List.FromFn.{get_or-range_with_len, length-range_wi
 use Rattle.std.proofs.lemmas.List.Sums.{length-filter}
 use Rattle.sp_rules.proofs.ChoiceLemmas.{more_first, none_before, some_first}
 use Rattle.sp_rules.specs.Choices.{first_by, less_first, sooner}
-use Rattle.sp_rules.specs.Store.{count_of, fullest, has_id, ids, is_of, priority, source, victim}
+use Rattle.sp_rules.specs.Store.{arriving, count_of, fullest, has_id, ids, is_of, priority, source, victim}
 use Rattle.sp_rules.specs.declared.store.Entry.{Entry}
 use Rattle.sp_rules.specs.declared.store.TheConstants.{IDS}
+use Rattle.laws_node.specs.PriorityLaws.{AFullStoreHasAVictim}
 use Rattle.laws_node.proofs.Tables.{cond_either, cond_where, or_right, or_where}
 
 -- ---- lists that lose elements
@@ -135,3 +136,25 @@ one_goes es new small =
       is = rw most.is some.1;
       there = in_filter (has_id some.0.id) (is_of most.best) all (chosen_is_there (λ a b. nat_lt (priority a) (priority b)) (has_id some.0.id) (filter (is_of most.best) all) some.0 some.1 passes);
     }
+
+-- ---- the law
+
+unless : (t : Bool) (o : Option Entry) (e : Entry) → o ≡ Some e → cond t o None ≡ None → t ≡ false
+unless true o e some none = absurd (let wrong = sym some ∙ none in cc)
+unless false o e some none = refl
+
+pub a_full_store_has_a_victim : AFullStoreHasAVictim
+a_full_store_has_a_victim s kept small = (
+  λ none.
+      let room : nat_lt s.capacity (length (arriving s kept)) ≡ false = unless (nat_lt s.capacity (length (arriving s kept))) (victim (arriving s kept)) goes.entry goes.is none in
+      grind (arith, nat_tests, one_more, room),
+  λ room.
+      let free : nat_lt s.capacity (length (arriving s kept)) ≡ false = grind (arith, nat_tests, one_more, room) in
+      rw free refl,
+)
+  where
+    goes : Goes (arriving s kept)
+    goes = one_goes s.entries (record { id = s.last + 1; kept = kept }) small
+
+    one_more : length (arriving s kept) ≡ length s.entries + 1
+    one_more = length-append s.entries _

@@ -10,7 +10,6 @@ use Rattle.sp_msg.specs.Bodies.{HasGoodFields, encoded}
 use Rattle.sp_msg.specs.Views.{signer_of}
 use Rattle.sp_msg.specs.declared.body.Body.{Body}
 use Rattle.sp_msg.specs.declared.body.Body.TheVariants as bodies
-use Rattle.sp_msg.specs.declared.kept.Kept.{Kept}
 use Rattle.sp_msg.specs.declared.refused.SendRefused.{SendRefused}
 use Rattle.sp_msg.specs.declared.refused.SendRefused.TheVariants as refusals
 use Rattle.sp_rules.proofs.FlowJudged.{both_nodes, found_ends, room_is}
@@ -55,15 +54,20 @@ free s h e =
 pub left : (s : Signer) → SignerHolds s → signer_refusal s ≡ None → s.index < s.total
 left s h e = omega (arith, free s h e, h.bound)
 
--- an own message is in its ranges and has its signature
-pub own_fits : (arts : Arts) (n : NodeState) (k : Sizes) (body : Body) → ArtsFit arts n.fixed n.signer → n.signer.index < n.signer.total → n.fixed.signature_len ≡ k.signature_len
-    → ((o : Kept) → IsTrue (is_signed arts n.fixed o) → k.keeps o) → signer_of body ≡ n.fixed.me → HasGoodFields body → Fits k (signed_now arts n body)
-own_fits arts n k body arts_fit left long trusts mine fields = record {
+-- an own message is in its ranges, and is asked what is asked of it
+pub own_fits : (arts : Arts) (n : NodeState) (k : Sizes) (body : Body) → ArtsFit arts n.fixed n.signer → n.fixed.signature_len ≡ k.signature_len
+    → k.keeps (signed_now arts n body) → HasGoodFields body → Fits k (signed_now arts n body)
+own_fits arts n k body arts_fit long keeps fields = record {
   fields = fields;
   long = arts_fit.long n.signer.index (encoded body) ∙ long;
-  holds = trusts (signed_now arts n body) (is_valid (key_of (signer_of body).0 n.fixed.topology.nodes)
-      (ap (λ (u : NodeId). key_of u.0 n.fixed.topology.nodes) mine ∙ arts_fit.is_mine));
+  holds = keeps;
 }
+
+-- it has its signature
+pub own_is_signed : (arts : Arts) (n : NodeState) (body : Body) → ArtsFit arts n.fixed n.signer → n.signer.index < n.signer.total → signer_of body ≡ n.fixed.me
+    → IsTrue (is_signed arts n.fixed (signed_now arts n body))
+own_is_signed arts n body arts_fit left mine =
+    is_valid (key_of (signer_of body).0 n.fixed.topology.nodes) (ap (λ (u : NodeId). key_of u.0 n.fixed.topology.nodes) mine ∙ arts_fit.is_mine)
   where
     is_valid : (key : Option (List ℕ)) → key ≡ Some arts_fit.key → IsTrue (is_signed_by arts key (encoded body) (signed_now arts n body).signature)
     is_valid key is = subst (λ (o : Option (List ℕ)). IsTrue (is_signed_by arts o (encoded body) (signed_now arts n body).signature)) (sym is)

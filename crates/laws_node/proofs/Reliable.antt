@@ -32,6 +32,7 @@ rel_more k index more r up h = record {
   bound = h.bound;
   nodes = h.nodes;
   flows = all_weaker (FlowHolds k index) (FlowHolds k more) r.flows (λ f. flow_more k index more f up) h.flows;
+  keys = h.keys;
   once = h.once;
 }
 
@@ -57,6 +58,7 @@ with_flow_holds k index more r flow g up same new h = record {
       let e = same_ends f flow is in
       new (read k index r.flows flow (subst (λ (fl : Flow). IsNode fl.src) e there.src) (subst (λ (fl : Flow). IsNode fl.dst) e there.dst) h.flows))
       h.flows;
+  keys = same_rows flow g same r.flows ∙ h.keys;
   once = subst (AllPairs Differ) (sym (same_rows flow g same r.flows)) h.once;
 }
 
@@ -185,7 +187,7 @@ pushed_in_holds k index r m next fits h =
 -- a change of what is kept of neighbours alone
 same_flows : (k : Sizes) (index : ℕ) (r : RelState) (peers : List RelPeer) → RelHolds k index r
     → RelHolds k index (record r { peers = peers })
-same_flows k index r peers h = record { me = h.me; bound = h.bound; nodes = h.nodes; flows = h.flows; once = h.once }
+same_flows k index r peers h = record { me = h.me; bound = h.bound; nodes = h.nodes; flows = h.flows; keys = h.keys; once = h.once }
 
 pub reported_holds : (k : Sizes) (index : ℕ) (r : RelState) (v : NodeId) (flow : Flow) (base have : ℕ) → RelHolds k index r
     → RelHolds k index (reported r v flow base have)
@@ -229,7 +231,7 @@ is_itself f =
     rw (src, dst) refl
 
 -- a row is what is read by its ends, where no other row has them
-found : (flows : List FlowState) (i : ℕ) (f : FlowState) → AllPairs Differ (map ends flows) → slice_get flows i ≡ Some f → flow_in flows (ends f) ≡ f
+pub found : (flows : List FlowState) (i : ℕ) (f : FlowState) → AllPairs Differ (map ends flows) → slice_get flows i ≡ Some f → flow_in flows (ends f) ≡ f
 found [] i f once at = absurd (cc)
 found (g ∷ flows) zero f once at =
     let same : g ≡ f = cc in
@@ -305,4 +307,4 @@ settled_holds k index r ack o e is fits h =
     go : (place : Option ℕ) → RelHolds k index (with_flow r (flow_said o.body) (concluded (flow_in r.flows (flow_said o.body)) o))
         → RelHolds k index (settled_at r o place)
     go None done = h
-    go (Some place) done = record { me = done.me; bound = done.bound; nodes = done.nodes; flows = done.flows; once = done.once }
+    go (Some place) done = record { me = done.me; bound = done.bound; nodes = done.nodes; flows = done.flows; keys = done.keys; once = done.once }

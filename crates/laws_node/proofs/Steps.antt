@@ -1,85 +1,74 @@
 -- What each step of a node keeps: one lemma for each case.
-use Rattle.std.proofs.Common.{◌≡◌, ◌<◌, ◌≤◌, ℕ, ◌+◌, ◌^◌, ◌==◌, not, Bool, true, false, List, [], ◌∷◌, ◌++◌, length, map, Option, Some, None, Result, Ok, Err, refl, sym, ◌∙◌, subst, arith, cond}
-use Rattle.std.specs.Prelude.{IfSome, IsTrue}
-use Rattle.std.specs.List.{All}
+use Rattle.std.proofs.Common.{◌≡◌, ◌<◌, ◌≤◌, ℕ, ◌+◌, ◌^◌, ◌==◌, not, Bool, true, false, List, [], ◌∷◌, ◌++◌, length, Option, Some, None, Result, refl, sym, ap, ◌∙◌, subst, arith, cond}
+use Rattle.std.specs.Prelude.{IsTrue}
 use Rattle.std.proofs.lemmas.Bool.Decides.{nat_tests}
-use Rattle.std.proofs.lemmas.List.Elements.{All-cons, All-head, All-tail}
 use Rattle.sp_base.specs.Spelling.{AreBytes}
 use Rattle.sp_base.specs.declared.id.NodeId.{NodeId}
-use Rattle.sp_frame.specs.Objects.{IsObject}
-use Rattle.sp_frame.specs.Ranges.{IsContents, IsNumbered, IsReport}
-use Rattle.sp_frame.specs.Reliable.{Report}
-use Rattle.sp_frame.specs.Sections.{Contents}
-use Rattle.sp_frame.specs.Views.{as_list}
-use Rattle.sp_frame.specs.declared.kind.Kind.{Kind}
-use Rattle.sp_frame.specs.declared.kind.Kind.TheVariants as kinds
-use Rattle.sp_frame.specs.declared.refused.SectionRefused.{SectionRefused}
 use Rattle.sp_msg.specs.declared.body.Ack.{Ack}
 use Rattle.sp_msg.specs.declared.body.Body.TheVariants as bodies
 use Rattle.sp_msg.specs.declared.kept.Kept.{Kept}
+use Rattle.sp_msg.specs.declared.effect.Effect.{Effect}
+use Rattle.sp_msg.specs.declared.effect.Effect.TheVariants.{Signed}
 use Rattle.sp_msg.specs.declared.refused.SendRefused.{SendRefused}
+use Rattle.sp_msg.specs.Bodies.{HasGoodFields, encoded, payload_of}
+use Rattle.sp_msg.specs.Views.{signer_of}
+use Rattle.sp_msg.specs.declared.body.Body.{Body}
 use Rattle.sp_rules.specs.Arrivals.{arrival_at, handled, link_after, pieces_in, pieces_where, reply_at, sections_in}
 use Rattle.sp_rules.specs.Arts.{Arts}
 use Rattle.sp_rules.specs.Link.{advanced}
 use Rattle.sp_rules.specs.Masks.{IsChoice, graph_of}
 use Rattle.sp_rules.specs.Node.{NodeState, Signer, call_refusal, called, is_neighbour, kept_or, link_in, signed_now, signed_once, with_link}
 use Rattle.sp_rules.specs.Parts.{Fixed, Parts, is_signed, nodes_of, place_of}
-use Rattle.sp_rules.specs.Pieces.{Piece, PrioAckPiece, WeightPiece, AckPiece, RelPiece, pieces_of, prio_piece, slot_pieces}
 use Rattle.sp_rules.specs.Polls.{polled}
-use Rattle.sp_rules.specs.Prio.{admit_prio}
+use Rattle.sp_rules.specs.Handle.{weight_effects}
+use Rattle.sp_rules.specs.Prio.{admit_prio, expired_effects, prio_effects}
 use Rattle.sp_rules.specs.Rel.{due, pushed_in, settled}
-use Rattle.sp_rules.specs.Sends.{PrioSend, after_take_prio, after_take_rel, mask_in, no_paths, own_prio, prio_body, prio_refusal, rel_body, rel_refusal, send_prio_refusal, signer_refusal, weight_body, weight_refusal}
-use Rattle.sp_rules.specs.Steps.{Input, NodeStep, Output, Poll, Datagram, Tick, SendRel, SendPrio, SetWeight, TakeRel, TakePrio}
-use Rattle.sp_rules.specs.Ticks.{after_tick, at_time, settled_by, time_after}
+use Rattle.sp_rules.specs.Sends.{PrioSend, mask_in, no_paths, own_prio, prio_body, prio_refusal, prio_sent, rel_body, rel_number, rel_refusal, rel_sent, send_prio_refusal, signer_refusal, weight_body, weight_number, weight_refusal, weight_sent}
+use Rattle.sp_rules.specs.Steps.{Input, NodeStep, Output, accepted, arrived, refused_call, refused_send, tick_output, Poll, Datagram, Tick, SendRel, SendPrio, SetWeight, TakeRel, TakePrio}
+use Rattle.sp_rules.specs.Ticks.{ack_effects, after_tick, at_time, settled_by, time_after}
 use Rattle.sp_rules.specs.Weights.{held}
-use Rattle.sp_rules.specs.declared.node.LinkReply.{LinkReply}
-use Rattle.sp_rules.specs.declared.node.LinkReply.TheVariants as replies
 use Rattle.sp_rules.specs.declared.node.NodeRefused.{NodeRefused}
 use Rattle.sp_rules.specs.declared.node.NodeRefused.TheVariants as refusals
 use Rattle.sp_rules.specs.declared.node.TheConstants.{MAX_CALLS}
 use Rattle.sp_base.specs.declared.limits.TheConstants.{MAX_PAYLOAD_BYTES, MAX_WEIGHT}
 use Rattle.laws_node.specs.Inputs.{ArtsFit, InputFits, PrioSendFits}
 use Rattle.laws_node.specs.Laws.{EachStepKeeps, ExtendKeeps}
-use Rattle.laws_node.specs.Nodes.{IsKept, NodeHolds, PartsHold, SignerHolds}
-use Rattle.laws_node.specs.Sizes.{Sizes, ids_after, most_messages}
-use Rattle.laws_node.proofs.Handles.{AllFit, InRange, PieceFits, all_hold, messages, messages_in}
+use Rattle.laws_node.specs.Nodes.{NodeHolds, PartsHold, SignerHolds, sizes_of}
+use Rattle.laws_node.specs.Shapes.{Shape}
+use Rattle.laws_node.specs.Sizes.{Sizes, ids_after}
+use Rattle.laws_node.specs.Asked.{NewKeep, OwnKeep, WhatIsNewIsKept, payload_in}
+use Rattle.laws_node.proofs.Arrived.{sections_fit, where_fits}
+use Rattle.laws_node.proofs.AskedLemmas.{none_new}
+use Rattle.laws_node.proofs.Handles.{all_hold, new_is_signed}
 use Rattle.laws_node.proofs.Links.{advanced_holds, link_after_holds, with_link_holds}
-use Rattle.laws_node.proofs.Own.{either, free, left, own_fits, prio_sent_fits, rel_sent_fits, weight_sent_fits}
+use Rattle.laws_node.proofs.Own.{either, free, left, own_fits, own_is_signed, prio_sent_fits, rel_sent_fits, weight_sent_fits}
 use Rattle.laws_node.proofs.Priority.{carried_holds, expired_holds, prio_more, sent_holds, taken_holds}
 use Rattle.laws_node.proofs.Reliable.{due_fits, pushed_in_holds, rel_more, served_holds, settled_holds, took_holds}
-use Rattle.laws_node.proofs.Tables.{all_weaker}
+use Rattle.laws_node.proofs.Shapes.{shapes_stay}
 use Rattle.laws_node.proofs.Updates.{held_holds, moved_holds, weights_more}
 
 -- ---- the sizes of a node are those of the one before
 
--- what is asked under arts
-abbrev sizes_with : Arts → Fixed → (buffer store : ℕ) → Sizes
-sizes_with arts f buffer store =
-    record {
-      me = f.me;
-      nodes = nodes_of f.topology;
-      edges = f.topology.edges;
-      signature_len = f.signature_len;
-      buffer = buffer;
-      store = store;
-      keeps = λ o. IsTrue (is_signed arts f o);
-    }
-
-abbrev sizes_in : Arts → NodeState → Sizes
-sizes_in arts n = sizes_with arts n.fixed n.parts.rel.bound n.parts.prio.inbox.capacity
+-- what is asked of a node with these bounds
+abbrev sizes_with : (Kept → Type 0) → Fixed → (buffer store : ℕ) → Sizes
+sizes_with P f buffer store = record {
+  me = f.me;
+  nodes = nodes_of f.topology;
+  edges = f.topology.edges;
+  signature_len = f.signature_len;
+  buffer = buffer;
+  store = store;
+  keeps = P;
+}
 
 -- the same sizes are read off what was kept
-renamed : (arts : Arts) (f : Fixed) (buffer store : ℕ) (n : NodeState) → n.fixed ≡ f → NodeHolds (sizes_with arts f buffer store) n → IsKept arts n
-renamed arts f buffer store n same h =
-    subst (λ (c : ℕ). NodeHolds (sizes_with arts n.fixed n.parts.rel.bound c) n) (sym h.parts.prio.capacity)
-    (subst (λ (b : ℕ). NodeHolds (sizes_with arts n.fixed b store) n) (sym h.parts.rel.bound)
-    (subst (λ (g : Fixed). NodeHolds (sizes_with arts g buffer store) n) (sym same) h))
+renamed : (P : Kept → Type 0) (f : Fixed) (buffer store : ℕ) (n : NodeState) → n.fixed ≡ f → NodeHolds (sizes_with P f buffer store) n → NodeHolds (sizes_of P n) n
+renamed P f buffer store n same h =
+    subst (λ (c : ℕ). NodeHolds (sizes_with P n.fixed n.parts.rel.bound c) n) (sym h.parts.prio.capacity)
+    (subst (λ (b : ℕ). NodeHolds (sizes_with P n.fixed b store) n) (sym h.parts.rel.bound)
+    (subst (λ (g : Fixed). NodeHolds (sizes_with P g buffer store) n) (sym same) h))
 
 -- ---- refusals
-
-or_kept : {R : Type 0} (arts : Arts) (old done : NodeState) (r : Option R) → IsKept arts old → (r ≡ None → IsKept arts done) → IsKept arts (kept_or r old done)
-or_kept arts old done (Some x) h new = h
-or_kept arts old done None h new = new refl
 
 if_none : (t : Bool) (x : NodeRefused) (o : Option NodeRefused) → cond t (Some x) o ≡ None → (t ≡ false) × (o ≡ None)
 if_none true x o e = absurd (cc)
@@ -123,104 +112,6 @@ poll_keeps k n v most h = record {
 
 -- ---- a datagram
 
-all_pieces : (k : Sizes) (one : Kept → Piece) → ((o : Kept) → InRange k o → PieceFits k (one o)) → (os : List Kept) → All (InRange k) os → AllFit k (map one os)
-all_pieces k one fits [] all = tt
-all_pieces k one fits (o ∷ os) all = (fits o (All-head (InRange k) o os all), all_pieces k one fits os (All-tail (InRange k) o os all))
-
-join_fits : (k : Sizes) (ps qs : List Piece) → AllFit k ps → AllFit k qs → AllFit k (ps ++ qs)
-join_fits k [] qs one two = two
-join_fits k (p ∷ ps) qs one two = (one.0, join_fits k ps qs one.1 two)
-
-list_of : (k : Sizes) (o : Option Kept) → IfSome o (InRange k) → All (InRange k) (as_list o)
-list_of k None fits = λ i d within. absurd (omega (arith, within))
-list_of k (Some o) fits = All-cons (InRange k) o [] fits (λ i d within. absurd (omega (arith, within)))
-
-in_range : (k : Sizes) (kind : Kind) (len : ℕ) → len ≡ k.signature_len → (o : Kept) → IsObject kind len o → InRange k o
-in_range k kind len same o is = record { fields = is.fields; long = is.long ∙ same }
-
-prio_pieces : (k : Sizes) (len : ℕ) → len ≡ k.signature_len → (ms : List (ℕ × Kept)) → All (IsNumbered len) ms → AllFit k (map prio_piece ms)
-prio_pieces k len same [] all = tt
-prio_pieces k len same (m ∷ ms) all =
-    let first = All-head (IsNumbered len) m ms all in
-    ((first.number, in_range k kinds.Prio len same m.1 first.object), prio_pieces k len same ms (All-tail (IsNumbered len) m ms all))
-
-report_pieces : (k : Sizes) (len : ℕ) → len ≡ k.signature_len → (slot : Option Report) → IfSome slot (IsReport len) → AllFit k (slot_pieces slot)
-report_pieces k len same None is = tt
-report_pieces k len same (Some r) is = (
-  tt,
-  join_fits k (map (AckPiece r.flow) (as_list r.ack)) (map (RelPiece r.flow) r.rels)
-      (all_pieces k (AckPiece r.flow) (λ o fits. fits) (as_list r.ack) (list_of k r.ack (in_some r.ack is.ack)))
-      (all_pieces k (RelPiece r.flow) (λ o fits. fits) r.rels
-      (all_weaker (IsObject kinds.Rel len) (InRange k) r.rels (in_range k kinds.Rel len same) is.rels)),
-)
-  where
-    in_some : (o : Option Kept) → IfSome o (IsObject kinds.Ack len) → IfSome o (InRange k)
-    in_some None is = tt
-    in_some (Some o) is = in_range k kinds.Ack len same o is
-
-contents_fit : (k : Sizes) (len : ℕ) → len ≡ k.signature_len → (s : Contents) → IsContents len s → AllFit k (pieces_of s)
-contents_fit k len same s is =
-    join_fits k (map WeightPiece s.weights) _
-    (all_pieces k WeightPiece (λ o fits. fits) s.weights (all_weaker (IsObject kinds.Weight len) (InRange k) s.weights (in_range k kinds.Weight len same) is.weights))
-    (tt, join_fits k (map prio_piece s.prios) (slot_pieces s.slot) (prio_pieces k len same s.prios is.prios) (report_pieces k len same s.slot is.slot))
-
--- how many priority messages are among them
-messages_both : (ps qs : List Piece) → messages (ps ++ qs) ≡ messages ps + messages qs
-messages_both [] qs = omega arith
-messages_both (p ∷ ps) qs = let rest = messages_both ps qs in omega (arith, rest)
-
-no_messages : (one : Kept → Piece) → ((o : Kept) → messages_in (one o) ≡ 0) → (os : List Kept) → messages (map one os) ≡ 0
-no_messages one none [] = refl
-no_messages one none (o ∷ os) = let rest = no_messages one none os in omega (arith, rest, none o)
-
-prio_messages : (ms : List (ℕ × Kept)) → messages (map prio_piece ms) ≡ length ms
-prio_messages [] = refl
-prio_messages (m ∷ ms) = let rest = prio_messages ms in omega (arith, rest)
-
-slot_messages : (slot : Option Report) → messages (slot_pieces slot) ≡ 0
-slot_messages None = refl
-slot_messages (Some r) =
-    let acks = no_messages (AckPiece r.flow) (λ o. refl) (as_list r.ack) in
-    let rels = no_messages (RelPiece r.flow) (λ o. refl) r.rels in
-    omega (arith, acks, rels, messages_both (map (AckPiece r.flow) (as_list r.ack)) (map (RelPiece r.flow) r.rels))
-
-few_messages : (len : ℕ) (s : Contents) → IsContents len s → messages (pieces_of s) ≤ most_messages
-few_messages len s is =
-    let weights = no_messages WeightPiece (λ o. refl) s.weights in
-    let prios = prio_messages s.prios in
-    let slot = slot_messages s.slot in
-    let inner = messages_both (map prio_piece s.prios) (slot_pieces s.slot) in
-    let outer = messages_both (map WeightPiece s.weights) (PrioAckPiece s.prio_ack ∷ (map prio_piece s.prios ++ slot_pieces s.slot)) in
-    omega (arith, weights, prios, slot, inner, outer, is.few_prios)
-
--- pieces that fit, and few of them messages
-record FewFit (k : Sizes) (pieces : List Piece) : Type 0 where
-  fit : AllFit k pieces
-  few : messages pieces ≤ most_messages
-
-none_fit : (k : Sizes) → FewFit k []
-none_fit k = record { fit = tt; few = omega arith }
-
-sections_fit : (k : Sizes) (arts : Arts) (f : Fixed) (signer : Signer) (bytes : List ℕ) → ArtsFit arts f signer → AreBytes bytes → f.signature_len ≡ k.signature_len
-    → (s : Result Contents SectionRefused) → sections_in arts f bytes ≡ s → FewFit k (pieces_in s)
-sections_fit k arts f signer bytes fits are same (Ok s) is =
-    let contents = fits.sections bytes s are is in
-    record { fit = contents_fit k f.signature_len same s contents; few = few_messages f.signature_len s contents }
-sections_fit k arts f signer bytes fits are same (Err e) is = none_fit k
-
-where_fits : (k : Sizes) (pieces : List Piece) (reply : LinkReply) → FewFit k pieces → FewFit k (pieces_where reply pieces)
-where_fits k pieces replies.Fresh h = h
-where_fits k pieces replies.TooLong h = none_fit k
-where_fits k pieces (replies.Short short) h = none_fit k
-where_fits k pieces replies.Magic h = none_fit k
-where_fits k pieces replies.Version h = none_fit k
-where_fits k pieces replies.NotForMe h = none_fit k
-where_fits k pieces replies.BadTag h = none_fit k
-where_fits k pieces (replies.Learned boot) h = none_fit k
-where_fits k pieces (replies.Stale boot counter) h = none_fit k
-where_fits k pieces (replies.OtherTopology theirs) h = none_fit k
-where_fits k pieces (replies.Section refused) h = none_fit k
-
 parts_more : (k : Sizes) (numbers more ids further index : ℕ) (p : Parts) → numbers ≤ more → ids ≤ further → PartsHold k numbers ids index p
     → PartsHold k more further index p
 parts_more k numbers more ids further index p one two h = record {
@@ -230,13 +121,13 @@ parts_more k numbers more ids further index p one two h = record {
 }
 
 datagram_keeps : (k : Sizes) (arts : Arts) (n : NodeState) (v : NodeId) (bytes : List ℕ) → ArtsFit arts n.fixed n.signer → AreBytes bytes
-    → ((o : Kept) → IsTrue (is_signed arts n.fixed o) → k.keeps o) → n.calls + 1 ≤ MAX_CALLS → NodeHolds k n
+    → NewKeep k.keeps (handled arts n v bytes).answered → n.calls + 1 ≤ MAX_CALLS → NodeHolds k n
     → NodeHolds k (called n (with_link n v (link_after arts n v bytes)) (handled arts n v bytes).parts)
-datagram_keeps k arts n v bytes fits are trusts most h =
+datagram_keeps k arts n v bytes fits are new most h =
     let pieces = where_fits k (pieces_in (sections_in arts n.fixed bytes)) (reply_at arts n v bytes)
     (sections_fit k arts n.fixed n.signer bytes fits are h.fixed.signature_len (sections_in arts n.fixed bytes) refl) in
-    let done = all_hold k arts (arrival_at n v) (record { me = h.fixed.me; signed = trusts }) n.calls (ids_after n.calls n.signer.index) n.signer.index n.parts
-    (pieces_where (reply_at arts n v bytes) (pieces_in (sections_in arts n.fixed bytes))) pieces.fit h.parts in
+    let done = all_hold k arts (arrival_at n v) h.fixed.me n.calls (ids_after n.calls n.signer.index) n.signer.index n.parts
+    (pieces_where (reply_at arts n v bytes) (pieces_in (sections_in arts n.fixed bytes))) new pieces.fit h.parts in
     record {
       fixed = h.fixed;
       now = h.now;
@@ -249,15 +140,19 @@ datagram_keeps k arts n v bytes fits are trusts most h =
 
 -- ---- a signature was made
 
+-- what is asked of the message that is signed next
+abbrev Owns : Sizes → Arts → NodeState → Body → Type 0
+Owns k arts n body = signer_of body ≡ n.fixed.me → HasGoodFields body → n.signer.index < n.signer.total → k.keeps (signed_now arts n body)
+
 signed_once_holds : (s : Signer) → s.index < s.bound → SignerHolds s → SignerHolds (record s { index = s.index + 1 })
 signed_once_holds s below h = record { index = omega (arith, below); bound = h.bound; total = h.total }
 
 rel_sent_keeps : (k : Sizes) (arts : Arts) (n : NodeState) (dst : NodeId) (payload : List ℕ) → ArtsFit arts n.fixed n.signer
-    → length payload ≤ MAX_PAYLOAD_BYTES → ((o : Kept) → IsTrue (is_signed arts n.fixed o) → k.keeps o) → rel_refusal n dst ≡ None → NodeHolds k n
+    → length payload ≤ MAX_PAYLOAD_BYTES → Owns k arts n (rel_body n dst payload) → rel_refusal n dst ≡ None → NodeHolds k n
     → NodeHolds k (signed_once n (record n.parts { rel = pushed_in n.parts.rel (signed_now arts n (rel_body n dst payload)) }))
-rel_sent_keeps k arts n dst payload fits short trusts e h =
+rel_sent_keeps k arts n dst payload fits short own_keeps e h =
     let sent = rel_sent_fits k n dst payload short e h in
-    let own = own_fits arts n k (rel_body n dst payload) fits (left n.signer h.signer sent.free) h.fixed.signature_len trusts refl sent.fields in
+    let own = own_fits arts n k (rel_body n dst payload) fits h.fixed.signature_len (own_keeps refl sent.fields (left n.signer h.signer sent.free)) sent.fields in
     record {
       fixed = h.fixed;
       now = h.now;
@@ -273,12 +168,12 @@ rel_sent_keeps k arts n dst payload fits short trusts e h =
     }
 
 prio_sent_keeps : (k : Sizes) (arts : Arts) (n : NodeState) (m : PrioSend) (choice : Result ℕ ℕ) → ArtsFit arts n.fixed n.signer
-    → PrioSendFits m → ((o : Kept) → IsTrue (is_signed arts n.fixed o) → k.keeps o) → send_prio_refusal n m choice ≡ None
+    → PrioSendFits m → Owns k arts n (prio_body n m (mask_in choice)) → send_prio_refusal n m choice ≡ None
     → IsChoice (graph_of n.fixed.topology n.parts.weights) n.fixed.me m.dst m.paths choice → NodeHolds k n
     → NodeHolds k (signed_once n (record n.parts { prio = admit_prio n.parts.prio (own_prio arts n m choice) None }))
-prio_sent_keeps k arts n m choice fits sizes trusts e is h =
+prio_sent_keeps k arts n m choice fits sizes own_keeps e is h =
     let sent = prio_sent_fits k n m choice sizes e is h in
-    let own = own_fits arts n k (prio_body n m (mask_in choice)) fits (left n.signer h.signer sent.free) h.fixed.signature_len trusts refl sent.fields in
+    let own = own_fits arts n k (prio_body n m (mask_in choice)) fits h.fixed.signature_len (own_keeps refl sent.fields (left n.signer h.signer sent.free)) sent.fields in
     record {
       fixed = h.fixed;
       now = h.now;
@@ -295,11 +190,11 @@ prio_sent_keeps k arts n m choice fits sizes trusts e is h =
     }
 
 weight_sent_keeps : (k : Sizes) (arts : Arts) (n : NodeState) (v : NodeId) (weight : ℕ) → ArtsFit arts n.fixed n.signer
-    → 1 ≤ weight → weight ≤ MAX_WEIGHT → ((o : Kept) → IsTrue (is_signed arts n.fixed o) → k.keeps o) → weight_refusal n v weight ≡ None → NodeHolds k n
+    → 1 ≤ weight → weight ≤ MAX_WEIGHT → Owns k arts n (weight_body n v weight) → weight_refusal n v weight ≡ None → NodeHolds k n
     → NodeHolds k (signed_once n (record n.parts { weights = held n.parts.weights (signed_now arts n (weight_body n v weight)) }))
-weight_sent_keeps k arts n v weight fits least most trusts e h =
+weight_sent_keeps k arts n v weight fits least most own_keeps e h =
     let sent = weight_sent_fits k n v weight least most e h in
-    let own = own_fits arts n k (weight_body n v weight) fits (left n.signer h.signer sent.free) h.fixed.signature_len trusts refl sent.fields in
+    let own = own_fits arts n k (weight_body n v weight) fits h.fixed.signature_len (own_keeps refl sent.fields (left n.signer h.signer sent.free)) sent.fields in
     record {
       fixed = h.fixed;
       now = h.now;
@@ -332,11 +227,11 @@ at_time_holds k n now small h = record {
 }
 
 settled_keeps : (k : Sizes) (arts : Arts) (n : NodeState) (ack : Ack) → ArtsFit arts n.fixed n.signer
-    → ((o : Kept) → IsTrue (is_signed arts n.fixed o) → k.keeps o) → due n.parts.rel ≡ Some ack → signer_refusal n.signer ≡ None → NodeHolds k n
+    → Owns k arts n (bodies.Ack ack) → due n.parts.rel ≡ Some ack → signer_refusal n.signer ≡ None → NodeHolds k n
     → NodeHolds k (signed_once n (record n.parts { rel = settled n.parts.rel (signed_now arts n (bodies.Ack ack)) }))
-settled_keeps k arts n ack fits trusts is e h =
+settled_keeps k arts n ack fits own_keeps is e h =
     let facts = due_fits k n.signer.index n.parts.rel ack is h.parts.rel in
-    let own = own_fits arts n k (bodies.Ack ack) fits (left n.signer h.signer e) h.fixed.signature_len trusts (facts.mine ∙ sym h.fixed.me) facts.fields in
+    let own = own_fits arts n k (bodies.Ack ack) fits h.fixed.signature_len (own_keeps (facts.mine ∙ sym h.fixed.me) facts.fields (left n.signer h.signer e)) facts.fields in
     record {
       fixed = h.fixed;
       now = h.now;
@@ -352,57 +247,82 @@ settled_keeps k arts n ack fits trusts is e h =
       };
     }
 
-tick_keeps : (arts : Arts) (n : NodeState) (now : ℕ) → ArtsFit arts n.fixed n.signer → now < 2 ^ 64 → IsKept arts n → IsKept arts (after_tick arts n now)
-tick_keeps arts n now fits small h = go (due n.parts.rel) refl (signer_refusal n.signer) refl
+-- ---- all cases, whatever is asked of messages that are new or own
+
+or_holds : {R : Type 0} (P : NodeState → Type 0) (old done : NodeState) (r : Option R) → P old → (r ≡ None → P done) → P (kept_or r old done)
+or_holds P old done (Some x) h new = h
+or_holds P old done None h new = new refl
+
+-- the message that was signed first
+first_own : (k : Sizes) (arts : Arts) (n : NodeState) (input : Input) (output : Output) (body : Body) (after : List Effect)
+    → payload_of body ≡ payload_in input → output.effects ≡ Signed (encoded body) ∷ after → OwnKeep arts k.keeps n input output.effects → Owns k arts n body
+first_own k arts n input output body after payload told own mine fields left =
+    own body (record { mine = mine; fields = fields; payload = payload; left = left; before = []; after = after; told = told })
+
+-- after what expired
+tick_holds : (k : Sizes) (arts : Arts) (n : NodeState) (now : ℕ) (output : Output) → ArtsFit arts n.fixed n.signer → now < 2 ^ 64 → output ≡ tick_output n now
+    → OwnKeep arts k.keeps n (Tick now) output.effects → NodeHolds k n → NodeHolds k (after_tick arts n now)
+tick_holds k arts n now output fits small is own h = go (due n.parts.rel) refl (signer_refusal n.signer) refl
   where
-    later : IsKept arts (at_time n now)
-    later = renamed arts n.fixed n.parts.rel.bound n.parts.prio.inbox.capacity (at_time n now) refl (at_time_holds (sizes_in arts n) n now small h)
+    later : NodeHolds k (at_time n now)
+    later = at_time_holds k n now small h
 
-    go : (o : Option Ack) → due n.parts.rel ≡ o → (r : Option SendRefused) → signer_refusal n.signer ≡ r → IsKept arts (settled_by arts (at_time n now) o r)
-    go None is r e = later
-    go (Some ack) is (Some refusal) e = later
-    go (Some ack) is None e =
-        let m = at_time n now in
-        renamed arts m.fixed m.parts.rel.bound m.parts.prio.inbox.capacity _ refl (settled_keeps (sizes_in arts m) arts m ack fits (λ o right. right) is e later)
+    go : (o : Option Ack) → due n.parts.rel ≡ o → (r : Option SendRefused) → signer_refusal n.signer ≡ r → NodeHolds k (settled_by arts (at_time n now) o r)
+    go None is_due r e = later
+    go (Some ack) is_due (Some refusal) e = later
+    go (Some ack) is_due None e =
+        settled_keeps k arts (at_time n now) ack fits
+        (λ mine fields left.
+        own (bodies.Ack ack) (record {
+          mine = mine;
+          fields = fields;
+          payload = refl;
+          left = left;
+          before = expired_effects n.parts.prio (time_after n now);
+          after = [];
+          told = ap (λ (o : Output). o.effects) is
+              ∙ ap (λ (o : Option Ack). expired_effects n.parts.prio (time_after n now) ++ ack_effects o (signer_refusal n.signer)) is_due
+              ∙ ap (λ (r : Option SendRefused). expired_effects n.parts.prio (time_after n now) ++ ack_effects (Some ack) r) e;
+        }))
+        is_due e later
 
--- ---- all cases
-
-trusting : (arts : Arts) (n : NodeState) (o : Kept) → IsTrue (is_signed arts n.fixed o) → (sizes_in arts n).keeps o
-trusting arts n o right = right
-
-step : (arts : Arts) (n : NodeState) (input : Input) (output : Output) (new : NodeState) → ArtsFit arts n.fixed n.signer → InputFits input
-    → NodeStep arts n input output new → IsKept arts n → IsKept arts new
-step arts n (Poll v) output new fits input s h =
-    subst (IsKept arts) (sym s.1) (or_kept arts n _ (call_refusal n v) h
-    (λ e. renamed arts n.fixed n.parts.rel.bound n.parts.prio.inbox.capacity _ refl (poll_keeps (sizes_in arts n) n v (not_worn n v e h.calls) h)))
-step arts n (Datagram v bytes) output new fits input s h =
-    subst (IsKept arts) (sym s.1) (or_kept arts n _ (call_refusal n v) h
-    (λ e. renamed arts n.fixed n.parts.rel.bound n.parts.prio.inbox.capacity _ refl
-    (datagram_keeps (sizes_in arts n) arts n v bytes fits input (trusting arts n) (not_worn n v e h.calls) h)))
-step arts n (Tick now) output new fits input s h = subst (IsKept arts) (sym s.1) (tick_keeps arts n now fits input h)
-step arts n (SendRel dst payload) output new fits input s h =
-    subst (IsKept arts) (sym s.1) (or_kept arts n _ (rel_refusal n dst) h
-    (λ e. renamed arts n.fixed n.parts.rel.bound n.parts.prio.inbox.capacity _ refl
-    (rel_sent_keeps (sizes_in arts n) arts n dst payload fits input (trusting arts n) e h)))
-step arts n (SendPrio m) output new fits input s h =
-    subst (IsKept arts) (sym s.new_is) (or_kept arts n _ (send_prio_refusal n m s.choice) h
-    (λ e. renamed arts n.fixed n.parts.rel.bound n.parts.prio.inbox.capacity _ refl
-    (prio_sent_keeps (sizes_in arts n) arts n m s.choice fits input (trusting arts n) e (s.is_choice (either (prio_refusal n m) (no_paths s.choice) e).0) h)))
-step arts n (SetWeight v weight) output new fits input s h =
-    subst (IsKept arts) (sym s.1) (or_kept arts n _ (weight_refusal n v weight) h
-    (λ e. renamed arts n.fixed n.parts.rel.bound n.parts.prio.inbox.capacity _ refl
-    (weight_sent_keeps (sizes_in arts n) arts n v weight fits input.0 input.1 (trusting arts n) e h)))
-step arts n (TakeRel src) output new fits input s h =
-    subst (IsKept arts) (sym s.1) (renamed arts n.fixed n.parts.rel.bound n.parts.prio.inbox.capacity (after_take_rel n src) refl (record {
+pub step_holds : (k : Sizes) (arts : Arts) (n : NodeState) (input : Input) (output : Output) (new : NodeState) → ArtsFit arts n.fixed n.signer → InputFits input
+    → NewKeep k.keeps output.answered → OwnKeep arts k.keeps n input output.effects → NodeStep arts n input output new → NodeHolds k n → NodeHolds k new
+step_holds k arts n (Poll v) output new fits input news own s h =
+    subst (NodeHolds k) (sym s.1) (or_holds (NodeHolds k) n _ (call_refusal n v) h (λ e. poll_keeps k n v (not_worn n v e h.calls) h))
+step_holds k arts n (Datagram v bytes) output new fits input news own s h =
+    subst (NodeHolds k) (sym s.1) (or_holds (NodeHolds k) n _ (call_refusal n v) h
+    (λ e. datagram_keeps k arts n v bytes fits input
+    (subst (λ (r : Option NodeRefused). NewKeep k.keeps (refused_call r (arrived arts n v bytes)).answered) e (subst (λ (o : Output). NewKeep k.keeps o.answered) s.0 news))
+    (not_worn n v e h.calls) h))
+step_holds k arts n (Tick now) output new fits input news own s h = subst (NodeHolds k) (sym s.1) (tick_holds k arts n now output fits input s.0 own h)
+step_holds k arts n (SendRel dst payload) output new fits input news own s h =
+    subst (NodeHolds k) (sym s.1) (or_holds (NodeHolds k) n _ (rel_refusal n dst) h
+    (λ e. rel_sent_keeps k arts n dst payload fits input
+    (first_own k arts n (SendRel dst payload) output (rel_body n dst payload) [] refl
+    (ap (λ (o : Output). o.effects) s.0 ∙ ap (λ (r : Option SendRefused). (refused_send r (accepted (rel_number n dst) (rel_sent n dst payload))).effects) e) own) e h))
+step_holds k arts n (SendPrio m) output new fits input news own s h =
+    subst (NodeHolds k) (sym s.new_is) (or_holds (NodeHolds k) n _ (send_prio_refusal n m s.choice) h
+    (λ e. prio_sent_keeps k arts n m s.choice fits input
+    (first_own k arts n (SendPrio m) output (prio_body n m (mask_in s.choice)) (prio_effects n.parts.prio (own_prio arts n m s.choice) None) refl
+    (ap (λ (o : Output). o.effects) s.output_is ∙ ap (λ (r : Option SendRefused). (refused_send r (accepted n.parts.prio.next (prio_sent arts n m s.choice))).effects) e) own)
+    e (s.is_choice (either (prio_refusal n m) (no_paths s.choice) e).0) h))
+step_holds k arts n (SetWeight v weight) output new fits input news own s h =
+    subst (NodeHolds k) (sym s.1) (or_holds (NodeHolds k) n _ (weight_refusal n v weight) h
+    (λ e. weight_sent_keeps k arts n v weight fits input.0 input.1
+    (first_own k arts n (SetWeight v weight) output (weight_body n v weight) (weight_effects (weight_body n v weight)) refl
+    (ap (λ (o : Output). o.effects) s.0 ∙ ap (λ (r : Option SendRefused). (refused_send r (accepted (weight_number n v) (weight_sent n v weight))).effects) e) own) e h))
+step_holds k arts n (TakeRel src) output new fits input news own s h =
+    subst (NodeHolds k) (sym s.1) (record {
       fixed = h.fixed;
       now = h.now;
       calls = h.calls;
       links = h.links;
       signer = h.signer;
-      parts = record { weights = h.parts.weights; prio = h.parts.prio; rel = took_holds (sizes_in arts n) n.signer.index n.parts.rel src h.parts.rel };
-    }))
-step arts n TakePrio output new fits input s h =
-    subst (IsKept arts) (sym s.1) (renamed arts n.fixed n.parts.rel.bound n.parts.prio.inbox.capacity (after_take_prio n) refl (record {
+      parts = record { weights = h.parts.weights; prio = h.parts.prio; rel = took_holds k n.signer.index n.parts.rel src h.parts.rel };
+    })
+step_holds k arts n TakePrio output new fits input news own s h =
+    subst (NodeHolds k) (sym s.1) (record {
       fixed = h.fixed;
       now = h.now;
       calls = h.calls;
@@ -410,13 +330,59 @@ step arts n TakePrio output new fits input s h =
       signer = h.signer;
       parts = record {
         weights = h.parts.weights;
-        prio = taken_holds (sizes_in arts n) n.calls (ids_after n.calls n.signer.index) n.signer.index n.parts.prio h.parts.prio;
+        prio = taken_holds k n.calls (ids_after n.calls n.signer.index) n.signer.index n.parts.prio h.parts.prio;
         rel = h.parts.rel;
       };
-    }))
+    })
+
+-- ---- with the own signatures valid
+
+pub none_called : (o : Output) (r : Option NodeRefused) → o.answered ≡ [] → (refused_call r o).answered ≡ []
+none_called o None e = e
+none_called o (Some refused) e = refl
+
+pub none_sent : (o : Output) (r : Option SendRefused) → o.answered ≡ [] → (refused_send r o).answered ≡ []
+none_sent o None e = e
+none_sent o (Some refused) e = refl
+
+called_new : (P : Kept → Type 0) (o : Output) (r : Option NodeRefused) → NewKeep P o.answered → NewKeep P (refused_call r o).answered
+called_new P o None new = new
+called_new P o (Some refused) new = tt
+
+-- what is new in a step is signed
+pub step_new : (arts : Arts) (n : NodeState) (input : Input) (output : Output) (new : NodeState) → NodeStep arts n input output new
+    → NewKeep (λ o. IsTrue (is_signed arts n.fixed o)) output.answered
+step_new arts n (Poll v) output new s = none_new _ output.answered (ap (λ (o : Output). o.answered) s.0 ∙ none_called _ (call_refusal n v) refl)
+step_new arts n (Datagram v bytes) output new s =
+    subst (λ (o : Output). NewKeep (λ x. IsTrue (is_signed arts n.fixed x)) o.answered) (sym s.0)
+    (called_new (λ x. IsTrue (is_signed arts n.fixed x)) (arrived arts n v bytes) (call_refusal n v)
+    (new_is_signed arts (arrival_at n v) n.parts (pieces_where (reply_at arts n v bytes) (pieces_in (sections_in arts n.fixed bytes)))))
+step_new arts n (Tick now) output new s = none_new _ output.answered (ap (λ (o : Output). o.answered) s.0)
+step_new arts n (SendRel dst payload) output new s = none_new _ output.answered (ap (λ (o : Output). o.answered) s.0 ∙ none_sent _ (rel_refusal n dst) refl)
+step_new arts n (SendPrio m) output new s = none_new _ output.answered (ap (λ (o : Output). o.answered) s.output_is ∙ none_sent _ (send_prio_refusal n m s.choice) refl)
+step_new arts n (SetWeight v weight) output new s = none_new _ output.answered (ap (λ (o : Output). o.answered) s.0 ∙ none_sent _ (weight_refusal n v weight) refl)
+step_new arts n (TakeRel src) output new s = none_new _ output.answered (ap (λ (o : Output). o.answered) s.0)
+step_new arts n TakePrio output new s = none_new _ output.answered (ap (λ (o : Output). o.answered) s.0)
+
+step_fixed : (arts : Arts) (n : NodeState) (input : Input) (output : Output) (new : NodeState) → NodeStep arts n input output new → new.fixed ≡ n.fixed
+step_fixed arts n input output new s = ap (λ (x : Shape). x.fixed) (shapes_stay arts n input output new s)
+
+-- whatever is asked of messages
+step_keeps : (P : Kept → Type 0) (arts : Arts) (n : NodeState) (input : Input) (output : Output) (new : NodeState) → ArtsFit arts n.fixed n.signer
+    → InputFits input → NodeStep arts n input output new → NewKeep P output.answered → OwnKeep arts P n input output.effects → NodeHolds (sizes_of P n) n
+    → NodeHolds (sizes_of P new) new
+step_keeps P arts n input output new fits input_fits s news own h =
+    renamed P n.fixed n.parts.rel.bound n.parts.prio.inbox.capacity new (step_fixed arts n input output new s)
+    (step_holds (sizes_of P n) arts n input output new fits input_fits news own s h)
+
+pub what_is_new_is_kept : WhatIsNewIsKept
+what_is_new_is_kept keeps = step_keeps (λ o. IsTrue (keeps o))
 
 pub each_step_keeps : EachStepKeeps
-each_step_keeps = step
+each_step_keeps arts n input output new fits input_fits s h =
+    subst (λ (f : Fixed). NodeHolds (sizes_of (λ o. IsTrue (is_signed arts f o)) new) new) (sym (step_fixed arts n input output new s))
+    (step_keeps (λ o. IsTrue (is_signed arts n.fixed o)) arts n input output new fits input_fits s (step_new arts n input output new s)
+    (λ body own. own_is_signed arts n body fits own.left own.mine) h)
 
 pub extend_keeps : ExtendKeeps
 extend_keeps arts n upto above within h = record {

@@ -204,7 +204,7 @@ read_get (x ∷ xs) zero d within = refl
 read_get (x ∷ xs) (suc i) d within = read_get xs i d (omega (arith, within))
 
 -- what stands at a position passes
-find_place : {X : Type 0} (test : X → Bool) (xs : List X) (i : ℕ) → position test xs ≡ Some i → (x : X) × (slice_get xs i ≡ Some x) × (test x ≡ true)
+pub find_place : {X : Type 0} (test : X → Bool) (xs : List X) (i : ℕ) → position test xs ≡ Some i → (x : X) × (slice_get xs i ≡ Some x) × (test x ≡ true)
 find_place test [] i at = absurd (cc)
 find_place test (x ∷ xs) i at =
     let first = is_first test (x ∷ xs) i x at in

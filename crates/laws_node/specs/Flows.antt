@@ -7,7 +7,7 @@ use Rattle.sp_msg.specs.declared.body.Body.{Body}
 use Rattle.sp_msg.specs.declared.body.Body.TheVariants as bodies
 use Rattle.sp_msg.specs.declared.kept.Kept.{Kept}
 use Rattle.sp_rules.specs.Flow.{FlowState, IsStanding, ends}
-use Rattle.sp_rules.specs.Rel.{RelState}
+use Rattle.sp_rules.specs.Rel.{RelState, pairs_of}
 use Rattle.laws_node.specs.Sizes.{Fits, IsNode, Sizes}
 
 -- an acknowledgement of the flow
@@ -28,6 +28,8 @@ pub record FlowHolds (k : Sizes) (index : ℕ) (f : FlowState) : Type 0 where
   pub dst : IsNode f.dst
   -- its numbers are bounded, and its list has the messages of their numbers
   pub standing : IsStanding k.me k.buffer f
+  -- an active flow has something
+  pub busy : f.active ≡ true → 1 ≤ f.at.have
   pub own : (f.src.0 == k.me.0) ≡ true → f.at.have ≤ index
   pub messages : All (Fits k) f.at.list
   pub ack : IfSome f.ack (AckKept k (ends f))
@@ -41,5 +43,6 @@ pub record RelHolds (k : Sizes) (index : ℕ) (r : RelState) : Type 0 where
   pub bound : r.bound ≡ k.buffer
   pub nodes : All IsNode r.nodes
   pub flows : All (FlowHolds k index) r.flows
-  -- each flow has one row
+  -- the rows are those of the ordered pairs of two nodes, in their order, and so each flow has one row
+  pub keys : map ends r.flows ≡ pairs_of k.nodes
   pub once : AllPairs Differ (map ends r.flows)

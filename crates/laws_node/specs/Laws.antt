@@ -17,7 +17,8 @@ EachStepKeeps = (arts : Arts) (old : NodeState) (input : Input) (output : Output
 
 -- the start of a life
 abbrev pub BootKeeps : Type 0
-BootKeeps = (arts : Arts) (f : Fixed) (signer : Signer) (keys : List (List ℕ)) (buffer store : ℕ) → Boots f signer → IsKept arts (booted f signer keys buffer store)
+BootKeeps = (arts : Arts) (f : Fixed) (signer : Signer) (keys : List (List ℕ)) (buffer store : ℕ) → Boots f signer
+    → IsKept arts (booted f signer keys buffer store)
 
 -- more indexes are reserved
 abbrev pub ExtendKeeps : Type 0

@@ -1,12 +1,20 @@
 pub mod Acknowledgement
+pub mod Asked
+pub mod Determined
 pub mod Flows
+pub mod Ids
 pub mod Inputs
 pub mod Laws
+pub mod LifeLaws
+pub mod Lives
 pub mod Nodes
+pub mod Objects
+pub mod Shapes
 pub mod Sizes
 pub mod Stores
 pub mod Story
 pub mod Updates
+pub mod WithoutRows
 -- ---- laws of its parts
 pub mod LinkArrivals
 pub mod LinkLaws

@@ -1,5 +1,5 @@
 -- What a node keeps after any steps: within its bounds, each thing in its place, in its ranges, and counted.
-use Rattle.std.specs.Prelude.{ℕ, ◌≡◌, ◌<◌, ◌≤◌, ◌^◌, IsTrue}
+use Rattle.std.specs.Prelude.{ℕ, ◌≡◌, ◌<◌, ◌≤◌, ◌^◌, Bool, IsTrue}
 use Rattle.std.specs.List.{All}
 use Rattle.sp_msg.specs.declared.kept.Kept.{Kept}
 use Rattle.sp_rules.specs.Arts.{Arts}
@@ -61,6 +61,11 @@ sizes_of keeps n = record {
   keeps = keeps;
 }
 
--- all this, and each message that is kept bears its signer's valid signature
+-- all this, and each message that is kept passes this test
+abbrev pub KeepsOnly : (Kept → Bool) → NodeState → Type 0
+KeepsOnly keeps n = NodeHolds (sizes_of (λ o. IsTrue (keeps o)) n) n
+
+-- all this, and each message that is kept bears its signer's valid signature. The bounds are those that the node has now: that they stay, with
+-- who it is and what it has rows for, isn't said here but by a law of its steps, and what these were at its start by another
 abbrev pub IsKept : Arts → NodeState → Type 0
-IsKept arts n = NodeHolds (sizes_of (λ o. IsTrue (is_signed arts n.fixed o)) n) n
+IsKept arts n = KeepsOnly (is_signed arts n.fixed) n

@@ -1,6 +1,7 @@
 -- What a window sees, and what a full store leaves.
 use Rattle.std.specs.Prelude.{ℕ, ◌≡◌, ◌≢◌, ◌≤◌, ◌<◌, ◌+◌, ◌-◌, ◌/◌, nat_le, true, ◌||◌, ◌↔◌, List, [], All, AllPairs, length, Option, Some, None}
-use Rattle.sp_rules.specs.Store.{Store, count_of, next_entry, source, sources, victim, without}
+use Rattle.sp_msg.specs.declared.kept.Kept.{Kept}
+use Rattle.sp_rules.specs.Store.{Store, count_of, evicted, next_entry, said, source, sources, victim, without}
 use Rattle.sp_rules.specs.Window.{greatest, is_in, is_seen, window_of, with_mark}
 use Rattle.sp_rules.specs.declared.store.Entry.{Entry}
 use Rattle.sp_rules.specs.declared.store.TheConstants.{IDS}
@@ -25,6 +26,10 @@ pub record AreEntries (es : List Entry) : Type 0 where
 abbrev pub FairShares : Type 0
 FairShares = (es : List Entry) (v : Entry) → AreEntries es → victim es ≡ Some v →
     (length es - 1) / length (sources es) ≤ count_of (without (Some v) es) (source v)
+
+-- whatever arrives, an entry goes exactly where the store was full
+abbrev pub AFullStoreHasAVictim : Type 0
+AFullStoreHasAVictim = (s : Store) (kept : Kept) → said (λ p. p.src.0) kept.body < IDS → (evicted s kept ≡ None) ↔ (length s.entries < s.capacity)
 
 -- no entry is next in turn exactly where the store is empty
 abbrev pub AnEntryIsNext : Type 0

@@ -5,7 +5,7 @@ use Rattle.sp_client.specs.declared.limits.TheConstants.{MAX_SESSIONS}
 use Rattle.sp_client.specs.declared.request.Request.{Request}
 use Rattle.sp_client.specs.declared.answer.Answer.{Answer}
 use Rattle.sp_client.specs.Sessions.{Exchange, Steps, exchange, is_close, is_open, open_ports, runs, session_of}
-use Rattle.laws_sessions.specs.Laws.{A_request, EachRunsOnce, IsSession, No_request, Nothing_said}
+use Rattle.laws_sessions.specs.Laws.{A_request, EachRunsOnce, IsSession, No_request, Nothing_said, Went_on}
 use Rattle.laws_sessions.proofs.HistoryLemmas.{added, closed, skipped}
 
 left : (a b : Bool) → (a && b) ≡ true → a ≡ true
@@ -51,5 +51,6 @@ stays history port r answer q is =
 pub each_runs_once : {L : Type 0} (steps : Steps L) → EachRunsOnce steps
 each_runs_once steps first told history after Nothing_said port = record { numbered = tt; begins = tt }
 each_runs_once steps first told history after (No_request {before = before} t follows none is) port = each_runs_once steps first before history after follows port
+each_runs_once steps first told history after (Went_on {before = before} {local = local} _ follows) port = each_runs_once steps first before history local follows port
 each_runs_once steps first told history after (A_request {before = before} {history = earlier} {local = local} t r answer follows is answered spelling) port =
     stays earlier t.port r answer port (each_runs_once steps first before earlier local follows port)

@@ -1,4 +1,4 @@
--- Whole dialogues: what the table answers, and what the protocol says.
+-- Whole dialogues: what the table answers, and what the protocol says, while the local also moves by what others ask of it.
 use Rattle.std.specs.Prelude.{ℕ, zero, suc, ◌≡◌, ◌<◌, ◌+◌, ◌^◌, true, List, [], ◌∷◌, length, Some, None, ⊤}
 use Rattle.sp_client.specs.declared.limits.TheConstants.{MAX_REQUEST_NUMBER}
 use Rattle.sp_client.specs.declared.request.Command.{Command}
@@ -17,25 +17,35 @@ pub record Told : Type 0 where
   pub bytes : List ℕ
   pub reply : List ℕ
 
--- these datagrams came one after another, the latest first, and led from no sessions and this local to a table and a local
-pub data Served {L : Type 0} (steps : Steps L) (first : L) : List Told → Table → L → Type 0 where
+-- what happens at a local: a datagram of a client comes, or others move it, as ticks, polls and frames move a node
+pub data Happening (L : Type 0) : Type 0 where
+  Asked : (t : Told) → Happening L
+  Moved : (from to : L) → Happening L
+
+-- These happened one after another, the latest first, and led from no sessions and this local to a table and a local. A move leaves the
+-- table, and stands in the list, so that it hides nothing that a request did
+pub data Served {L : Type 0} (steps : Steps L) (first : L) : List (Happening L) → Table → L → Type 0 where
   Starts : Served steps first [] no_sessions first
-  Goes_on : {before : List Told} {table new : Table} {local after : L} (t : Told) → Served steps first before table local → t.port < 2 ^ 16
-      → Datagram steps table t.port t.bytes t.reply new local after → Served steps first (t ∷ before) new after
+  Goes_on : {before : List (Happening L)} {table new : Table} {local after : L} (t : Told) → Served steps first before table local → t.port < 2 ^ 16
+      → Datagram steps table t.port t.bytes t.reply new local after → Served steps first (Asked t ∷ before) new after
+  Meanwhile : {before : List (Happening L)} {table : Table} {local : L} (after : L) → Served steps first before table local
+      → Served steps first (Moved local after ∷ before) table after
 
 -- The same by the protocol: a datagram that is no request is told so and leaves nothing behind, and a request is answered by what
 -- was asked and answered before
-pub data Follows {L : Type 0} (steps : Steps L) (first : L) : List Told → List Exchange → L → Type 0 where
+pub data Follows {L : Type 0} (steps : Steps L) (first : L) : List (Happening L) → List Exchange → L → Type 0 where
   Nothing_said : Follows steps first [] [] first
-  No_request : {before : List Told} {history : List Exchange} {local : L} (t : Told) → Follows steps first before history local
-      → ((r : Request) → IsRequest t.bytes r → ⊥) → t.reply ≡ bad_reply → Follows steps first (t ∷ before) history local
-  A_request : {before : List Told} {history : List Exchange} {local after : L} (t : Told) (r : Request) (answer : Answer)
+  No_request : {before : List (Happening L)} {history : List Exchange} {local : L} (t : Told) → Follows steps first before history local
+      → ((r : Request) → IsRequest t.bytes r → ⊥) → t.reply ≡ bad_reply → Follows steps first (Asked t ∷ before) history local
+  A_request : {before : List (Happening L)} {history : List Exchange} {local after : L} (t : Told) (r : Request) (answer : Answer)
       → Follows steps first before history local
       → IsRequest t.bytes r → IsAnswered steps history t.port r local answer after → t.reply ≡ reply_line r.number answer
-      → Follows steps first (t ∷ before) (exchange history t.port r answer ∷ history) after
+      → Follows steps first (Asked t ∷ before) (exchange history t.port r answer ∷ history) after
+  Went_on : {before : List (Happening L)} {history : List Exchange} {local : L} (after : L) → Follows steps first before history local
+      → Follows steps first (Moved local after ∷ before) history after
 
 abbrev pub DialoguesAreAnswered : {L : Type 0} → Steps L → Type 0
-DialoguesAreAnswered {L} steps = (first : L) (told : List Told) (table : Table) (after : L) → Served steps first told table after
+DialoguesAreAnswered {L} steps = (first : L) (told : List (Happening L)) (table : Table) (after : L) → Served steps first told table after
     → (history : List Exchange) × Follows steps first told history after
 
 -- the requests of a session, the latest first, have the numbers up to their count, each once and in order
@@ -55,7 +65,7 @@ pub record IsSession (es : List Exchange) : Type 0 where
 
 -- whatever was repeated, delayed or left out
 abbrev pub EachRunsOnce : {L : Type 0} → Steps L → Type 0
-EachRunsOnce {L} steps = (first : L) (told : List Told) (history : List Exchange) (after : L) → Follows steps first told history after
+EachRunsOnce {L} steps = (first : L) (told : List (Happening L)) (history : List Exchange) (after : L) → Follows steps first told history after
     → (port : ℕ) → IsSession (session_of history port)
 
 -- a request of any number of a session at the last one is a repeat, or refused

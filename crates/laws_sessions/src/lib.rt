@@ -1,17 +1,18 @@
-//! The laws of client sessions: over any list of datagrams, each answer is the one that the protocol gives after those before.
+//! The laws of client sessions: over any list of datagrams, and of steps that the local makes between them, each answer is the one that the
+//! protocol gives after those before, and each request runs once.
 #![tactic(auto)]
 
 ghost use Rattle.laws_sessions.specs.Laws.{DialoguesAreAnswered, EachRunsOnce, TheLastNumberRunsNoMore, WorkedRow};
 
 use sp_client::Local;
 
-/// A law: over any list of datagrams, from no sessions on, the table answers what the protocol says by the list of what was asked
-/// and answered before, whatever the local node is.
+/// A law: over any list of datagrams and of moves of the local by others, from no sessions on, the table answers what the protocol says by
+/// the list of what was asked and answered before, whatever the local node is.
 pub fn each_answer_is_the_one_after_those_before<L: Local>()
     ensures { DialoguesAreAnswered L.steps }
 {}
 
-/// A law: over any list of datagrams, the requests that ran in a session of a port have the numbers 1, 2, 3 and so on, each once and in
+/// A law: over any such list, the requests that ran in a session of a port have the numbers 1, 2, 3 and so on, each once and in
 /// this order, and the first is an `open`.
 pub fn each_request_runs_once_and_in_order<L: Local>()
     ensures { EachRunsOnce L.steps }

@@ -30,8 +30,8 @@ use std::marker::Model;
 
 /// A node in one of its lives. A contract sees what the rules see of it (`sp_rules`), and each call is a step of theirs.
 ///
-/// After any calls it keeps at most as many messages of each flow and entries of each store as it may, each in its ranges and with its
-/// signer's valid signature.
+/// After any calls it keeps at most as many messages of each flow and entries of each store as its own bounds say, each in its ranges and with
+/// its signer's valid signature. That these bounds stay those of `boot` is a law of each step (`laws_node`).
 #[derive(Drop)]
 pub struct Node {
     state: State,

@@ -1,3 +1,4 @@
 pub mod Slots
 pub mod Starts
 pub mod FormatFits
+pub mod PolledFrames

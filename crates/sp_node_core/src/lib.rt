@@ -9,5 +9,5 @@ mod parts;
 mod objects;
 
 pub use fixed::Fixed;
-pub use format::the_arts_of_the_format_fit;
+pub use format::{a_polled_frame_is_read_back, the_arts_of_the_format_fit};
 pub use parts::Core;

@@ -1,0 +1,163 @@
+-- What a poll carries is kept by the node, so all holds of it that is asked of messages that are kept.
+use Rattle.std.proofs.Common.{ℕ, ◌+◌, ◌-◌, nat_le, nat_lt, max, List, [], ◌∷◌, ◌++◌, map, Option, Some, None}
+use Rattle.std.specs.Prelude.{IfSome}
+use Rattle.std.specs.List.{All, slice_get}
+use Rattle.std.specs.Option.{option_and_then, option_map}
+use Rattle.std.proofs.lemmas.List.Elements.{All-head, All-tail}
+use Rattle.sp_base.specs.Cursor.{or_else}
+use Rattle.sp_base.specs.Position.{message_of}
+use Rattle.sp_base.specs.declared.id.NodeId.{NodeId}
+use Rattle.sp_frame.specs.Views.{as_list}
+use Rattle.sp_msg.specs.declared.kept.Kept.{Kept}
+use Rattle.sp_rules.specs.Arts.{Arts}
+use Rattle.sp_rules.specs.Flow.{FlowState, ends}
+use Rattle.sp_rules.specs.Handle.{Arrival, handle, handle_all}
+use Rattle.sp_rules.specs.Node.{NodeState}
+use Rattle.sp_rules.specs.Parts.{Parts, place_of}
+use Rattle.sp_rules.specs.Pieces.{Piece, WeightPiece, PrioAckPiece, PrioPiece, ReportPiece, AckPiece, RelPiece, pieces_of, prio_piece, slot_pieces}
+use Rattle.sp_rules.specs.Polls.{as_message, contents_to}
+use Rattle.sp_rules.specs.Prio.{is_peer, no_peer, peer_in}
+use Rattle.sp_rules.specs.PrioPeer as rows
+use Rattle.sp_rules.specs.PrioPeer.{PrioPeer, flying, numbered}
+use Rattle.sp_rules.specs.Rel.{RelState, flow_at, flow_in, is_to, next_place, peer_in as rel_peer_in, slot_for, slot_of, view_in}
+use Rattle.sp_rules.specs.Store.{next_entry}
+use Rattle.sp_rules.specs.Weights.{WeightState, held_in, next, next_row}
+use Rattle.sp_rules.specs.declared.store.Entry.{Entry}
+use Rattle.laws_node.specs.Flows.{AckKept, FlowHolds, RelHolds}
+use Rattle.laws_node.specs.Nodes.{NodeHolds}
+use Rattle.laws_node.specs.Sizes.{Fits, Sizes}
+use Rattle.laws_node.specs.Stores.{EntryHolds, PrioPeerHolds}
+use Rattle.laws_node.specs.Updates.{UpdateHolds, WeightsHold}
+use Rattle.laws_node.specs.Asked.{NewKeep}
+use Rattle.laws_node.proofs.AskedLemmas.{new_both}
+use Rattle.laws_node.proofs.Frames.{flying_holds, get_holds, next_holds}
+use Rattle.laws_node.proofs.Priority.{no_peer_holds}
+use Rattle.laws_node.proofs.Reliable.{read}
+use Rattle.laws_node.proofs.Tables.{all_first, cond_either}
+
+-- ---- pieces
+
+-- the object of a piece, where it has one
+abbrev pub PieceKeeps : (Kept → Type 0) → Piece → Type 0
+PieceKeeps P (WeightPiece o) = P o
+PieceKeeps P (PrioAckPiece number) = Unit {0}
+PieceKeeps P (PrioPiece number o) = P o
+PieceKeeps P (ReportPiece flow base have) = Unit {0}
+PieceKeeps P (AckPiece flow o) = P o
+PieceKeeps P (RelPiece flow o) = P o
+
+abbrev pub AllKeep : (Kept → Type 0) → List Piece → Type 0
+AllKeep P [] = Unit {0}
+AllKeep P (piece ∷ pieces) = PieceKeeps P piece × AllKeep P pieces
+
+all_both : (P : Kept → Type 0) (xs ys : List Piece) → AllKeep P xs → AllKeep P ys → AllKeep P (xs ++ ys)
+all_both P [] ys one two = two
+all_both P (x ∷ xs) ys one two = (one.0, all_both P xs ys one.1 two)
+
+pub all_less : (P Q : Kept → Type 0) → ((o : Kept) → P o → Q o) → (pieces : List Piece) → AllKeep P pieces → AllKeep Q pieces
+all_less P Q less [] h = tt
+all_less P Q less (piece ∷ pieces) h = (one piece h.0, all_less P Q less pieces h.1)
+  where
+    one : (p : Piece) → PieceKeeps P p → PieceKeeps Q p
+    one (WeightPiece o) h = less o h
+    one (PrioAckPiece number) h = tt
+    one (PrioPiece number o) h = less o h
+    one (ReportPiece flow base have) h = tt
+    one (AckPiece flow o) h = less o h
+    one (RelPiece flow o) h = less o h
+
+-- what is answered is an object of the pieces
+piece_new : (P : Kept → Type 0) (arts : Arts) (at : Arrival) (p : Parts) (piece : Piece) → PieceKeeps P piece → NewKeep P (handle arts at p piece).answered
+piece_new P arts at p (WeightPiece o) h = (λ new. h, tt)
+piece_new P arts at p (PrioAckPiece number) h = tt
+piece_new P arts at p (PrioPiece number o) h = (λ new. h, tt)
+piece_new P arts at p (ReportPiece flow base have) h = tt
+piece_new P arts at p (AckPiece flow o) h = (λ new. h, tt)
+piece_new P arts at p (RelPiece flow o) h = (λ new. h, tt)
+
+pub pieces_new : (P : Kept → Type 0) (arts : Arts) (at : Arrival) (p : Parts) (pieces : List Piece) → AllKeep P pieces
+    → NewKeep P (handle_all arts at p pieces).answered
+pieces_new P arts at p [] h = tt
+pieces_new P arts at p (piece ∷ pieces) h =
+    let done = handle arts at p piece in
+    new_both P done.answered (handle_all arts at done.parts pieces).answered (piece_new P arts at p piece h.0) (pieces_new P arts at done.parts pieces h.1)
+
+-- ---- what a node keeps
+
+module _ (k : Sizes) where
+  listed : (one : Kept → Piece) → ((o : Kept) → Fits k o → PieceKeeps k.keeps (one o)) → (os : List Kept) → All (Fits k) os → AllKeep k.keeps (map one os)
+  listed one is [] all = tt
+  listed one is (o ∷ os) all = (is o (All-head (Fits k) o os all), listed one is os (All-tail (Fits k) o os all))
+
+  maybe : (one : Kept → Piece) → ((o : Kept) → Fits k o → PieceKeeps k.keeps (one o)) → (o : Option Kept) → IfSome o (Fits k) → AllKeep k.keeps (map one (as_list o))
+  maybe one is None h = tt
+  maybe one is (Some o) h = (is o h, tt)
+
+  weight_kept : (index v : ℕ) (w : WeightState) → WeightsHold k index w → IfSome (next w v) (Fits k)
+  weight_kept index v w h = go (next_row w v)
+    where
+      held : (row : ℕ) (o : Option Kept) → IfSome o (UpdateHolds k index row) → IfSome o (Fits k)
+      held row None is = tt
+      held row (Some o) is = is.fits
+
+      go : (row : Option ℕ) → IfSome (option_and_then (held_in w.rows) row) (Fits k)
+      go None = tt
+      go (Some row) = held row (held_in w.rows row) (h.rows row)
+
+  message_kept : (numbers ids : ℕ) (q : PrioPeer) → PrioPeerHolds k numbers ids q → AllKeep k.keeps (map prio_piece (as_list (option_map as_message (rows.next_prio q))))
+  message_kept numbers ids q h = go (flying q) (flying_holds k ids q h.store)
+    where
+      one : (number : ℕ) (o : Option Entry) → IfSome o (EntryHolds k q.store.last)
+          → AllKeep k.keeps (map prio_piece (as_list (option_map as_message (option_map (numbered number) o))))
+      one number None is = tt
+      one number (Some e) is = (is.fits.holds, tt)
+
+      go : (o : Option Entry) → IfSome o (EntryHolds k q.store.last)
+          → AllKeep k.keeps (map prio_piece (as_list (option_map as_message (or_else (option_map (numbered q.number) o) (option_map (numbered (q.number + 1)) (next_entry q.store q.last))))))
+      go None is = one (q.number + 1) (next_entry q.store q.last) (next_holds k ids q.store q.last h.store)
+      go (Some e) is = one q.number (Some e) is
+
+  ack_kept : (f : FlowState) (o : Option Kept) → IfSome o (AckKept k (ends f)) → IfSome o (Fits k)
+  ack_kept f None h = tt
+  ack_kept f (Some o) h = h.fits
+
+  slot_of_kept : (index : ℕ) (r : RelState) (v : NodeId) (row : FlowState) → RelHolds k index r → FlowHolds k index row
+      → AllKeep k.keeps (slot_pieces (Some (slot_of r v (ends row))))
+  slot_of_kept index r v row h there =
+      let flow = ends row in
+      let f = flow_in r.flows flow in
+      let w = view_in (rel_peer_in r.peers v).views flow in
+      let holds = read k index r.flows flow there.src there.dst h.flows in (
+        tt,
+        all_both k.keeps (map (AckPiece flow) (as_list (slot_of r v flow).ack)) (map (RelPiece flow) (slot_of r v flow).rels)
+            (maybe (AckPiece flow) (λ o fits. fits.holds) (slot_of r v flow).ack
+            (cond_either (λ o. IfSome o (Fits k)) (nat_lt w.base f.at.base) f.ack None (ack_kept f f.ack holds.ack) tt))
+            (cond_either (λ (os : List Kept). AllKeep k.keeps (map (RelPiece flow) os)) (is_to r flow) [] (as_list (message_of f.at (max w.have f.at.base + 1))) tt
+            (maybe (RelPiece flow) (λ o fits. fits.holds) (message_of f.at (max w.have f.at.base + 1))
+            (cond_either (λ o. IfSome o (Fits k)) (nat_le (max w.have f.at.base + 1) f.at.base) None (slice_get f.at.list (max w.have f.at.base + 1 - f.at.base - 1)) tt
+            (get_holds (Fits k) f.at.list (max w.have f.at.base + 1 - f.at.base - 1) holds.messages)))),
+      )
+
+  slot_kept : (index : ℕ) (r : RelState) (v : NodeId) → RelHolds k index r → AllKeep k.keeps (slot_pieces (slot_for r v))
+  slot_kept index r v h = go (next_place r v)
+    where
+      at : (o : Option FlowState) → IfSome o (FlowHolds k index) → AllKeep k.keeps (slot_pieces (option_map (slot_of r v) (option_map ends o)))
+      at None there = tt
+      at (Some f) there = slot_of_kept index r v f h there
+
+      go : (place : Option ℕ) → AllKeep k.keeps (slot_pieces (option_map (slot_of r v) (option_and_then (flow_at r.flows) place)))
+      go None = tt
+      go (Some place) = at (slice_get r.flows place) (get_holds (FlowHolds k index) r.flows place h.flows)
+
+  -- what it carries to a neighbour
+  pub contents_kept : (n : NodeState) (v : NodeId) → NodeHolds k n → AllKeep k.keeps (pieces_of (contents_to n.fixed n.parts v))
+  contents_kept n v h =
+      let s = contents_to n.fixed n.parts v in
+      let q = peer_in n.parts.prio v.0 in
+      all_both k.keeps (map WeightPiece s.weights) (PrioAckPiece s.prio_ack ∷ (map prio_piece s.prios ++ slot_pieces s.slot))
+      (maybe WeightPiece (λ o fits. fits.holds) (next n.parts.weights (place_of n.fixed v)) (weight_kept n.signer.index (place_of n.fixed v) n.parts.weights h.parts.weights)) (
+        tt,
+        all_both k.keeps (map prio_piece s.prios) (slot_pieces s.slot)
+            (message_kept n.calls _ q (all_first (PrioPeerHolds k n.calls _) (is_peer v.0) no_peer n.parts.prio.peers h.parts.prio.peers (no_peer_holds k n.calls _)))
+            (slot_kept n.signer.index n.parts.rel v h.parts.rel),
+      )

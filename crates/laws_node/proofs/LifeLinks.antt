@@ -1,0 +1,227 @@
+-- What each step says of a link, and a life of all of them.
+use Rattle.std.proofs.Common.{◌≡◌, ℕ, ◌==◌, Bool, true, false, cond, not, List, [], ◌∷◌, ◌++◌, map, Option, Some, None, Result, Ok, Err, refl, sym, ap, subst, ◌∙◌, inl, inr}
+use Rattle.std.specs.Prelude.{zip}
+use Rattle.std.proofs.lemmas.Bool.{cases_Bool, eqb-true, eq-eqb}
+use Rattle.std.proofs.lemmas.List.{append-nil}
+use Rattle.sp_base.specs.Rows.{first_where}
+use Rattle.sp_base.specs.declared.id.EdgeId.{EdgeId}
+use Rattle.sp_base.specs.declared.id.NodeId.{NodeId}
+use Rattle.sp_frame.specs.Frames.{opened}
+use Rattle.sp_frame.specs.Sections.{Contents}
+use Rattle.sp_frame.specs.declared.head.Head.{Head}
+use Rattle.sp_frame.specs.declared.refused.FrameRefused.{FrameRefused}
+use Rattle.sp_frame.specs.declared.refused.FrameRefused.TheVariants as frames
+use Rattle.sp_frame.specs.declared.refused.SectionRefused.{SectionRefused}
+use Rattle.sp_msg.specs.declared.body.Ack.{Ack}
+use Rattle.sp_msg.specs.declared.refused.SendRefused.{SendRefused}
+use Rattle.sp_rules.specs.Arrivals.{handled, link_after, link_says, link_with, no_frame, of_frame, of_fresh, of_link, of_sections, reply_at, sections_in}
+use Rattle.sp_rules.specs.Arts.{Arts, is_right}
+use Rattle.sp_rules.specs.Link.{Link, advanced, after_answer, is_above, new_link, pair_of}
+use Rattle.sp_rules.specs.Node.{NodeState, booted, call_refusal, called, is_link, is_neighbour, kept_or, link_in, link_of, with_link}
+use Rattle.sp_rules.specs.Parts.{Fixed, neighbours_of}
+use Rattle.sp_rules.specs.Polls.{polled}
+use Rattle.sp_rules.specs.Rel.{due}
+use Rattle.sp_rules.specs.Sends.{rel_refusal, send_prio_refusal, signer_refusal, weight_refusal}
+use Rattle.sp_rules.specs.Steps.{Input, NodeStep, Output, Poll, Datagram, Tick, SendRel, SendPrio, SetWeight, TakeRel, TakePrio, arrived, refused_call}
+use Rattle.sp_rules.specs.Ticks.{at_time, settled_by}
+use Rattle.sp_rules.specs.declared.link.LinkAnswer.{LinkAnswer}
+use Rattle.sp_rules.specs.declared.link.LinkAnswer.TheVariants as answers
+use Rattle.sp_rules.specs.declared.node.LinkReply.TheVariants as replies
+use Rattle.sp_rules.specs.declared.node.NodeRefused.{NodeRefused}
+use Rattle.sp_rules.specs.declared.node.NodeRefused.TheVariants as refusals
+use Rattle.laws_node.specs.LifeLaws.{PairsOfLives}
+use Rattle.laws_node.specs.LinkArrivals.{fresh_pair, greatest, learned_pair}
+use Rattle.laws_node.specs.Lives.{Life, pair_told, pairs_of_life, pairs_told}
+use Rattle.laws_node.proofs.FreshLemmas.{one}
+use Rattle.laws_node.proofs.TableReads.{first_replaced, other_replaced}
+
+-- a link that knows the boot of the pair that it keeps became another one, and this was told of it
+record Goes (old : Link) (told : List (ℕ × ℕ)) (new : Link) : Type 0 where
+  known : new.seen.0 ≡ new.peer_boot
+  most : new.seen ≡ greatest old.seen told
+
+rests : (old new : Link) → new.seen ≡ old.seen → new.peer_boot ≡ old.peer_boot → old.seen.0 ≡ old.peer_boot → Goes old [] new
+rests old new seen boot known = record { known = ap (λ (p : ℕ × ℕ). p.0) seen ∙ known ∙ sym boot; most = seen }
+
+-- ---- a datagram
+
+fresh_told : (p : ℕ × ℕ) (mine theirs : ℕ) (s : Result Contents SectionRefused) → pair_told p (of_fresh mine theirs s) ≡ p ∷ []
+fresh_told p mine theirs s = by (not (theirs == mine)) s
+  where
+    by : (t : Bool) (s : Result Contents SectionRefused) → pair_told p (cond t (replies.OtherTopology theirs) (of_sections s)) ≡ p ∷ []
+    by true s = refl
+    by false (Ok contents) = refl
+    by false (Err refused) = refl
+
+answer_told : (arts : Arts) (f : Fixed) (bytes : List ℕ) (a : LinkAnswer)
+    → pair_told (pair_of (arts.head bytes)) (of_link a (of_fresh f.topology.version (arts.head bytes).topology (sections_in arts f bytes)))
+    ≡ fresh_pair (arts.head bytes) a ++ learned_pair a
+answer_told arts f bytes answers.NotForMe = refl
+answer_told arts f bytes answers.BadTag = refl
+answer_told arts f bytes (answers.Learned boot) = refl
+answer_told arts f bytes (answers.Stale boot counter) = refl
+answer_told arts f bytes answers.Fresh = fresh_told (pair_of (arts.head bytes)) f.topology.version (arts.head bytes).topology (sections_in arts f bytes)
+
+none_told : (p : ℕ × ℕ) (e : FrameRefused) → pair_told p (no_frame e) ≡ []
+none_told p frames.TooLong = refl
+none_told p (frames.Short short) = refl
+none_told p frames.Magic = refl
+none_told p frames.Version = refl
+none_told p frames.Memory = refl
+
+comes : (arts : Arts) (f : Fixed) (l : Link) (bytes : List ℕ) (o : Result (List ℕ) FrameRefused) → l.seen.0 ≡ l.peer_boot
+    → Goes l (pair_told (pair_of (arts.head bytes)) (of_frame arts f l bytes o)) (link_with arts l bytes o)
+comes arts f l bytes (Err e) known = subst (λ (ps : List (ℕ × ℕ)). Goes l ps l) (sym (none_told (pair_of (arts.head bytes)) e)) (rests l l refl refl known)
+comes arts f l bytes (Ok frame) known =
+    let h = arts.head bytes in
+    let a = link_says arts l bytes in
+    let goes = one l h (is_right arts l.key bytes) known in
+    let all : (fresh_pair h a ++ learned_pair a) ++ [] ≡ pair_told (pair_of h) (of_link a (of_fresh f.topology.version h.topology (sections_in arts f bytes))) =
+    append-nil (fresh_pair h a ++ learned_pair a) ∙ sym (answer_told arts f bytes a) in
+    record { known = goes.known; most = sym (goes.most []) ∙ ap (greatest l.seen) all }
+
+-- ---- which link
+
+same_id : (u v : NodeId) → (u.0 == v.0) ≡ true → u ≡ v
+same_id u v e = ap (λ (n : ℕ). record { 0 = n }) (eqb-true u.0 v.0 e)
+
+apart : (u v : NodeId) (l : Link) → (u.0 == v.0) ≡ false → is_link u l ≡ true → is_link v l ≡ false
+apart u v l other is = ap (λ (n : ℕ). n == v.0) (eqb-true l.peer.0 u.0 is) ∙ other
+
+answer_peer : (l : Link) (h : Head) (a : LinkAnswer) → (after_answer l h a).peer ≡ l.peer
+answer_peer l h answers.NotForMe = refl
+answer_peer l h answers.BadTag = refl
+answer_peer l h (answers.Learned boot) = refl
+answer_peer l h (answers.Stale boot counter) = refl
+answer_peer l h answers.Fresh = refl
+
+comes_peer : (arts : Arts) (l : Link) (bytes : List ℕ) (o : Result (List ℕ) FrameRefused) → (link_with arts l bytes o).peer ≡ l.peer
+comes_peer arts l bytes (Err e) = refl
+comes_peer arts l bytes (Ok frame) = answer_peer l (arts.head bytes) (link_says arts l bytes)
+
+-- what is read for a neighbour is its link, also where there is none
+its_own : (v : NodeId) (me : NodeId) (links : List Link) → is_link v (first_where (is_link v) (new_link me v 0 []) links) ≡ true
+its_own v me [] = eq-eqb v.0 v.0 refl
+its_own v me (l ∷ links) = elim (cases_Bool (is_link v l)) [ inl t ↦ rw t t | inr t ↦ rw t (its_own v me links) ]
+
+-- the link of one neighbour changes, as long as it stays that neighbour's, and all that was told of links was of that one
+one_link : (n : NodeState) (u v : NodeId) (new : Link) (told : List (ℕ × ℕ)) → is_neighbour n u ≡ true → new.peer ≡ (link_in n u).peer
+    → (link_in n v).seen.0 ≡ (link_in n v).peer_boot → ((link_in n u).seen.0 ≡ (link_in n u).peer_boot → Goes (link_in n u) told new)
+    → Goes (link_in n v) (cond (u.0 == v.0) told []) (first_where (is_link v) (new_link n.fixed.me v 0 []) (with_link n u new))
+one_link n u v new told there peer known goes =
+    let mine : is_link u new ≡ true = ap (λ (w : NodeId). w.0 == u.0) peer ∙ its_own u n.fixed.me n.links in
+    elim (cases_Bool (u.0 == v.0)) [
+      | inl t ↦
+          let is : u ≡ v = same_id u v t in
+          let found : first_where (is_link v) (new_link n.fixed.me v 0 []) (with_link n u new) ≡ new =
+          subst (λ (w : NodeId). first_where (is_link w) (new_link n.fixed.me w 0 []) (with_link n u new) ≡ new) is
+          (first_replaced (is_link u) (new_link n.fixed.me u 0 []) new n.links mine there) in
+          let done = subst (λ (w : NodeId). (link_in n w).seen.0 ≡ (link_in n w).peer_boot → Goes (link_in n w) told new) is goes known in
+          rw t (subst (λ (l : Link). Goes (link_in n v) told l) (sym found) done)
+      | inr t ↦
+          let found : first_where (is_link v) (new_link n.fixed.me v 0 []) (with_link n u new) ≡ link_in n v =
+          other_replaced (is_link u) (is_link v) (new_link n.fixed.me v 0 []) new n.links (λ l is. apart u v l t is) (apart u v new t mine) in
+          rw t (subst (λ (l : Link). Goes (link_in n v) [] l) (sym found) (rests (link_in n v) (link_in n v) refl refl known))
+    ]
+
+-- ---- each step
+
+abbrev LinkGoes : Arts → NodeId → NodeState → Input → Output → NodeState → Type 0
+LinkGoes arts v n input output new = Goes (link_in n v) (pairs_told arts v input output.reply) (link_in new v)
+
+none_either : (t : Bool) (ps : List (ℕ × ℕ)) → ps ≡ [] → cond t ps [] ≡ []
+none_either true ps e = e
+none_either false ps e = refl
+
+neighbours : (n : NodeState) (u : NodeId) (r : Option NodeRefused) → cond (not (is_neighbour n u)) (Some refusals.NotNeighbour) r ≡ None → is_neighbour n u ≡ true
+neighbours n u r e = by (is_neighbour n u) refl e
+  where
+    by : (t : Bool) → is_neighbour n u ≡ t → cond (not t) (Some refusals.NotNeighbour) r ≡ None → is_neighbour n u ≡ true
+    by true is e = is
+    by false is e = absurd (cc)
+
+quiet : {R : Type 0} (n done : NodeState) (v : NodeId) (r : Option R) → (link_in done v) ≡ (link_in n v) → (link_in n v).seen.0 ≡ (link_in n v).peer_boot
+    → Goes (link_in n v) [] (link_in (kept_or r n done) v)
+quiet n done v (Some x) same known = rests (link_in n v) (link_in n v) refl refl known
+quiet n done v None same known = subst (λ (l : Link). Goes (link_in n v) [] l) (sym same) (rests (link_in n v) (link_in n v) refl refl known)
+
+step_goes : (arts : Arts) (v : NodeId) (n : NodeState) (input : Input) (output : Output) (new : NodeState) → NodeStep arts n input output new
+    → (link_in n v).seen.0 ≡ (link_in n v).peer_boot → LinkGoes arts v n input output new
+step_goes arts v n (Poll u) output new s known =
+    subst (λ (m : NodeState). Goes (link_in n v) [] (link_in m v)) (sym s.1) (go (call_refusal n u) refl)
+  where
+    done : NodeState
+    done = called n (with_link n u (advanced (link_in n u))) (polled n.fixed n.parts u)
+
+    go : (r : Option NodeRefused) → call_refusal n u ≡ r → Goes (link_in n v) [] (link_in (kept_or r n done) v)
+    go (Some refused) e = rests (link_in n v) (link_in n v) refl refl known
+    go None e =
+        subst (λ (ps : List (ℕ × ℕ)). Goes (link_in n v) ps (link_in done v)) (none_either (u.0 == v.0) [] refl)
+        (one_link n u v (advanced (link_in n u)) [] (neighbours n u _ e) refl known (λ k. rests (link_in n u) (advanced (link_in n u)) refl refl k))
+step_goes arts v n (Datagram u bytes) output new s known =
+    subst (λ (o : Output). LinkGoes arts v n (Datagram u bytes) o new) (sym s.0)
+    (subst (λ (m : NodeState). LinkGoes arts v n (Datagram u bytes) (refused_call (call_refusal n u) (arrived arts n u bytes)) m) (sym s.1) (go (call_refusal n u) refl))
+  where
+    done : NodeState
+    done = called n (with_link n u (link_after arts n u bytes)) (handled arts n u bytes).parts
+
+    go : (r : Option NodeRefused) → call_refusal n u ≡ r → LinkGoes arts v n (Datagram u bytes) (refused_call r (arrived arts n u bytes)) (kept_or r n done)
+    go (Some refused) e = rests (link_in n v) (link_in n v) refl refl known
+    go None e =
+        one_link n u v (link_after arts n u bytes) (pair_told (pair_of (arts.head bytes)) (reply_at arts n u bytes)) (neighbours n u _ e)
+        (comes_peer arts (link_in n u) bytes (opened bytes)) known (λ k. comes arts n.fixed (link_in n u) bytes (opened bytes) k)
+step_goes arts v n (Tick now) output new s known =
+    subst (λ (m : NodeState). Goes (link_in n v) [] (link_in m v)) (sym s.1) (go (due n.parts.rel) (signer_refusal n.signer))
+  where
+    go : (a : Option Ack) (r : Option SendRefused) → Goes (link_in n v) [] (link_in (settled_by arts (at_time n now) a r) v)
+    go None r = rests (link_in n v) (link_in n v) refl refl known
+    go (Some ack) (Some refusal) = rests (link_in n v) (link_in n v) refl refl known
+    go (Some ack) None = rests (link_in n v) (link_in n v) refl refl known
+step_goes arts v n (SendRel dst payload) output new s known =
+    subst (λ (m : NodeState). Goes (link_in n v) [] (link_in m v)) (sym s.1) (quiet n _ v (rel_refusal n dst) refl known)
+step_goes arts v n (SendPrio m) output new s known =
+    subst (λ (m : NodeState). Goes (link_in n v) [] (link_in m v)) (sym s.new_is) (quiet n _ v (send_prio_refusal n m s.choice) refl known)
+step_goes arts v n (SetWeight u weight) output new s known =
+    subst (λ (m : NodeState). Goes (link_in n v) [] (link_in m v)) (sym s.1) (quiet n _ v (weight_refusal n u weight) refl known)
+step_goes arts v n (TakeRel src) output new s known =
+    subst (λ (m : NodeState). Goes (link_in n v) [] (link_in m v)) (sym s.1) (rests (link_in n v) (link_in n v) refl refl known)
+step_goes arts v n TakePrio output new s known =
+    subst (λ (m : NodeState). Goes (link_in n v) [] (link_in m v)) (sym s.1) (rests (link_in n v) (link_in n v) refl refl known)
+
+-- ---- a life
+
+greatest_both : (xs ys : List (ℕ × ℕ)) (p : ℕ × ℕ) → greatest p (xs ++ ys) ≡ greatest (greatest p xs) ys
+greatest_both [] ys p = refl
+greatest_both (x ∷ xs) ys p = greatest_both xs ys (cond (is_above x p) x p)
+
+life_goes : (arts : Arts) (v : NodeId) (n : NodeState) (steps : List (Input × Output)) (last : NodeState) → Life arts n steps last
+    → (link_in n v).seen.0 ≡ (link_in n v).peer_boot → Goes (link_in n v) (pairs_of_life arts v steps) (link_in last v)
+life_goes arts v n [] last life known = subst (λ (m : NodeState). Goes (link_in n v) [] (link_in m v)) (sym life) (rests (link_in n v) (link_in n v) refl refl known)
+life_goes arts v n (step ∷ steps) last life known =
+    let first = step_goes arts v n step.0 step.1 life.0 life.1 known in
+    let rest = life_goes arts v life.0 steps last life.2 first.known in
+    let told = pairs_told arts v step.0 step.1.reply in
+    record {
+      known = rest.known;
+      most = rest.most ∙ ap (λ (p : ℕ × ℕ). greatest p (pairs_of_life arts v steps)) first.most
+          ∙ sym (greatest_both told (pairs_of_life arts v steps) (link_in n v).seen);
+    }
+
+-- a link of which nothing was heard
+fresh_link : (f : Fixed) (v : NodeId) (ns : List ((NodeId × EdgeId) × List ℕ))
+    → (first_where (is_link v) (new_link f.me v 0 []) (map (link_of f) ns)).seen ≡ (0, 0)
+fresh_link f v [] = refl
+fresh_link f v (n ∷ ns) = elim (cases_Bool (is_link v (link_of f n))) [ inl t ↦ rw t refl | inr t ↦ rw t (fresh_link f v ns) ]
+
+fresh_boot : (f : Fixed) (v : NodeId) (ns : List ((NodeId × EdgeId) × List ℕ))
+    → (first_where (is_link v) (new_link f.me v 0 []) (map (link_of f) ns)).peer_boot ≡ 0
+fresh_boot f v [] = refl
+fresh_boot f v (n ∷ ns) = elim (cases_Bool (is_link v (link_of f n))) [ inl t ↦ rw t refl | inr t ↦ rw t (fresh_boot f v ns) ]
+
+pub pairs_of_lives : PairsOfLives
+pairs_of_lives arts f signer keys buffer store steps last v life =
+    let n = booted f signer keys buffer store in
+    let links = zip (neighbours_of f) keys in
+    let seen : (link_in n v).seen ≡ (0, 0) = fresh_link f v links in
+    let goes = life_goes arts v n steps last life (ap (λ (p : ℕ × ℕ). p.0) seen ∙ sym (fresh_boot f v links)) in
+    (goes.most ∙ ap (λ (p : ℕ × ℕ). greatest p (pairs_of_life arts v steps)) seen, goes.known)

@@ -1,0 +1,96 @@
+-- What is asked of the messages that a node keeps may be asked less.
+use Rattle.std.proofs.Common.{ℕ, Option, None, Some}
+use Rattle.std.specs.Prelude.{IfSome}
+use Rattle.sp_msg.specs.declared.kept.Kept.{Kept}
+use Rattle.sp_rules.specs.Flow.{FlowState, ends}
+use Rattle.sp_rules.specs.Node.{NodeState}
+use Rattle.sp_rules.specs.PrioPeer.{PrioPeer}
+use Rattle.sp_rules.specs.Store.{Store}
+use Rattle.sp_rules.specs.declared.store.Entry.{Entry}
+use Rattle.laws_node.specs.Flows.{AckKept, FlowHolds}
+use Rattle.laws_node.specs.Nodes.{NodeHolds}
+use Rattle.laws_node.specs.Sizes.{Fits, Sizes}
+use Rattle.laws_node.specs.Stores.{EntryHolds, PrioPeerHolds, StoreHolds}
+use Rattle.laws_node.specs.Updates.{UpdateHolds}
+use Rattle.laws_node.proofs.Tables.{all_weaker}
+
+-- the same sizes with this asked of messages
+abbrev pub asking : (Kept → Type 0) → Sizes → Sizes
+asking Q k = record k { keeps = Q }
+
+module _ (k : Sizes) (Q : Kept → Type 0) (less : (o : Kept) → k.keeps o → Q o) where
+  fits_weaker : (o : Kept) → Fits k o → Fits (asking Q k) o
+  fits_weaker o h = record { fields = h.fields; long = h.long; holds = less o h.holds }
+
+  ack_weaker : (f : FlowState) (o : Option Kept) → IfSome o (AckKept k (ends f)) → IfSome o (AckKept (asking Q k) (ends f))
+  ack_weaker f None h = tt
+  ack_weaker f (Some o) h = record { kind = h.kind; fits = fits_weaker o h.fits }
+
+  flow_weaker : (index : ℕ) (f : FlowState) → FlowHolds k index f → FlowHolds (asking Q k) index f
+  flow_weaker index f h = record {
+    src = h.src;
+    dst = h.dst;
+    standing = h.standing;
+    busy = h.busy;
+    own = h.own;
+    messages = all_weaker (Fits k) (Fits (asking Q k)) f.at.list fits_weaker h.messages;
+    ack = ack_weaker f f.ack h.ack;
+    inbox = h.inbox;
+  }
+
+  entry_weaker : (last : ℕ) (e : Entry) → EntryHolds k last e → EntryHolds (asking Q k) last e
+  entry_weaker last e h = record { id = h.id; kind = h.kind; fits = fits_weaker e.kept h.fits }
+
+  store_weaker : (ids : ℕ) (s : Store) → StoreHolds k ids s → StoreHolds (asking Q k) ids s
+  store_weaker ids s h = record {
+    last = h.last;
+    bounded = h.bounded;
+    capacity = h.capacity;
+    entries = all_weaker (EntryHolds k s.last) (EntryHolds (asking Q k) s.last) s.entries (entry_weaker s.last) h.entries;
+  }
+
+  peer_weaker : (numbers ids : ℕ) (q : PrioPeer) → PrioPeerHolds k numbers ids q → PrioPeerHolds (asking Q k) numbers ids q
+  peer_weaker numbers ids q h = record { store = store_weaker ids q.store h.store; number = h.number; heard = h.heard }
+
+  update_weaker : (index row : ℕ) (o : Option Kept) → IfSome o (UpdateHolds k index row) → IfSome o (UpdateHolds (asking Q k) index row)
+  update_weaker index row None h = tt
+  update_weaker index row (Some o) h = record { kind = h.kind; place = h.place; fits = fits_weaker o h.fits; own = h.own }
+
+  pub node_weaker : (n : NodeState) → NodeHolds k n → NodeHolds (asking Q k) n
+  node_weaker n h = record {
+    fixed = record {
+      me = h.fixed.me;
+      nodes = h.fixed.nodes;
+      edges = h.fixed.edges;
+      is_node = h.fixed.is_node;
+      boot = h.fixed.boot;
+      topology = h.fixed.topology;
+      signature_len = h.fixed.signature_len;
+      short = h.fixed.short;
+    };
+    now = h.now;
+    calls = h.calls;
+    links = h.links;
+    signer = h.signer;
+    parts = record {
+      weights = record { edges = h.parts.weights.edges; rows = λ row. update_weaker n.signer.index row _ (h.parts.weights.rows row) };
+      prio = record {
+        me = h.parts.prio.me;
+        nodes = h.parts.prio.nodes;
+        known = h.parts.prio.known;
+        capacity = h.parts.prio.capacity;
+        inbox = store_weaker _ n.parts.prio.inbox h.parts.prio.inbox;
+        peers = all_weaker (PrioPeerHolds k n.calls _) (PrioPeerHolds (asking Q k) n.calls _) n.parts.prio.peers (peer_weaker n.calls _) h.parts.prio.peers;
+        least = h.parts.prio.least;
+        next = h.parts.prio.next;
+      };
+      rel = record {
+        me = h.parts.rel.me;
+        bound = h.parts.rel.bound;
+        nodes = h.parts.rel.nodes;
+        flows = all_weaker (FlowHolds k n.signer.index) (FlowHolds (asking Q k) n.signer.index) n.parts.rel.flows (flow_weaker n.signer.index) h.parts.rel.flows;
+        keys = h.parts.rel.keys;
+        once = h.parts.rel.once;
+      };
+    };
+  }

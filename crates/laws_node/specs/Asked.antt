@@ -1,0 +1,47 @@
+-- What is asked of each message that a node takes or signs: where each new one and each own one has it, all that the node keeps has it.
+use Rattle.std.specs.Prelude.{ℕ, ◌≡◌, ◌<◌, Bool, true, IsTrue, List, [], ◌∷◌, ◌++◌}
+use Rattle.sp_msg.specs.Bodies.{HasGoodFields, encoded, payload_of}
+use Rattle.sp_msg.specs.Views.{signer_of}
+use Rattle.sp_msg.specs.declared.body.Body.{Body}
+use Rattle.sp_msg.specs.declared.effect.Effect.{Effect}
+use Rattle.sp_msg.specs.declared.effect.Effect.TheVariants.{Signed}
+use Rattle.sp_msg.specs.declared.kept.Kept.{Kept}
+use Rattle.sp_rules.specs.Answers.{is_new}
+use Rattle.sp_rules.specs.Arts.{Arts}
+use Rattle.sp_rules.specs.Node.{NodeState, signed_now}
+use Rattle.sp_rules.specs.Steps.{Input, NodeStep, Output, SendPrio, SendRel}
+use Rattle.sp_rules.specs.declared.answers.Item.{Item}
+use Rattle.laws_node.specs.Inputs.{ArtsFit, InputFits}
+use Rattle.laws_node.specs.Nodes.{KeepsOnly}
+
+-- each object that was answered that it is new has this
+abbrev pub NewKeep : (Kept → Type 0) → List (Kept × Item) → Type 0
+NewKeep P [] = Unit {0}
+NewKeep P (a ∷ others) = (is_new a.1 ≡ true → P a.0) × NewKeep P others
+
+-- the payload that a client asks to be sent
+abbrev pub payload_in : Input → List ℕ
+payload_in (SendRel dst payload) = payload
+payload_in (SendPrio m) = m.payload
+payload_in _ = []
+
+-- the node signed this message in a step on this input with these effects
+pub record IsOwn (n : NodeState) (input : Input) (effects : List Effect) (body : Body) : Type 0 where
+  pub mine : signer_of body ≡ n.fixed.me
+  pub fields : HasGoodFields body
+  pub payload : payload_of body ≡ payload_in input
+  pub left : n.signer.index < n.signer.total
+  pub before : List Effect
+  pub after : List Effect
+  pub told : effects ≡ before ++ Signed (encoded body) ∷ after
+
+-- each message that it signed has this
+abbrev pub OwnKeep : Arts → (Kept → Type 0) → NodeState → Input → List Effect → Type 0
+OwnKeep arts P n input effects = (body : Body) → IsOwn n input effects body → P (signed_now arts n body)
+
+-- whatever is asked: beside it a node keeps what it always keeps
+abbrev pub WhatIsNewIsKept : Type 0
+WhatIsNewIsKept = (keeps : Kept → Bool) (arts : Arts) (old : NodeState) (input : Input) (output : Output) (new : NodeState)
+    → ArtsFit arts old.fixed old.signer → InputFits input → NodeStep arts old input output new
+    → NewKeep (λ o. IsTrue (keeps o)) output.answered → OwnKeep arts (λ o. IsTrue (keeps o)) old input output.effects
+    → KeepsOnly keeps old → KeepsOnly keeps new

@@ -1,0 +1,40 @@
+// The laws of each step of a node beside what it keeps: what never changes, which ids are given, what comes to be kept, what is answered.
+ghost use Rattle.laws_node.specs.Asked.{WhatIsNewIsKept};
+ghost use Rattle.laws_node.specs.Determined.{StepsAreDetermined};
+ghost use Rattle.laws_node.specs.Ids.{IdsStayOwn};
+ghost use Rattle.laws_node.specs.Objects.{ObjectsAreAnswered};
+ghost use Rattle.laws_node.specs.Shapes.{ShapesBegin, ShapesStay};
+ghost use Rattle.laws_node.specs.WithoutRows.{RowsAreNeeded};
+
+/// A law: no step changes who a node is, its bounds, its keys, and what it has rows for. At the start of its life these are rows for all
+/// ordered pairs of nodes and all neighbours, and the bounds that it was given.
+pub fn no_step_changes_who_a_node_is_nor_its_bounds_nor_its_rows()
+    ensures begin { ShapesBegin }
+    ensures stay { ShapesStay }
+{}
+
+/// A law: in each place of a node the ids of its entries rise, so they differ; and a place that has given an id never gives it again.
+pub fn each_entry_of_a_place_has_an_id_of_its_own()
+    ensures { IdsStayOwn }
+{}
+
+/// A law: whatever is asked of messages, all that a node keeps after a step has it, if all that it kept before has it, and what the step
+/// answered as new, and what the node signed in it.
+pub fn what_is_kept_was_answered_as_new_or_signed_here()
+    ensures { WhatIsNewIsKept }
+{}
+
+/// A law: the objects that the answers to a datagram speak of are those of the frame, in their order.
+pub fn the_objects_of_a_frame_are_answered_in_their_order()
+    ensures { ObjectsAreAnswered }
+{}
+
+/// A law: two steps of one state on one input with one output lead to one state.
+pub fn what_a_step_tells_determines_what_it_leaves()
+    ensures { StepsAreDetermined }
+{}
+
+/// An example: what tables without rows would do, and that no node has them.
+pub fn tables_without_rows_forget()
+    ensures { RowsAreNeeded }
+{}

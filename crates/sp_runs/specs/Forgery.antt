@@ -1,0 +1,62 @@
+-- Which events are forged. It is decided at each event, from the events before, their journal and the state.
+use Rattle.std.specs.Prelude.{ℕ, ◌&&◌, Bool, true, false, not, nat_eq, List, [], ◌∷◌, Option, None, Some, option_map, if◌then◌else◌}
+use Rattle.std.specs.Cmp.Lexicographic.{pointwise}
+use Rattle.std.specs.List.{list_any}
+use Rattle.sp_msg.specs.Bodies.{encoded}
+use Rattle.sp_msg.specs.Views.{signer_of}
+use Rattle.sp_msg.specs.declared.kept.Kept.{Kept}
+use Rattle.sp_rules.specs.Answers.{is_new}
+use Rattle.sp_rules.specs.Arrivals.{reply_at}
+use Rattle.sp_rules.specs.Arts.{Arts}
+use Rattle.sp_rules.specs.Node.{NodeState}
+use Rattle.sp_rules.specs.Steps.{Input, Datagram, Output}
+use Rattle.sp_rules.specs.declared.answers.Item.{Item}
+use Rattle.sp_rules.specs.declared.node.LinkReply.{LinkReply}
+use Rattle.sp_rules.specs.declared.node.LinkReply.TheVariants as links
+use Rattle.sp_runs.specs.Settings.{Setting, is_correct}
+use Rattle.sp_runs.specs.Told.{signed}
+use Rattle.sp_runs.specs.Worlds.{World, frames_in}
+use Rattle.sp_runs.specs.declared.entry.Entry.{Entry}
+use Rattle.sp_runs.specs.declared.event.Event.{Event}
+use Rattle.sp_runs.specs.declared.what.What.{What}
+use Rattle.sp_runs.specs.declared.what.What.TheVariants as whats
+
+-- the bytes are among these
+abbrev pub is_among : List ℕ → List (List ℕ) → Bool
+is_among bytes these = list_any (λ x. pointwise nat_eq x bytes) these
+
+-- ---- by its tag
+
+-- the datagram passed the tests of its length, its name, its version, its ends and its tag
+abbrev pub is_tagged : LinkReply → Bool
+is_tagged (links.Learned boot) = true
+is_tagged (links.Stale boot counter) = true
+is_tagged (links.OtherTopology theirs) = true
+is_tagged (links.Section refused) = true
+is_tagged links.Fresh = true
+is_tagged _ = false
+
+-- it passed them at n, from a correct node that never made it for n
+abbrev pub has_forged_tag : Arts → Setting → World → NodeState → Input → Bool
+has_forged_tag arts x w n (Datagram u bytes) =
+    is_correct x u && is_tagged (reply_at arts n u bytes) && not (is_among bytes (frames_in w.directions u n.fixed.me))
+has_forged_tag arts x w n _ = false
+
+-- ---- by an object
+
+-- it was answered that it is new, and its signer is correct and never signed it
+abbrev pub is_forged : Setting → List Event → List Entry → Kept × Item → Bool
+is_forged x es js answered =
+    let body = answered.0.body in
+    is_new answered.1 && is_correct x (signer_of body) && not (is_among (encoded body) (signed es js (signer_of body)))
+
+-- the first one in the order of handling
+abbrev pub forged_object : Setting → List Event → List Entry → List (Kept × Item) → Option (List ℕ)
+forged_object x es js [] = None
+forged_object x es js (answered ∷ others) = if is_forged x es js answered then Some (encoded answered.0.body) else forged_object x es js others
+
+-- ---- what of a step is forged, after these events: the tag, or else the first object
+
+abbrev pub forged : Arts → Setting → List Event → List Entry → World → NodeState → Input → Output → Option What
+forged arts x es js w n input output =
+    if has_forged_tag arts x w n input then Some whats.Tag else option_map whats.Object (forged_object x es js output.answered)

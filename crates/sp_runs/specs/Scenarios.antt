@@ -1,0 +1,49 @@
+-- The setting that a schedule's header makes: nodes 1 to N under version 1 of the topology, with the header's edges, and keys of its seed.
+use Rattle.std.specs.Prelude.{ℕ, ◌++◌, List, codes, map}
+use Rattle.std.specs.List.{range_with_len}
+use Rattle.sha2.specs.Sha256.{sha256}
+use Rattle.sp_base.specs.declared.id.NodeId.{NodeId}
+use Rattle.sp_hmac.specs.Hmac.{hmac}
+use Rattle.sp_hss.specs.KeyTree.{public_key, signature_len, total}
+use Rattle.sp_ots.specs.Strings.{u16str, u8str}
+use Rattle.sp_sign.specs.Heights.{param_of}
+use Rattle.sp_topology.specs.declared.topology.LmsHeight.{LmsHeight}
+use Rattle.sp_topology.specs.declared.topology.NodeKey.{NodeKey}
+use Rattle.sp_topology.specs.declared.topology.Topology.{Topology}
+use Rattle.sp_runs.specs.Settings.{Setting}
+use Rattle.sp_runs.specs.declared.scenario.Scenario.{Scenario}
+
+-- the seed of a node's key
+abbrev pub node_seed : List ℕ → ℕ → List ℕ
+node_seed seed u = hmac seed (codes "node" ++ u8str u)
+
+-- the key of the tags over an edge
+abbrev pub edge_key : List ℕ → ℕ → List ℕ
+edge_key seed e = hmac seed (codes "link" ++ u16str e)
+
+-- the node of this number
+abbrev pub numbered : ℕ → NodeId
+numbered u = record { 0 = u }
+
+-- a node and its public key
+abbrev pub node_key : LmsHeight → List ℕ → ℕ → NodeKey
+node_key height seed u = record { id = numbered u; key = public_key (param_of height) (node_seed seed u) }
+
+-- the topology that all nodes run under
+abbrev pub topology_of : Scenario → Topology
+topology_of s =
+    record { version = 1; height = s.height; nodes = map (node_key s.height s.seed) (range_with_len 1 s.graph.nodes); edges = s.graph.edges }
+
+-- the setting of a header
+abbrev pub setting_of : Scenario → Setting
+setting_of s = record {
+  topology = topology_of s;
+  buffer = s.limits.buffer;
+  store = s.limits.store;
+  bad = s.bad;
+  seed = λ u. node_seed s.seed u;
+  signature_len = signature_len (param_of s.height);
+  total = total (param_of s.height);
+  link_key = λ e. edge_key s.seed e;
+  digest = λ bytes. sha256 bytes;
+}

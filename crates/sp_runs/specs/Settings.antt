@@ -1,0 +1,72 @@
+-- What the header of a schedule makes: who is there, with which keys and bounds, and which of them are compromised.
+use Rattle.std.specs.Prelude.{ℕ, ◌<◌, ◌≤◌, ◌==◌, ◌&&◌, Bool, not, IsTrue, List, map, filter}
+use Rattle.std.specs.List.{list_any}
+use Rattle.sp_base.specs.declared.id.NodeId.{NodeId}
+use Rattle.sp_topology.specs.Ranges.{IsTopology}
+use Rattle.sp_topology.specs.declared.topology.Topology.{Topology}
+use Rattle.sp_rules.specs.Arts.{Arts}
+use Rattle.sp_rules.specs.Node.{NodeState, Signer, booted}
+use Rattle.sp_rules.specs.Parts.{Fixed, neighbours_of, nodes_of}
+use Rattle.laws_node.specs.Inputs.{ArtsFit}
+use Rattle.laws_node.specs.Sizes.{most_indexes}
+
+pub record Setting : Type 0 where
+  pub topology : Topology
+  -- how many messages of a flow, and entries of a store, a node keeps
+  pub buffer : ℕ
+  pub store : ℕ
+  -- the compromised nodes
+  pub bad : List NodeId
+  -- the seed of a node's key, how long signatures are, and how many each key makes
+  pub seed : ℕ → List ℕ
+  pub signature_len : ℕ
+  pub total : ℕ
+  -- the key of the tags over an edge
+  pub link_key : ℕ → List ℕ
+  -- what a journal tells of a frame's bytes
+  pub digest : List ℕ → List ℕ
+
+-- ---- who is correct
+
+-- the node is among these
+abbrev pub is_one_of : List NodeId → NodeId → Bool
+is_one_of nodes u = list_any (λ n. n.0 == u.0) nodes
+
+-- the topology has it
+abbrev pub is_node : Setting → NodeId → Bool
+is_node x u = is_one_of (nodes_of x.topology) u
+
+-- it is there, and follows the rules
+abbrev pub is_correct : Setting → NodeId → Bool
+is_correct x u = is_node x u && not (is_one_of x.bad u)
+
+-- ---- each correct node at its start: it boots with 1, and all its indexes are reserved
+
+-- what is fixed in its life
+abbrev pub fixed_of : Setting → NodeId → Fixed
+fixed_of x u = record { me = u; boot = 1; topology = x.topology; signature_len = x.signature_len }
+
+-- its signer
+abbrev pub first_signer : Setting → NodeId → Signer
+first_signer x u = record { seed = x.seed u.0; index = 0; bound = x.total; total = x.total }
+
+-- the keys of its edges, in the order of its neighbours
+abbrev pub link_keys : Setting → NodeId → List (List ℕ)
+link_keys x u = map (λ n. x.link_key n.1.0) (neighbours_of (fixed_of x u))
+
+-- its state
+abbrev pub node_at_boot : Setting → NodeId → NodeState
+node_at_boot x u = booted (fixed_of x u) (first_signer x u) (link_keys x u) x.buffer x.store
+
+-- the correct nodes, in the order of the topology
+abbrev pub correct_nodes : Setting → List NodeId
+correct_nodes x = filter (is_correct x) (nodes_of x.topology)
+
+-- ---- what is asked of a setting and of arts. Each is proved of this format's arts and of what a schedule's header makes
+
+pub record SettingFits (arts : Arts) (x : Setting) : Type 0 where
+  pub topology : IsTopology x.topology
+  pub short : x.signature_len < 65536
+  pub total : x.total ≤ most_indexes
+  -- each correct node signs validly under the key that the topology has for it, and what it reads is in its ranges
+  pub each : (u : NodeId) → IsTrue (is_correct x u) → ArtsFit arts (fixed_of x u) (first_signer x u)

@@ -1,0 +1,13 @@
+//! The runs of a world: which bytes reach whom, that each event is a step of its acting node alone, what a journal says of it, and which
+//! events are forged. For whoever asks what the world promises: these are all its words.
+#![tactic(auto)]
+
+mod entry;
+mod event;
+mod scenario;
+mod what;
+
+pub use entry::{AnswerWord, Entry, ItemWord, LinkWord, Reply, SectionWord};
+pub use event::Event;
+pub use scenario::Scenario;
+pub use what::What;
