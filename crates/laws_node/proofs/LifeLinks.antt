@@ -67,7 +67,6 @@ none_told p frames.TooLong = refl
 none_told p (frames.Short short) = refl
 none_told p frames.Magic = refl
 none_told p frames.Version = refl
-none_told p frames.Memory = refl
 
 comes : (arts : Arts) (f : Fixed) (l : Link) (bytes : List ℕ) (o : Result (List ℕ) FrameRefused) → l.seen.0 ≡ l.peer_boot
     → Goes l (pair_told (pair_of (arts.head bytes)) (of_frame arts f l bytes o)) (link_with arts l bytes o)

@@ -3,3 +3,4 @@ pub mod DoneLemmas
 pub mod PrioLemmas
 pub mod RelLemmas
 pub mod RoomLemmas
+pub mod WorkLemmas

@@ -1,5 +1,5 @@
 -- How many signatures may be checked for a frame: one for each object that may be new when its turn comes, and none else.
-use Rattle.std.specs.Prelude.{ℕ, ◌+◌, ◌&&◌, Bool, true, false, List, Option, None, Some, option_map}
+use Rattle.std.specs.Prelude.{ℕ, ◌+◌, ◌&&◌, Bool, true, false, List, [], ◌∷◌, Option, None, Some, option_map}
 use Rattle.sp_base.specs.declared.id.Flow.{Flow}
 use Rattle.sp_base.specs.declared.id.NodeId.{NodeId}
 use Rattle.sp_frame.specs.Views.{as_numbered, as_object}
@@ -9,6 +9,7 @@ use Rattle.sp_msg.specs.declared.kept.Kept.{Kept}
 use Rattle.sp_rules.specs.Handle as rules
 use Rattle.sp_rules.specs.Handle.{offer_to}
 use Rattle.sp_rules.specs.Parts.{Parts}
+use Rattle.sp_rules.specs.Pieces.{Piece, AckPiece, PrioAckPiece, PrioPiece, RelPiece, ReportPiece, WeightPiece}
 use Rattle.sp_rules.specs.Prio.{PrioState, judge_prio}
 use Rattle.sp_rules.specs.Rel.{RelState, judge_ack_of, judge_rel_of}
 use Rattle.sp_rules.specs.Weights.{WeightState}
@@ -56,26 +57,43 @@ ack_checks r flow o = one_if (is_new_ack (judge_ack_of r flow o.body))
 abbrev pub rel_checks : Bool → RelState → Flow → Kept → ℕ
 rel_checks acked r flow o = one_if (may_be_new acked (judge_rel_of r flow o.body))
 
+-- the acknowledgement is new: by its judgement and by its signature
+abbrev pub is_acked : List NodeKey → RelState → Flow → Kept → Bool
+is_acked keys r flow o = is_new_ack (judge_ack_of r flow o.body) && is_right keys o
+
 -- ---- a frame
 
--- the number for an object that may be there
+-- the checks for these pieces of a frame in their order, by the state before the frame, and by whether an acknowledgement before them in it is new
+abbrev pub checks_for : rules.Arrival → Parts → Bool → List Piece → ℕ
+checks_for at p acked [] = 0
+checks_for at p acked (WeightPiece o ∷ rest) = weight_checks at.fixed.me p.weights o + checks_for at p acked rest
+checks_for at p acked (PrioAckPiece number ∷ rest) = checks_for at p acked rest
+checks_for at p acked (PrioPiece number o ∷ rest) = prio_checks at p.prio o + checks_for at p acked rest
+checks_for at p acked (ReportPiece flow base have ∷ rest) = checks_for at p acked rest
+checks_for at p acked (AckPiece flow o ∷ rest) = ack_checks p.rel flow o + checks_for at p (is_acked at.fixed.topology.nodes p.rel flow o) rest
+checks_for at p acked (RelPiece flow o ∷ rest) = rel_checks acked p.rel flow o + checks_for at p acked rest
+
+-- the checks for a whole frame
+abbrev pub frame_checks : rules.Arrival → Parts → List Piece → ℕ
+frame_checks at p pieces = checks_for at p false pieces
+
+-- ---- the same of what was read of a frame, for the parts of this crate
+
 abbrev pub of_some : {A : Type 0} → (A → ℕ) → Option A → ℕ
 of_some checks None = 0
 of_some checks (Some o) = checks o
 
--- the slot begins with an acknowledgement that is new: by its judgement and by its signature
-abbrev pub is_acked : List NodeKey → RelState → Flow → Option Kept → Bool
-is_acked keys r flow None = false
-is_acked keys r flow (Some o) = is_new_ack (judge_ack_of r flow o.body) && is_right keys o
+abbrev pub acked_by : List NodeKey → RelState → Flow → Option Kept → Bool
+acked_by keys r flow None = false
+acked_by keys r flow (Some o) = is_acked keys r flow o
 
 abbrev pub slot_checks : List NodeKey → RelState → Slot → ℕ
 slot_checks keys r slot =
     of_some (ack_checks r slot.flow) (option_map as_object slot.ack)
-    + of_some (rel_checks (is_acked keys r slot.flow (option_map as_object slot.ack)) r slot.flow) (option_map as_object slot.rel)
+    + of_some (rel_checks (acked_by keys r slot.flow (option_map as_object slot.ack)) r slot.flow) (option_map as_object slot.rel)
 
--- the signatures of a frame whose objects may be new: four at most, since it has so many objects
-abbrev pub frame_checks : rules.Arrival → Parts → Sections → ℕ
-frame_checks at p sections =
+abbrev pub section_checks : rules.Arrival → Parts → Sections → ℕ
+section_checks at p sections =
     of_some (weight_checks at.fixed.me p.weights) (option_map as_object sections.weight)
     + of_some (λ m. prio_checks at p.prio m.1) (option_map as_numbered sections.prio)
     + of_some (slot_checks at.fixed.topology.nodes p.rel) sections.slot

@@ -52,7 +52,8 @@ pub fn arrive(
     ensures as_before { OnErr result (core.new ≡ core.old) }
     ensures keys { checker.new.nodes ≡ checker.old.nodes }
     ensures work { checker.new.checks ≤ checker.old.checks
-        + frame_checks (record { fixed = fixed.now; now = now; from = from }) core.old sections.now }
+        + frame_checks (record { fixed = fixed.now; now = now; from = from }) core.old (pieces_of (as_contents sections.now)) }
+    ensures few { checker.new.checks ≤ checker.old.checks + 4 }
 {
     let at = Arrival {
         fixed,

@@ -1,12 +1,13 @@
 // What is made ready before anything changes: of each object that may be new and bears its signature, a copy with all memory that taking it needs.
-ghost use Rattle.std.specs.Prelude.{◌≡◌, ◌≤◌, ◌+◌, ◌&&◌, IfOk, is_some};
-ghost use Rattle.sp_frame.specs.Views.{as_object};
+ghost use Rattle.std.specs.Prelude.{◌≡◌, ◌≤◌, ◌+◌, IfOk, is_some};
+ghost use Rattle.sp_frame.specs.Views.{as_contents, as_object};
+ghost use Rattle.sp_rules.specs.Pieces.{pieces_of};
 ghost use Rattle.sp_rules.specs.Rel.{judge_ack_of, judge_rel_of};
 ghost use Rattle.sp_msg.specs.Views.{as_body};
 ghost use Rattle.sp_rel.specs.Seated.{IsSeated};
 ghost use Rattle.sp_node_arrivals.specs.Arrival.{as_arrival};
-ghost use Rattle.sp_node_arrivals.specs.Ready.{IsAckReady, IsPrioReady, IsReady, IsRelReady, IsSlotReady, IsWeightReady, is_right, may_be_new};
-ghost use Rattle.sp_node_arrivals.specs.Work.{ack_checks, frame_checks, is_new_ack, prio_checks, rel_checks, slot_checks, weight_checks};
+ghost use Rattle.sp_node_arrivals.specs.Ready.{IsAckReady, IsPrioReady, IsReady, IsRelReady, IsSlotReady, IsWeightReady, may_be_new};
+ghost use Rattle.sp_node_arrivals.specs.Work.{ack_checks, frame_checks, is_acked, prio_checks, rel_checks, section_checks, slot_checks, weight_checks};
 
 use crate::arrival::Arrival;
 use crate::signed::{copy_of, is_right, payload_of};
@@ -47,7 +48,24 @@ pub fn make_ready(
     requires keys { checker.old.nodes ≡ at.now.fixed.now.topology.nodes }
     ensures ready { IfOk result (IsReady (as_arrival at.now) core.now sections.now) }
     ensures keys { checker.new.nodes ≡ checker.old.nodes }
-    ensures work { checker.new.checks ≤ checker.old.checks + frame_checks (as_arrival at.now) core.now sections.now }
+    ensures work { checker.new.checks ≤ checker.old.checks + frame_checks (as_arrival at.now) core.now (pieces_of (as_contents sections.now)) }
+    ensures few { checker.new.checks ≤ checker.old.checks + 4 }
+{
+    ready_sections(alloc, at, core, checker, sections)
+}
+
+/// The same, section after section.
+fn ready_sections(
+    alloc: Global,
+    at: &Arrival<'_>,
+    core: &Core,
+    checker: &mut Checker,
+    sections: &Sections<'_>,
+) -> Result<Ready, Memory>
+    requires keys { checker.old.nodes ≡ at.now.fixed.now.topology.nodes }
+    ensures ready { IfOk result (IsReady (as_arrival at.now) core.now sections.now) }
+    ensures keys { checker.new.nodes ≡ checker.old.nodes }
+    ensures work { checker.new.checks ≤ checker.old.checks + section_checks (as_arrival at.now) core.now sections.now }
 {
     let weight = match &sections.weight {
         Some(object) => ready_weight(alloc, at, core, checker, object)?,
@@ -144,7 +162,7 @@ fn ready_ack(
     ensures ready { IfOk result (IsAckReady checker.old.nodes core.now.rel flow (as_object object.now)) }
     ensures keys { checker.new.nodes ≡ checker.old.nodes }
     ensures work { checker.new.checks ≤ checker.old.checks + ack_checks core.now.rel flow (as_object object.now) }
-    ensures new { IfOk result (λ ready. is_some ready ≡ is_new_ack (judge_ack_of core.now.rel flow (as_object object.now).body) && is_right checker.old.nodes (as_object object.now)) }
+    ensures new { IfOk result (λ ready. is_some ready ≡ is_acked checker.old.nodes core.now.rel flow (as_object object.now)) }
 {
     let AckJudged::New = judge_ack_of(core, flow, &object.body) else {
         return Ok(None);
