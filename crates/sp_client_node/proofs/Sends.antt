@@ -16,12 +16,14 @@ use Rattle.sp_client_node.specs.Kept.{Keeps}
 use Rattle.sp_client_node.specs.Steps.{AnswersBy, IsSend, caused_in}
 use Rattle.sp_client_node.specs.declared.local.LocalNode.{LocalNode}
 
-same_local : (old new : LocalNode) → new.node ≡ old.node → new.effects ≡ old.effects → new ≡ old
-same_local old new node effects =
-    ap (λ (n : NodeState). record new { node = n }) node ∙ ap (λ (e : Option Caused). record old { effects = e }) effects
+same_local : (old new : LocalNode) → new.node.state ≡ old.node.state → new.node.checks ≡ old.node.checks → new.effects ≡ old.effects → new ≡ old
+same_local old new state checks effects =
+    ap (λ (n : NodeState). record new { node = record { state = n; checks = new.node.checks } }) state
+    ∙ ap (λ (k : ℕ). record new { node = record { state = old.node.state; checks = k } }) checks
+    ∙ ap (λ (e : Option Caused). record old { effects = e }) effects
 
 refused_is : (old new : LocalNode) (input : Input) (command : Command) (answer : Result ℕ SendRefused) (e : SendRefused) (a : Answer)
-    → ((a : Answer) → IsSend old input a new → AnswersBy old command a new) → NodeStep format old.node input (replied (Refused e)) new.node
+    → ((a : Answer) → IsSend old input a new → AnswersBy old command a new) → NodeStep format old.node.state input (replied (Refused e)) new.node.state
     → sent (Err e) ≡ Some a → answer ≡ Err e → new.effects ≡ None → StepsBy AnswersBy old command (sent answer) new
 refused_is old new input command answer e a hands step is told none =
     subst (λ (o : Option Answer). StepsBy AnswersBy old command o new) (sym (ap sent told ∙ is))
@@ -29,23 +31,23 @@ refused_is old new input command answer e a hands step is told none =
 
 pub send_steps : (old new : LocalNode) (input : Input) (command : Command) (refusal : Option SendRefused) (call : Result (Step ℕ) SendRefused)
     (answer : Result ℕ SendRefused) → ((a : Answer) → IsSend old input a new → AnswersBy old command a new)
-    → Sends input refusal old.node call new.node → Keeps old.effects call answer new.effects → StepsBy AnswersBy old command (sent answer) new
-send_steps old new input command refusal (Ok step) answer hands is keeps =
+    → Sends input refusal old.node.state call new.node.state → new.node.checks ≡ old.node.checks → Keeps old.effects call answer new.effects → StepsBy AnswersBy old command (sent answer) new
+send_steps old new input command refusal (Ok step) answer hands is work keeps =
     subst (λ (r : Result ℕ SendRefused). StepsBy AnswersBy old command (sent r) new) (sym keeps.0)
     (hands (answers.Accepted step.reply) (record { output = accepted step.reply step.effects.list; step = is; told = refl; caused = ap caused_in keeps.1 }))
-send_steps old new input command refusal (Err refusals.Memory) answer hands is keeps =
-    subst (λ (r : Result ℕ SendRefused). StepsBy AnswersBy old command (sent r) new) (sym keeps.0) (same_local old new is.1 keeps.1)
-send_steps old new input command refusal (Err refusals.BadEnd) answer hands is keeps =
+send_steps old new input command refusal (Err refusals.Memory) answer hands is work keeps =
+    subst (λ (r : Result ℕ SendRefused). StepsBy AnswersBy old command (sent r) new) (sym keeps.0) (same_local old new is.1 work keeps.1)
+send_steps old new input command refusal (Err refusals.BadEnd) answer hands is work keeps =
     refused_is old new input command answer refusals.BadEnd _ hands is refl keeps.0 keeps.1
-send_steps old new input command refusal (Err (refusals.Full base have)) answer hands is keeps =
+send_steps old new input command refusal (Err (refusals.Full base have)) answer hands is work keeps =
     refused_is old new input command answer (refusals.Full base have) _ hands is refl keeps.0 keeps.1
-send_steps old new input command refusal (Err (refusals.Expired now)) answer hands is keeps =
+send_steps old new input command refusal (Err (refusals.Expired now)) answer hands is work keeps =
     refused_is old new input command answer (refusals.Expired now) _ hands is refl keeps.0 keeps.1
-send_steps old new input command refusal (Err (refusals.NoPaths found)) answer hands is keeps =
+send_steps old new input command refusal (Err (refusals.NoPaths found)) answer hands is work keeps =
     refused_is old new input command answer (refusals.NoPaths found) _ hands is refl keeps.0 keeps.1
-send_steps old new input command refusal (Err (refusals.Low min)) answer hands is keeps =
+send_steps old new input command refusal (Err (refusals.Low min)) answer hands is work keeps =
     refused_is old new input command answer (refusals.Low min) _ hands is refl keeps.0 keeps.1
-send_steps old new input command refusal (Err (refusals.Spent index)) answer hands is keeps =
+send_steps old new input command refusal (Err (refusals.Spent index)) answer hands is work keeps =
     refused_is old new input command answer (refusals.Spent index) _ hands is refl keeps.0 keeps.1
-send_steps old new input command refusal (Err (refusals.NotReserved bound)) answer hands is keeps =
+send_steps old new input command refusal (Err (refusals.NotReserved bound)) answer hands is work keeps =
     refused_is old new input command answer (refusals.NotReserved bound) _ hands is refl keeps.0 keeps.1

@@ -28,14 +28,14 @@ caused_in (Some effects) = effects.list
 -- a send is one step of the node, and what it caused is kept aside
 pub record IsSend (old : LocalNode) (input : Input) (answer : Answer) (new : LocalNode) : Type 0 where
   pub output : Output
-  pub step : NodeStep format old.node input output new.node
+  pub step : NodeStep format old.node.state input output new.node.state
   pub told : told_of output.reply ≡ Some answer
   pub caused : caused_in new.effects ≡ output.effects
 
 -- a take is one step of the node
 pub record IsTake (old : LocalNode) (input : Input) (answer : Answer) (new : LocalNode) : Type 0 where
   pub output : Output
-  pub step : NodeStep format old.node input output new.node
+  pub step : NodeStep format old.node.state input output new.node.state
   pub told : told_of output.reply ≡ Some answer
   pub effects : new.effects ≡ old.effects
 
@@ -49,7 +49,7 @@ abbrev pub AnswersBy : LocalNode → Command → Answer → LocalNode → Type 0
 AnswersBy old (commands.Send dst payload) answer new = IsSend old (SendRel dst payload) answer new
 AnswersBy old (commands.SendPrio dst prio expiry paths payload) answer new =
     IsSend old (SendPrio (record { dst = dst; prio = prio; expiry = expiry; paths = paths; payload = payload })) answer new
-AnswersBy old (commands.Take src) answer new = TakesFrom (is_other old.node src) old src answer new
+AnswersBy old (commands.Take src) answer new = TakesFrom (is_other old.node.state src) old src answer new
 AnswersBy old commands.TakePrio answer new = IsTake old TakePrio answer new
 AnswersBy old (commands.Weight peer weight) answer new = IsSend old (SetWeight peer weight) answer new
 AnswersBy old _ answer new = ⊥

@@ -9,8 +9,8 @@ ghost use Rattle.sp_frame.specs.Views.{as_list};
 ghost use Rattle.sp_frame.specs.Weights.{weights_bytes};
 ghost use Rattle.sp_frame.specs.Writing.{IsWritable, IsWritableSlot, out_report};
 
-use crate::frame::{HEAD_BYTES, NAME, TAG_BYTES, VERSION};
 use crate::Head;
+use crate::frame::{HEAD_BYTES, NAME, TAG_BYTES, VERSION};
 use sp_base::{Bytes, Flow, Memory};
 use sp_msg::{Kept, encoded_len, push_body};
 use std::alloc::Global;

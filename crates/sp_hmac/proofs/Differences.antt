@@ -38,7 +38,7 @@ differences_none : (xs ys : List ℕ) (n : ℕ) → n ≤ length xs → n ≤ le
 differences_none xs ys zero lx ly = (λ _. refl, λ _. refl)
 differences_none xs ys (suc n) lx ly =
     let more : (difference xs ys (suc n) ≡ 0) ↔ (take (n + 1) xs ≡ take (n + 1) ys) =
-        differences_more xs ys n (difference xs ys n) (omega arith) (omega arith) (differences_none xs ys n (omega arith) (omega arith)) in
+    differences_more xs ys n (difference xs ys n) (omega arith) (omega arith) (differences_none xs ys n (omega arith) (omega arith)) in
     rw (← add-one n) more
 
 -- of all bytes

@@ -2,7 +2,7 @@
 ghost use Rattle.std.specs.Prelude.{◌≡◌, ◌-◌, ◌<◌, ◌++◌, [], ◌∷◌, IfErr, IfOk, IsOk};
 
 use crate::MsgRefused;
-use sp_base::{Memory, Bytes, EdgeId, NodeId, push_in_room};
+use sp_base::{Bytes, EdgeId, Memory, NodeId, push_in_room};
 use std::alloc::Global;
 use std::marker::Model;
 

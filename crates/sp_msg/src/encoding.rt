@@ -6,7 +6,7 @@ ghost use Rattle.sp_msg.specs.declared.body.Body.TheVariants as bodies;
 
 use crate::body::{ACK, PRIO, REL, WEIGHT};
 use crate::{Ack, Body, MsgRefused, Prio, Rel, WeightBody};
-use sp_base::{Memory, Bytes, MAX_PAYLOAD_BYTES};
+use sp_base::{Bytes, MAX_PAYLOAD_BYTES, Memory};
 use std::alloc::{AllocError, Global};
 
 /// How many bytes a message has before its payload, or in all where it has none.

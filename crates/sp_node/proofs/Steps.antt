@@ -1,5 +1,5 @@
 -- Each call of a node keeps what a node keeps.
-use Rattle.std.proofs.Common.{◌≡◌, ◌<◌, ◌≤◌, ◌^◌, ℕ, List, length, Option, Result, Ok, Err, refl, sym, subst}
+use Rattle.std.proofs.Common.{◌≡◌, ◌<◌, ◌≤◌, ◌^◌, ℕ, List, length, Option, Result, Ok, Err, refl, sym, subst, ap, ◌∙◌}
 use Rattle.sp_base.specs.Spelling.{AreBytes}
 use Rattle.sp_base.specs.declared.id.NodeId.{NodeId}
 use Rattle.sp_base.specs.declared.limits.TheConstants.{MAX_PAYLOAD_BYTES, MAX_WEIGHT}
@@ -8,7 +8,7 @@ use Rattle.sp_msg.specs.declared.refused.SendRefused.{SendRefused}
 use Rattle.sp_msg.specs.declared.refused.SendRefused.TheVariants as sends
 use Rattle.sp_rules.specs.Node.{NodeState, extended}
 use Rattle.sp_rules.specs.Sends.{PrioSend, after_take_prio, after_take_rel, prio_refusal, rel_refusal, weight_refusal}
-use Rattle.sp_rules.specs.Steps.{Datagram, Input, Poll, SendPrio, SendRel, SetWeight, TakePrio, TakeRel, Tick}
+use Rattle.sp_rules.specs.Steps.{Datagram, Input, Poll, SendPrio, SendRel, SetWeight, TakePrio, TakeRel, Tick, NodeStep, Output}
 use Rattle.sp_rules.specs.declared.node.NodeRefused.{NodeRefused}
 use Rattle.sp_rules.specs.declared.node.NodeRefused.TheVariants as calls
 use Rattle.sp_rules.specs.declared.node.Step.{Step}
@@ -16,58 +16,75 @@ use Rattle.sp_rules.specs.declared.node.Taken.{Taken}
 use Rattle.sp_rules.specs.declared.node.TickReply.{TickReply}
 use Rattle.laws_node.specs.Inputs.{ArtsFit, InputFits, PrioSendFits}
 use Rattle.laws_node.specs.Nodes.{IsKept}
+use Rattle.laws_node.proofs.Shapes.{shapes_stay}
 use Rattle.laws_node.proofs.Steps.{each_step_keeps, extend_keeps}
+use Rattle.laws_node.specs.Shapes.{Shape}
+use Rattle.sp_node.specs.Life.{IsLife}
+use Rattle.sp_rules.specs.Parts.{Fixed}
+use Rattle.sp_topology.specs.declared.topology.NodeKey.{NodeKey}
 use Rattle.sp_node_state.specs.Sends.{Sends}
 use Rattle.sp_node.specs.Calls.{Datagrams, Polls, Ticks}
 
-pub kept_by_poll : (n new : NodeState) (v : NodeId) (r : Result (List ℕ) NodeRefused) → ArtsFit format n.fixed n.signer → IsKept format n → Polls n v r new
-    → IsKept format new
-kept_by_poll n new v (Ok bytes) fits kept step = each_step_keeps format n (Poll v) _ new fits tt step kept
-kept_by_poll n new v (Err calls.NotNeighbour) fits kept step = each_step_keeps format n (Poll v) _ new fits tt step kept
-kept_by_poll n new v (Err calls.Worn) fits kept step = each_step_keeps format n (Poll v) _ new fits tt step kept
-kept_by_poll n new v (Err calls.Memory) fits kept step = subst (IsKept format) (sym step.1) kept
+-- a step of the rules keeps what always holds, since it changes no key of the topology
+step_life : (keys : List NodeKey) (n : NodeState) (input : Input) (output : Output) (new : NodeState) → ArtsFit format n.fixed n.signer → InputFits input
+    → NodeStep format n input output new → IsLife n keys → IsLife new keys
+step_life keys n input output new fits range is life = record {
+  kept = each_step_keeps format n input output new fits range is life.kept;
+  known = life.known ∙ ap (λ (s : Shape). s.fixed.topology.nodes) (sym (shapes_stay format n input output new is));
+}
 
-pub kept_by_tick : (n new : NodeState) (now : ℕ) (r : Result (Step TickReply) NodeRefused) → now < 2 ^ 64 → ArtsFit format n.fixed n.signer → IsKept format n
-    → Ticks n now r new → IsKept format new
-kept_by_tick n new now (Ok step) small fits kept is = each_step_keeps format n (Tick now) _ new fits small is kept
-kept_by_tick n new now (Err e) small fits kept is = subst (IsKept format) (sym is.1) kept
+-- so does a call that leaves the node as it was
+same_life : (keys : List NodeKey) (n new : NodeState) → new ≡ n → IsLife n keys → IsLife new keys
+same_life keys n new same life = subst (λ (m : NodeState). IsLife m keys) (sym same) life
 
-pub kept_by_send : (n new : NodeState) (input : Input) (refusal : Option SendRefused) (r : Result (Step ℕ) SendRefused) → InputFits input
-    → ArtsFit format n.fixed n.signer → IsKept format n → Sends input refusal n r new → IsKept format new
-kept_by_send n new input refusal (Ok step) range fits kept is = each_step_keeps format n input _ new fits range is kept
-kept_by_send n new input refusal (Err sends.BadEnd) range fits kept is = each_step_keeps format n input _ new fits range is kept
-kept_by_send n new input refusal (Err (sends.Full base have)) range fits kept is = each_step_keeps format n input _ new fits range is kept
-kept_by_send n new input refusal (Err (sends.Expired now)) range fits kept is = each_step_keeps format n input _ new fits range is kept
-kept_by_send n new input refusal (Err (sends.NoPaths found)) range fits kept is = each_step_keeps format n input _ new fits range is kept
-kept_by_send n new input refusal (Err (sends.Low min)) range fits kept is = each_step_keeps format n input _ new fits range is kept
-kept_by_send n new input refusal (Err (sends.Spent index)) range fits kept is = each_step_keeps format n input _ new fits range is kept
-kept_by_send n new input refusal (Err (sends.NotReserved bound)) range fits kept is = each_step_keeps format n input _ new fits range is kept
-kept_by_send n new input refusal (Err sends.Memory) range fits kept is = subst (IsKept format) (sym is.1) kept
+pub life_by_poll : (keys : List NodeKey) (n new : NodeState) (v : NodeId) (r : Result (List ℕ) NodeRefused) → ArtsFit format n.fixed n.signer → IsLife n keys → Polls n v r new
+    → IsLife new keys
+life_by_poll keys n new v (Ok bytes) fits life step = step_life keys n (Poll v) _ new fits tt step life
+life_by_poll keys n new v (Err calls.NotNeighbour) fits life step = step_life keys n (Poll v) _ new fits tt step life
+life_by_poll keys n new v (Err calls.Worn) fits life step = step_life keys n (Poll v) _ new fits tt step life
+life_by_poll keys n new v (Err calls.Memory) fits life step = same_life keys n new step.1 life
 
-pub kept_by_extend : (n : NodeState) (upto : ℕ) → n.signer.bound ≤ upto → upto ≤ n.signer.total → IsKept format n → IsKept format (extended n upto)
-kept_by_extend n upto forward within kept = extend_keeps format n upto forward within kept
+pub life_by_tick : (keys : List NodeKey) (n new : NodeState) (now : ℕ) (r : Result (Step TickReply) NodeRefused) → now < 2 ^ 64 → ArtsFit format n.fixed n.signer → IsLife n keys
+    → Ticks n now r new → IsLife new keys
+life_by_tick keys n new now (Ok step) small fits life is = step_life keys n (Tick now) _ new fits small is life
+life_by_tick keys n new now (Err e) small fits life is = same_life keys n new is.1 life
 
-pub kept_by_rel : (n new : NodeState) (dst : NodeId) (payload : List ℕ) (r : Result (Step ℕ) SendRefused) → length payload ≤ MAX_PAYLOAD_BYTES
-    → ArtsFit format n.fixed n.signer → IsKept format n → Sends (SendRel dst payload) (rel_refusal n dst) n r new → IsKept format new
-kept_by_rel n new dst payload r short fits kept is = kept_by_send n new (SendRel dst payload) (rel_refusal n dst) r short fits kept is
+pub life_by_send : (keys : List NodeKey) (n new : NodeState) (input : Input) (refusal : Option SendRefused) (r : Result (Step ℕ) SendRefused) → InputFits input
+    → ArtsFit format n.fixed n.signer → IsLife n keys → Sends input refusal n r new → IsLife new keys
+life_by_send keys n new input refusal (Ok step) range fits life is = step_life keys n input _ new fits range is life
+life_by_send keys n new input refusal (Err sends.BadEnd) range fits life is = step_life keys n input _ new fits range is life
+life_by_send keys n new input refusal (Err (sends.Full base have)) range fits life is = step_life keys n input _ new fits range is life
+life_by_send keys n new input refusal (Err (sends.Expired now)) range fits life is = step_life keys n input _ new fits range is life
+life_by_send keys n new input refusal (Err (sends.NoPaths found)) range fits life is = step_life keys n input _ new fits range is life
+life_by_send keys n new input refusal (Err (sends.Low min)) range fits life is = step_life keys n input _ new fits range is life
+life_by_send keys n new input refusal (Err (sends.Spent index)) range fits life is = step_life keys n input _ new fits range is life
+life_by_send keys n new input refusal (Err (sends.NotReserved bound)) range fits life is = step_life keys n input _ new fits range is life
+life_by_send keys n new input refusal (Err sends.Memory) range fits life is = same_life keys n new is.1 life
 
-pub kept_by_weight : (n new : NodeState) (v : NodeId) (weight : ℕ) (r : Result (Step ℕ) SendRefused) → 1 ≤ weight → weight ≤ MAX_WEIGHT
-    → ArtsFit format n.fixed n.signer → IsKept format n → Sends (SetWeight v weight) (weight_refusal n v weight) n r new → IsKept format new
-kept_by_weight n new v weight r least most fits kept is = kept_by_send n new (SetWeight v weight) (weight_refusal n v weight) r (least, most) fits kept is
+pub life_by_extend : (keys : List NodeKey) (n : NodeState) (upto : ℕ) → n.signer.bound ≤ upto → upto ≤ n.signer.total → IsLife n keys → IsLife (extended n upto) keys
+life_by_extend keys n upto forward within life = record { kept = extend_keeps format n upto forward within life.kept; known = life.known }
 
-pub kept_by_take_rel : (n new : NodeState) (src : NodeId) → ArtsFit format n.fixed n.signer → IsKept format n → new ≡ after_take_rel n src → IsKept format new
-kept_by_take_rel n new src fits kept is = each_step_keeps format n (TakeRel src) _ new fits tt (refl, is) kept
+pub life_by_rel : (keys : List NodeKey) (n new : NodeState) (dst : NodeId) (payload : List ℕ) (r : Result (Step ℕ) SendRefused) → length payload ≤ MAX_PAYLOAD_BYTES
+    → ArtsFit format n.fixed n.signer → IsLife n keys → Sends (SendRel dst payload) (rel_refusal n dst) n r new → IsLife new keys
+life_by_rel keys n new dst payload r short fits life is = life_by_send keys n new (SendRel dst payload) (rel_refusal n dst) r short fits life is
 
-pub kept_by_take_prio : (n new : NodeState) → ArtsFit format n.fixed n.signer → IsKept format n → new ≡ after_take_prio n → IsKept format new
-kept_by_take_prio n new fits kept is = each_step_keeps format n TakePrio _ new fits tt (refl, is) kept
+pub life_by_weight : (keys : List NodeKey) (n new : NodeState) (v : NodeId) (weight : ℕ) (r : Result (Step ℕ) SendRefused) → 1 ≤ weight → weight ≤ MAX_WEIGHT
+    → ArtsFit format n.fixed n.signer → IsLife n keys → Sends (SetWeight v weight) (weight_refusal n v weight) n r new → IsLife new keys
+life_by_weight keys n new v weight r least most fits life is = life_by_send keys n new (SetWeight v weight) (weight_refusal n v weight) r (least, most) fits life is
 
-pub kept_by_datagram : (n new : NodeState) (v : NodeId) (bytes : List ℕ) (r : Result (Step Taken) NodeRefused) → AreBytes bytes
-    → ArtsFit format n.fixed n.signer → IsKept format n → Datagrams n v bytes r new → IsKept format new
-kept_by_datagram n new v bytes (Ok step) are fits kept is = each_step_keeps format n (Datagram v bytes) _ new fits are is kept
-kept_by_datagram n new v bytes (Err calls.NotNeighbour) are fits kept is = each_step_keeps format n (Datagram v bytes) _ new fits are is kept
-kept_by_datagram n new v bytes (Err calls.Worn) are fits kept is = each_step_keeps format n (Datagram v bytes) _ new fits are is kept
-kept_by_datagram n new v bytes (Err calls.Memory) are fits kept is = subst (IsKept format) (sym is.1) kept
+pub life_by_take_rel : (keys : List NodeKey) (n new : NodeState) (src : NodeId) → ArtsFit format n.fixed n.signer → IsLife n keys → new ≡ after_take_rel n src → IsLife new keys
+life_by_take_rel keys n new src fits life is = step_life keys n (TakeRel src) _ new fits tt (refl, is) life
 
-pub kept_by_prio : (n new : NodeState) (m : PrioSend) (r : Result (Step ℕ) SendRefused) → PrioSendFits m
-    → ArtsFit format n.fixed n.signer → IsKept format n → Sends (SendPrio m) (prio_refusal n m) n r new → IsKept format new
-kept_by_prio n new m r range fits kept is = kept_by_send n new (SendPrio m) (prio_refusal n m) r range fits kept is
+pub life_by_take_prio : (keys : List NodeKey) (n new : NodeState) → ArtsFit format n.fixed n.signer → IsLife n keys → new ≡ after_take_prio n → IsLife new keys
+life_by_take_prio keys n new fits life is = step_life keys n TakePrio _ new fits tt (refl, is) life
+
+pub life_by_datagram : (keys : List NodeKey) (n new : NodeState) (v : NodeId) (bytes : List ℕ) (r : Result (Step Taken) NodeRefused) → AreBytes bytes
+    → ArtsFit format n.fixed n.signer → IsLife n keys → Datagrams n v bytes r new → IsLife new keys
+life_by_datagram keys n new v bytes (Ok step) are fits life is = step_life keys n (Datagram v bytes) _ new fits are is life
+life_by_datagram keys n new v bytes (Err calls.NotNeighbour) are fits life is = step_life keys n (Datagram v bytes) _ new fits are is life
+life_by_datagram keys n new v bytes (Err calls.Worn) are fits life is = step_life keys n (Datagram v bytes) _ new fits are is life
+life_by_datagram keys n new v bytes (Err calls.Memory) are fits life is = same_life keys n new is.1 life
+
+pub life_by_prio : (keys : List NodeKey) (n new : NodeState) (m : PrioSend) (r : Result (Step ℕ) SendRefused) → PrioSendFits m
+    → ArtsFit format n.fixed n.signer → IsLife n keys → Sends (SendPrio m) (prio_refusal n m) n r new → IsLife new keys
+life_by_prio keys n new m r range fits life is = life_by_send keys n new (SendPrio m) (prio_refusal n m) r range fits life is

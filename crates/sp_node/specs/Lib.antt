@@ -1,4 +1,5 @@
 pub mod Calls
+pub mod Life
 -- ---- what proofs and the parts of this crate use among themselves
 pub mod Arrived
 pub mod Ready

@@ -1,5 +1,5 @@
 // A datagram arrives from a neighbour.
-ghost use Rattle.std.specs.Prelude.{◌≡◌, ◌<◌, [], IfOk, OnErr, Some as There, length, position};
+ghost use Rattle.std.specs.Prelude.{◌≡◌, ◌≤◌, ◌<◌, ◌+◌, [], IfOk, OnErr, Some as There, length, position};
 ghost use Rattle.sp_base.specs.Rows.{replace_where};
 ghost use Rattle.sp_rules.specs.Node.{called, is_link, with_link};
 ghost use Rattle.sp_rules.specs.declared.node.TheConstants.{MAX_CALLS};
@@ -9,18 +9,21 @@ ghost use Rattle.sp_node_core.specs.Format.{format};
 ghost use Rattle.sp_frame.specs.Frames.{head_of, opened};
 ghost use Rattle.sp_node.specs.Arrived.{pieces_with};
 ghost use Rattle.sp_node.specs.Calls.{Datagrams};
+ghost use Rattle.sp_node.specs.Life.{datagram_checks};
+ghost use Rattle.sp_node_arrivals.specs.Work.{frame_checks};
 ghost use Rattle.sp_node_state.specs.ReadyStates.{IsAnswered};
 ghost use Rattle.sp_rules.specs.Arrivals.{arrival_at, link_after, no_frame, of_fresh, of_link, pieces_in, pieces_where, reply_at, sections_in};
 ghost use Rattle.sp_rules.specs.Handle.{handle_all};
 
-use sp_node_arrivals::{Arrived, arrive};
 use sp_base::{Listed, Memory, NodeId};
-use sp_node_core::Fixed;
 use sp_frame::{Frame, FrameRefused, Sections};
 use sp_link::Link;
 use sp_msg::Effects;
-use sp_rules::{LinkAnswer, LinkReply, NodeRefused, Step, Taken};
+use sp_node_arrivals::{Arrived, arrive};
+use sp_node_core::Fixed;
 use sp_node_state::State;
+use sp_rules::{LinkAnswer, LinkReply, NodeRefused, Step, Taken};
+use sp_sign::Checker;
 use std::alloc::Global;
 
 /// What became of a datagram at its link: the reply, the link after it, and the sections that are to be handled, if any.
@@ -34,16 +37,21 @@ struct Passage<'a> {
 /// A datagram is tested by its link, and where it passes, its objects are taken in order.
 pub fn datagram(
     state: &mut State,
+    checker: &mut Checker,
     alloc: Global,
     from: NodeId,
     bytes: &[u8],
 ) -> Result<Step<Taken>, NodeRefused>
-    requires { IsKept format state.old }
-    ensures { Datagrams state.old from bytes.now result state.new }
+    requires kept { IsKept format state.old }
+    requires keys { checker.old.nodes ≡ state.old.fixed.topology.nodes }
+    ensures step { Datagrams state.old from bytes.now result state.new }
+    ensures keys { checker.new.nodes ≡ checker.old.nodes }
+    ensures work { checker.new.checks ≤ checker.old.checks + datagram_checks state.old from bytes.now }
+    ensures few { checker.new.checks ≤ checker.old.checks + 4 }
 {
     let place = state.place_for(from)?;
     let passage = passed(state, place, from, bytes);
-    let arrived = admit_sections(state, alloc, from, &passage.sections)?;
+    let arrived = admit_sections(state, checker, alloc, from, &passage.sections)?;
     answered(state, place, from, passage.link);
     Ok(Step {
         reply: Taken {
@@ -95,14 +103,19 @@ fn answered(state: &mut State, place: usize, v: NodeId, link: Link)
 /// Takes the objects of these sections, if there are any. After `Memory` the node is as before.
 fn admit_sections(
     state: &mut State,
+    checker: &mut Checker,
     alloc: Global,
     from: NodeId,
     sections: &Option<Sections<'_>>,
 ) -> Result<Arrived, Memory>
-    requires { IsKept format state.old }
+    requires kept { IsKept format state.old }
+    requires keys { checker.old.nodes ≡ state.old.fixed.topology.nodes }
     ensures taken { IfOk result (λ a. IsAdmitted (handle_all format (arrival_at state.old from) state.old.parts (pieces_with sections.now)) state.new.parts a.items a.effects.list) }
     ensures others { IfOk result (λ _. state.new ≡ record state.old { parts = state.new.parts }) }
     ensures as_before { OnErr result (state.new ≡ state.old) }
+    ensures keys { checker.new.nodes ≡ checker.old.nodes }
+    ensures work { checker.new.checks ≤ checker.old.checks + frame_checks (arrival_at state.old from) state.old.parts (pieces_with sections.now) }
+    ensures few { checker.new.checks ≤ checker.old.checks + 4 }
 {
     match sections {
         None => nothing_admitted(alloc),
@@ -110,7 +123,7 @@ fn admit_sections(
             alloc,
             &state.fixed,
             &mut state.core,
-            &mut state.checker,
+            checker,
             state.now,
             from,
             sections,

@@ -8,5 +8,5 @@ mod take;
 mod tick;
 
 pub use node::Node;
-pub use sp_rules::{Entry, Item, LinkReply, MAX_CALLS, NodeRefused, Step, Taken, TickReply};
 pub use sp_node_state::{NodeConfig, can_boot};
+pub use sp_rules::{Entry, Item, LinkReply, MAX_CALLS, NodeRefused, Step, Taken, TickReply};

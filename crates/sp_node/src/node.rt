@@ -1,5 +1,5 @@
 // One node, and all that may be asked of it.
-ghost use Rattle.std.specs.Prelude.{◌≡◌, ◌≤◌, IfErr, IfOk, IsOk, None as Nothing, length};
+ghost use Rattle.std.specs.Prelude.{◌≡◌, ◌≤◌, ◌+◌, IfErr, IfOk, IsOk, None as Nothing, length};
 ghost use Rattle.laws_node.specs.Nodes.{IsKept};
 ghost use Rattle.sp_base.specs.declared.limits.TheConstants.{MAX_PAYLOAD_BYTES, MAX_PRIORITY, MAX_WEIGHT};
 ghost use Rattle.sp_node_core.specs.Format.{format};
@@ -12,6 +12,7 @@ ghost use Rattle.sp_rules.specs.Steps.{SendPrio, SendRel, SetWeight};
 ghost use Rattle.sp_rules.specs.Ticks.{time_after};
 ghost use Rattle.sp_node_state.specs.Boots.{IsBootable, booted_of};
 ghost use Rattle.sp_node.specs.Calls.{Datagrams, Polls, TakesPrio, TakesRel, Ticks};
+ghost use Rattle.sp_node.specs.Life.{datagram_checks};
 ghost use Rattle.sp_node_state.specs.Sends.{Sends};
 ghost use Rattle.sp_node_state.specs.States.{is_other};
 
@@ -19,12 +20,11 @@ use crate::datagram::datagram;
 use crate::poll::poll;
 use crate::take::{take_prio, take_rel};
 use crate::tick::tick;
-use sp_base::{Bytes, Flow, NodeId};
+use sp_base::{Bytes, Flow, Memory, NodeId};
 use sp_msg::SendRefused;
+use sp_node_state::{NodeConfig, State, send_prio, send_rel, set_weight};
 use sp_rules::{Entry, NodeRefused, Step, Taken, TickReply};
-use sp_node_state::{Message, send_prio, send_rel, set_weight};
-use sp_sign::NodeSigner;
-use sp_node_state::{NodeConfig, State};
+use sp_sign::{Checker, NodeSigner};
 use std::alloc::Global;
 use std::marker::Model;
 
@@ -35,18 +35,17 @@ use std::marker::Model;
 #[derive(Drop)]
 pub struct Node {
     state: State,
+    checker: Checker,
 }
 
 impl Model for Node {
-    ghost use Rattle.laws_node.specs.Nodes.{IsKept};
-    ghost use Rattle.sp_node_core.specs.Format.{format};
-    ghost use Rattle.sp_rules.specs.Node.{NodeState};
+    ghost use Rattle.sp_node.specs.Life.{IsLife, Life};
 
-    ghost Value = { NodeState };
+    ghost Value = { Life };
 
-    ghost view = { λ n. n.state };
+    ghost view = { λ n. record { state = n.state; checks = n.checker.checks } };
 
-    ghost invariant = { λ n. IsKept format n.state };
+    ghost invariant = { λ n. IsLife n.state n.checker.nodes };
 }
 
 impl Node {
@@ -60,20 +59,25 @@ impl Node {
         boot: u64,
     ) -> Result<Node, NodeRefused>
         requires { IsBootable config signer boot }
-        ensures node { IfOk result (λ node. node ≡ booted_of config signer boot) }
+        ensures node { IfOk result (λ node. node ≡ record { state = booted_of config signer boot; checks = 0 }) }
         ensures memory { IfErr result (λ refused. refused ≡ NodeRefused.Memory) }
     {
         let state = State::boot(alloc, config, signer, boot)?;
-        Ok(Node { state })
+        let checker = match checker_for(alloc, &state) {
+            Ok(checker) => checker,
+            Err(refused) => return Err(refused),
+        };
+        Ok(Node { state, checker })
     }
 
     /// The next frame to a neighbour: what is next in turn of each part, sealed for that link.
     ///
     /// `NotNeighbour` exactly where the other node isn't a neighbour, and else `Worn` exactly where the node has answered `MAX_CALLS` polls and
     /// datagrams.
-    #[tactic(auto, using(crate::proofs::Steps::kept_by_poll))]
+    #[tactic(auto, using(crate::proofs::Steps::life_by_poll))]
     pub fn poll(&mut self, alloc: Global, v: NodeId) -> Result<Bytes, NodeRefused>
-        ensures { Polls self.old v result self.new }
+        ensures step { Polls self.old.state v result self.new.state }
+        ensures work { self.new.checks ≡ self.old.checks }
     {
         self.state.recall();
         poll(&mut self.state, alloc, v)
@@ -83,26 +87,32 @@ impl Node {
     ///
     /// `NotNeighbour` exactly where the other node isn't a neighbour, and else `Worn` exactly where the node has answered `MAX_CALLS` polls and
     /// datagrams. All memory is taken before anything changes.
-    #[tactic(auto, using(crate::proofs::Steps::kept_by_datagram))]
+    ///
+    /// Its signatures are checked once for each object that may be new when its turn comes, and for no other: so none of a datagram that isn't
+    /// fresh, nor of an object that is old, seen, expired or of a bad end, and four at most.
+    #[tactic(auto, using(crate::proofs::Steps::life_by_datagram))]
     pub fn datagram(
         &mut self,
         alloc: Global,
         from: NodeId,
         bytes: &[u8],
     ) -> Result<Step<Taken>, NodeRefused>
-        ensures { Datagrams self.old from bytes.now result self.new }
+        ensures step { Datagrams self.old.state from bytes.now result self.new.state }
+        ensures work { self.new.checks ≤ self.old.checks + datagram_checks self.old.state from bytes.now }
+        ensures few { self.new.checks ≤ self.old.checks + 4 }
     {
         self.state.recall();
-        datagram(&mut self.state, alloc, from, bytes)
+        datagram(&mut self.state, &mut self.checker, alloc, from, bytes)
     }
 
     /// The time goes on to the greater of the one held and this one, what expired before it leaves, and at most one acknowledgement is signed.
     ///
     /// Only want of memory refuses. None is taken where nothing expires and no acknowledgement is due.
-    #[tactic(auto, using(crate::proofs::Steps::kept_by_tick))]
+    #[tactic(auto, using(crate::proofs::Steps::life_by_tick))]
     pub fn tick(&mut self, alloc: Global, now: u64) -> Result<Step<TickReply>, NodeRefused>
-        ensures step { Ticks self.old now result self.new }
-        ensures quiet { due self.old.parts.rel ≡ Nothing → expiring self.old.parts.prio (time_after self.old now) ≡ 0 → IsOk result }
+        ensures step { Ticks self.old.state now result self.new.state }
+        ensures quiet { due self.old.state.parts.rel ≡ Nothing → expiring self.old.state.parts.prio (time_after self.old.state now) ≡ 0 → IsOk result }
+        ensures work { self.new.checks ≡ self.old.checks }
     {
         self.state.recall();
         tick(&mut self.state, alloc, now)
@@ -111,7 +121,7 @@ impl Node {
     /// Signs a client's reliable message, and keeps it until its destination acknowledges it. Gives its number, counted from 1 in each flow.
     ///
     /// The first of these that applies: `BadEnd` where the destination isn't another node, `Full`, `Spent`, `NotReserved`.
-    #[tactic(auto, using(crate::proofs::Steps::kept_by_rel))]
+    #[tactic(auto, using(crate::proofs::Steps::life_by_rel))]
     pub fn send_rel(
         &mut self,
         alloc: Global,
@@ -119,7 +129,8 @@ impl Node {
         payload: &[u8],
     ) -> Result<Step<u64>, SendRefused>
         requires { length payload.now ≤ MAX_PAYLOAD_BYTES }
-        ensures { Sends (SendRel dst payload.now) (rel_refusal self.old dst) self.old result self.new }
+        ensures step { Sends (SendRel dst payload.now) (rel_refusal self.old.state dst) self.old.state result self.new.state }
+        ensures work { self.new.checks ≡ self.old.checks }
     {
         self.state.recall();
         send_rel(&mut self.state, alloc, dst, payload)
@@ -130,7 +141,7 @@ impl Node {
     ///
     /// The first of these that applies: `BadEnd` where the destination isn't another node, `Expired`, `Spent`, `NotReserved`, and `NoPaths` where there
     /// are fewer paths. `Memory` may come in place of the last.
-    #[tactic(auto, using(crate::proofs::Steps::kept_by_prio))]
+    #[tactic(auto, using(crate::proofs::Steps::life_by_prio))]
     pub fn send_prio(
         &mut self,
         alloc: Global,
@@ -143,10 +154,11 @@ impl Node {
         requires prio { (1 ≤ prio) × (prio ≤ MAX_PRIORITY) }
         requires few { paths ≤ MAX_PATHS }
         requires short { length payload.now ≤ MAX_PAYLOAD_BYTES }
-        ensures { let m : PrioSend = record { dst = dst; prio = prio; expiry = expiry; paths = paths; payload = payload.now } in Sends (SendPrio m) (prio_refusal self.old m) self.old result self.new }
+        ensures step { let m : PrioSend = record { dst = dst; prio = prio; expiry = expiry; paths = paths; payload = payload.now } in Sends (SendPrio m) (prio_refusal self.old.state m) self.old.state result self.new.state }
+        ensures work { self.new.checks ≡ self.old.checks }
     {
         self.state.recall();
-        let message = Message {
+        let message = sp_node_state::PrioSend {
             dst,
             prio,
             expiry,
@@ -159,7 +171,7 @@ impl Node {
     /// Signs what this node says of the weight of its link to a neighbour. Gives the number of the update.
     ///
     /// The first of these that applies: `BadEnd` where the peer isn't a neighbour, `Low`, `Spent`, `NotReserved`.
-    #[tactic(auto, using(crate::proofs::Steps::kept_by_weight))]
+    #[tactic(auto, using(crate::proofs::Steps::life_by_weight))]
     pub fn set_weight(
         &mut self,
         alloc: Global,
@@ -168,25 +180,28 @@ impl Node {
     ) -> Result<Step<u64>, SendRefused>
         requires least { 1 ≤ weight }
         requires most { weight ≤ MAX_WEIGHT }
-        ensures { Sends (SetWeight peer weight) (weight_refusal self.old peer weight) self.old result self.new }
+        ensures step { Sends (SetWeight peer weight) (weight_refusal self.old.state peer weight) self.old.state result self.new.state }
+        ensures work { self.new.checks ≡ self.old.checks }
     {
         self.state.recall();
         set_weight(&mut self.state, alloc, peer, weight)
     }
 
     /// Takes the payload of the oldest reliable message that waits here from a node. None exactly where none waits.
-    #[tactic(auto, using(crate::proofs::Steps::kept_by_take_rel))]
+    #[tactic(auto, using(crate::proofs::Steps::life_by_take_rel))]
     pub fn take_rel(&mut self, src: NodeId) -> Option<Bytes>
-        ensures { TakesRel self.old src result self.new }
+        ensures step { TakesRel self.old.state src result self.new.state }
+        ensures work { self.new.checks ≡ self.old.checks }
     {
         self.state.recall();
         take_rel(&mut self.state, src)
     }
 
     /// Takes the oldest priority message that waits here. None exactly where none waits. That its entry leaves place 0 is told by the entry.
-    #[tactic(auto, using(crate::proofs::Steps::kept_by_take_prio))]
+    #[tactic(auto, using(crate::proofs::Steps::life_by_take_prio))]
     pub fn take_prio(&mut self) -> Option<Entry>
-        ensures { TakesPrio self.old result self.new }
+        ensures step { TakesPrio self.old.state result self.new.state }
+        ensures work { self.new.checks ≡ self.old.checks }
     {
         self.state.recall();
         take_prio(&mut self.state)
@@ -194,52 +209,53 @@ impl Node {
 
     /// Whether this is another node of the overlay.
     pub fn is_other(&self, node: NodeId) -> bool
-        ensures { result ≡ is_other self.entry.now node }
+        ensures { result ≡ is_other self.entry.now.state node }
     {
         self.state.is_other(node)
     }
 
     /// What always holds of a node: what it keeps is within its bounds, in its ranges and signed.
     pub fn is_kept(&self)
-        ensures { IsKept format self.entry.now }
+        ensures { IsKept format self.entry.now.state }
     {
         let _state = &self.state;
     }
 
     /// Reserves the indexes of the signer up to, and not with, `upto`.
-    #[tactic(auto, using(crate::proofs::Steps::kept_by_extend))]
+    #[tactic(auto, using(crate::proofs::Steps::life_by_extend))]
     pub fn extend(&mut self, upto: u64)
-        requires forward { self.old.signer.bound ≤ upto }
-        requires within { upto ≤ self.old.signer.total }
-        ensures { self.new ≡ extended self.old upto }
+        requires forward { self.old.state.signer.bound ≤ upto }
+        requires within { upto ≤ self.old.state.signer.total }
+        ensures step { self.new.state ≡ extended self.old.state upto }
+        ensures work { self.new.checks ≡ self.old.checks }
     {
         self.state.signer.extend(upto);
     }
 
     /// The index of the next signature. None below is used again.
     pub fn index(&self) -> u64
-        ensures { result ≡ self.entry.now.signer.index }
+        ensures { result ≡ self.entry.now.state.signer.index }
     {
         self.state.signer.index()
     }
 
     /// The indexes below this one are reserved for the signer.
     pub fn bound(&self) -> u64
-        ensures { result ≡ self.entry.now.signer.bound }
+        ensures { result ≡ self.entry.now.state.signer.bound }
     {
         self.state.signer.bound()
     }
 
     /// How many messages the key may sign.
     pub fn total(&self) -> u64
-        ensures { result ≡ self.entry.now.signer.total }
+        ensures { result ≡ self.entry.now.state.signer.total }
     {
         self.state.signer.total()
     }
 
     /// The greatest time that a tick gave, in the unit of expiries. 0 before.
     pub fn now(&self) -> u64
-        ensures { result ≡ self.entry.now.now }
+        ensures { result ≡ self.entry.now.state.now }
     {
         self.state.now
     }
@@ -247,15 +263,26 @@ impl Node {
     /// The boot and the counter above which a frame of a neighbour is fresh: (0, 0) where it isn't a neighbour.
     #[tactic(auto, using(sp_base::proofs::RowLemmas::placed))]
     pub fn kept_pair(&self, v: NodeId) -> (u64, u64)
-        ensures { result ≡ (link_in self.entry.now v).seen }
+        ensures { result ≡ (link_in self.entry.now.state v).seen }
     {
         self.state.seen(v)
     }
 
     /// Up to which number the messages of a flow are acknowledged, and up to which they are here. None exactly where the flow isn't active here.
     pub fn position(&self, flow: Flow) -> Option<(u64, u64)>
-        ensures { result ≡ position_in self.entry.now.parts.rel.flows flow }
+        ensures { result ≡ position_in self.entry.now.state.parts.rel.flows flow }
     {
         self.state.core.rel.position(flow)
+    }
+}
+
+/// A checker for the nodes of this node's topology. It is refused for want of memory alone.
+fn checker_for(alloc: Global, state: &State) -> Result<Checker, NodeRefused>
+    ensures checker { IfOk result (λ checker. checker ≡ record { nodes = state.entry.now.fixed.topology.nodes; checks = 0 }) }
+    ensures memory { IfErr result (λ refused. refused ≡ NodeRefused.Memory) }
+{
+    match Checker::make(alloc, &state.fixed.topology) {
+        Ok(checker) => Ok(checker),
+        Err(Memory) => Err(NodeRefused::Memory),
     }
 }

@@ -17,13 +17,13 @@ ghost use Rattle.sp_rules.specs.Rel.{served};
 ghost use Rattle.sp_rules.specs.Weights.{moved};
 
 use sp_base::{Bytes, Memory, NodeId};
-use sp_node_core::{Core, Fixed};
 use sp_frame::{Head, write};
 use sp_link::Link;
 use sp_msg::Kept;
+use sp_node_core::{Core, Fixed};
+use sp_node_state::State;
 use sp_prio::PrioTable;
 use sp_rules::NodeRefused;
-use sp_node_state::State;
 use sp_topology::NodeKey;
 use std::alloc::Global;
 

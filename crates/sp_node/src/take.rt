@@ -5,8 +5,8 @@ ghost use Rattle.sp_rules.specs.Sends.{after_take_prio, after_take_rel};
 ghost use Rattle.sp_rules.specs.Store as stores;
 
 use sp_base::{Bytes, NodeId};
-use sp_rules::Entry;
 use sp_node_state::State;
+use sp_rules::Entry;
 
 /// The oldest reliable message from a node, which leaves its inbox.
 pub fn take_rel(state: &mut State, src: NodeId) -> Option<Bytes>

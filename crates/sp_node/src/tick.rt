@@ -11,11 +11,11 @@ ghost use Rattle.sp_rules.specs.Ticks.{ack_effects, settled_by, tick_reply_of, t
 ghost use Rattle.sp_rules.specs.Told.{told};
 
 use sp_base::Memory;
-use sp_node_core::Core;
 use sp_msg::{Ack, Body, Effect, Effects, SendRefused};
+use sp_node_core::Core;
+use sp_node_state::State;
 use sp_rules::{NodeRefused, Step, TickReply};
 use sp_sign::Blank;
-use sp_node_state::State;
 use std::alloc::Global;
 
 /// The acknowledgement that is due at a tick.

@@ -45,7 +45,7 @@ as_pieces at p s =
     let one : slot ≡ checks_for at p false tail = slot_is at p s.slot in
     let two : prio + checks_for at p false tail ≡ checks_for at p false prios = prio_is at p (option_map as_numbered s.prio) tail in
     let three : weight + checks_for at p false prios ≡ frame_checks at p (pieces_of (as_contents s)) =
-        weight_is at p (option_map as_object s.weight) (PrioAckPiece s.prio_ack ∷ prios) in
+    weight_is at p (option_map as_object s.weight) (PrioAckPiece s.prio_ack ∷ prios) in
     omega (arith, one, two, three)
 
 -- ---- at most four
@@ -61,18 +61,18 @@ some_at_most checks most (Some a) all = all a
 two_at_most : (at : Arrival) (p : Parts) (s : Slot) → slot_checks at.fixed.topology.nodes p.rel s ≤ 2
 two_at_most at p s =
     let ack : of_some (ack_checks p.rel s.flow) (option_map as_object s.ack) ≤ 1 =
-        some_at_most (ack_checks p.rel s.flow) 1 (option_map as_object s.ack) (λ o. one_at_most _) in
+    some_at_most (ack_checks p.rel s.flow) 1 (option_map as_object s.ack) (λ o. one_at_most _) in
     let acked : Bool = acked_by at.fixed.topology.nodes p.rel s.flow (option_map as_object s.ack) in
     let rel : of_some (rel_checks acked p.rel s.flow) (option_map as_object s.rel) ≤ 1 =
-        some_at_most (rel_checks acked p.rel s.flow) 1 (option_map as_object s.rel) (λ o. one_at_most _) in
+    some_at_most (rel_checks acked p.rel s.flow) 1 (option_map as_object s.rel) (λ o. one_at_most _) in
     omega (arith, ack, rel)
 
 pub at_most_four : (at : Arrival) (p : Parts) (s : Sections) → section_checks at p s ≤ 4
 at_most_four at p s =
     let weight : of_some (weight_checks at.fixed.me p.weights) (option_map as_object s.weight) ≤ 1 =
-        some_at_most (weight_checks at.fixed.me p.weights) 1 (option_map as_object s.weight) (λ o. one_at_most _) in
+    some_at_most (weight_checks at.fixed.me p.weights) 1 (option_map as_object s.weight) (λ o. one_at_most _) in
     let prio : of_some (λ x. prio_checks at p.prio x.1) (option_map as_numbered s.prio) ≤ 1 =
-        some_at_most (λ x. prio_checks at p.prio x.1) 1 (option_map as_numbered s.prio) (λ m. one_at_most _) in
+    some_at_most (λ x. prio_checks at p.prio x.1) 1 (option_map as_numbered s.prio) (λ m. one_at_most _) in
     let slot : of_some (slot_checks at.fixed.topology.nodes p.rel) s.slot ≤ 2 =
-        some_at_most (slot_checks at.fixed.topology.nodes p.rel) 2 s.slot (two_at_most at p) in
+    some_at_most (slot_checks at.fixed.topology.nodes p.rel) 2 s.slot (two_at_most at p) in
     omega (arith, weight, prio, slot)

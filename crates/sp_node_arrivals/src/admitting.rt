@@ -10,11 +10,11 @@ ghost use Rattle.sp_node_arrivals.specs.Ready.{IsPrioReady, IsReady, IsWeightRea
 
 use crate::answers::Answers;
 use crate::slot::admit_slot;
-use sp_node_core::Core;
+use crate::{Arrival, Ready, recall};
 use sp_frame::{ObjectRef, Sections};
 use sp_msg::{Effects, Kept};
+use sp_node_core::Core;
 use sp_prio::Parcel;
-use crate::{Arrival, Ready, recall};
 use sp_rules::Item;
 
 /// Takes the objects of a frame in the order of the rules.

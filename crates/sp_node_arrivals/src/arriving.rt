@@ -8,13 +8,13 @@ ghost use Rattle.sp_node_core.specs.Format.{format};
 ghost use Rattle.sp_node_arrivals.specs.Admitted.{IsAdmitted};
 ghost use Rattle.sp_node_arrivals.specs.Work.{frame_checks};
 
-use crate::answers::Answers;
 use crate::admitting::admit;
+use crate::answers::Answers;
+use crate::{Arrival, make_ready};
 use sp_base::{Listed, Memory, NodeId, push_in_room};
-use sp_node_core::{Core, Fixed};
 use sp_frame::Sections;
 use sp_msg::Effects;
-use crate::{Arrival, make_ready};
+use sp_node_core::{Core, Fixed};
 use sp_rules::Item;
 use sp_sign::Checker;
 use std::alloc::Global;

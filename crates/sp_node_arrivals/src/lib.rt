@@ -2,13 +2,13 @@
 //! each is taken in the order of the rules.
 #![tactic(auto)]
 
+mod admitting;
 mod answers;
 mod arrival;
 mod arriving;
 mod ready;
 mod signed;
 mod slot;
-mod admitting;
 
 pub use arrival::Arrival;
 pub use arriving::{Arrived, arrive};

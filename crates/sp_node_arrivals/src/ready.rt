@@ -12,9 +12,9 @@ ghost use Rattle.sp_node_arrivals.specs.Work.{ack_checks, frame_checks, is_acked
 use crate::arrival::Arrival;
 use crate::signed::{copy_of, is_right, payload_of};
 use sp_base::{Bytes, Flow, Memory};
-use sp_node_core::Core;
 use sp_frame::{ObjectRef, Sections, Slot};
 use sp_msg::{BodyRef, Kept};
+use sp_node_core::Core;
 use sp_prio::{Parcel, PrioJudged};
 use sp_rel::{AckJudged, RelJudged, Seat};
 use sp_rules::Offer;

@@ -10,11 +10,11 @@ ghost use Rattle.sp_node_core.specs.Format.{format};
 ghost use Rattle.sp_node_arrivals.specs.Ready.{IsAckReady, IsRelReady, IsSlotReady, StaysReady};
 
 use crate::answers::SlotAnswers;
+use crate::{Arrival, SlotReady, recall};
 use sp_base::{Bytes, Flow};
-use sp_node_core::Core;
 use sp_frame::{ObjectRef, Slot};
 use sp_msg::{Effects, Kept};
-use crate::{Arrival, SlotReady, recall};
+use sp_node_core::Core;
 use sp_rel::Seat;
 use sp_rules::Item;
 

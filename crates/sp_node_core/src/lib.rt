@@ -5,8 +5,8 @@
 
 mod fixed;
 mod format;
-mod parts;
 mod objects;
+mod parts;
 
 pub use fixed::Fixed;
 pub use format::{a_polled_frame_is_read_back, the_arts_of_the_format_fit};

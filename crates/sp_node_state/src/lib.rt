@@ -17,7 +17,7 @@ mod weight;
 
 pub use boot::{NodeConfig, can_boot};
 pub use chosen::mask_to;
-pub use priority::{Message, send_prio};
+pub use priority::{PrioSend, send_prio};
 pub use refused::NoMask;
 pub use reliable::send_rel;
 pub use state::State;

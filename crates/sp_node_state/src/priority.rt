@@ -21,19 +21,18 @@ ghost use Rattle.sp_rules.specs.Told.{told};
 ghost use Rattle.sp_rules.specs.Weights.{effective};
 ghost use Rattle.sp_topology.specs.Ranges.{IsTopology};
 
+use crate::{NoMask, State, mask_to};
 use sp_base::{Bytes, Memory, NodeId};
-use sp_node_core::{Core, Fixed};
-use crate::{NoMask, mask_to};
 use sp_msg::{Body, Effect, Effects, Kept, Mask, Prio, SendRefused};
+use sp_node_core::{Core, Fixed};
 use sp_prio::Spare;
 use sp_rules::Step;
 use sp_sign::Blank;
-use crate::State;
 use std::alloc::Global;
 
 /// A priority message of a client: to whom, how urgent, until when, and over how many paths that share no node, where 0 means all edges.
 #[derive(Clone, Copy, Debug)]
-pub struct Message<'a> {
+pub struct PrioSend<'a> {
     pub dst: NodeId,
     pub prio: u8,
     pub expiry: u64,
@@ -53,7 +52,7 @@ pub struct ReadyPrio {
 pub fn send_prio(
     state: &mut State,
     alloc: Global,
-    message: &Message<'_>,
+    message: &PrioSend<'_>,
 ) -> Result<Step<u64>, SendRefused>
     requires kept { IsKept format state.old }
     requires fits { PrioSendFits (as_send message.now) }
@@ -74,7 +73,7 @@ pub fn send_prio(
 }
 
 /// Why the message isn't sent, but for its paths.
-fn may_send(state: &State, message: &Message<'_>) -> Result<(), SendRefused>
+fn may_send(state: &State, message: &PrioSend<'_>) -> Result<(), SendRefused>
     ensures free { IfOk result (λ _. prio_refusal state.entry.now (as_send message.now) ≡ Nothing) }
     ensures refused { IfErr result (λ refused. prio_refusal state.entry.now (as_send message.now) ≡ There refused) }
     ensures no_want { result ≢ Err SendRefused.Memory }
@@ -92,7 +91,7 @@ fn may_send(state: &State, message: &Message<'_>) -> Result<(), SendRefused>
 }
 
 /// The edges that the message takes.
-fn mask_for(state: &State, alloc: Global, message: &Message<'_>) -> Result<Mask, SendRefused>
+fn mask_for(state: &State, alloc: Global, message: &PrioSend<'_>) -> Result<Mask, SendRefused>
     requires kept { IsKept format state.now }
     requires few { message.now.paths ≤ MAX_PATHS }
     requires free { prio_refusal state.now (as_send message.now) ≡ Nothing }
@@ -116,7 +115,7 @@ fn next_number(state: &State) -> u64
 fn prio_body(
     state: &State,
     alloc: Global,
-    message: &Message<'_>,
+    message: &PrioSend<'_>,
     mask: Mask,
 ) -> Result<Body, Memory>
     ensures { IfOk result (λ body. body ≡ prio_body state.entry.now (as_send message.now) mask) }
@@ -136,7 +135,7 @@ fn prio_body(
 fn ready_prio(
     state: &State,
     alloc: Global,
-    message: &Message<'_>,
+    message: &PrioSend<'_>,
     mask: Mask,
 ) -> Result<ReadyPrio, Memory>
     requires kept { IsKept format state.now }
@@ -178,7 +177,7 @@ fn admit_own(state: &mut State, ready: ReadyPrio) -> Effects
 }
 
 /// The edges that a message takes, by the weights in effect.
-fn choose(alloc: Global, fixed: &Fixed, core: &Core, message: &Message<'_>) -> Result<Mask, NoMask>
+fn choose(alloc: Global, fixed: &Fixed, core: &Core, message: &PrioSend<'_>) -> Result<Mask, NoMask>
     requires topology { IsTopology fixed.now.topology }
     requires edges { core.now.weights.edges ≡ fixed.now.topology.edges }
     requires small { (edge : ℕ) → effective core.now.weights edge ≤ MAX_WEIGHT }

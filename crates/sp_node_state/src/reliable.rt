@@ -10,12 +10,12 @@ ghost use Rattle.sp_rules.specs.Rel.{pushed_in};
 ghost use Rattle.sp_rules.specs.Sends.{rel_body, rel_number, rel_refusal, signed_effect};
 ghost use Rattle.sp_rules.specs.Steps.{SendRel};
 
+use crate::State;
 use sp_base::{Bytes, Flow, Memory, NodeId};
 use sp_msg::{Body, Effect, Effects, Rel, SendRefused};
 use sp_rel::{RelRefused, Seat};
 use sp_rules::Step;
 use sp_sign::Blank;
-use crate::State;
 use std::alloc::Global;
 
 /// All that a reliable message needs: itself, the memory of its flow, and room for what it causes.

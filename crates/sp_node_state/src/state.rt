@@ -8,8 +8,8 @@ ghost use Rattle.sp_rules.specs.Node.{call_refusal, is_link, link_in};
 ghost use Rattle.sp_rules.specs.declared.node.TheConstants.{MAX_CALLS};
 
 use sp_base::NodeId;
-use sp_node_core::{Core, Fixed};
 use sp_link::Link;
+use sp_node_core::{Core, Fixed};
 use sp_rules::{MAX_CALLS, NodeRefused};
 use sp_sign::NodeSigner;
 use std::marker::Model;

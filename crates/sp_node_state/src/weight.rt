@@ -13,11 +13,11 @@ ghost use Rattle.sp_rules.specs.Steps.{SetWeight};
 ghost use Rattle.sp_rules.specs.Told.{told};
 ghost use Rattle.sp_rules.specs.Weights.{held};
 
+use crate::State;
 use sp_base::{EdgeId, Memory, NodeId};
 use sp_msg::{Body, Effect, Effects, SendRefused, WeightBody};
 use sp_rules::Step;
 use sp_sign::Blank;
-use crate::State;
 use std::alloc::Global;
 
 /// All that an update of a weight needs: itself, and room for what it causes.

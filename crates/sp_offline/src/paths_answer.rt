@@ -7,8 +7,8 @@ ghost use Rattle.sp_offline.specs.PathsAnswers.{IsAnswer, SaysGraph};
 ghost use Rattle.sp_offline.specs.PathsWords.{IsQuery};
 
 use crate::Query;
-use crate::paths_refusal::{graph_refused_line, refused_line};
 use crate::paths_lines::{fewer_text, paths_text};
+use crate::paths_refusal::{graph_refused_line, refused_line};
 use sp_base::{Bytes, Memory};
 use sp_graph::{Graph, GraphRefused, read};
 use sp_paths::{PathRefused, disjoint};
@@ -48,7 +48,12 @@ pub fn cheapest_paths(
 }
 
 /// The answer to a query over a graph, of which this is the text.
-fn of_graph(alloc: Global, query: &Query, _text: &[u8], graph: &Graph) -> Result<PathsAnswer, Memory>
+fn of_graph(
+    alloc: Global,
+    query: &Query,
+    _text: &[u8],
+    graph: &Graph,
+) -> Result<PathsAnswer, Memory>
     requires query { IsQuery query.now }
     requires graph { SaysGraph _text.now graph.now }
     ensures { IfOk result (IsAnswer query.now _text.now false) }

@@ -5,12 +5,11 @@ ghost use Rattle.sp_ots.specs.Lanes.{lanes};
 ghost use Rattle.sp_ots.specs.Parameters.{chain_count};
 ghost use Rattle.sp_ots.specs.Keys.{private_start, public_key};
 
-use crate::OtsParam;
 use crate::chains::run_chains;
 use crate::hashes::{element_message, key_of_ends};
 use crate::param::MOST_CHAINS;
+use crate::{LANES, OtsParam, digests};
 use sha2::{Digest, Sha256};
-use crate::{LANES, digests};
 
 /// What stands in place of a step where a seed is hashed (RFC 8554, appendix A).
 pub(crate) const SEED_STEP: u8 = 0xff;

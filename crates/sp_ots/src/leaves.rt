@@ -6,12 +6,11 @@ ghost use Rattle.sp_ots.specs.Strings.{u8str};
 ghost use Rattle.sp_ots.specs.Keys.{public_key};
 ghost use Rattle.sp_ots.specs.Leaves.{end_of_start, front_of};
 
-use crate::OtsParam;
 use crate::hashes::{D_PBLC, element_message};
 use crate::keys::SEED_STEP;
 use crate::lanes::renew;
 use crate::param::MOST_CHAINS;
-use crate::{LANES, digests, prefix_digests};
+use crate::{LANES, OtsParam, digests, prefix_digests};
 
 /// Where the ends of the chains begin in the message that a public key is the hash of.
 const FRONT: usize = 22;

@@ -8,11 +8,11 @@ ghost use Rattle.sp_rules.specs.Flow.{IsStanding, after_take, is_flow, no_flow};
 ghost use Rattle.sp_rules.specs.Rel.{flow_at, flow_in, is_due};
 ghost use Rattle.sp_rel.specs.Tables.{idle_row, put_in};
 
-use sp_base::{Bytes, Cursor, Flow, Memory, NodeId};
-use sp_msg::Kept;
 use crate::change::Change;
 use crate::row::{FlowRow, Numbers};
 use crate::seat::Seat;
+use sp_base::{Bytes, Cursor, Flow, Memory, NodeId};
+use sp_msg::Kept;
 use std::alloc::Global;
 use std::marker::Model;
 

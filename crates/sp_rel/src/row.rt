@@ -7,8 +7,8 @@ ghost use Rattle.sp_rules.specs.Rel.{is_due};
 ghost use Rattle.sp_rel.specs.Changes.{CanChange, changed};
 ghost use Rattle.sp_rel.specs.Rows.{IsSeated, with_state};
 
-use crate::held::Held;
 use crate::change::Change;
+use crate::held::Held;
 use crate::seat::Seat;
 use sp_base::{Bytes, Flow, NodeId};
 use sp_msg::{Body, Kept};

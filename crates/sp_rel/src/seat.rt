@@ -1,8 +1,8 @@
 // The memory of a flow before it is active: taken first, so that what follows can't be refused.
 ghost use Rattle.std.specs.Prelude.{◌≡◌, IfOk, true, false};
 
-use crate::inbox::Inbox;
 use crate::held::Held;
+use crate::inbox::Inbox;
 use sp_base::{Flow, Memory, NodeId};
 use sp_flow::FlowBuf;
 use std::alloc::Global;

@@ -8,14 +8,14 @@ ghost use Rattle.sp_rules.specs.Flow.{IsReliable, flow_said};
 ghost use Rattle.sp_rules.specs.Rel.{AreStanding, IsNextOwn, admit_ack, admit_rel, are_ends, delivery, due, is_node, judge_ack, judge_ack_of, judge_rel, judge_rel_of};
 ghost use Rattle.sp_rules.specs.Rel.{oldest, position_in, pushed_in, rel_effects, reported, room, served, settled, slot_for, slot_of, start, took};
 
+use crate::change::Change;
 use crate::flows::Flows;
 use crate::pairs::pairs_of;
 use crate::peers::Peers;
+use crate::seat::Seat;
 use sp_base::{Bytes, Cursor, Flow, Memory, NodeId};
 use sp_frame::OutSlot;
 use sp_msg::{Ack, Body, Effect, Effects, Kept};
-use crate::change::Change;
-use crate::seat::Seat;
 use sp_rules::{AckJudged, RelJudged, RelRefused};
 use std::alloc::Global;
 use std::marker::Model;

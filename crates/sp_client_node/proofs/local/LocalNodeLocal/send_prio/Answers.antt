@@ -8,5 +8,5 @@ pub returns-clause-step : goal.returns-clause-step
 returns-clause-step c =
     let m : PrioSend = record { dst = c.args.dst; prio = c.args.prio; expiry = c.args.expiry; paths = c.args.paths; payload = c.args.payload.now } in
     send_steps c.args.self.now (record { node = c.send_prio-call.new.self; effects = c.keep.new.effects }) (SendPrio m)
-    (commands.SendPrio c.args.dst c.args.prio c.args.expiry c.args.paths c.args.payload.now) (prio_refusal c.args.self.now.node m)
-    c.send_prio-call.result c.keep.result (λ a s. s) c.send_prio-call.ensures c.keep.ensures
+    (commands.SendPrio c.args.dst c.args.prio c.args.expiry c.args.paths c.args.payload.now) (prio_refusal c.args.self.now.node.state m)
+    c.send_prio-call.result c.keep.result (λ a s. s) c.send_prio-call.ensures.step c.send_prio-call.ensures.work c.keep.ensures

@@ -1,0 +1,24 @@
+-- What a contract sees of a node: its state by the rules, and how many signatures it has checked in this life.
+use Rattle.std.specs.Prelude.{ℕ, ◌≡◌, false, List}
+use Rattle.laws_node.specs.Nodes.{IsKept}
+use Rattle.sp_base.specs.declared.id.NodeId.{NodeId}
+use Rattle.sp_node_arrivals.specs.Work.{frame_checks}
+use Rattle.sp_node_core.specs.Format.{format}
+use Rattle.sp_rules.specs.Arrivals.{arrival_at, pieces_in, pieces_where, reply_at, sections_in}
+use Rattle.sp_rules.specs.Node.{NodeState}
+use Rattle.sp_topology.specs.declared.topology.NodeKey.{NodeKey}
+
+-- the state, and the number of signature checks, which stands still at the end of its type
+pub record Life : Type 0 where
+  pub state : NodeState
+  pub checks : ℕ
+
+-- what always holds: the bounds, ranges and signatures of what is kept, and that signatures are checked under the keys of the topology
+pub record IsLife (n : NodeState) (keys : List NodeKey) : Type 0 where
+  pub kept : IsKept format n
+  pub known : keys ≡ n.fixed.topology.nodes
+
+-- how many signatures may be checked for a datagram: none where it isn't fresh and whole; else one for each object that may be new
+abbrev pub datagram_checks : NodeState → NodeId → List ℕ → ℕ
+datagram_checks n v bytes =
+    frame_checks (arrival_at n v) n.parts (pieces_where (reply_at format n v bytes) (pieces_in (sections_in format n.fixed bytes)))
