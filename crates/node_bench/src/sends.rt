@@ -1,5 +1,7 @@
 // What a node sends: polls, and messages of clients.
-use node_frames::{PAYLOAD, THREE, length_of};
+use crate::network::THREE;
+use crate::objects::PAYLOAD;
+use crate::writing::length_of;
 use sp_base::NodeId;
 use sp_msg::Effects;
 use sp_node::Node;

@@ -3,7 +3,7 @@ ghost use Rattle.std.specs.Prelude.{◌≤◌, ◌^◌, IfSome};
 ghost use Rattle.sp_frame.specs.Writing.{IsWritable};
 ghost use Rattle.sp_msg.specs.Bodies.{HasGoodFields};
 ghost use Rattle.sp_msg.specs.Views.{as_body};
-ghost use Rattle.node_frames.specs.Writable.{AreWritable};
+ghost use Rattle.node_bench.specs.Writable.{AreWritable};
 
 use crate::network::{ONE, THREE, edge_weight, make_signer};
 use sp_base::{EdgeId, MAX_PAYLOAD_BYTES};

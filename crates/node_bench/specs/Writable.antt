@@ -1,6 +1,6 @@
 -- Objects of a frame that can be written.
 use Rattle.sp_frame.specs.Writing.{IsWritable}
-use Rattle.node_frames.specs.declared.objects.Objects.{Objects}
+use Rattle.node_bench.specs.declared.objects.Objects.{Objects}
 
 pub record AreWritable (o : Objects) : Type 0 where
   pub weight : IsWritable o.weight

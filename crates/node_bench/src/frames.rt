@@ -1,25 +1,23 @@
-// The frames that come to node 2, made beforehand.
+// The frames that come to node 2, made beforehand: with new objects, and copies of them that come later or have a wrong tag.
 ghost use Rattle.std.specs.Prelude.{◌≤◌, ◌^◌};
 
-use crate::changes::{Change, push_changed};
 use crate::objects::Signers;
 use crate::tagging::seal;
-use crate::writing::{unsealed, unsealed_empty};
+use crate::writing::unsealed;
 use sp_base::Bytes;
 use std::alloc::Global;
 use std::ops::Range;
 
-/// Sealed frames of node 1, each with four objects but for the empty ones, and copies of them with a change.
+/// Sealed frames of node 1, each with four objects.
 #[derive(Drop)]
 pub struct Frames {
     /// It makes the flow known before the works.
     pub first: Vec<Bytes>,
     pub new: Vec<Bytes>,
+    /// They come later, with the same objects.
     pub old: Vec<Bytes>,
+    /// A bit of their tags is another.
     pub bad_tag: Vec<Bytes>,
-    pub other_topology: Vec<Bytes>,
-    pub not_for_me: Vec<Bytes>,
-    pub empty: Vec<Bytes>,
 }
 
 impl Frames {
@@ -30,9 +28,6 @@ impl Frames {
             new: Vec::new(alloc),
             old: Vec::new(alloc),
             bad_tag: Vec::new(alloc),
-            other_topology: Vec::new(alloc),
-            not_for_me: Vec::new(alloc),
-            empty: Vec::new(alloc),
         };
         frames.fill(alloc, count)?;
         Some(frames)
@@ -47,17 +42,8 @@ impl Frames {
             &mut signers,
             1..count.saturating_add(1),
         )?;
-        self.change(alloc)?;
-        push_empty(alloc, &mut self.empty, count)
-    }
-
-    /// Copies the new ones with each change.
-    fn change(&mut self, alloc: Global) -> Option<()> {
-        let new = &self.new;
-        push_changed(alloc, &mut self.old, new, Change::Counter)?;
-        push_changed(alloc, &mut self.bad_tag, new, Change::Bit)?;
-        push_changed(alloc, &mut self.other_topology, new, Change::Topology)?;
-        push_changed(alloc, &mut self.not_for_me, new, Change::From)
+        push_changed(alloc, &mut self.old, &self.new, Change::Later)?;
+        push_changed(alloc, &mut self.bad_tag, &self.new, Change::Tag)
     }
 }
 
@@ -87,11 +73,49 @@ fn fresh(alloc: Global, signers: &mut Signers, number: u64) -> Option<Bytes>
     Some(frame)
 }
 
-fn push_empty(alloc: Global, frames: &mut Vec<Bytes>, count: u32) -> Option<()> {
-    for _ in 0..count {
-        let mut frame = unsealed_empty(alloc)?;
-        seal(&mut frame);
-        frames.push(frame).ok()?;
+/// How a copy differs from its frame.
+#[derive(Clone, Copy)]
+enum Change {
+    Later,
+    Tag,
+}
+
+/// Pushes copies of frames with a change.
+fn push_changed(
+    alloc: Global,
+    copies: &mut Vec<Bytes>,
+    frames: &[Bytes],
+    change: Change,
+) -> Option<()> {
+    for frame in frames {
+        copies.push(changed(alloc, frame.as_slice(), change)?).ok()?;
     }
     Some(())
+}
+
+/// A copy with the change, sealed before a bit of its tag changes.
+fn changed(alloc: Global, frame: &[u8], change: Change) -> Option<Bytes> {
+    let Ok(mut copy) = Bytes::copy(alloc, frame) else {
+        return None;
+    };
+    if let Change::Later = change {
+        make_later(&mut copy);
+    } else {
+        change_tag(&mut copy);
+    }
+    Some(copy)
+}
+
+/// The fourth byte of a frame's counter was 0, so this one is greater than all that were sent.
+fn make_later(frame: &mut Bytes) {
+    if let Some(byte) = frame.as_mut_slice().get_mut(24) {
+        *byte = 1;
+    }
+    seal(frame);
+}
+
+fn change_tag(frame: &mut Bytes) {
+    if let Some(byte) = frame.as_mut_slice().last_mut() {
+        *byte ^= 1;
+    }
 }

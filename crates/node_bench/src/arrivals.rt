@@ -1,5 +1,5 @@
 // Frames that come to a node, and what it says of them.
-use node_frames::ONE;
+use crate::network::ONE;
 use sp_base::Bytes;
 use sp_node::{Item, LinkReply, Node, Taken};
 use sp_rules::{AckAnswer, PrioAnswer, RelAnswer, WeightAnswer};
@@ -14,8 +14,6 @@ pub enum Said {
     Old,
     Stale,
     BadTag,
-    OtherTopology,
-    NotForMe,
 }
 
 /// The frames come to the node in their order. Gives how often it says so.
@@ -40,8 +38,6 @@ fn count(taken: &Taken, said: Said) -> u32 {
         (Said::New | Said::Old, LinkReply::Fresh) => count_items(taken.items.as_slice(), said),
         (Said::Stale, LinkReply::Stale { .. }) => 1,
         (Said::BadTag, LinkReply::BadTag) => 1,
-        (Said::OtherTopology, LinkReply::OtherTopology { .. }) => 1,
-        (Said::NotForMe, LinkReply::NotForMe) => 1,
         _ => 0,
     }
 }

@@ -1,8 +1,8 @@
-// The graph of the network as a text.
+// The graph of the network.
 ghost use Rattle.std.specs.Prelude.{IfSome};
 ghost use Rattle.sp_graph.specs.Edges.{IsGraph};
 
-use node_frames::edge_weight;
+use crate::network::edge_weight;
 use sp_base::MAX_INPUT_BYTES;
 use sp_graph::{Graph, read};
 use std::alloc::Global;

@@ -2,7 +2,7 @@
 ghost use Rattle.std.specs.Prelude.{◌≡◌, IfSome};
 ghost use Rattle.sp_topology.specs.Ranges.{IsTopology};
 
-use node_frames::{KEY, TWO, make_signer};
+use crate::network::{KEY, TWO, make_signer};
 use sp_base::{EdgeId, Limits, Listed, MAX_BUFFER, MAX_STORE};
 use sp_node::{Node, NodeConfig, can_boot};
 use sp_sign::NodeSigner;

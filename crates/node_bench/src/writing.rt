@@ -1,5 +1,5 @@
-// Frames of node 1 to node 2 are written: with an update, an acknowledgement, a priority and a reliable message, or with none.
-ghost use Rattle.node_frames.specs.Writable.{AreWritable};
+// Frames of node 1 to node 2 are written, each with an update, an acknowledgement, a priority and a reliable message.
+ghost use Rattle.node_bench.specs.Writable.{AreWritable};
 
 use crate::network::{ONE, THREE, TWO};
 use crate::objects::{Objects, copied};
@@ -30,11 +30,6 @@ pub fn unsealed(alloc: Global, counter: u64, objects: &Objects) -> Option<Bytes>
         Some(&slot),
     )
     .ok()
-}
-
-/// A frame without objects, to be sealed.
-pub fn unsealed_empty(alloc: Global) -> Option<Bytes> {
-    write(alloc, &head(1), None, 0, None, None).ok()
 }
 
 fn head(counter: u64) -> Head {

@@ -1,13 +1,15 @@
-// The signatures of the messages that were sent.
+// The signatures of the messages that were sent, and the searches for their paths.
 ghost use Rattle.sp_graph.specs.Edges.{IsGraph};
 
-use crate::dense::graph_of;
-use crate::searches::paths_to;
-use crate::sends::destination;
-use node_frames::signature;
+use crate::graph::graph_of;
+use crate::network::TWO;
+use crate::objects::signature;
+use crate::sends::{PATHS, destination};
+use sp_base::NodeId;
 use sp_graph::Graph;
 use sp_hss::Signer;
 use sp_msg::{Effect, Effects};
+use sp_paths::disjoint;
 use std::alloc::Global;
 
 /// The bytes that were signed are signed again. Gives how many.
@@ -49,4 +51,14 @@ fn signs_with(alloc: Global, signer: &mut Signer, graph: &Graph, sent: &[Effects
         place = place.wrapping_add(1);
     }
     sum
+}
+
+/// How many paths there are.
+fn paths_to(alloc: Global, graph: &Graph, to: NodeId) -> u32
+    requires { IsGraph graph.now }
+{
+    match disjoint(alloc, graph, TWO, to, PATHS) {
+        Ok(found) => u32::try_from(found.paths.as_slice().len()).unwrap_or(0),
+        Err(_) => 0,
+    }
 }
