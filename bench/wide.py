@@ -11,8 +11,8 @@ import subprocess
 import sys
 
 PLACES = (
-    ("crates/sp_lanes/src/words.rt", "pub const LANES: usize = 4;", "pub const LANES: usize = 8;"),
-    ("crates/sp_lanes/specs/Lanes.antt", "lanes = 4\n", "lanes = 8\n"),
+    ("crates/sp_ots/src/words.rt", "pub const LANES: usize = 4;", "pub const LANES: usize = 8;"),
+    ("crates/sp_ots/specs/Lanes.antt", "lanes = 4\n", "lanes = 8\n"),
 )
 
 

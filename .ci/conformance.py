@@ -1,0 +1,152 @@
+"""Runs each case of conformance/ through a program and compares byte by byte: python3 .ci/conformance.py PATH/TO/PROGRAM
+
+A case is an input, NAME.schedule, NAME.graph or NAME.toml, and beside it
+
+    NAME.status    the status, in decimal
+    NAME.out       the standard output; where several are right, each other one in NAME.out.2, NAME.out.3 and so on
+    NAME.sha256    in place of NAME.out, the SHA-256 of the standard output, in hexadecimal
+    NAME.words     the words, one a line; without it they are `replay` for a schedule and `topology` for a toml
+
+Inputs of more than 100 KB are made here, from the pieces that RECIPES has. Each case runs twice, and both runs must answer the same. Words
+that are no command (status 2) run once more over an input that can't be read, which changes nothing, and once more where nothing can be
+written, which is status 6. Each difference is told, and the status is then 1; so it is where a kind has no file, or a file no case.
+"""
+
+import hashlib
+import os
+import subprocess
+import sys
+
+ROOT = os.path.dirname(os.path.dirname(os.path.abspath(__file__)))
+FOLDER = os.path.join(ROOT, "conformance")
+PLAIN = {"schedule": [b"replay"], "graph": None, "toml": [b"topology"]}
+HEADER = b"schedule 1\nseed " + 64 * b"0" + b"\nheight 5\nbounds 2 4\nnodes 3\nedge 1 2 10\nedge 2 3 10\nbegin\n"
+PATHS = [b"paths", b"--from", b"1", b"--to", b"2", b"--paths", b"1"]
+TAKES = b"".join(b"%d empty\n" % number for number in range(1, 16_385))
+
+# a name, the words, the pieces of the input with how often each stands there, the status, and the output
+RECIPES = [
+    ("a line of 131,200 bytes", PATHS, [(b"graph 1\n", 1), (b"a", 131_200), (b"\n", 1)], 3, b"refused 2 Event\n"),
+    ("a line of 131,201 bytes", PATHS, [(b"graph 1\n", 1), (b"a", 131_201), (b"\n", 1)], 3, b"refused 2 LineLong\n"),
+    ("131,200 bytes and no newline", PATHS, [(b"graph 1\n", 1), (b"a", 131_200)], 3, b"refused 2 Cut\n"),
+    ("131,201 bytes and no newline", PATHS, [(b"graph 1\n", 1), (b"a", 131_201)], 3, b"refused 2 LineLong\n"),
+    ("a graph of 64 MiB", PATHS, [(b"\n", 67_108_864)], 3, b"refused 1 Word\n"),
+    ("a graph of one byte more", PATHS, [(b"\n", 67_108_865)], 3, b"refused 0 TooBig\n"),
+    ("a draft of more than 64 MiB", [b"topology"], [(b"\n", 67_108_865)], 3, b"refused 0 TooBig\n"),
+    ("an event of 131,201 bytes", [b"replay"], [(HEADER, 1), (b"0", 131_201)], 3, b"journal 1\nrefused 9 Unbuilt\n"),
+    ("such an event and an end", [b"replay"], [(HEADER, 1), (b"0", 131_201), (b"\nend\n", 1)], 3, b"journal 1\nrefused 9 Unbuilt\n"),
+    ("16,384 events", [b"replay"], [(HEADER, 1), (b"take 3 1\n", 16_384), (b"end\n", 1)], 0,
+     b"journal 1\n" + TAKES + b"summary events 16384 sent 0 delivered 0 priority 0 frames 0\n"),
+    ("16,385 events", [b"replay"], [(HEADER, 1), (b"take 3 1\n", 16_385), (b"end\n", 1)], 3, b"journal 1\n" + TAKES + b"refused 16393 Unbuilt\n"),
+    ("an event without an end", [b"replay"], [(HEADER, 1), (b"0", 134_217_728)], 3, b"journal 1\nrefused 9 Unbuilt\n"),
+    ("bytes without an end after end", [b"replay"], [(HEADER + b"end\n", 1), (b"0", 134_217_728)], 3, b"journal 1\nrefused 10 AfterEnd\n"),
+]
+
+
+def stored(path):
+    with open(path, "rb") as file:
+        return file.read()
+
+
+def outputs_of(path):
+    """The files of the outputs that are right."""
+    names = [path + ".out"] if os.path.exists(path + ".out") else []
+    while names and os.path.exists(f"{path}.out.{len(names) + 1}"):
+        names.append(f"{path}.out.{len(names) + 1}")
+    return names
+
+
+def words_of(path, kind):
+    """The words of a case, or those of its kind; None where neither has any."""
+    return stored(path + ".words").split(b"\n")[:-1] if os.path.exists(path + ".words") else PLAIN[kind]
+
+
+def right_of(path):
+    """Whether an output is right, as a call; None where a case has no output, or an output and a digest."""
+    outputs = [stored(name) for name in outputs_of(path)]
+    if os.path.exists(path + ".sha256"):
+        digest = stored(path + ".sha256").decode().strip()
+        return None if outputs else lambda output: hashlib.sha256(output).hexdigest() == digest
+    return (lambda output: output in outputs) if outputs else None
+
+
+class Runs:
+    """The program, how many cases of each kind passed, and how many answers differed."""
+
+    def __init__(self, program):
+        self.program, self.passed, self.wrong = os.path.abspath(program), {}, 0
+
+    def tell(self, name, what):
+        self.wrong += 1
+        print(f"{name}: {what}")
+
+    def once(self, name, words, status, is_right, **ends):
+        """The output of a run with this status and a right output; None of another."""
+        ended = subprocess.run([self.program, *words], check=False, **{"stdout": subprocess.PIPE, **ends})
+        output = ended.stdout or b""
+        if ended.returncode == status and is_right(output):
+            return output
+        self.tell(name, f"status {ended.returncode}, wanted {status}; the output is {'right' if is_right(output) else 'another'}: {output[:200]!r}")
+        return None
+
+    def no_command(self, name, words, given, is_right):
+        """Words that are no command read nothing, and want to write."""
+        folder = os.open(ROOT, os.O_RDONLY)
+        self.once(name + " over an input that can't be read", words, 2, is_right, stdin=folder)
+        os.close(folder)
+        with open("/dev/full", "wb") as full:
+            self.once(name + " where nothing can be written", words, 6, lambda output: output == b"", input=given, stdout=full)
+
+    def case(self, name, kind, words, given, status, is_right):
+        before = self.wrong
+        first, second = (self.once(name, words, status, is_right, input=given) for _ in range(2))
+        if None not in (first, second) and first != second:
+            self.tell(name, "two runs wrote two outputs")
+        if status == 2:
+            self.no_command(name, words, given, is_right)
+        self.passed[kind] = self.passed.get(kind, 0) + (self.wrong == before)
+
+
+def run_file(runs, path, kind):
+    """Runs the case of an input, and gives the names of its files."""
+    name, words, is_right = os.path.relpath(path, ROOT), words_of(path, kind), right_of(path)
+    if words is None or is_right is None or not os.path.exists(path + ".status"):
+        runs.tell(name, "no words, no output, an output and a digest, or no status")
+    else:
+        runs.case(name, kind, words, stored(path + "." + kind), int(stored(path + ".status")), is_right)
+    return {f"{path}.{end}" for end in (kind, "status", "words", "sha256")} | set(outputs_of(path))
+
+
+def run_files(runs):
+    """Runs the cases of the folder."""
+    files = {os.path.join(folder, name) for folder, _, names in os.walk(FOLDER) for name in names}
+    used = set()
+    for kind in PLAIN:
+        runs.passed[kind] = 0
+        for source in sorted(files):
+            if source.endswith("." + kind):
+                used |= run_file(runs, source.removesuffix("." + kind), kind)
+        if not runs.passed[kind]:
+            runs.tell("conformance", f"no {kind} passed")
+    for name in sorted(files - used):
+        runs.tell(os.path.relpath(name, ROOT), "a file of no case")
+
+
+def run_recipes(runs):
+    """Runs the cases whose input is made here."""
+    for name, words, pieces, status, output in RECIPES:
+        runs.case(name, "long input", words, b"".join(piece * count for piece, count in pieces), status, lambda wrote, output=output: wrote == output)
+
+
+def main():
+    if len(sys.argv) != 2:
+        sys.exit("usage: python3 .ci/conformance.py PATH/TO/PROGRAM")
+    runs = Runs(sys.argv[1])
+    run_files(runs)
+    run_recipes(runs)
+    print("passed: " + ", ".join(f"{count} {kind}" for kind, count in runs.passed.items()) + f"; {runs.wrong} answers differ")
+    sys.exit(1 if runs.wrong else 0)
+
+
+if __name__ == "__main__":
+    main()
