@@ -13,16 +13,16 @@ import tempfile
 def run(program, test, variables):
     """The status, and how many allocations there were."""
     ended = subprocess.run([program, test], capture_output=True, env=variables, check=False)
-    return ended.returncode, int(ended.stderr.split()[-1])
+    return ended.returncode, int(ended.stderr.split()[-3])
 
 
 def main():
     if len(sys.argv) != 3:
         sys.exit("usage: python3 bench/fail_test.py PATH/TO/NAME_tests TEST")
     program, test = sys.argv[1:]
-    source = os.path.join(os.path.dirname(os.path.abspath(__file__)), "fail_alloc.c")
+    source = os.path.join(os.path.dirname(os.path.abspath(__file__)), "fail_calls.c")
     with tempfile.TemporaryDirectory() as folder:
-        library = os.path.join(folder, "fail_alloc.so")
+        library = os.path.join(folder, "fail_calls.so")
         subprocess.run(["cc", "-O1", "-shared", "-fPIC", "-o", library, source, "-ldl"], check=True)
         preload = {"LD_PRELOAD": library}
         status, allocations = run(program, test, preload)

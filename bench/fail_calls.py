@@ -1,0 +1,77 @@
+"""Runs each command once for each of its allocations, reads and writes, which then fails: python3 bench/fail_calls.py PATH/TO/spinesd
+
+Where an allocation fails a run must end with status 0 and its output, or with status 9 and nothing written; a second round lets each later
+allocation fail too. Where one read of the input fails, and the next would go well, it must end with status 5 and nothing written; where one
+write fails, with status 6 and a beginning of the output. A command of which no allocation, read or write is counted is a fault of its own:
+then nothing was tried. It needs a C compiler, `cc`.
+"""
+
+import os
+import subprocess
+import sys
+import tempfile
+
+ROOT = os.path.dirname(os.path.dirname(os.path.abspath(__file__)))
+# the words of a command, the file of its input, and that of its output or the output itself
+RUNS = [
+    (["replay"], "crates/spinesd/stdin", "crates/spinesd/stdout"),
+    (["paths", "--from", "1", "--to", "4", "--paths", "2"], "examples/trap.graph", b"path 1 2 4\npath 1 3 4\ncost 10\n"),
+    (["topology"], "examples/two_nodes.toml", "examples/two_nodes.topology"),
+]
+
+
+def stored(path):
+    with open(os.path.join(ROOT, path), "rb") as file:
+        return file.read()
+
+
+class Failing:
+    """A command that runs with one of its calls failing."""
+
+    def __init__(self, program, library, words, text, wanted):
+        self.program, self.library, self.words, self.text, self.wanted = program, library, words, text, wanted
+
+    def run(self, **variables):
+        """The status, the output, and how many allocations, reads and writes there were."""
+        ended = subprocess.run([self.program, *self.words], input=self.text, capture_output=True, env={"LD_PRELOAD": self.library, **variables}, check=False)
+        return ended.returncode, ended.stdout, [int(count) for count in ended.stderr.split()]
+
+    def each(self, name, count, is_right, **variables):
+        """Lets each of these calls fail in turn, and gives how often each status came."""
+        ends = {}
+        for number in range(1, count + 1):
+            status, output, _ = self.run(**variables, **{name: str(number)})
+            if not is_right(status, output):
+                sys.exit(f"{self.words[0]}, {name} {number}: status {status}, output {output[:200]!r}")
+            ends[status] = ends.get(status, 0) + 1
+        return ends
+
+    def all(self):
+        status, output, counts = self.run()
+        if (status, output) != (0, self.wanted):
+            sys.exit(f"{self.words[0]} with no failure: status {status}, output {output[:200]!r}")
+        if 0 in counts:
+            sys.exit(f"{self.words[0]}: {counts} allocations, reads and writes were counted, so nothing would be tried")
+        allocations, reads, writes = counts
+        in_memory = lambda status, output: (status, output) in ((0, self.wanted), (9, b""))
+        for rest in ({}, {"FAIL_REST": "1"}):
+            ends = self.each("FAIL_ALLOC", allocations, in_memory, **rest)
+            which = "it and all later ones fail" if rest else "it alone fails"
+            print(f"{self.words[0]}: {allocations} allocations, {which}: {ends.get(0, 0)} whole outputs, {ends.get(9, 0)} times status 9")
+        self.each("FAIL_READ", reads, lambda status, output: (status, output) == (5, b""))
+        self.each("FAIL_WRITE", writes, lambda status, output: status == 6 and self.wanted.startswith(output) and output != self.wanted)
+        print(f"{self.words[0]}: {reads} reads and {writes} writes, of which one fails: status 5 and 6")
+
+
+def main():
+    if len(sys.argv) != 2:
+        sys.exit("usage: python3 bench/fail_calls.py PATH/TO/spinesd")
+    with tempfile.TemporaryDirectory() as folder:
+        library = os.path.join(folder, "fail_calls.so")
+        subprocess.run(["cc", "-O1", "-shared", "-fPIC", "-o", library, os.path.join(ROOT, "bench", "fail_calls.c"), "-ldl"], check=True)
+        for words, text, wanted in RUNS:
+            Failing(os.path.abspath(sys.argv[1]), library, words, stored(text), wanted if isinstance(wanted, bytes) else stored(wanted)).all()
+
+
+if __name__ == "__main__":
+    main()
