@@ -1,0 +1,15 @@
+//! The laws of every run without forgery, over any arts that fit the nodes.
+#![tactic(auto)]
+
+ghost use Rattle.laws_runs.specs.Laws.{BuffersStayBounded, OnlyTheAdversaryForges};
+
+/// A law: only bytes that the adversary brings are ever forged. A frame that is passed as it was made never is.
+pub fn only_the_adversary_forges()
+    ensures { OnlyTheAdversaryForges }
+{}
+
+/// A law: a correct node never has more messages of a flow, or entries of a place, than the header says; and of each flow it has one row with
+/// at most one acknowledgement, of each end of each edge at most one update, and to each neighbour at most one message in flight.
+pub fn buffers_stay_bounded()
+    ensures { BuffersStayBounded }
+{}
