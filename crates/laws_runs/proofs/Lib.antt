@@ -6,3 +6,8 @@ pub mod Reaches
 pub mod Signed
 pub mod Passes
 pub mod Bounds
+pub mod FlowFacts
+pub mod FlowPieces
+pub mod FlowSteps
+pub mod Flows
+pub mod FlowRuns

@@ -45,7 +45,7 @@ use Rattle.laws_node.proofs.Shapes.{shapes_begin, shapes_stay}
 use Rattle.laws_node.proofs.Weaker.{node_weaker}
 use Rattle.sp_runs.specs.Forgery.{forged_object, has_forged_tag, is_among, is_forged}
 use Rattle.sp_runs.specs.Inputs.{acting, input_of}
-use Rattle.sp_runs.specs.Runs.{Clean, Starts, Turned, Moves, Stays, Move, directions_after}
+use Rattle.sp_runs.specs.Runs.{Clean, InRange, Starts, Turned, Moves, Stays, Move, directions_after}
 use Rattle.sp_runs.specs.Settings.{Setting, SettingFits, first_signer, fixed_of, is_correct, link_keys, node_at_boot}
 use Rattle.sp_runs.specs.Told.{signed, signed_by, told_at}
 use Rattle.sp_runs.specs.Worlds.{Direction, World, at_start, frames_in, node_in}
@@ -403,3 +403,8 @@ signs arts x es js w fits reads (Turned {es = es'} {js = js'} {old = old} {e = e
       frames = λ u v k bytes c at read. all_less P Q more (pieces_of c) (h.frames u v k bytes c at read);
       bytes = h.bytes;
     })
+
+-- what reaches a node after a run without forgery is in its ranges
+pub reached : (arts : Arts) (x : Setting) (es : List Event) (js : List Entry) (w new : World) (e : Event) (j : Entry) → SettingFits arts x → Carries arts
+    → Clean arts x es js w → InRange x es e → (m : Move arts x es w e j new) → InputFits m.input
+reached arts x es js w new e j fits carries run range m = input_fits arts x es w m.node e m.input carries (signs arts x es js w fits carries run).bytes range m.reaches

@@ -1,6 +1,7 @@
 //! The laws of every run without forgery, over any arts that fit the nodes.
 #![tactic(auto)]
 
+ghost use Rattle.laws_runs.specs.Flows.{FlowsAreKept};
 ghost use Rattle.laws_runs.specs.Laws.{BuffersStayBounded, OnlyTheAdversaryForges};
 
 /// A law: only bytes that the adversary brings are ever forged. A frame that is passed as it was made never is.
@@ -12,4 +13,10 @@ pub fn only_the_adversary_forges()
 /// at most one acknowledgement, of each end of each edge at most one update, and to each neighbour at most one message in flight.
 pub fn buffers_stay_bounded()
     ensures { BuffersStayBounded }
+{}
+
+/// A law: what a correct node delivered of a correct one is a prefix of what that one sent, under the numbers 1, 2, 3 and so on; and of
+/// any source, nothing counts as acknowledged that its correct destination didn't deliver.
+pub fn flows_are_kept()
+    ensures { FlowsAreKept }
 {}
