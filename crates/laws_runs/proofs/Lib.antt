@@ -11,3 +11,6 @@ pub mod FlowPieces
 pub mod FlowSteps
 pub mod Flows
 pub mod FlowRuns
+pub mod PrioFacts
+pub mod PrioRuns
+pub mod WeightRuns

@@ -72,3 +72,8 @@ pub front_more : {X : Type 0} (xs ys : List X) (x : X) → slice_get (xs ++ ys) 
 front_more [] [] x e = absurd cc
 front_more [] (y ∷ ys) x e = (ys, cc)
 front_more (a ∷ xs) ys x e = front_more xs ys x e
+
+-- each element as one
+pub as_they_are : {X : Type 0} (xs : List X) → flat_map (λ x. x ∷ []) xs ≡ xs
+as_they_are [] = refl
+as_they_are {X} (x ∷ xs) = ap (λ (ys : List X). x ∷ ys) (as_they_are xs)

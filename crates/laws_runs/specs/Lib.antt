@@ -2,3 +2,5 @@ pub mod Premises
 pub mod Laws
 pub mod Acknowledged
 pub mod Flows
+pub mod Priority
+pub mod Weights

@@ -3,6 +3,8 @@
 
 ghost use Rattle.laws_runs.specs.Flows.{FlowsAreKept};
 ghost use Rattle.laws_runs.specs.Laws.{BuffersStayBounded, OnlyTheAdversaryForges};
+ghost use Rattle.laws_runs.specs.Priority.{PriorityIsKept};
+ghost use Rattle.laws_runs.specs.Weights.{WeightsAreKept};
 
 /// A law: only bytes that the adversary brings are ever forged. A frame that is passed as it was made never is.
 pub fn only_the_adversary_forges()
@@ -19,4 +21,16 @@ pub fn buffers_stay_bounded()
 /// any source, nothing counts as acknowledged that its correct destination didn't deliver.
 pub fn flows_are_kept()
     ensures { FlowsAreKept }
+{}
+
+/// A law: a correct node tells its clients no number of a source twice, whoever the source is; and what it tells of a correct source that
+/// one sent before.
+pub fn priority_is_kept()
+    ensures { PriorityIsKept }
+{}
+
+/// A law: at a correct node the weight of a link is the greatest of its minimum and the last that the node held of each end; and what it held of
+/// a correct end that one signed.
+pub fn weights_are_kept()
+    ensures { WeightsAreKept }
 {}
