@@ -14,3 +14,6 @@ pub mod FlowRuns
 pub mod PrioFacts
 pub mod PrioRuns
 pub mod WeightRuns
+pub mod There
+pub mod Beginnings
+pub mod Kept

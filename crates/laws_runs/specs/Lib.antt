@@ -4,3 +4,4 @@ pub mod Acknowledged
 pub mod Flows
 pub mod Priority
 pub mod Weights
+pub mod States

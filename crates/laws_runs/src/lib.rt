@@ -4,6 +4,7 @@
 ghost use Rattle.laws_runs.specs.Flows.{FlowsAreKept};
 ghost use Rattle.laws_runs.specs.Laws.{BuffersStayBounded, OnlyTheAdversaryForges};
 ghost use Rattle.laws_runs.specs.Priority.{PriorityIsKept};
+ghost use Rattle.laws_runs.specs.States.{BeginningsAreClean, CorrectNodesAreThere, WhatIsKeptWasSigned};
 ghost use Rattle.laws_runs.specs.Weights.{WeightsAreKept};
 
 /// A law: only bytes that the adversary brings are ever forged. A frame that is passed as it was made never is.
@@ -33,4 +34,20 @@ pub fn priority_is_kept()
 /// a correct end that one signed.
 pub fn weights_are_kept()
     ensures { WeightsAreKept }
+{}
+
+/// A law: after each event exactly the correct nodes have a state, each as the header made it.
+pub fn correct_nodes_are_there()
+    ensures { CorrectNodesAreThere }
+{}
+
+/// A law: whatever a correct node keeps, and whatever its frames carry, bears its signer's valid signature, and was signed by it in this
+/// run where that node is correct.
+pub fn what_is_kept_was_signed()
+    ensures { WhatIsKeptWasSigned }
+{}
+
+/// A law: every beginning of a run without forgery is one. So what the other laws say holds after each event.
+pub fn beginnings_are_clean()
+    ensures { BeginningsAreClean }
 {}
