@@ -1,11 +1,9 @@
 -- The first events of a run without forgery are one.
-use Rattle.std.proofs.Common.{◌≡◌, ◌≤◌, ◌<◌, ℕ, zero, suc, ◌+◌, List, [], ◌∷◌, ◌++◌, length, take, refl, sym, ap, subst, ◌∙◌, inl, inr, arith}
+use Rattle.std.proofs.Common.{◌≡◌, ◌≤◌, ◌<◌, ℕ, zero, suc, List, [], ◌∷◌, ◌++◌, length, take, refl, sym, ap, subst, inl, inr, arith}
 use Rattle.std.specs.Prelude.{◌⊎◌}
 use Rattle.std.proofs.lemmas.List.{length_push}
-use Rattle.sp_rules.specs.Arts.{Arts}
 use Rattle.sp_runs.specs.Runs.{Clean, Starts, Turned}
-use Rattle.sp_runs.specs.Settings.{Setting}
-use Rattle.sp_runs.specs.Worlds.{World, at_start}
+use Rattle.sp_runs.specs.Worlds.{at_start}
 use Rattle.sp_runs.specs.declared.entry.Entry.{Entry}
 use Rattle.sp_runs.specs.declared.event.Event.{Event}
 use Rattle.laws_runs.specs.States.{BeginningsAreClean}
@@ -29,19 +27,26 @@ either_way zero (suc n) = inr (omega arith)
 either_way (suc m) (suc n) = elim (either_way m n) [ inl h ↦ inl (omega (arith, h)) | inr h ↦ inr (omega (arith, h)) ]
 
 pub beginnings_are_clean : BeginningsAreClean
-beginnings_are_clean arts x es js w Starts n = (at_start x, subst (λ (es : List Event). Clean arts x es (take n []) (at_start x)) (sym (whole n [] (omega arith)))
-    (subst (λ (js : List Entry). Clean arts x [] js (at_start x)) (sym (whole n [] (omega arith))) Starts))
+beginnings_are_clean arts x es js w Starts n = (
+  at_start x,
+  subst (λ (es : List Event). Clean arts x es (take n []) (at_start x)) (sym (whole n [] (omega arith)))
+      (subst (λ (js : List Entry). Clean arts x [] js (at_start x)) (sym (whole n [] (omega arith))) Starts),
+)
 beginnings_are_clean arts x es js w (Turned {es = es'} {js = js'} {old = old} {e = e} {j = j} run range turn unforged) n =
     let same = even arts x es' js' old run in
     elim (either_way (length es') n) [
       | inl within ↦
-          let before = beginnings_are_clean arts x es' js' old run n in
-          (before.0, subst (λ (xs : List Event). Clean arts x xs (take n (js' ++ j ∷ [])) before.0) (sym (front n es' e within))
-          (subst (λ (ys : List Entry). Clean arts x (take n es') ys before.0) (sym (front n js' j (omega (arith, within, same)))) before.1))
+          let before = beginnings_are_clean arts x es' js' old run n in (
+            before.0,
+            subst (λ (xs : List Event). Clean arts x xs (take n (js' ++ j ∷ [])) before.0) (sym (front n es' e within))
+                (subst (λ (ys : List Entry). Clean arts x (take n es') ys before.0) (sym (front n js' j (omega (arith, within, same)))) before.1),
+          )
       | inr beyond ↦
           let one = length_push es' e in
-          let two = length_push js' j in
-          (w, subst (λ (xs : List Event). Clean arts x xs (take n (js' ++ j ∷ [])) w) (sym (whole n (es' ++ e ∷ []) (omega (arith, one, beyond))))
-          (subst (λ (ys : List Entry). Clean arts x (es' ++ e ∷ []) ys w) (sym (whole n (js' ++ j ∷ []) (omega (arith, two, beyond, same))))
-          (Turned run range turn unforged)))
+          let two = length_push js' j in (
+            w,
+            subst (λ (xs : List Event). Clean arts x xs (take n (js' ++ j ∷ [])) w) (sym (whole n (es' ++ e ∷ []) (omega (arith, one, beyond))))
+                (subst (λ (ys : List Entry). Clean arts x (es' ++ e ∷ []) ys w) (sym (whole n (js' ++ j ∷ []) (omega (arith, two, beyond, same))))
+                (Turned run range turn unforged)),
+          )
     ]

@@ -1,8 +1,8 @@
 -- What each change of a flow at a node keeps, against what its source sent and what its destination delivered and acknowledged.
-use Rattle.std.proofs.Common.{◌≡◌, ◌<◌, ◌≤◌, ℕ, zero, suc, ◌+◌, ◌-◌, max, Bool, true, false, cond, List, [], ◌∷◌, ◌++◌, length, map, Option, Some, None, refl, sym, ap, subst, ◌∙◌, inl, inr, arith, append_assoc}
-use Rattle.std.specs.Prelude.{◌⊎◌, ◌&&◌, ◌||◌, ◌==◌, slice_get}
+use Rattle.std.proofs.Common.{◌≡◌, ◌≤◌, ℕ, ◌+◌, ◌-◌, Bool, true, false, cond, List, [], ◌∷◌, ◌++◌, length, Some, refl, sym, ap, subst, ◌∙◌, inl, inr, arith, append_assoc}
+use Rattle.std.specs.Prelude.{◌⊎◌, ◌||◌, slice_get}
 use Rattle.std.specs.List.{list_any}
-use Rattle.std.proofs.lemmas.Bool.{cases_Bool, cases_eq, eq-eqb, eqb-true, eqb-false, ne_eqb}
+use Rattle.std.proofs.lemmas.Bool.{cases_Bool, cases_eq, eq-eqb}
 use Rattle.std.proofs.lemmas.List.{append-nil, length-append, length_push}
 use Rattle.std.proofs.lemmas.Option.{slice_get_within}
 use Rattle.sp_base.proofs.ListLemmas.{get_last, get_left}
@@ -11,11 +11,11 @@ use Rattle.sp_base.specs.Rows.{first_where, replace_where}
 use Rattle.sp_base.specs.declared.id.Flow.{Flow}
 use Rattle.sp_base.specs.declared.id.NodeId.{NodeId}
 use Rattle.sp_msg.specs.declared.kept.Kept.{Kept}
-use Rattle.sp_rules.proofs.FlowJudged.{found_ends, same_ends}
-use Rattle.sp_rules.specs.Flow.{FlowState, acknowledged_by, after_take, concluded, ends, is_flow, no_flow, number_said, pushed, received}
+use Rattle.sp_rules.proofs.FlowJudged.{same_ends}
+use Rattle.sp_rules.specs.Flow.{FlowState, acknowledged_by, concluded, ends, is_flow, no_flow, number_said, pushed, received}
 use Rattle.sp_rules.specs.Rel.{RelState, flow_in, put_flow, with_flow}
 use Rattle.sp_runs.specs.Told.{Message}
-use Rattle.laws_runs.proofs.Lists.{both, front_more}
+use Rattle.laws_runs.proofs.Lists.{front_more}
 use Rattle.laws_runs.proofs.Tables.{same_node}
 
 -- the message of this number and payload is among what was sent
@@ -62,13 +62,13 @@ pub still_there : {X : Type 0} (p q : X → Bool) (y : X) (xs : List X) → ((x 
 still_there p q y [] same some = some
 still_there p q y (x ∷ xs) same some = elim (cases_Bool (p x)) [
   | inl t ↦ elim (cases_Bool (q x)) [
-      | inl z ↦ let here = same x t z in rw (t, here) refl
-      | inr z ↦ rw t (or_right (q y) (list_any q xs) (rw z at some))
-    ]
+    | inl z ↦ let here = same x t z in rw (t, here) refl
+    | inr z ↦ rw t (or_right (q y) (list_any q xs) (rw z at some))
+  ]
   | inr t ↦ elim (cases_Bool (q x)) [
-      | inl z ↦ rw (t, z) refl
-      | inr z ↦ rw (t, z) (still_there p q y xs same (rw z at some))
-    ]
+    | inl z ↦ rw (t, z) refl
+    | inr z ↦ rw (t, z) (still_there p q y xs same (rw z at some))
+  ]
 ]
   where
     or_right : (a b : Bool) → b ≡ true → (a || b) ≡ true
@@ -87,9 +87,9 @@ not_its f flow never = elim (cases_Bool (is_flow flow f)) [ inl t ↦ absurd (ne
 pub cases_flow : (a b : Flow) → (a ≡ b) ⊎ (a ≡ b → ⊥)
 cases_flow a b = elim (cases_eq a.src.0 b.src.0) [
   | inl x ↦ elim (cases_eq a.dst.0 b.dst.0) [
-      | inl y ↦ inl (ap (λ (u : NodeId). flow_of u a.dst) (same_node a.src b.src x) ∙ ap (λ (u : NodeId). flow_of b.src u) (same_node a.dst b.dst y))
-      | inr y ↦ inr (λ e. y (ap (λ (f : Flow). f.dst.0) e))
-    ]
+    | inl y ↦ inl (ap (λ (u : NodeId). flow_of u a.dst) (same_node a.src b.src x) ∙ ap (λ (u : NodeId). flow_of b.src u) (same_node a.dst b.dst y))
+    | inr y ↦ inr (λ e. y (ap (λ (f : Flow). f.dst.0) e))
+  ]
   | inr x ↦ inr (λ e. x (ap (λ (f : Flow). f.src.0) e))
 ]
 

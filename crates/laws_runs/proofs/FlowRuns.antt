@@ -1,41 +1,39 @@
 -- The part on flows over a whole run.
-use Rattle.std.proofs.Common.{◌≡◌, ◌<◌, ◌≤◌, ℕ, ◌+◌, max, Bool, true, false, cond, eqb, List, [], ◌∷◌, ◌++◌, length, map, filter, Option, Some, None, refl, sym, ap, subst, ◌∙◌, inl, inr, arith, append_assoc}
-use Rattle.std.specs.Prelude.{◌⊎◌, ◌&&◌, ◌||◌, ◌==◌, not, IsTrue}
+use Rattle.std.proofs.Common.{◌≡◌, ◌≤◌, ℕ, ◌+◌, max, Bool, true, false, cond, List, [], ◌∷◌, ◌++◌, length, map, filter, Some, refl, sym, ap, subst, ◌∙◌, inl, inr, arith}
+use Rattle.std.specs.Prelude.{◌&&◌, ◌||◌, ◌==◌, not, IsTrue}
 use Rattle.std.specs.List.{flat_map, list_any, zip}
-use Rattle.std.proofs.lemmas.Bool.{cases_Bool, cases_eq, eq-eqb, eqb-true, ne_eqb}
-use Rattle.std.proofs.lemmas.List.{append-nil, length-append}
+use Rattle.std.proofs.lemmas.Bool.{cases_Bool, cases_eq, eqb-true, ne_eqb}
+use Rattle.std.proofs.lemmas.List.{append-nil}
 use Rattle.std.proofs.lemmas.List.Folds.{list_any-append}
 use Rattle.sp_base.specs.Lists.{IsPrefix}
 use Rattle.sp_base.specs.Position.{Position, start}
 use Rattle.sp_base.specs.declared.id.Flow.{Flow}
 use Rattle.sp_base.specs.declared.id.NodeId.{NodeId}
-use Rattle.sp_msg.specs.Bodies.{HasGoodFields, encoded}
+use Rattle.sp_msg.specs.Bodies.{encoded}
 use Rattle.sp_msg.specs.declared.body.Body.TheVariants as bodies
-use Rattle.sp_msg.specs.declared.body.Rel.{Rel}
 use Rattle.sp_msg.specs.declared.effect.Effect.{Effect}
 use Rattle.sp_msg.specs.declared.kept.Kept.{Kept}
 use Rattle.sp_rules.specs.Arts.{Arts}
 use Rattle.sp_rules.specs.Flow.{FlowState, is_flow, no_flow}
 use Rattle.sp_rules.specs.Node.{NodeState}
 use Rattle.sp_rules.specs.Parts.{Fixed, nodes_of}
-use Rattle.sp_rules.specs.Rel.{RelState, flow_in, flows_from, pairs_of}
+use Rattle.sp_rules.specs.Rel.{flow_in, flows_from, pairs_of}
 use Rattle.sp_rules.specs.Window.{greatest}
 use Rattle.laws_runs.proofs.Lives.{step_stays}
 use Rattle.laws_node.proofs.Tables.{cond_either}
 use Rattle.sp_runs.specs.Forgery.{forged_object, has_forged_tag, is_among}
 use Rattle.sp_runs.specs.Inputs.{acting}
-use Rattle.sp_runs.specs.Runs.{Clean, Starts, Turned, Turn, Moves, Stays, Move, Spends, IsCraftOf, next_frame}
-use Rattle.sp_runs.specs.Settings.{Setting, SettingFits, is_correct, is_node, is_one_of, node_at_boot}
+use Rattle.sp_runs.specs.Runs.{Clean, Starts, Turned, Moves, Stays, Move, Spends, IsCraftOf, next_frame}
+use Rattle.sp_runs.specs.Settings.{Setting, SettingFits, is_correct, is_node, is_one_of}
 use Rattle.sp_runs.specs.Told.{Message, accepted_in, delivered, delivered_by, sent, signed, signed_by, told_at}
 use Rattle.sp_runs.specs.Worlds.{World, at_start, node_in}
 use Rattle.sp_runs.specs.declared.entry.Entry.{Entry}
 use Rattle.sp_runs.specs.declared.event.Event.{Event}
 use Rattle.sp_runs.specs.declared.event.Event.TheVariants as events
 use Rattle.laws_runs.specs.Acknowledged.{acknowledged, acks_in}
-use Rattle.laws_runs.specs.Flows.{AreNumbered, FlowClaims, FlowsAreKept}
+use Rattle.laws_runs.specs.Flows.{AreNumbered, FlowsAreKept}
 use Rattle.laws_runs.specs.Premises.{Carries}
-use Rattle.laws_runs.proofs.Facts.{Good, NodeIs}
-use Rattle.laws_runs.proofs.FlowFacts.{IsIn, FlowAt, RelIs, flow_grown, flow_of, in_more}
+use Rattle.laws_runs.proofs.FlowFacts.{IsIn, RelIs, flow_grown, flow_of, in_more}
 use Rattle.laws_runs.proofs.FlowPieces.{told_here}
 use Rattle.laws_runs.proofs.FlowSteps.{Stepped, acked_away, acked_here}
 use Rattle.laws_runs.proofs.Flows.{FlowsHold, acks_both, stepped}
@@ -148,7 +146,7 @@ moved_on arts x s d es js w new e j m same me h done =
     ∙ acks_both s d (signed es js d) (cond (u.0 == d.0) (flat_map signed_by m.output.effects) []) in
     let grown : (v : NodeId) (n : NodeState) → RelIs C s d (S ++ T) (D ++ E) c2 v n.parts.rel → RelIs C s d (sent es2 js2 s d) (delivered es2 js2 s d) (acknowledged es2 js2 s d) v n.parts.rel =
     λ v n r. subst (λ X. RelIs C s d X (delivered es2 js2 s d) (acknowledged es2 js2 s d) v n.parts.rel) (sym s_is)
-        (subst (λ Y. RelIs C s d (S ++ T) Y (acknowledged es2 js2 s d) v n.parts.rel) (sym d_is) (subst (λ q. RelIs C s d (S ++ T) (D ++ E) q v n.parts.rel) (sym c_is) r)) in
+    (subst (λ Y. RelIs C s d (S ++ T) Y (acknowledged es2 js2 s d) v n.parts.rel) (sym d_is) (subst (λ q. RelIs C s d (S ++ T) (D ++ E) q v n.parts.rel) (sym c_is) r)) in
     record {
       nodes = λ v n at. elim (node_put v u m.after n w.nodes me (subst (λ (y : World). node_in y.nodes v ≡ Some n) m.world at)) [
         | inl here ↦ grown v n (subst (λ (y : NodeState). RelIs C s d (S ++ T) (D ++ E) c2 v y.parts.rel) (sym here.1) (subst (λ y. RelIs C s d (S ++ T) (D ++ E) c2 y m.after.parts.rel) (sym here.0) done.rel))
@@ -173,9 +171,9 @@ moved_on arts x s d es js w new e j m same me h done =
           (elim (among_or (encoded (bodies.Rel w2)) (signed es js s) (cond (u.0 == s.0) (flat_map signed_by m.output.effects) []) split) [
             | inl old ↦ in_more S T w2.seq w2.payload (h.messages k w2 good src dst old)
             | inr now ↦ elim (cases_Bool (u.0 == s.0)) [
-                | inl t ↦ done.messages k (same_node u s (eqb-true u.0 s.0 t)) w2 good src dst (rw t at now)
-                | inr t ↦ absurd (let f : false ≡ true = rw t at now in cc)
-              ]
+              | inl t ↦ done.messages k (same_node u s (eqb-true u.0 s.0 t)) w2 good src dst (rw t at now)
+              | inr t ↦ absurd (let f : false ≡ true = rw t at now in cc)
+            ]
           ]);
     }
 

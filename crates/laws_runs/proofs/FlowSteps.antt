@@ -1,13 +1,12 @@
 -- What each step of a node keeps of a flow between its ends.
-use Rattle.std.proofs.Common.{◌≡◌, ◌<◌, ◌≤◌, ℕ, ◌+◌, max, Bool, true, false, cond, eqb, List, [], ◌∷◌, ◌++◌, length, Option, Some, None, Result, Ok, Err, refl, sym, ap, subst, ◌∙◌, inl, inr, arith, append_assoc}
-use Rattle.std.specs.Prelude.{◌⊎◌, ◌&&◌, ◌==◌, IsTrue}
+use Rattle.std.proofs.Common.{◌≡◌, ◌≤◌, ℕ, ◌+◌, max, true, false, cond, eqb, List, [], ◌∷◌, ◌++◌, length, Option, Some, None, Ok, refl, sym, ap, subst, ◌∙◌, inl, inr, arith, append_assoc}
+use Rattle.std.specs.Prelude.{◌&&◌, ◌==◌}
 use Rattle.std.specs.List.{flat_map}
 use Rattle.std.specs.Option.{option_and_then, option_map}
-use Rattle.std.proofs.lemmas.Bool.{cases_Bool, cases_eq, eq-eqb, eqb-true, ne_eqb}
-use Rattle.std.proofs.lemmas.List.{append-nil, length-append}
+use Rattle.std.proofs.lemmas.Bool.{cases_Bool, cases_eq, eq-eqb, ne_eqb}
+use Rattle.std.proofs.lemmas.List.{append-nil}
 use Rattle.std.proofs.lemmas.List.Concat.{flat_map-append}
 use Rattle.sp_base.specs.Lists.{IsPrefix}
-use Rattle.sp_base.specs.Spelling.{AreBytes}
 use Rattle.sp_base.specs.declared.id.Flow.{Flow}
 use Rattle.sp_base.specs.declared.id.NodeId.{NodeId}
 use Rattle.sp_msg.proofs.EncodedIsRead.{no_other_has_its_bytes, whole_is_read}
@@ -18,36 +17,21 @@ use Rattle.sp_msg.specs.declared.body.Body.TheVariants as bodies
 use Rattle.sp_msg.specs.declared.body.Rel.{Rel}
 use Rattle.sp_msg.specs.declared.effect.Effect.{Effect}
 use Rattle.sp_msg.specs.declared.effect.Effect.TheVariants.{Signed}
-use Rattle.sp_msg.specs.declared.effect.Why.TheVariants.{Taken}
 use Rattle.sp_msg.specs.declared.kept.Kept.{Kept}
-use Rattle.sp_msg.specs.declared.refused.MsgRefused.{MsgRefused}
-use Rattle.sp_msg.specs.declared.refused.SendRefused.{SendRefused}
 use Rattle.sp_rules.proofs.FlowJudged.{found_ends}
-use Rattle.sp_rules.specs.Arrivals.{arrival_at, handled, link_after, pieces_in, pieces_where, reply_at, sections_in}
 use Rattle.sp_rules.specs.Arts.{Arts}
-use Rattle.sp_rules.specs.Flow.{FlowState, concluded, after_take, flow_said, number_said, pushed}
-use Rattle.sp_rules.specs.Node.{NodeState, called, call_refusal, kept_or, signed_now, with_link}
-use Rattle.sp_rules.specs.Parts.{Parts}
-use Rattle.sp_rules.specs.Rel.{RelState, ack_of, due, due_place, flow_at, flow_in, flow_to_me, own_flow, pushed_in, served, served_at, next_place, settled, settled_at, took, with_flow}
-use Rattle.sp_rules.specs.Sends.{PrioSend, mask_in, own_prio, prio_body, prio_refusal, rel_body, rel_number, rel_refusal, send_prio_refusal, signer_refusal, weight_body, weight_refusal}
-use Rattle.sp_rules.specs.Steps as steps
-use Rattle.sp_rules.specs.Steps.{Input, NodeStep, Output, accepted, arrived, refused_call, refused_send}
-use Rattle.sp_rules.specs.Store.{oldest}
-use Rattle.sp_rules.specs.Ticks.{ack_effects, at_time, settled_by, time_after}
+use Rattle.sp_rules.specs.Flow.{concluded, after_take, flow_said, number_said, pushed}
+use Rattle.sp_rules.specs.Node.{NodeState, signed_now}
+use Rattle.sp_rules.specs.Rel.{RelState, ack_of, due, due_place, flow_at, flow_in, flow_to_me, own_flow, pushed_in, served, served_at, next_place, settled, settled_at, took}
+use Rattle.sp_rules.specs.Sends.{rel_body, rel_number}
 use Rattle.sp_rules.specs.Window.{greatest}
-use Rattle.sp_rules.specs.declared.node.NodeRefused.{NodeRefused}
-use Rattle.laws_node.specs.Inputs.{InputFits}
-use Rattle.laws_node.specs.Nodes.{NodeHolds}
 use Rattle.laws_node.specs.Sizes.{Sizes}
-use Rattle.laws_node.specs.Asked.{NewKeep}
-use Rattle.laws_node.proofs.Own.{either, prio_sent_fits, rel_sent_fits, weight_sent_fits}
-use Rattle.laws_node.proofs.Reliable.{due_fits}
 use Rattle.sp_runs.specs.Forgery.{is_among}
 use Rattle.sp_runs.specs.Told.{Message, delivered_by, signed_by}
 use Rattle.laws_runs.specs.Acknowledged.{ack_in, acks_in}
 use Rattle.laws_runs.specs.Flows.{AreNumbered}
 use Rattle.laws_runs.proofs.FlowFacts.{IsIn, FlowAt, RelIs, cases_flow, flow_concluded, flow_grown, flow_of, flow_sent, in_last, same_at, same_rows_is, with_flow_is}
-use Rattle.laws_runs.proofs.FlowPieces.{Quiet, Vouched, all_handled, quiet_append, quiet_expired, quiet_gone, quiet_none, quiet_prio, quiet_weight, told_here, told_quiet}
+use Rattle.laws_runs.proofs.FlowPieces.{Quiet, told_here, told_quiet}
 use Rattle.laws_runs.proofs.Lists.{among_cons}
 use Rattle.laws_runs.proofs.Tables.{same_node}
 

@@ -1,42 +1,34 @@
 -- The part on flows: in every state of a run without forgery.
-use Rattle.std.proofs.Common.{◌≡◌, ◌<◌, ◌≤◌, ℕ, ◌+◌, max, Bool, true, false, cond, eqb, List, [], ◌∷◌, ◌++◌, length, map, filter, Option, Some, None, Result, Ok, Err, refl, sym, ap, subst, ◌∙◌, inl, inr, arith, append_assoc}
-use Rattle.std.specs.Prelude.{◌⊎◌, ◌&&◌, ◌||◌, ◌==◌, not, IsTrue, option_map}
-use Rattle.std.specs.List.{flat_map, list_any}
-use Rattle.std.proofs.lemmas.Bool.{cases_Bool, cases_eq, eq-eqb, eqb-true, ne_eqb}
-use Rattle.std.proofs.lemmas.List.{append-nil, length-append}
+use Rattle.std.proofs.Common.{◌≡◌, ◌≤◌, ℕ, max, Bool, true, false, cond, List, [], ◌∷◌, ◌++◌, length, Option, Some, None, Ok, refl, sym, ap, subst, ◌∙◌, inl, inr, arith}
+use Rattle.std.specs.Prelude.{◌&&◌, ◌==◌, IsTrue, option_map}
+use Rattle.std.proofs.lemmas.Bool.{eq-eqb}
+use Rattle.std.proofs.lemmas.List.{append-nil}
 use Rattle.std.proofs.lemmas.List.Concat.{flat_map-append}
-use Rattle.std.proofs.lemmas.List.Folds.{list_any-append}
 use Rattle.sp_base.specs.Lists.{IsPrefix}
 use Rattle.sp_base.specs.Spelling.{AreBytes}
-use Rattle.sp_base.specs.Position.{start}
-use Rattle.sp_base.specs.declared.id.Flow.{Flow}
 use Rattle.sp_base.specs.declared.id.NodeId.{NodeId}
 use Rattle.sp_msg.proofs.EncodedIsRead.{whole_is_read}
 use Rattle.sp_msg.specs.Bodies.{HasGoodFields, encoded, read_body}
 use Rattle.sp_msg.specs.Views.{signer_of}
 use Rattle.sp_msg.specs.declared.body.Ack.{Ack}
-use Rattle.sp_msg.specs.declared.body.Body.{Body}
 use Rattle.sp_msg.specs.declared.body.Body.TheVariants as bodies
 use Rattle.sp_msg.specs.declared.body.Rel.{Rel}
 use Rattle.sp_msg.specs.declared.effect.Effect.{Effect}
-use Rattle.sp_msg.specs.declared.effect.Effect.TheVariants.{Signed}
 use Rattle.sp_msg.specs.declared.effect.Why.TheVariants.{Taken}
 use Rattle.sp_msg.specs.declared.kept.Kept.{Kept}
 use Rattle.sp_msg.specs.declared.refused.SendRefused.{SendRefused}
 use Rattle.sp_msg.specs.declared.refused.SendRefused.TheVariants as refusals
-use Rattle.sp_rules.specs.Answers.{is_new}
 use Rattle.sp_rules.specs.Arrivals.{arrival_at, handled, link_after, pieces_in, pieces_where, reply_at, sections_in}
 use Rattle.sp_rules.specs.Arts.{Arts}
-use Rattle.sp_rules.specs.Flow.{FlowState, is_flow, no_flow}
 use Rattle.sp_rules.specs.Handle.{weight_effects}
 use Rattle.sp_rules.specs.Link.{advanced}
 use Rattle.sp_rules.specs.Node.{NodeState, call_refusal, called, kept_or, link_in, signed_now, signed_once, with_link}
 use Rattle.sp_rules.specs.Polls.{frame_to, polled}
 use Rattle.sp_rules.specs.Weights.{held}
-use Rattle.sp_rules.specs.Parts.{Fixed, nodes_of}
+use Rattle.sp_rules.specs.Parts.{Fixed}
 use Rattle.sp_rules.specs.Prio.{admit_prio, expired_effects, prio_effects}
 use Rattle.sp_rules.specs.PrioPeer.{gone}
-use Rattle.sp_rules.specs.Rel.{RelState, due, flow_in, flows_from, pairs_of, pushed_in, served, took}
+use Rattle.sp_rules.specs.Rel.{RelState, due, pushed_in, served, took}
 use Rattle.sp_rules.specs.Sends.{PrioSend, mask_in, no_paths, own_prio, prio_body, prio_refusal, prio_sent, rel_body, rel_number, rel_refusal, rel_sent, send_prio_refusal, signer_refusal, weight_body, weight_number, weight_refusal, weight_sent}
 use Rattle.sp_rules.specs.Steps as steps
 use Rattle.sp_rules.specs.Steps.{Input, NodeStep, Output, accepted, arrived, refused_call, refused_send, replied}
@@ -45,38 +37,31 @@ use Rattle.sp_rules.specs.Ticks.{ack_effects, at_time, settled_by, time_after}
 use Rattle.sp_rules.specs.Window.{greatest}
 use Rattle.sp_rules.specs.declared.answers.Item.{Item}
 use Rattle.sp_rules.specs.declared.node.NodeRefused.{NodeRefused}
-use Rattle.sp_topology.specs.declared.topology.NodeKey.{NodeKey}
-use Rattle.laws_node.specs.Inputs.{ArtsFit, InputFits}
-use Rattle.laws_node.specs.Nodes.{NodeHolds}
+use Rattle.laws_node.specs.Inputs.{InputFits}
 use Rattle.laws_node.specs.Asked.{NewKeep}
 use Rattle.laws_node.proofs.Carried.{pieces_new}
 use Rattle.laws_node.proofs.Own.{either, prio_sent_fits, rel_sent_fits, weight_sent_fits}
 use Rattle.laws_node.proofs.Reliable.{due_fits}
 use Rattle.laws_node.proofs.Arrived.{step_fields}
-use Rattle.laws_runs.proofs.Lives.{step_stays}
-use Rattle.laws_node.proofs.Tables.{cond_either}
-use Rattle.sp_runs.specs.Forgery.{forged_object, has_forged_tag, is_among}
+use Rattle.sp_runs.specs.Forgery.{is_among}
 use Rattle.sp_runs.specs.Inputs.{acting, crafted_frame, flipped, input_of, slot_alone}
 use Rattle.sp_runs.specs.Journals.{Says, refused_word, reply_word}
-use Rattle.sp_runs.specs.Runs.{Clean, Starts, Turned, Turn, Moves, Stays, Move, Spends, IsCraftOf, next_frame}
-use Rattle.sp_runs.specs.Settings.{Setting, SettingFits, correct_nodes, fixed_of, is_correct, is_node, is_one_of, node_at_boot}
-use Rattle.sp_runs.specs.Told.{Message, accepted_in, delivered, delivered_by, sent, signed, signed_by, told_at}
-use Rattle.sp_runs.specs.Worlds.{World, at_start, node_in}
+use Rattle.sp_runs.specs.Settings.{Setting, SettingFits, is_correct}
+use Rattle.sp_runs.specs.Told.{Message, accepted_in, delivered, sent, signed}
+use Rattle.sp_runs.specs.Worlds.{World, node_in}
 use Rattle.sp_runs.specs.declared.entry.Entry.{Entry}
 use Rattle.sp_runs.specs.declared.entry.Reply.{Reply}
 use Rattle.sp_runs.specs.declared.entry.Reply.TheVariants as replies
 use Rattle.sp_runs.specs.declared.event.Event.{Event}
 use Rattle.sp_runs.specs.declared.event.Event.TheVariants as events
 use Rattle.laws_runs.specs.Acknowledged.{ack_in, acknowledged, acks_in}
-use Rattle.laws_runs.specs.Flows.{AreNumbered, FlowClaims, FlowsAreKept}
-use Rattle.laws_runs.specs.Premises.{Carries}
-use Rattle.laws_runs.proofs.Facts.{Good, Known, NodeIs, Signs, sizes_at}
-use Rattle.laws_runs.proofs.FlowFacts.{IsIn, FlowAt, RelIs, flow_grown, flow_of, in_more, same_rows_is}
+use Rattle.laws_runs.specs.Flows.{AreNumbered}
+use Rattle.laws_runs.proofs.Facts.{Good, Known, NodeIs, sizes_at}
+use Rattle.laws_runs.proofs.FlowFacts.{IsIn, RelIs, flow_of}
 use Rattle.laws_runs.proofs.FlowPieces.{Handles, Vouched, all_handled, quiet_append, quiet_expired, quiet_gone, quiet_none, quiet_prio, quiet_weight, told_here}
-use Rattle.laws_runs.proofs.FlowSteps.{Stepped, acked_away, acked_here, acked_none, sent_step, served_step, settled_step, signed_other, silent, took_step}
-use Rattle.laws_runs.proofs.Lists.{among_cons, among_or, both, told_more}
-use Rattle.laws_runs.proofs.Signed.{arts_fit, even, new_known, signs, unforged_tag}
-use Rattle.laws_runs.proofs.Tables.{node_put, same_node}
+use Rattle.laws_runs.proofs.FlowSteps.{Stepped, acked_here, acked_none, sent_step, served_step, settled_step, signed_other, silent, took_step}
+use Rattle.laws_runs.proofs.Lists.{among_cons}
+use Rattle.laws_runs.proofs.Signed.{arts_fit}
 
 -- ---- the greatest number
 

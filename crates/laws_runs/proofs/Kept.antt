@@ -1,16 +1,15 @@
 -- What correct nodes keep and send was signed, as tests say it.
-use Rattle.std.proofs.Common.{◌≡◌, Bool, true, false, List, [], ◌∷◌, Ok, refl, sym, ap, subst, ◌∙◌}
+use Rattle.std.proofs.Common.{◌≡◌, Bool, true, false, List, [], ◌∷◌, refl, sym, subst}
 use Rattle.std.specs.Prelude.{◌&&◌, ◌||◌, not, IsTrue}
 use Rattle.std.specs.List.{All}
 use Rattle.std.proofs.lemmas.List.Elements.{All-append, All-cons, All-nil}
 use Rattle.sp_base.specs.declared.id.NodeId.{NodeId}
-use Rattle.sp_frame.specs.Sections.{Contents}
 use Rattle.sp_msg.specs.Bodies.{encoded}
 use Rattle.sp_msg.specs.Views.{signer_of}
 use Rattle.sp_msg.specs.declared.kept.Kept.{Kept}
 use Rattle.sp_rules.specs.Arts.{Arts}
 use Rattle.sp_rules.specs.Node.{NodeState}
-use Rattle.sp_rules.specs.Parts.{Fixed, nodes_of}
+use Rattle.sp_rules.specs.Parts.{nodes_of}
 use Rattle.sp_rules.specs.Pieces.{Piece, WeightPiece, PrioAckPiece, PrioPiece, ReportPiece, AckPiece, RelPiece, pieces_of}
 use Rattle.laws_node.specs.Nodes.{NodeHolds, sizes_of}
 use Rattle.laws_node.specs.Objects.{objects_in, objects_of}
@@ -23,7 +22,7 @@ use Rattle.sp_runs.specs.Told.{signed}
 use Rattle.sp_runs.specs.declared.entry.Entry.{Entry}
 use Rattle.sp_runs.specs.declared.event.Event.{Event}
 use Rattle.laws_runs.specs.States.{WhatIsKeptWasSigned, is_good_in, is_known_in, is_valid_in}
-use Rattle.laws_runs.proofs.Facts.{Good, NodeIs, sizes_at}
+use Rattle.laws_runs.proofs.Facts.{Good, sizes_at}
 use Rattle.laws_runs.proofs.Signed.{signs}
 
 both : (a b : Bool) → a ≡ true → b ≡ true → (a && b) ≡ true

@@ -17,3 +17,7 @@ pub mod WeightRuns
 pub mod There
 pub mod Beginnings
 pub mod Kept
+pub mod Played
+pub mod StoreFacts
+pub mod PlaceFacts
+pub mod PlaceRuns

@@ -1,7 +1,7 @@
 -- The part on priority messages over a whole run.
-use Rattle.std.proofs.Common.{◌≡◌, ◌<◌, ◌≤◌, ℕ, ◌+◌, ◌==◌, Bool, true, false, cond, eqb, List, [], ◌∷◌, ◌++◌, length, map, replicate, Option, Some, None, Result, refl, sym, ap, subst, ◌∙◌, inl, inr, arith, append_assoc, not}
-use Rattle.std.specs.Prelude.{◌⊎◌, ◌&&◌, ◌||◌, IsTrue, option_map}
-use Rattle.std.specs.List.{flat_map, zip}
+use Rattle.std.proofs.Common.{◌≡◌, ℕ, ◌==◌, Bool, true, false, cond, List, [], ◌∷◌, ◌++◌, length, map, Option, Some, None, Result, refl, sym, ap, subst, ◌∙◌, inl, inr}
+use Rattle.std.specs.Prelude.{◌&&◌, ◌||◌, IsTrue}
+use Rattle.std.specs.List.{flat_map}
 use Rattle.std.proofs.lemmas.Bool.{cases_Bool, cases_eq, eq-eqb, eqb-true, ne_eqb}
 use Rattle.std.proofs.lemmas.List.{append-nil, length-replicate, map-append}
 use Rattle.std.proofs.lemmas.List.Concat.{flat_map-append}
@@ -26,7 +26,6 @@ use Rattle.sp_rules.specs.Arts.{Arts}
 use Rattle.sp_rules.specs.Flow.{flow_said}
 use Rattle.sp_rules.specs.Handle.{Arrival, handle, handle_all, offer_to, weight_effects}
 use Rattle.sp_rules.specs.Link.{advanced}
-use Rattle.sp_rules.specs.Masks.{IsChoice}
 use Rattle.sp_rules.specs.Node.{NodeState, call_refusal, called, kept_or, link_in, signed_now, signed_once, with_link}
 use Rattle.sp_rules.specs.Parts.{Fixed, Parts, is_signed, nodes_of}
 use Rattle.sp_rules.specs.Pieces.{Piece, WeightPiece, PrioAckPiece, PrioPiece, ReportPiece, AckPiece, RelPiece}
@@ -41,7 +40,6 @@ use Rattle.sp_rules.specs.Steps.{Input, NodeStep, Output, accepted, arrived, ref
 use Rattle.sp_rules.specs.Store.{oldest, said}
 use Rattle.sp_rules.specs.Ticks.{ack_effects, at_time, settled_by, time_after}
 use Rattle.sp_rules.specs.Weights.{held}
-use Rattle.sp_rules.specs.declared.answers.Item.{Item}
 use Rattle.sp_rules.specs.declared.answers.Item.TheVariants as items
 use Rattle.sp_rules.specs.declared.node.NodeRefused.{NodeRefused}
 use Rattle.laws_node.specs.Inputs.{InputFits}
@@ -54,8 +52,8 @@ use Rattle.laws_runs.proofs.Lives.{step_stays}
 use Rattle.sp_runs.specs.Forgery.{forged_object, has_forged_tag, is_among}
 use Rattle.sp_runs.specs.Inputs.{acting, crafted_frame, flipped, input_of, slot_alone}
 use Rattle.sp_runs.specs.Journals.{Says, refused_word, reply_word}
-use Rattle.sp_runs.specs.Runs.{Clean, Starts, Turned, Turn, Moves, Stays, Move, Spends, IsCraftOf, next_frame}
-use Rattle.sp_runs.specs.Settings.{Setting, SettingFits, is_correct, node_at_boot}
+use Rattle.sp_runs.specs.Runs.{Clean, Starts, Turned, Moves, Stays, Move, Spends, IsCraftOf, next_frame}
+use Rattle.sp_runs.specs.Settings.{Setting, SettingFits, is_correct}
 use Rattle.sp_runs.specs.Told.{Message, prio_accepted_in, prio_by, prio_delivered, prio_sent, signed, signed_by, told_at}
 use Rattle.sp_runs.specs.Worlds.{World, at_start, node_in}
 use Rattle.sp_runs.specs.declared.entry.Entry.{Entry}
@@ -67,11 +65,11 @@ use Rattle.laws_runs.specs.Premises.{Carries}
 use Rattle.laws_runs.specs.Priority.{AreAmong, AreOnce, IsOneOf, PriorityIsKept}
 use Rattle.laws_runs.proofs.Facts.{Good, Known, NodeIs, sizes_at}
 use Rattle.laws_runs.proofs.FlowFacts.{flow_of}
-use Rattle.laws_runs.proofs.FlowPieces.{quiet_acked, quiet_expired, quiet_gone, quiet_none, quiet_prio, quiet_weight}
-use Rattle.laws_runs.proofs.FlowRuns.{here_is, none_either, nothing_told}
+use Rattle.laws_runs.proofs.FlowPieces.{quiet_acked, quiet_expired, quiet_gone, quiet_prio, quiet_weight}
+use Rattle.laws_runs.proofs.FlowRuns.{here_is, nothing_told}
 use Rattle.laws_runs.proofs.Flows.{came_bytes, crafted_bytes, new_both}
 use Rattle.laws_runs.proofs.Lists.{among_cons, among_or, told_more}
-use Rattle.laws_runs.proofs.PrioFacts.{Mute, PrioDone, PrioIs, VouchedPrio, all_handled, marks, mute_append, mute_expired, mute_gone, mute_none, mute_own, mute_signed, mute_weight, muted, prio_numbers, same_windows, spread_same}
+use Rattle.laws_runs.proofs.PrioFacts.{Mute, PrioIs, VouchedPrio, all_handled, marks, mute_append, mute_expired, mute_gone, mute_none, mute_own, mute_signed, mute_weight, muted, prio_numbers, same_windows, spread_same}
 use Rattle.laws_runs.proofs.Signed.{arts_fit, even, new_known, signs, started, unforged_tag, reached}
 use Rattle.laws_runs.proofs.Tables.{node_put, same_node}
 
@@ -445,9 +443,9 @@ moved_on arts x s d es js w new e j m same me h done =
           (elim (among_or (encoded (bodies.Prio b)) (signed es js s) (cond (u.0 == s.0) (flat_map signed_by m.output.effects) []) split) [
             | inl old ↦ one_more (b.seq, b.payload) S T (h.messages k b good src dst old)
             | inr now ↦ elim (cases_Bool (u.0 == s.0)) [
-                | inl t ↦ one_last (b.seq, b.payload) S T (done.messages k (same_node u s (eqb-true u.0 s.0 t)) b good src dst (rw t at now))
-                | inr t ↦ absurd (let f : false ≡ true = rw t at now in cc)
-              ]
+              | inl t ↦ one_last (b.seq, b.payload) S T (done.messages k (same_node u s (eqb-true u.0 s.0 t)) b good src dst (rw t at now))
+              | inr t ↦ absurd (let f : false ≡ true = rw t at now in cc)
+            ]
           ]);
     }
 

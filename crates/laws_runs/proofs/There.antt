@@ -1,9 +1,7 @@
 -- Each correct node is there in every state of a clean run.
-use Rattle.std.proofs.Common.{◌≡◌, ℕ, Bool, true, false, eqb, IsTrue, List, [], ◌∷◌, ◌++◌, filter, map, find, Option, Some, None, refl, sym, ap, subst, ◌∙◌, inl, inr}
-use Rattle.std.specs.Prelude.{not}
+use Rattle.std.proofs.Common.{◌≡◌, Bool, true, false, eqb, List, [], ◌∷◌, filter, map, find, Some, refl, sym, ap, subst, ◌∙◌, inl, inr}
 use Rattle.std.specs.List.{list_any}
 use Rattle.std.proofs.lemmas.Bool.{cases_Bool, eqb-true, eq-eqb}
-use Rattle.sp_base.specs.Rows.{replace_where}
 use Rattle.sp_base.specs.declared.id.NodeId.{NodeId}
 use Rattle.sp_rules.specs.Arts.{Arts}
 use Rattle.sp_rules.specs.Node.{NodeState}
@@ -11,7 +9,7 @@ use Rattle.sp_rules.specs.Parts.{Fixed, nodes_of}
 use Rattle.laws_runs.proofs.Lives.{step_stays}
 use Rattle.sp_runs.specs.Runs.{Clean, Starts, Turned, Moves, Stays}
 use Rattle.sp_runs.specs.Settings.{Setting, SettingFits, is_correct, is_one_of, node_at_boot}
-use Rattle.sp_runs.specs.Worlds.{World, at_start, is_me, node_in, with_node}
+use Rattle.sp_runs.specs.Worlds.{World, is_me, node_in}
 use Rattle.sp_runs.specs.Inputs.{acting}
 use Rattle.sp_runs.specs.declared.entry.Entry.{Entry}
 use Rattle.sp_runs.specs.declared.event.Event.{Event}

@@ -1,11 +1,11 @@
 -- The part on weights over a whole run.
-use Rattle.std.proofs.Common.{◌≡◌, ◌<◌, ◌≤◌, ℕ, ◌+◌, ◌*◌, ◌==◌, max, Bool, true, false, cond, eqb, List, [], ◌∷◌, ◌++◌, length, map, replicate, Option, Some, None, refl, sym, ap, subst, ◌∙◌, inl, inr, arith, not, nat_lt}
+use Rattle.std.proofs.Common.{◌≡◌, ℕ, ◌+◌, ◌*◌, ◌==◌, max, Bool, true, false, cond, List, [], ◌∷◌, ◌++◌, length, map, Option, Some, None, refl, sym, ap, subst, ◌∙◌, inl, inr, arith, nat_lt}
 use Rattle.std.specs.Prelude.{◌⊎◌, ◌&&◌, IsTrue}
 use Rattle.std.specs.List.{flat_map, slice_get}
 use Rattle.std.proofs.lemmas.Bool.{cases_Bool, eq-eqb, eqb-true, ne_eqb}
 use Rattle.std.proofs.lemmas.List.{append-nil, length-replicate}
 use Rattle.sp_base.specs.declared.id.NodeId.{NodeId}
-use Rattle.sp_msg.specs.Bodies.{HasGoodFields, encoded}
+use Rattle.sp_msg.specs.Bodies.{encoded}
 use Rattle.sp_msg.specs.Views.{signer_of}
 use Rattle.sp_msg.specs.declared.body.Ack.{Ack}
 use Rattle.sp_msg.specs.declared.body.Body.{Body}
@@ -32,19 +32,18 @@ use Rattle.sp_rules.specs.Prio.{PrioState, admit_prio, judge_prio, prio_effects}
 use Rattle.sp_rules.specs.PrioPeer as rows
 use Rattle.sp_rules.specs.PrioPeer.{PrioPeer}
 use Rattle.sp_rules.specs.Rel.{admit_ack, admit_rel, delivery, due, is_to, judge_ack_of, judge_rel_of, pushed_in, rel_effects}
-use Rattle.sp_rules.specs.Sends.{PrioSend, after_take_prio, after_take_rel, mask_in, own_prio, prio_body, prio_sent, rel_body, rel_number, rel_refusal, rel_sent, send_prio_refusal, signer_refusal, weight_body, weight_number, weight_refusal, weight_sent}
+use Rattle.sp_rules.specs.Sends.{after_take_prio, after_take_rel, mask_in, own_prio, prio_body, prio_sent, rel_body, rel_number, rel_refusal, rel_sent, send_prio_refusal, signer_refusal, weight_body, weight_number, weight_refusal, weight_sent}
 use Rattle.sp_rules.specs.Steps as steps
 use Rattle.sp_rules.specs.Steps.{Input, NodeStep, Output, accepted, arrived, refused_call, refused_send, replied}
 use Rattle.sp_rules.specs.Store.{Store, evicted, expired_entries, oldest}
 use Rattle.sp_rules.specs.Ticks.{ack_effects, at_time, settled_by, time_after}
-use Rattle.sp_rules.specs.Weights.{WeightState, effective, held, held_in, minimum, minimum_of, moved, offer, offer_of, row_for, row_if, row_of, rows_with, start, weight_of}
+use Rattle.sp_rules.specs.Weights.{WeightState, held, held_in, minimum, minimum_of, offer, offer_of, row_for, row_if, row_of, weight_of}
 use Rattle.sp_rules.specs.declared.answers.Item.{Item}
 use Rattle.sp_rules.specs.declared.answers.Item.TheVariants as items
 use Rattle.sp_rules.specs.declared.answers.PrioAnswer.{PrioAnswer}
 use Rattle.sp_rules.specs.declared.answers.PrioAnswer.TheVariants as prios
 use Rattle.sp_rules.specs.declared.node.NodeRefused.{NodeRefused}
 use Rattle.sp_rules.specs.declared.store.Entry.{Entry}
-use Rattle.sp_rules.specs.declared.weights.Offer.{Offer}
 use Rattle.sp_rules.specs.declared.weights.Offer.TheVariants as offers
 use Rattle.sp_rules.specs.declared.weights.TheConstants.{MAX_OWN_HEARD}
 use Rattle.sp_topology.specs.declared.topology.Edge.{Edge}
@@ -59,10 +58,9 @@ use Rattle.laws_node.proofs.LastWeights.{At, HasRows, IsUpdateAt, held_said, len
 use Rattle.laws_node.proofs.UpdateRows.{ends_differ, nothing_held}
 use Rattle.sp_runs.specs.Forgery.{forged_object, has_forged_tag, is_among}
 use Rattle.laws_node.specs.Lives.{last_told, weight_told}
-use Rattle.sp_runs.specs.Weights.{effective_weight}
 use Rattle.sp_runs.specs.Inputs.{acting}
-use Rattle.sp_runs.specs.Runs.{Clean, Starts, Turned, Turn, Moves, Stays, Move, Spends}
-use Rattle.sp_runs.specs.Settings.{Setting, SettingFits, fixed_of, is_correct, node_at_boot}
+use Rattle.sp_runs.specs.Runs.{Clean, Starts, Turned, Moves, Stays, Move, Spends}
+use Rattle.sp_runs.specs.Settings.{Setting, SettingFits, is_correct}
 use Rattle.sp_runs.specs.Told.{effects_at, signed, signed_by, told_at}
 use Rattle.sp_runs.specs.Worlds.{World, at_start, node_in}
 use Rattle.sp_runs.specs.declared.entry.Entry.{Entry as JournalEntry}
@@ -366,10 +364,13 @@ said_more x es js e j same u h = λ correct.
 known_weights : (x : Setting) (es : List Event) (js : List JournalEntry) (Q : WeightBody → Type 0) → ((u : WeightBody) → IsSaid x es js u → Q u) → (answered : List (Kept × Item)) → NewKeep (Known x es js) answered
     → NewKeep (λ o. (u : WeightBody) → o.body ≡ bodies.Weight u → Q u) answered
 known_weights x es js Q less [] h = tt
-known_weights x es js Q less (a ∷ others) h = (λ new u is. less u (λ correct.
-    let signer : signer_of a.0.body ≡ u.origin = ap signer_of is in
-    let among : is_among (encoded a.0.body) (signed es js (signer_of a.0.body)) ≡ true = h.0 new (subst (λ v. IsTrue (is_correct x v)) (sym signer) correct) in
-    subst (λ b. is_among (encoded b) (signed es js u.origin) ≡ true) is (subst (λ v. is_among (encoded a.0.body) (signed es js v) ≡ true) signer among)), known_weights x es js Q less others h.1)
+known_weights x es js Q less (a ∷ others) h = (
+  λ new u is. less u (λ correct.
+      let signer : signer_of a.0.body ≡ u.origin = ap signer_of is in
+      let among : is_among (encoded a.0.body) (signed es js (signer_of a.0.body)) ≡ true = h.0 new (subst (λ v. IsTrue (is_correct x v)) (sym signer) correct) in
+      subst (λ b. is_among (encoded b) (signed es js u.origin) ≡ true) is (subst (λ v. is_among (encoded a.0.body) (signed es js v) ≡ true) signer among)),
+  known_weights x es js Q less others h.1,
+)
 
 moved_on : (arts : Arts) (x : Setting) (es : List Event) (js : List JournalEntry) (w new : World) (e : Event) (j : JournalEntry) (m : Move arts x es w e j new) → length es ≡ length js
     → m.after.fixed.me ≡ acting e → WeightsHold x es js w → WTurns (IsSaid x (es ++ e ∷ []) (js ++ j ∷ [])) m.node.parts.weights m.output.effects m.after.parts.weights → WeightsHold x (es ++ e ∷ []) (js ++ j ∷ []) new

@@ -5,3 +5,4 @@ pub mod Flows
 pub mod Priority
 pub mod Weights
 pub mod States
+pub mod Shares

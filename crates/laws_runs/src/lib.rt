@@ -4,6 +4,7 @@
 ghost use Rattle.laws_runs.specs.Flows.{FlowsAreKept};
 ghost use Rattle.laws_runs.specs.Laws.{BuffersStayBounded, OnlyTheAdversaryForges};
 ghost use Rattle.laws_runs.specs.Priority.{PriorityIsKept};
+ghost use Rattle.laws_runs.specs.Shares.{EvictionsLeaveShares};
 ghost use Rattle.laws_runs.specs.States.{BeginningsAreClean, CorrectNodesAreThere, WhatIsKeptWasSigned};
 ghost use Rattle.laws_runs.specs.Weights.{WeightsAreKept};
 
@@ -50,4 +51,9 @@ pub fn what_is_kept_was_signed()
 /// A law: every beginning of a run without forgery is one. So what the other laws say holds after each event.
 pub fn beginnings_are_clean()
     ensures { BeginningsAreClean }
+{}
+
+/// A law: each eviction takes the first entry of lowest priority of the source that has most, and leaves that source at least its share.
+pub fn evictions_leave_shares()
+    ensures { EvictionsLeaveShares }
 {}
