@@ -1,0 +1,5 @@
+pub mod Bytes
+pub mod Signatures
+pub mod FrameBytes
+pub mod ReadBack
+pub mod Headers
