@@ -1,7 +1,7 @@
 -- Strings of bytes: what they are made of, and what is made of them.
-use Rattle.std.proofs.Common.{◌≡◌, ◌<◌, ℕ, zero, suc, List, [], ◌∷◌, ◌++◌, take, arith, refl}
-use Rattle.std.specs.List.{All, concat, range_with_len, slice_index}
-use Rattle.std.proofs.lemmas.List.Elements.{All-append, All-cons, All-head, All-nil, All-tail, All-take}
+use Rattle.std.proofs.Common.{◌<◌, ℕ, zero, suc, List, [], ◌∷◌, ◌++◌}
+use Rattle.std.specs.List.{All, concat, slice_index}
+use Rattle.std.proofs.lemmas.List.Elements.{All-append, All-cons, All-head, All-nil, All-tail}
 use Rattle.sha2.specs.Sha256.{digest_bytes, final_hash, initial_hash_256, sha256}
 use Rattle.byteorder.specs.Endian.{big_bytes}
 use Rattle.sp_base.proofs.NumberLemmas.{AreBytes-big_bytes}

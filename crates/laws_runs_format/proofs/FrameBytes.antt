@@ -1,11 +1,11 @@
 -- A frame's sections are bytes exactly where the payloads and signatures of its objects are.
-use Rattle.std.proofs.Common.{◌≡◌, ◌<◌, ℕ, List, [], ◌∷◌, ◌++◌, length, map, drop, take, append_assoc, Option, Some, None, refl, sym, ap, subst, ◌∙◌, arith}
+use Rattle.std.proofs.Common.{◌≡◌, ◌<◌, ℕ, List, [], ◌∷◌, ◌++◌, length, map, append_assoc, Option, Some, None, refl, sym, ap, subst, ◌∙◌, arith}
 use Rattle.std.specs.List.{All, flat_map}
 use Rattle.std.proofs.lemmas.List.Elements.{All-append, All-cons, All-head, All-nil, All-tail}
 use Rattle.byteorder.specs.Endian.{big_bytes}
 use Rattle.sp_base.specs.Spelling.{AreBytes}
 use Rattle.sp_frame.specs.Frames.{ends_bytes, head_bytes, numbers_bytes}
-use Rattle.sp_frame.specs.Grammar.{counted_bytes, flagged_bytes}
+use Rattle.sp_frame.specs.Grammar.{counted_bytes}
 use Rattle.sp_frame.specs.Objects.{object_bytes}
 use Rattle.sp_frame.specs.Prioritized.{numbered_bytes, prios_bytes}
 use Rattle.sp_frame.specs.Reliable.{Report, ack_bytes, place_bytes, rels_bytes, report_bytes, slot_bytes}
@@ -18,7 +18,7 @@ use Rattle.sp_msg.specs.Fields.{Rule, size_of, spelled}
 use Rattle.sp_msg.specs.declared.body.Body.{Body}
 use Rattle.sp_msg.specs.declared.body.Body.TheVariants as bodies
 use Rattle.sp_msg.specs.declared.kept.Kept.{Kept}
-use Rattle.sp_rules.specs.Pieces.{Piece, WeightPiece, PrioAckPiece, PrioPiece, ReportPiece, AckPiece, RelPiece, pieces_of, prio_piece, slot_pieces}
+use Rattle.sp_rules.specs.Pieces.{Piece, WeightPiece, PrioAckPiece, AckPiece, RelPiece, pieces_of, prio_piece, slot_pieces}
 use Rattle.laws_node.specs.Objects.{objects_in, objects_of}
 use Rattle.laws_runs.specs.Premises.{AreOfBytes, IsOfBytes}
 use Rattle.laws_runs_format.proofs.Bytes.{joined, joined3, joined4, left, none, of_number, one_first, parts3, parts4, right}

@@ -1,5 +1,5 @@
 -- A header's setting fits this format: each node signs with the key of its own seed.
-use Rattle.std.proofs.Common.{ℕ, ◌≡◌, ◌<◌, ◌≤◌, not, eqb, Bool, true, false, List, [], ◌∷◌, map, Some, refl, sym, ap, subst, inl, inr, arith}
+use Rattle.std.proofs.Common.{ℕ, ◌≡◌, ◌<◌, ◌≤◌, not, eqb, true, false, List, [], ◌∷◌, map, Some, refl, ap, inl, inr, arith}
 use Rattle.std.specs.List.{range_with_len}
 use Rattle.std.proofs.lemmas.Bool.{cases_Bool, eqb-true}
 use Rattle.sp_base.specs.declared.id.NodeId.{NodeId}
@@ -16,6 +16,7 @@ use Rattle.laws_runs.proofs.Lists.{both}
 use Rattle.sp_runs.specs.Scenarios.{node_key, node_seed, setting_of, topology_of}
 use Rattle.sp_runs.specs.Settings.{first_signer, fixed_of, is_one_of}
 use Rattle.laws_runs_format.specs.Headers.{HeadersFit}
+use Rattle.laws_runs_format.proofs.Topologies.{topologies_fit}
 
 short : (h : LmsHeight) → signature_len (param_of h) < 65536
 short Five = omega arith
@@ -34,8 +35,8 @@ keys_are h seed u (id ∷ ids) there = elim (cases_Bool (eqb id u.0)) [
 ]
 
 pub headers_fit : HeadersFit
-headers_fit s is = record {
-  topology = is;
+headers_fit s good = record {
+  topology = topologies_fit s good;
   short = short s.height;
   total = few s.height;
   each = λ u correct. format_fits (fixed_of (setting_of s) u) (first_signer (setting_of s) u) (record {

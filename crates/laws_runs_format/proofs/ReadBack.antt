@@ -1,18 +1,15 @@
 -- This format's frames are read back, and all of them is bytes.
-use Rattle.std.proofs.Common.{◌≡◌, ◌<◌, ℕ, ◌+◌, ◌-◌, List, ◌++◌, length, take, drop, Ok, length-append, refl, sym, ap, subst, ◌∙◌, arith}
+use Rattle.std.proofs.Common.{◌≡◌, ◌<◌, ℕ, ◌-◌, List, ◌++◌, length, take, drop, length-append, sym, ap, subst, ◌∙◌, arith}
 use Rattle.std.proofs.Math.Seq.{drop-append_seam, take-append_seam}
 use Rattle.std.proofs.lemmas.List.Elements.{All-drop, All-take}
 use Rattle.sp_base.specs.Spelling.{AreBytes}
 use Rattle.sp_frame.proofs.SectionLemmas.{read_is_spelled, spelled_is_read}
 use Rattle.sp_frame.specs.Frames.{ends_bytes, head_bytes, numbers_bytes, sections_part, signed_part}
-use Rattle.sp_frame.specs.Ranges.{IsContents}
 use Rattle.sp_frame.specs.Sections.{Contents, sections_bytes, sections_of}
 use Rattle.sp_frame.specs.declared.head.Head.{Head}
 use Rattle.sp_hmac.proofs.Lengths.{length-hmac}
 use Rattle.sp_hmac.specs.Hmac.{hmac}
-use Rattle.sp_node_core.specs.Format.{format}
 use Rattle.sp_sign.specs.Heights.{param_of}
-use Rattle.laws_runs.specs.Premises.{AreOfBytes}
 use Rattle.laws_runs_format.specs.FormatCarries.{FormatCarries}
 use Rattle.laws_runs_format.proofs.Bytes.{joined, of_tag}
 use Rattle.laws_runs_format.proofs.FrameBytes.{head_are, sections_in, sections_out}

@@ -1,10 +1,10 @@
 -- Signatures of two levels of hash-based trees are bytes.
-use Rattle.std.proofs.Common.{◌≡◌, ◌<◌, ℕ, zero, suc, ◌+◌, ◌-◌, ◌/◌, ◌%◌, ◌^◌, List, [], ◌∷◌, ◌++◌, map, take, codes, refl}
-use Rattle.std.specs.List.{All, concat, range_with_len}
+use Rattle.std.proofs.Common.{◌<◌, ℕ, zero, suc, ◌+◌, ◌/◌, ◌%◌, ◌^◌, List, [], ◌∷◌, ◌++◌, map, codes}
+use Rattle.std.specs.List.{All, concat}
 use Rattle.std.proofs.lemmas.List.Elements.{All-cons, All-nil, All-take}
 use Rattle.sp_base.specs.Spelling.{AreBytes}
 use Rattle.sp_hmac.specs.Hmac.{hmac}
-use Rattle.sp_hss.specs.KeyTree.{front_of, name, signature, tree_id, tree_key, tree_seed, tree_signature}
+use Rattle.sp_hss.specs.KeyTree.{front_of, name, public_key, signature, tree_id, tree_key, tree_signature}
 use Rattle.sp_hss.specs.declared.tree.Tree.{Tree}
 use Rattle.sp_hss.specs.declared.tree.Tree.TheVariants.{Lower, Upper}
 use Rattle.sp_lms.specs.Keys as keys
@@ -12,8 +12,7 @@ use Rattle.sp_lms.specs.Keys.{root, seed_leaf}
 use Rattle.sp_lms.specs.Parameters.{height, leaf_count, typecode}
 use Rattle.sp_lms.specs.Trees.{inner_hash, leaf_hash, path, sibling, tree_node}
 use Rattle.sp_lms.specs.declared.param.LmsParam.{LmsParam}
-use Rattle.sp_ots.specs.Chains.{chain_end, next_element, stepped}
-use Rattle.sp_ots.specs.Keys as one_time_keys
+use Rattle.sp_ots.specs.Chains.{next_element, stepped}
 use Rattle.sp_ots.specs.Keys.{private_start}
 use Rattle.sp_ots.specs.Parameters as ots
 use Rattle.sp_ots.specs.Signature as one_time_signatures
@@ -101,3 +100,7 @@ unfolding signature
 signature_are h seed index message =
     let t = index / leaf_count h in
     joined (front_of h seed t) (tree_signature h seed (Lower t) (index % leaf_count h) message) (front_are h seed t) (tree_are h _ _ _ (index % leaf_count h) message)
+
+pub public_key_are : (h : LmsParam) (seed : List ℕ) → AreBytes (public_key h seed)
+unfolding public_key
+public_key_are h seed = joined (u32str 2) (tree_key h seed Upper) (of_word 2) (key_are h _ _ _ (id_are seed Upper))
