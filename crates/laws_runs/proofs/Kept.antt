@@ -38,7 +38,7 @@ good arts x es js o h =
     (unless (is_correct x (signer_of o.body)) (is_among (encoded o.body) (signed es js (signer_of o.body))) h.known)
 
 -- the same sizes are read off the node
-read_off : (x : Setting) (P : Kept → Type 0) (u : NodeId) (n : NodeState) → NodeHolds (sizes_at x P u) n → NodeHolds (sizes_of P n) n
+pub read_off : (x : Setting) (P : Kept → Type 0) (u : NodeId) (n : NodeState) → NodeHolds (sizes_at x P u) n → NodeHolds (sizes_of P n) n
 read_off x P u n h =
     subst (λ (k : Sizes). NodeHolds k n) (same h.fixed.me h.fixed.nodes h.fixed.edges h.fixed.signature_len h.parts.rel.bound h.parts.prio.capacity) h
   where

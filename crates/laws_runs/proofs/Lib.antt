@@ -21,3 +21,4 @@ pub mod Played
 pub mod StoreFacts
 pub mod PlaceFacts
 pub mod PlaceRuns
+pub mod Determined

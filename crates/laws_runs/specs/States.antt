@@ -63,3 +63,10 @@ WhatIsKeptWasSigned = (arts : Arts) (x : Setting) (es : List Event) (js : List E
 abbrev pub BeginningsAreClean : Type 0
 BeginningsAreClean = (arts : Arts) (x : Setting) (es : List Event) (js : List Entry) (w : World) → Clean arts x es js w
     → (n : ℕ) → (v : World) × Clean arts x (take n es) (take n js) v
+
+-- ---- one world
+
+-- the events of a run and their journal lead to one world, though the paths of a message are chosen freely among the cheapest ones
+abbrev pub RunsAreDetermined : Type 0
+RunsAreDetermined = (arts : Arts) (x : Setting) (es : List Event) (js : List Entry) (w v : World) → SettingFits arts x → Carries arts
+    → Clean arts x es js w → Clean arts x es js v → w ≡ v

@@ -5,7 +5,7 @@ ghost use Rattle.laws_runs.specs.Flows.{FlowsAreKept};
 ghost use Rattle.laws_runs.specs.Laws.{BuffersStayBounded, OnlyTheAdversaryForges};
 ghost use Rattle.laws_runs.specs.Priority.{PriorityIsKept};
 ghost use Rattle.laws_runs.specs.Shares.{EvictionsLeaveShares};
-ghost use Rattle.laws_runs.specs.States.{BeginningsAreClean, CorrectNodesAreThere, WhatIsKeptWasSigned};
+ghost use Rattle.laws_runs.specs.States.{BeginningsAreClean, CorrectNodesAreThere, RunsAreDetermined, WhatIsKeptWasSigned};
 ghost use Rattle.laws_runs.specs.Weights.{WeightsAreKept};
 
 /// A law: only bytes that the adversary brings are ever forged. A frame that is passed as it was made never is.
@@ -56,4 +56,9 @@ pub fn beginnings_are_clean()
 /// A law: each eviction takes the first entry of lowest priority of the source that has most, and leaves that source at least its share.
 pub fn evictions_leave_shares()
     ensures { EvictionsLeaveShares }
+{}
+
+/// A law: the events of a run and their journal lead to one world: to one state of each node, and to the same frames.
+pub fn events_and_journal_determine_a_run()
+    ensures { RunsAreDetermined }
 {}
