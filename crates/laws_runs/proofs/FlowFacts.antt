@@ -15,13 +15,9 @@ use Rattle.sp_rules.proofs.FlowJudged.{same_ends}
 use Rattle.sp_rules.specs.Flow.{FlowState, acknowledged_by, concluded, ends, is_flow, no_flow, number_said, pushed, received}
 use Rattle.sp_rules.specs.Rel.{RelState, flow_in, put_flow, with_flow}
 use Rattle.sp_runs.specs.Told.{Message}
+use Rattle.laws_runs.specs.Flows.{IsIn}
 use Rattle.laws_runs.proofs.Lists.{front_more}
 use Rattle.laws_runs.proofs.Tables.{same_node}
-
--- the message of this number and payload is among what was sent
-pub record IsIn (S : List Message) (q : ℕ) (p : List ℕ) : Type 0 where
-  pub number : 1 ≤ q
-  pub there : slice_get S (q - 1) ≡ Some (q, p)
 
 abbrev pub flow_of : NodeId → NodeId → Flow
 flow_of s d = record { src = s; dst = d }

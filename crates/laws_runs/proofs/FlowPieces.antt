@@ -44,7 +44,8 @@ use Rattle.laws_node.specs.Asked.{NewKeep}
 use Rattle.laws_node.proofs.AskedLemmas.{new_left, new_right}
 use Rattle.laws_node.proofs.Handles as judged
 use Rattle.sp_runs.specs.Told.{Message, delivered_by, signed_by}
-use Rattle.laws_runs.proofs.FlowFacts.{IsIn, FlowAt, RelIs, cases_flow, delivered_next, flow_acked, flow_of, flow_received, flow_took, prefix_length, same_rows_is, with_flow_is}
+use Rattle.laws_runs.specs.Flows.{IsIn}
+use Rattle.laws_runs.proofs.FlowFacts.{FlowAt, RelIs, cases_flow, delivered_next, flow_acked, flow_of, flow_received, flow_took, prefix_length, same_rows_is, with_flow_is}
 use Rattle.laws_runs.proofs.Tables.{same_node}
 
 -- ---- effects that say nothing of reliable messages and signatures

@@ -31,13 +31,14 @@ use Rattle.sp_runs.specs.declared.entry.Entry.{Entry}
 use Rattle.sp_runs.specs.declared.event.Event.{Event}
 use Rattle.sp_runs.specs.declared.event.Event.TheVariants as events
 use Rattle.laws_runs.specs.Acknowledged.{acknowledged, acks_in}
-use Rattle.laws_runs.specs.Flows.{AreNumbered, FlowsAreKept}
+use Rattle.laws_runs.specs.Flows.{IsIn, AreNumbered, FlowsAreKept}
 use Rattle.laws_runs.specs.Premises.{Carries}
-use Rattle.laws_runs.proofs.FlowFacts.{IsIn, RelIs, flow_grown, flow_of, in_more}
+use Rattle.laws_runs.proofs.FlowFacts.{RelIs, flow_grown, flow_of, in_more}
 use Rattle.laws_runs.proofs.FlowPieces.{told_here}
 use Rattle.laws_runs.proofs.FlowSteps.{Stepped, acked_away, acked_here}
 use Rattle.laws_runs.proofs.Flows.{FlowsHold, acks_both, stepped}
 use Rattle.laws_runs.proofs.Lists.{among_or, told_more}
+use Rattle.laws_runs.proofs.SentLists.{lists_sent}
 use Rattle.laws_runs.proofs.Signed.{even, new_known, signs, started, unforged_tag, reached}
 use Rattle.laws_runs.proofs.Tables.{node_put, same_node}
 
@@ -246,6 +247,10 @@ flows_hold arts x es js w fits reads (Turned {es = es'} {js = js'} {old = old} {
 flows_hold arts x es js w fits reads (Turned {es = es'} {js = js'} {old = old} {e = e} {j = j} run range (Stays m) unforged) s d from to different =
     stayed_on x s d es' js' old w e j (even arts x es' js' old run) m (flows_hold arts x es' js' old fits reads run s d from to different)
 
+first_true : (a b : Bool) → (a && b) ≡ true → a ≡ true
+first_true true b e = refl
+first_true false b e = absurd (let f : false ≡ true = e in cc)
+
 pub flows_are_kept : FlowsAreKept
 flows_are_kept arts x es js w fits reads run s d from to different =
     let h = flows_hold arts x es js w fits reads run s d from to different in
@@ -256,6 +261,9 @@ flows_are_kept arts x es js w fits reads run s d from to different =
       have_at_end = λ n at. (h.nodes d n at).flow.have_end refl;
       have = λ k u n at. (h.nodes u n at).flow.have k;
       have_at_source = λ k n at. (h.nodes s n at).flow.have_source k refl;
+      lists = λ k u n at.
+          lists_sent arts x s d es js w fits h k from (first_true (is_node x d) _ to) u n ((signs arts x es js w fits reads run).nodes u n at);
+      messages = h.messages;
       prefix = h.prefix;
       numbered = λ k. let p = h.prefix k in numbered_front 0 (delivered es js s d) p.0 (subst (AreNumbered 0) p.1 (h.numbers k));
     }

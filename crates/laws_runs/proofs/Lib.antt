@@ -22,3 +22,4 @@ pub mod StoreFacts
 pub mod PlaceFacts
 pub mod PlaceRuns
 pub mod Determined
+pub mod SentLists
