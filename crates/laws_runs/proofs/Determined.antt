@@ -86,13 +86,13 @@ unfolding world_of
 by_moves arts x es old w v e j m n fits kept =
     let node : n.node ≡ m.node = same_some n.node m.node (sym n.is_there ∙ m.is_there) in
     let input : n.input ≡ m.input =
-        same_some n.input m.input (sym n.reaches ∙ ap (λ (y : NodeState). input_of arts x es old y e) node ∙ m.reaches) in
+    same_some n.input m.input (sym n.reaches ∙ ap (λ (y : NodeState). input_of arts x es old y e) node ∙ m.reaches) in
     let step : NodeStep arts m.node m.input n.output n.after =
-        subst (λ (y : NodeState). NodeStep arts y m.input n.output n.after) node (subst (λ (i : Input). NodeStep arts n.node i n.output n.after) input n.step) in
+    subst (λ (y : NodeState). NodeStep arts y m.input n.output n.after) node (subst (λ (i : Input). NodeStep arts n.node i n.output n.after) input n.step) in
     let output : m.output ≡ n.output = one_output x (next_frame old e) j arts m.node m.input m.output n.output m.after n.after m.step step m.journal n.journal in
     let after : m.after ≡ n.after =
-        steps_are_determined arts m.node m.input m.output m.after n.after fits kept m.step
-        (subst (λ (o : Output). NodeStep arts m.node m.input o n.after) (sym output) step) in
+    steps_are_determined arts m.node m.input m.output m.after n.after fits kept m.step
+    (subst (λ (o : Output). NodeStep arts m.node m.input o n.after) (sym output) step) in
     m.world ∙ ap₂ (λ (a : NodeState) (o : Output). world_of old e a o.reply) after output ∙ sym n.world
 
 -- a crafting signer that is spent brings nothing

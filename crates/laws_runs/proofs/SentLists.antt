@@ -42,8 +42,8 @@ module _ (arts : Arts) (x : Setting) (s d : NodeId) (es : List Event) (js : List
           let dst : m.dst ≡ d = is.1 ∙ ap (λ (f : Flow). f.dst) same in
           let signer : signer_of o.body ≡ s = ap signer_of body ∙ src in
           let known : is_among (encoded o.body) (signed es js s) ≡ true =
-              subst (λ (v : NodeId). is_among (encoded o.body) (signed es js v) ≡ true) signer
-              (good.known (subst (λ (v : NodeId). IsTrue (is_correct x v)) (sym signer) correct)) in
+          subst (λ (v : NodeId). is_among (encoded o.body) (signed es js v) ≡ true) signer
+          (good.known (subst (λ (v : NodeId). IsTrue (is_correct x v)) (sym signer) correct)) in
           subst (λ q. IsIn (sent es js s d) q m.payload) is.2
           (h.messages correct m fields src dst (subst (λ (b : Body). is_among (encoded b) (signed es js s) ≡ true) body known))
       go (bodies.Prio m) body is fields = absurd is
@@ -54,8 +54,7 @@ module _ (arts : Arts) (x : Setting) (s d : NodeId) (es : List Event) (js : List
       → AreSent (sent es js s d) after os
   list_sent u flow after [] same are all = tt
   list_sent u flow after (o ∷ os) same are all =
-      let fits = All-head (Fits (sizes_at x (Good arts x es js) u)) o os all in
-      (
+      let fits = All-head (Fits (sizes_at x (Good arts x es js) u)) o os all in (
         one_sent flow (after + 1) o same are.0 fits.fields fits.holds,
         list_sent u flow (after + 1) os same are.1 (All-tail (Fits (sizes_at x (Good arts x es js) u)) o os all),
       )

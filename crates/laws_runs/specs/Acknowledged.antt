@@ -16,6 +16,7 @@ abbrev pub ack_in : NodeId → NodeId → Result Body MsgRefused → List ℕ
 ack_in s d (Ok (bodies.Ack a)) = if (a.src.0 == s.0) && (a.dst.0 == d.0) then a.seq ∷ [] else []
 ack_in s d _ = []
 
+-- those of all messages
 abbrev pub acks_in : NodeId → NodeId → List (List ℕ) → List ℕ
 acks_in s d messages = flat_map (λ bytes. ack_in s d (read_body bytes)) messages
 

@@ -47,7 +47,8 @@ pub record FlowClaims (x : Setting) (s d : NodeId) (es : List Event) (js : List 
   pub acknowledged : acknowledged es js s d ≤ length (delivered es js s d)
   -- what came to d was delivered
   pub have_at_end : (n : NodeState) → node_in w.nodes d ≡ Some n → (flow_at n s d).at.have ≡ length (delivered es js s d)
-  -- where s is correct, what came anywhere was sent, with the list of each node, and what was delivered is a prefix of what was sent, with the numbers 1, 2, 3 and so on
+  -- where s is correct, what came anywhere was sent, and so are the messages of each list. What was delivered is a prefix of what was sent,
+  -- with the numbers 1, 2, 3 and so on
   pub have : IsTrue (is_correct x s) → (u : NodeId) (n : NodeState) → node_in w.nodes u ≡ Some n → (flow_at n s d).at.have ≤ length (sent es js s d)
   pub have_at_source : IsTrue (is_correct x s) → (n : NodeState) → node_in w.nodes s ≡ Some n → (flow_at n s d).at.have ≡ length (sent es js s d)
   pub lists : IsTrue (is_correct x s) → (u : NodeId) (n : NodeState) → node_in w.nodes u ≡ Some n
@@ -58,6 +59,7 @@ pub record FlowClaims (x : Setting) (s d : NodeId) (es : List Event) (js : List 
   pub prefix : IsTrue (is_correct x s) → IsPrefix (delivered es js s d) (sent es js s d)
   pub numbered : IsTrue (is_correct x s) → AreNumbered 0 (delivered es js s d)
 
+-- of any node s and a correct other one d
 abbrev pub FlowsAreKept : Type 0
 FlowsAreKept = (arts : Arts) (x : Setting) (es : List Event) (js : List Entry) (w : World) → SettingFits arts x → Carries arts → Clean arts x es js w
     → (s d : NodeId) → IsTrue (is_node x s) → IsTrue (is_correct x d) → (s ≡ d → ⊥) → FlowClaims x s d es js w

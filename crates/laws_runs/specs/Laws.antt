@@ -25,8 +25,8 @@ IsHostile _ = ⊥
 
 -- what is forged after a clean run is never a pass, a poll, a client's call or a tick
 abbrev pub OnlyTheAdversaryForges : Type 0
-OnlyTheAdversaryForges = (arts : Arts) (x : Setting) (es : List Event) (js : List Entry) (w : World) (e : Event) (what : What) → SettingFits arts x → Carries arts
-    → Clean arts x es js w → IsForgedAt arts x es js w e what → IsHostile e
+OnlyTheAdversaryForges = (arts : Arts) (x : Setting) (es : List Event) (js : List Entry) (w : World) (e : Event) (what : What) → SettingFits arts x
+    → Carries arts → Clean arts x es js w → IsForgedAt arts x es js w e what → IsHostile e
 
 -- ---- bounds
 

@@ -16,10 +16,12 @@ abbrev pub AreOnce : List ℕ → Type 0
 AreOnce [] = Unit {0}
 AreOnce (q ∷ qs) = (is_in q qs ≡ false) × AreOnce qs
 
+-- the message is one of these
 abbrev pub IsOneOf : Message → List Message → Type 0
 IsOneOf m [] = ⊥
 IsOneOf m (x ∷ xs) = (x ≡ m) ⊎ IsOneOf m xs
 
+-- each of these is one of those that were sent
 abbrev pub AreAmong : List Message → List Message → Type 0
 AreAmong [] sent = Unit {0}
 AreAmong (m ∷ ms) sent = IsOneOf m sent × AreAmong ms sent
@@ -29,6 +31,7 @@ pub record PrioClaims (x : Setting) (s d : NodeId) (es : List Event) (js : List 
   pub once : AreOnce (map (λ m. m.0) (prio_delivered es js s d))
   pub authentic : IsTrue (is_correct x s) → AreAmong (prio_delivered es js s d) (prio_sent es js s d)
 
+-- of each run without forgery
 abbrev pub PriorityIsKept : Type 0
 PriorityIsKept = (arts : Arts) (x : Setting) (es : List Event) (js : List Entry) (w : World) → SettingFits arts x → Carries arts → Clean arts x es js w
     → (s d : NodeId) → IsTrue (is_correct x d) → PrioClaims x s d es js

@@ -11,6 +11,7 @@ use Rattle.sp_runs.specs.declared.entry.Entry.{Entry}
 use Rattle.sp_runs.specs.declared.event.Event.{Event}
 use Rattle.laws_runs.specs.Premises.{Carries}
 
+-- at each place of each node
 abbrev pub EvictionsLeaveShares : Type 0
 EvictionsLeaveShares = (arts : Arts) (x : Setting) (es : List Event) (js : List Entry) (w : World) → SettingFits arts x → Carries arts → Clean arts x es js w
     → (u : NodeId) (place : ℕ) → AreShares x.store place [] (effects_at es js u)

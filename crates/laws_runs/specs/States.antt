@@ -29,6 +29,7 @@ pub record NodeClaims (x : Setting) (w : World) : Type 0 where
   pub there : (u : NodeId) → IsTrue (is_correct x u) → (n : NodeState) × (node_in w.nodes u ≡ Some n)
   pub correct : (u : NodeId) (n : NodeState) → node_in w.nodes u ≡ Some n → IsTrue (is_correct x u) × (n.fixed ≡ fixed_of x u)
 
+-- of each run without forgery
 abbrev pub CorrectNodesAreThere : Type 0
 CorrectNodesAreThere = (arts : Arts) (x : Setting) (es : List Event) (js : List Entry) (w : World) → SettingFits arts x → Carries arts → Clean arts x es js w
     → NodeClaims x w
@@ -43,6 +44,7 @@ is_valid_in arts x o = is_signed_by arts (key_of (signer_of o.body).0 x.topology
 abbrev pub is_known_in : Setting → List Event → List Entry → Kept → Bool
 is_known_in x es js o = not (is_correct x (signer_of o.body)) || is_among (encoded o.body) (signed es js (signer_of o.body))
 
+-- both
 abbrev pub is_good_in : Arts → Setting → List Event → List Entry → Kept → Bool
 is_good_in arts x es js o = is_valid_in arts x o && is_known_in x es js o
 

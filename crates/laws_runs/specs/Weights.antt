@@ -36,5 +36,7 @@ pub record WeightClaims (x : Setting) (es : List Event) (js : List Entry) (w : W
       → effective n.parts.weights edge ≡ effective_weight es js u edge e
   pub said : (u : NodeId) → EachHeld (IsSaid x es js) (effects_at es js u)
 
+-- of each run without forgery
 abbrev pub WeightsAreKept : Type 0
-WeightsAreKept = (arts : Arts) (x : Setting) (es : List Event) (js : List Entry) (w : World) → SettingFits arts x → Carries arts → Clean arts x es js w → WeightClaims x es js w
+WeightsAreKept = (arts : Arts) (x : Setting) (es : List Event) (js : List Entry) (w : World) → SettingFits arts x → Carries arts → Clean arts x es js w
+    → WeightClaims x es js w

@@ -10,5 +10,6 @@ use Rattle.sp_runs.specs.declared.scenario.Scenario.{Scenario}
 abbrev pub TopologiesFit : Type 0
 TopologiesFit = (s : Scenario) → IsGraph s.graph → IsTopology (topology_of s)
 
+-- and so each node signs with the key that its topology has for it
 abbrev pub HeadersFit : Type 0
 HeadersFit = (s : Scenario) → IsGraph s.graph → SettingFits format (setting_of s)
