@@ -20,15 +20,14 @@ use Rattle.laws_node.proofs.Weaker.{node_weaker}
 use Rattle.sp_runs.specs.Inputs.{acting, crafted_frame, crafted_object, crafts, input_of, object_alone}
 use Rattle.sp_runs.specs.Journals.{Says, reply_word}
 use Rattle.sp_runs.specs.Runs.{Clean, InRange, Move, Moves, Spends, Starts, Stays, Turn, Turned, directions_after, next_frame}
-use Rattle.sp_runs.specs.Settings.{Setting, SettingFits, fixed_of}
-use Rattle.sp_runs.specs.Worlds.{Direction, World, at_start, node_in, with_node}
+use Rattle.sp_runs.specs.Settings.{Setting, SettingFits}
+use Rattle.sp_runs.specs.Worlds.{World, at_start, with_node}
 use Rattle.sp_runs.specs.declared.entry.Entry.{Entry}
-use Rattle.sp_runs.specs.declared.entry.Reply.{Reply}
 use Rattle.sp_runs.specs.declared.event.Event.{Event}
 use Rattle.sp_runs.specs.declared.event.Event.TheVariants as events
 use Rattle.laws_runs.specs.Premises.{Carries}
 use Rattle.laws_runs.specs.States.{RunsAreDetermined}
-use Rattle.laws_runs.proofs.Facts.{Good, NodeIs, sizes_at}
+use Rattle.laws_runs.proofs.Facts.{Good, sizes_at}
 use Rattle.laws_runs.proofs.Kept.{read_off}
 use Rattle.laws_runs.proofs.Signed.{reached, signs}
 

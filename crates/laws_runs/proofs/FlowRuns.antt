@@ -39,7 +39,8 @@ use Rattle.laws_runs.proofs.FlowSteps.{Stepped, acked_away, acked_here}
 use Rattle.laws_runs.proofs.Flows.{FlowsHold, acks_both, stepped}
 use Rattle.laws_runs.proofs.Lists.{among_or, told_more}
 use Rattle.laws_runs.proofs.SentLists.{lists_sent}
-use Rattle.laws_runs.proofs.Signed.{even, new_known, signs, started, unforged_tag, reached}
+use Rattle.laws_runs.proofs.Goods.{new_known, started, unforged_tag}
+use Rattle.laws_runs.proofs.Signed.{even, signs, reached}
 use Rattle.laws_runs.proofs.Tables.{node_put, same_node}
 
 -- ---- the start: there is a row for each two nodes, and nothing came

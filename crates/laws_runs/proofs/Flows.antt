@@ -61,7 +61,7 @@ use Rattle.laws_runs.proofs.FlowFacts.{RelIs, flow_of}
 use Rattle.laws_runs.proofs.FlowPieces.{Handles, Vouched, all_handled, quiet_append, quiet_expired, quiet_gone, quiet_none, quiet_prio, quiet_weight, told_here}
 use Rattle.laws_runs.proofs.FlowSteps.{Stepped, acked_here, acked_none, sent_step, served_step, settled_step, signed_other, silent, took_step}
 use Rattle.laws_runs.proofs.Lists.{among_cons}
-use Rattle.laws_runs.proofs.Signed.{arts_fit}
+use Rattle.laws_runs.proofs.Goods.{arts_fit}
 
 -- ---- the greatest number
 

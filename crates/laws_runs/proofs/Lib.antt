@@ -3,6 +3,7 @@ pub mod Tables
 pub mod Lives
 pub mod Facts
 pub mod Reaches
+pub mod Goods
 pub mod Signed
 pub mod Passes
 pub mod Bounds
@@ -12,14 +13,18 @@ pub mod FlowSteps
 pub mod Flows
 pub mod FlowRuns
 pub mod PrioFacts
+pub mod PrioSteps
 pub mod PrioRuns
+pub mod WeightSteps
 pub mod WeightRuns
 pub mod There
 pub mod Beginnings
 pub mod Kept
 pub mod Played
+pub mod Evictions
 pub mod StoreFacts
 pub mod PlaceFacts
+pub mod PlaceSteps
 pub mod PlaceRuns
 pub mod Determined
 pub mod SentLists

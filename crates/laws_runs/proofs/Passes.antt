@@ -32,7 +32,8 @@ use Rattle.laws_runs.specs.Premises.{Carries}
 use Rattle.laws_runs.proofs.Facts.{Good}
 use Rattle.laws_runs.proofs.Lists.{among_get}
 use Rattle.laws_runs.proofs.Reaches.{came}
-use Rattle.laws_runs.proofs.Signed.{signs, where_keep}
+use Rattle.laws_runs.proofs.Goods.{where_keep}
+use Rattle.laws_runs.proofs.Signed.{signs}
 
 -- ---- nothing is forged where all that is new is known
 

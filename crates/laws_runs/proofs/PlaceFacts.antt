@@ -16,7 +16,8 @@ use Rattle.sp_rules.specs.PrioPeer.{PrioPeer}
 use Rattle.sp_rules.specs.Store.{Store, put, said}
 use Rattle.sp_rules.specs.declared.store.TheConstants.{IDS}
 use Rattle.laws_node.specs.Stores.{IsPrio}
-use Rattle.laws_runs.proofs.StoreFacts.{AreAway, Leads, StoreIs, Tells_prio, shelf, away_both, leads_away, leads_nowhere, leads_on, put_away, put_here}
+use Rattle.laws_runs.proofs.Evictions.{shelf}
+use Rattle.laws_runs.proofs.StoreFacts.{AreAway, Leads, StoreIs, Tells_prio, away_both, leads_away, leads_nowhere, leads_on, put_away, put_here}
 
 -- ---- places
 

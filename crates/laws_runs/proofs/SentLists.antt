@@ -1,6 +1,6 @@
 -- The list of each node has the messages that were sent.
-use Rattle.std.proofs.Common.{◌≡◌, ℕ, ◌+◌, Bool, true, false, List, [], ◌∷◌, Some, refl, sym, ap, subst, ◌∙◌}
-use Rattle.std.specs.Prelude.{◌&&◌, IsTrue}
+use Rattle.std.proofs.Common.{◌≡◌, ℕ, ◌+◌, true, List, [], ◌∷◌, refl, sym, ap, subst, ◌∙◌}
+use Rattle.std.specs.Prelude.{IsTrue}
 use Rattle.std.specs.List.{All}
 use Rattle.std.proofs.lemmas.List.Elements.{All-head, All-tail}
 use Rattle.sp_base.specs.declared.id.Flow.{Flow}
@@ -14,21 +14,20 @@ use Rattle.sp_rules.specs.Arts.{Arts}
 use Rattle.sp_rules.specs.Flow.{AreMessages, IsMessage, ends}
 use Rattle.sp_rules.specs.Node.{NodeState}
 use Rattle.sp_rules.specs.Parts.{nodes_of}
-use Rattle.laws_node.specs.Sizes.{Fits, IsNode}
+use Rattle.laws_node.specs.Sizes.{Fits}
 use Rattle.laws_node.proofs.Boot.{nodes_hold}
 use Rattle.sp_rules.proofs.FlowJudged.{found_ends}
 use Rattle.laws_node.proofs.Reliable.{in_range, read}
 use Rattle.sp_runs.specs.Forgery.{is_among}
 use Rattle.sp_runs.specs.Settings.{Setting, SettingFits, is_correct, is_node}
-use Rattle.sp_runs.specs.Told.{Message, sent, signed}
-use Rattle.sp_runs.specs.Worlds.{World, node_in}
+use Rattle.sp_runs.specs.Told.{sent, signed}
+use Rattle.sp_runs.specs.Worlds.{World}
 use Rattle.sp_runs.specs.declared.entry.Entry.{Entry}
 use Rattle.sp_runs.specs.declared.event.Event.{Event}
 use Rattle.laws_runs.specs.Flows.{AreSent, IsIn, flow_at}
-use Rattle.laws_runs.proofs.Facts.{Good, NodeIs, Signs, sizes_at}
+use Rattle.laws_runs.proofs.Facts.{Good, NodeIs, sizes_at}
 use Rattle.laws_runs.proofs.FlowFacts.{flow_of}
 use Rattle.laws_runs.proofs.Flows.{FlowsHold}
-use Rattle.laws_runs.proofs.Lists.{both}
 
 module _ (arts : Arts) (x : Setting) (s d : NodeId) (es : List Event) (js : List Entry) (w : World) (h : FlowsHold x s d es js w) (correct : IsTrue (is_correct x s)) where
   -- a message that is kept was sent under its number
