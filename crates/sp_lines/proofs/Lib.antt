@@ -1,0 +1,6 @@
+pub mod Words
+pub mod PlaceLemmas
+pub mod RowLemmas
+pub mod TextLemmas
+pub mod WidthLemmas
+pub mod LeadLemmas
