@@ -135,3 +135,12 @@ module _ {S K : Type 0} (says : S → List Word → Result S K) where
       go : (parts : Parts) → first_words number (b ∷ text) ≡ parts → Stops t number (b ∷ text)
       go (Ok pair) is = record { stop = Bad_words refused; leads = At_words pair.0 pair.1 refused is (bad pair.0) }
       go (Err r) is = record { stop = No_words r; leads = At_line r (λ none. absurd (cc)) is }
+
+  -- whatever the rest leads to after so many good lines, the text leads to
+  abbrev pub GoesOn : S → List ℕ → S → ℕ → List ℕ → Type 0
+  GoesOn start text stage count rest = (last : S) (end : ℕ) (stop : Stop K) → Leads says stage (count + 1) rest last end stop → Leads says start 1 text last end stop
+
+  -- and after one more
+  pub goes_on : (start : S) (text : List ℕ) (stage next : S) (count : ℕ) (old rest : List ℕ) (words : List Word) → GoesOn start text stage count old
+      → first_words (count + 1) old ≡ Ok (words, rest) → says stage words ≡ Ok next → GoesOn start text next (count + 1) rest
+  goes_on start text stage next count old rest words so_far first good = λ last end stop on. so_far last end stop (Good words rest next first good on)

@@ -4,3 +4,4 @@ pub mod RowLemmas
 pub mod TextLemmas
 pub mod WidthLemmas
 pub mod LeadLemmas
+pub mod NextLemmas

@@ -11,7 +11,7 @@ use Rattle.sp_base.specs.declared.limits.TheConstants.{MAX_EDGES}
 use Rattle.sp_base.proofs.NumberLemmas.{AreBytes-big_bytes, bytes_back as number_bytes}
 use Rattle.sp_base.proofs.RefusalLemmas.{then_ok}
 use Rattle.sp_text.specs.Spelling.{Word, hex_word}
-use Rattle.sp_lines.specs.Cells.{AreSoMany, bytes_at, bytes_of, in_range, mask_at, number_at, number_of, of_length, tested_at}
+use Rattle.sp_lines.specs.Cells.{AreSoMany, bytes_at, bytes_of, in_range, mask_at, mask_word, number_at, number_of, of_length, tested_at}
 use Rattle.sp_lines.specs.declared.fault.Fault.TheVariants as faults
 use Rattle.sp_lines.proofs.Words.{bytes_back, bytes_read, number_back, number_read}
 
@@ -40,8 +40,8 @@ sixteen n =
     let count : length (big_bytes 16 n) ≡ 16 = length-bytes_high_first 16 n in
     (omega (arith, count), omega (arith, count), AreBytes-big_bytes 16 n)
 
-pub mask_at_back : (n : ℕ) → n < 2 ^ MAX_EDGES → mask_at (hex_word (big_bytes 16 n)) ≡ Ok n
-unfolding mask_at
+pub mask_at_back : (n : ℕ) → n < 2 ^ MAX_EDGES → mask_at (mask_word n) ≡ Ok n
+unfolding mask_at mask_word
 mask_at_back n small =
     let back : big_number 16 (big_bytes 16 n) ≡ n = ap (λ bs. big_from 0 16 bs) (sym (append-nil (big_bytes 16 n))) ∙ big_number-reads_back 16 n [] (omega (arith, small)) in
     let below : nat_lt n (2 ^ MAX_EDGES) ≡ true = grind (arith, nat_tests, small) in
@@ -101,8 +101,8 @@ mask_read : (t : Bool) (n m : ℕ) → (if t then Ok m else Err faults.Range) �
 mask_read true n m e = (cc, refl)
 mask_read false n m e = absurd (cc)
 
-pub mask_at_read : (n : ℕ) (w : Word) → mask_at w ≡ Ok n → (w ≡ hex_word (big_bytes 16 n)) × (n < 2 ^ MAX_EDGES)
-unfolding mask_at
+pub mask_at_read : (n : ℕ) (w : Word) → mask_at w ≡ Ok n → (w ≡ mask_word n) × (n < 2 ^ MAX_EDGES)
+unfolding mask_at mask_word
 mask_at_read n w e =
     let step = then_ok (bytes_at 16 16 w) (λ bs. if nat_lt (big_number 16 bs) (2 ^ MAX_EDGES) then Ok (big_number 16 bs) else Err faults.Range) n e in
     let bs = step.0 in

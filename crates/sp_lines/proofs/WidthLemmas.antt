@@ -16,7 +16,7 @@ use Rattle.sp_base.specs.declared.limits.TheConstants.{MAX_LINE_BYTES}
 use Rattle.sp_text.specs.Spelling.{Word, hex_word}
 use Rattle.sp_text.specs.Texts.{IsWord, is_word_byte}
 use Rattle.sp_text.proofs.HexWordLemmas.{hex_word_nonempty}
-use Rattle.sp_lines.specs.Cells.{Bytes, Cell, Mask, Name, Number, Tested}
+use Rattle.sp_lines.specs.Cells.{Bytes, Cell, Mask, Name, Number, Tested, mask_word}
 use Rattle.sp_lines.specs.Rows.{AreIn, HaveRoom, Values, spelled}
 use Rattle.sp_lines.specs.Widths.{is_good_cell, is_good_row, widths}
 use Rattle.sp_lines.proofs.RowLemmas.{as_many}
@@ -46,6 +46,18 @@ clean_bytes (b ∷ bs) are = record { full = hex_word_nonempty (b ∷ bs); bytes
 short_bytes : (bs : List ℕ) (high : ℕ) → length bs ≤ high → length (hex_word bs) ≤ high * 2 + 1
 short_bytes [] high few = omega arith
 short_bytes (b ∷ bs) high few = omega (arith, length-encode_with lower_digits (b ∷ bs), few)
+
+clean_mask : (n : ℕ) → IsWord (mask_word n)
+unfolding mask_word
+clean_mask n = clean_bytes (big_bytes 16 n) (AreBytes-big_bytes 16 n)
+
+short_mask : (n : ℕ) → length (mask_word n) ≤ 32
+unfolding mask_word
+short_mask n = go (big_bytes 16 n) (length-bytes_high_first 16 n)
+  where
+    go : (bs : List ℕ) → length bs ≡ 16 → length (hex_word bs) ≤ 32
+    go [] count = omega arith
+    go (b ∷ bs) count = omega (arith, count, length-encode_with lower_digits (b ∷ bs))
 
 -- ---- rows
 
@@ -97,16 +109,7 @@ clean_row (Tested low high test ∷ cs) xs good are =
 clean_row (Bytes low high ∷ cs) xs good are =
     one_more (hex_word xs.0) (spelled cs xs.1) (high * 2 + 2) (widths cs) (clean_bytes xs.0 are.0.2) (omega (arith, short_bytes xs.0 high are.0.1)) (clean_row cs xs.1 good are.1)
 clean_row (Mask ∷ cs) xs good are =
-    let count : length (big_bytes 16 xs.0) ≡ 16 = length-bytes_high_first 16 xs.0 in
-    one_more (hex_word (big_bytes 16 xs.0)) (spelled cs xs.1) 33 (widths cs) (clean_bytes (big_bytes 16 xs.0) (AreBytes-big_bytes 16 xs.0))
-    (omega (arith, mask_long xs.0)) (clean_row cs xs.1 good are.1)
-  where
-    mask_long : (n : ℕ) → length (hex_word (big_bytes 16 n)) ≤ 32
-    mask_long n = go (big_bytes 16 n) (length-bytes_high_first 16 n)
-      where
-        go : (bs : List ℕ) → length bs ≡ 16 → length (hex_word bs) ≤ 32
-        go [] count = omega arith
-        go (b ∷ bs) count = omega (arith, count, length-encode_with lower_digits (b ∷ bs))
+    one_more (mask_word xs.0) (spelled cs xs.1) 33 (widths cs) (clean_mask xs.0) (omega (arith, short_mask xs.0)) (clean_row cs xs.1 good are.1)
 
 -- the line of values in the ranges of a good row can be read
 pub good_row_line : (cs : List Cell) (xs : Values cs) → is_good_row cs ≡ true → AreIn cs xs → IsGoodLine (spelled cs xs)

@@ -9,7 +9,7 @@ use Rattle.std.specs.Prelude.{ℕ, ◌≤◌, ◌^◌, ◌&&◌, nat_le, nat_lt,
 use Rattle.std.specs.Str.Parse.{digits_value}
 use Rattle.std.specs.Cmp.Lexicographic.{pointwise}
 use Rattle.std.specs.Fmt.{decimal}
-use Rattle.byteorder.specs.Endian.{big_number}
+use Rattle.byteorder.specs.Endian.{big_bytes, big_number}
 use Rattle.hex.specs.Hex.{decode_of}
 use Rattle.hex.specs.declared.error.FromHexError.{FromHexError}
 use Rattle.sp_base.specs.Refusals.{◌>>=◌}
@@ -69,6 +69,10 @@ of_length low high (Some bs) = if nat_le low (length bs) && nat_le (length bs) h
 -- bytes are judged before their count
 unfoldable pub bytes_at : ℕ → ℕ → Word → Result (List ℕ) Fault
 bytes_at low high word = of_length low high (bytes_of word)
+
+-- a set of edges as a word
+unfoldable pub mask_word : ℕ → Word
+mask_word n = hex_word (big_bytes 16 n)
 
 -- sixteen bytes whose number has a bit for edges alone
 unfoldable pub mask_at : Word → Result ℕ Fault

@@ -2,11 +2,10 @@
 use Rattle.std.specs.Prelude.{ℕ, ◌≡◌, ◌<◌, ◌≤◌, ◌^◌, ◌==◌, ◌&&◌, Bool, true, List, [], ◌∷◌, ◌++◌, length, Option, find, Result, Ok, Err, if◌then◌else◌}
 use Rattle.std.specs.List.{join_with_byte}
 use Rattle.std.specs.Fmt.{decimal}
-use Rattle.byteorder.specs.Endian.{big_bytes}
 use Rattle.sp_base.specs.Refusals.{◌>>=◌}
 use Rattle.sp_base.specs.declared.limits.TheConstants.{MAX_EDGES}
 use Rattle.sp_text.specs.Spelling.{Word, hex_word}
-use Rattle.sp_lines.specs.Cells.{AreSoMany, Bytes, Cell, Mask, Name, Number, Tested, bytes_at, mask_at, number_at, same, tested_at}
+use Rattle.sp_lines.specs.Cells.{AreSoMany, Bytes, Cell, Mask, Name, Number, Tested, bytes_at, mask_at, mask_word, number_at, same, tested_at}
 use Rattle.sp_lines.specs.declared.fault.Fault.{Fault}
 use Rattle.sp_lines.specs.declared.fault.Fault.TheVariants as faults
 
@@ -62,7 +61,7 @@ spelled (Name w ∷ cs) xs = w ∷ spelled cs xs
 spelled (Number low high ∷ cs) xs = decimal xs.0 ∷ spelled cs xs.1
 spelled (Tested low high test ∷ cs) xs = decimal xs.0 ∷ spelled cs xs.1
 spelled (Bytes low high ∷ cs) xs = hex_word xs.0 ∷ spelled cs xs.1
-spelled (Mask ∷ cs) xs = hex_word (big_bytes 16 xs.0) ∷ spelled cs xs.1
+spelled (Mask ∷ cs) xs = mask_word xs.0 ∷ spelled cs xs.1
 
 -- each value is in its range
 abbrev pub AreIn : (cs : List Cell) → Values cs → Type 0

@@ -1,11 +1,13 @@
 -- Texts line by line: how far the lines of a text lead from a stage, and what stops there.
 --
 -- A stage and the words of a line give the next stage, or a refusal; which, is said by the text's own definition of its lines.
-use Rattle.std.specs.Prelude.{ℕ, ◌≡◌, ◌≢◌, ◌+◌, List, [], ◌∷◌, Result, Ok, Err}
+use Rattle.std.specs.Prelude.{ℕ, ◌≡◌, ◌≢◌, ◌≤◌, ◌+◌, List, [], ◌∷◌, length, Option, Some, None, Result, Ok, Err}
 use Rattle.sp_base.specs.Refusals.{◌>>=◌}
 use Rattle.sp_text.specs.Spelling.{Word}
 use Rattle.sp_text.specs.Texts.{line_at, words_at}
+use Rattle.sp_text.specs.Unread.{Unread}
 use Rattle.sp_text.specs.declared.place.TextRefused.{TextRefused}
+use Rattle.sp_text.specs.declared.place.TextRefused.TheVariants as texts
 
 abbrev pub before_rest : List ℕ → Result (List Word) TextRefused → Result (List Word × List ℕ) TextRefused
 before_rest rest (Ok words) = Ok (words, rest)
@@ -14,6 +16,14 @@ before_rest rest (Err refused) = Err refused
 -- the words of the first line of a text, which has this number, and what comes after its newline
 unfoldable pub first_words : ℕ → List ℕ → Result (List Word × List ℕ) TextRefused
 first_words number text = line_at number text >>= λ line. before_rest line.1 (words_at number line.0.bytes)
+
+-- what a call that takes the words of the next line answered and left. Want of memory may come at any line
+abbrev pub TakesWords : {X : Type 0} → (X → List Word) → Unread → Result (Option X) TextRefused → Unread → Type 0
+TakesWords view old (Ok None) new = old.rest ≡ []
+TakesWords view old (Ok (Some words)) new =
+    (new.given ≡ old.given + 1) × (length new.rest + 1 ≤ length old.rest) × (first_words (old.given + 1) old.rest ≡ Ok (view words, new.rest))
+TakesWords view old (Err texts.Memory) new = Unit {0}
+TakesWords view old (Err refused) new = (old.rest ≢ []) × (first_words (old.given + 1) old.rest ≡ Err refused)
 
 -- why no line leads on: nothing is left, the next line isn't words, or it may not stand there
 pub data Stop (K : Type 0) : Type 0 where

@@ -2,8 +2,8 @@
 ghost use Rattle.std.specs.Prelude.{◌≡◌, ◌++◌, ◌∷◌, OnOk};
 ghost use Rattle.std.specs.Fmt.{decimal};
 ghost use Rattle.std.specs.String.{string_bytes};
-ghost use Rattle.byteorder.specs.Endian.{big_bytes};
 ghost use Rattle.sp_text.specs.Spelling.{hex_word};
+ghost use Rattle.sp_lines.specs.Cells.{mask_word};
 
 use byteorder::{BigEndian, ByteOrder};
 use sp_base::Memory;
@@ -35,8 +35,9 @@ pub fn push_hex_field(out: &mut String, bytes: &[u8]) -> Result<(), Memory>
 }
 
 /// Appends a space and a set of edges.
+#[tactic(auto, unfolding(crate::specs::Cells::mask_word))]
 pub fn push_mask_field(out: &mut String, mask: u128) -> Result<(), Memory>
-    ensures { OnOk result (string_bytes out.new ≡ string_bytes out.old ++ (32 ∷ hex_word (big_bytes 16 mask))) }
+    ensures { OnOk result (string_bytes out.new ≡ string_bytes out.old ++ (32 ∷ mask_word mask)) }
 {
     let mut bytes = [0u8; 16];
     BigEndian::write_u128(bytes.as_mut_slice(), mask);

@@ -1,0 +1,6 @@
+pub mod HeaderLemmas
+pub mod ReadingLemmas
+pub mod StageLemmas
+pub mod WalkLemmas
+pub mod LawLemmas
+pub mod PrintLemmas

@@ -1,0 +1,7 @@
+pub mod Header
+pub mod Scenarios
+pub mod Spelling
+pub mod Lines
+pub mod Refusals
+pub mod Readings
+pub mod Laws

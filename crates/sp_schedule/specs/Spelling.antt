@@ -1,0 +1,61 @@
+-- A schedule as text: its header, a line for each event, and `end`.
+use Rattle.std.specs.Prelude.{ℕ, List, [], ◌∷◌, ◌++◌, map}
+use Rattle.std.specs.List.{flat_map}
+use Rattle.sp_base.specs.declared.id.NodeId.{NodeId}
+use Rattle.sp_base.specs.declared.id.Limits.{Limits}
+use Rattle.sp_text.specs.Spelling.{Word}
+use Rattle.sp_lines.specs.Rows.{line_text, spelled}
+use Rattle.sp_topology.specs.declared.topology.Edge.{Edge}
+use Rattle.sp_topology.specs.declared.topology.LmsHeight.{LmsHeight}
+use Rattle.sp_schedule_events.specs.Events.{event_words}
+use Rattle.sp_schedule_events.specs.declared.scenario.Scenario.{Scenario}
+use Rattle.sp_schedule_events.specs.declared.event.Event.{Event}
+use Rattle.sp_schedule.specs.Header.{bad_cells, begin_cells, bounds_cells, bounds_values, edge_cells, edge_values, end_cells, height_cells, height_number, nodes_cells, seed_cells, version_cells}
+
+-- ---- the words of each line
+
+abbrev pub version_words : List Word
+version_words = spelled version_cells tt
+
+abbrev pub seed_words : List ℕ → List Word
+seed_words seed = spelled seed_cells (seed, tt)
+
+abbrev pub height_words : LmsHeight → List Word
+height_words height = spelled height_cells (height_number height, tt)
+
+abbrev pub bounds_words : Limits → List Word
+bounds_words limits = spelled bounds_cells (bounds_values limits)
+
+abbrev pub nodes_words : ℕ → List Word
+nodes_words nodes = spelled nodes_cells (nodes, tt)
+
+abbrev pub edge_words : Edge → List Word
+edge_words e = spelled (edge_cells 0) (edge_values 0 e)
+
+abbrev pub bad_words : NodeId → List Word
+bad_words id = spelled (bad_cells 0 0) (id.0, tt)
+
+abbrev pub begin_words : List Word
+begin_words = spelled begin_cells tt
+
+abbrev pub end_words : List Word
+end_words = spelled end_cells tt
+
+-- ---- the whole text
+
+-- the lines up to the number of nodes
+abbrev pub front_lines : List ℕ → LmsHeight → Limits → ℕ → List (List Word)
+front_lines seed height limits nodes = version_words ∷ seed_words seed ∷ height_words height ∷ bounds_words limits ∷ nodes_words nodes ∷ []
+
+-- the lines before `begin`
+abbrev pub scenario_lines : Scenario → List (List Word)
+scenario_lines s = front_lines s.seed s.height s.limits s.graph.nodes ++ (map edge_words s.graph.edges ++ map bad_words s.bad)
+
+abbrev pub header_lines : Scenario → List (List Word)
+header_lines s = scenario_lines s ++ begin_words ∷ []
+
+abbrev pub schedule_lines : Scenario → List Event → List (List Word)
+schedule_lines s es = header_lines s ++ (map (event_words s) es ++ end_words ∷ [])
+
+unfoldable pub schedule_text : Scenario → List Event → List ℕ
+schedule_text s es = flat_map line_text (schedule_lines s es)
