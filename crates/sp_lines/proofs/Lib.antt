@@ -5,3 +5,4 @@ pub mod TextLemmas
 pub mod WidthLemmas
 pub mod LeadLemmas
 pub mod NextLemmas
+pub mod WrittenLemmas

@@ -79,6 +79,11 @@ HaveRoom (Number low high ∷ cs) = (high < 2 ^ 64) × HaveRoom cs
 HaveRoom (Tested low high test ∷ cs) = (high < 2 ^ 64) × HaveRoom cs
 HaveRoom (c ∷ cs) = HaveRoom cs
 
+-- each word after a space
+abbrev pub after_spaces : List Word → List ℕ
+after_spaces [] = []
+after_spaces (w ∷ words) = (32 ∷ w) ++ after_spaces words
+
 -- the words one space apart, and a newline
 abbrev pub line_text : List Word → List ℕ
 line_text words = join_with_byte 32 words ++ 10 ∷ []

@@ -17,13 +17,17 @@ before_rest rest (Err refused) = Err refused
 unfoldable pub first_words : ℕ → List ℕ → Result (List Word × List ℕ) TextRefused
 first_words number text = line_at number text >>= λ line. before_rest line.1 (words_at number line.0.bytes)
 
--- what a call that takes the words of the next line answered and left. Want of memory may come at any line
+-- the next line isn't words, for this reason. Want of memory may come at any line
+abbrev pub NoLine : Unread → TextRefused → Type 0
+NoLine old texts.Memory = Unit {0}
+NoLine old refused = (old.rest ≢ []) × (first_words (old.given + 1) old.rest ≡ Err refused)
+
+-- what a call that takes the words of the next line answered and left
 abbrev pub TakesWords : {X : Type 0} → (X → List Word) → Unread → Result (Option X) TextRefused → Unread → Type 0
 TakesWords view old (Ok None) new = old.rest ≡ []
 TakesWords view old (Ok (Some words)) new =
     (new.given ≡ old.given + 1) × (length new.rest + 1 ≤ length old.rest) × (first_words (old.given + 1) old.rest ≡ Ok (view words, new.rest))
-TakesWords view old (Err texts.Memory) new = Unit {0}
-TakesWords view old (Err refused) new = (old.rest ≢ []) × (first_words (old.given + 1) old.rest ≡ Err refused)
+TakesWords view old (Err refused) new = NoLine old refused
 
 -- why no line leads on: nothing is left, the next line isn't words, or it may not stand there
 pub data Stop (K : Type 0) : Type 0 where

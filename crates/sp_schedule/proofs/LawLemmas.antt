@@ -1,6 +1,8 @@
 -- The laws of readings.
 use Rattle.std.proofs.Common.{◌≡◌, ℕ, ◌+◌, Bool, true, false, List, [], ◌∷◌, ◌++◌, length, Result, Ok, Err, refl, sym, ap, ◌∙◌, subst, append-nil, arith}
+use Rattle.std.specs.Prelude.{IfOk}
 use Rattle.std.specs.List.{flat_map}
+use Rattle.sp_base.specs.declared.memory.Memory.{Memory}
 use Rattle.sp_text.specs.Spelling.{Word}
 use Rattle.sp_text.specs.declared.place.TextRefused.{TextRefused}
 use Rattle.sp_lines.specs.Rows.{line_text}
@@ -28,6 +30,11 @@ pub good_stage : (text : List ℕ) (is_cut : Bool) (reading : Reading) → IsRea
 good_stage text is_cut reading is =
     let led = led_by says is.leads in
     is_good_stage reading.stage (all_lines led.lines stages.Start reading.stage tt led.follows).1
+
+-- or memory was wanting
+pub good_answer : (text : List ℕ) (is_cut : Bool) (answer : Result Reading Memory) → IfOk answer (IsReading text is_cut) → IfOk answer (λ reading. IsGoodStage reading.stage)
+good_answer text is_cut (Ok reading) is = good_stage text is_cut reading is
+good_answer text is_cut (Err e) is = tt
 
 -- a whole reading stops where nothing is left
 whole_stop : (stage : Stage) (line : ℕ) (stop : Stop Kind) → ending_of false stage line stop ≡ endings.Whole → stop ≡ Nothing_left

@@ -46,10 +46,10 @@ printed s es a b c d e f is_a is_b is_c is_d is_e is_f =
     let events = lines_of (event_words s) es in
     is_f
     ∙ ap (λ (xs : List ℕ). xs ++ codes "end\n") (is_e
-      ∙ ap (λ (xs : List ℕ). xs ++ flat_map (λ x. line_text (event_words s x)) es) (is_d
-        ∙ ap (λ (xs : List ℕ). xs ++ codes "begin\n") (is_c
-          ∙ ap (λ (xs : List ℕ). xs ++ flat_map (λ x. line_text (bad_words x)) s.bad) (is_b
-            ∙ ap (λ (xs : List ℕ). xs ++ flat_map (λ x. line_text (edge_words x)) s.graph.edges) is_a))))
+    ∙ ap (λ (xs : List ℕ). xs ++ flat_map (λ x. line_text (event_words s x)) es) (is_d
+    ∙ ap (λ (xs : List ℕ). xs ++ codes "begin\n") (is_c
+    ∙ ap (λ (xs : List ℕ). xs ++ flat_map (λ x. line_text (bad_words x)) s.bad) (is_b
+    ∙ ap (λ (xs : List ℕ). xs ++ flat_map (λ x. line_text (edge_words x)) s.graph.edges) is_a))))
     ∙ ap (λ (xs : List ℕ). ((((front ++ xs) ++ flat_map (λ x. line_text (bad_words x)) s.bad) ++ codes "begin\n") ++ flat_map (λ x. line_text (event_words s x)) es) ++ codes "end\n") (sym edges)
     ∙ ap (λ (xs : List ℕ). ((((front ++ flat_map line_text (map edge_words s.graph.edges)) ++ xs) ++ codes "begin\n") ++ flat_map (λ x. line_text (event_words s x)) es) ++ codes "end\n") (sym bads)
     ∙ ap (λ (xs : List ℕ). ((((front ++ flat_map line_text (map edge_words s.graph.edges)) ++ flat_map line_text (map bad_words s.bad)) ++ codes "begin\n") ++ xs) ++ codes "end\n") (sym events)

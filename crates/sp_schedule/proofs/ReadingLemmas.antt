@@ -4,7 +4,7 @@ use Rattle.sp_text.specs.Spelling.{Word}
 use Rattle.sp_text.specs.Unread.{Unread}
 use Rattle.sp_text.specs.declared.place.TextRefused.{TextRefused}
 use Rattle.sp_text.specs.declared.place.TextRefused.TheVariants as texts
-use Rattle.sp_lines.specs.Texts.{At_end, At_line, At_words, Bad_words, No_words, Nothing_left, TakesWords, first_words}
+use Rattle.sp_lines.specs.Texts.{At_end, At_line, At_words, Bad_words, No_words, NoLine, Nothing_left, first_words}
 use Rattle.sp_lines.proofs.LeadLemmas.{GoesOn, goes_on}
 use Rattle.sp_schedule.specs.Lines.{IsLead, says}
 use Rattle.sp_schedule.specs.Readings.{IsReading, no_words, nothing_left}
@@ -30,21 +30,20 @@ ends_at_end text is_cut stage count rest ending so_far none is = record {
 }
 
 -- what a refused call says of the next line
-no_line : {X : Type 0} (view : X → List Word) (old new : Unread) (refused : TextRefused) → TakesWords view old (Err refused) new → refused ≢ texts.Memory
-    → (old.rest ≢ []) × (first_words (old.given + 1) old.rest ≡ Err refused)
-no_line view old new texts.Memory takes other = absurd (other refl)
-no_line view old new (texts.LineLong place) takes other = takes
-no_line view old new (texts.Cut place) takes other = takes
-no_line view old new (texts.BadWord place) takes other = takes
-no_line view old new (texts.BadNumber place) takes other = takes
-no_line view old new (texts.BadHex place) takes other = takes
+no_line : (old : Unread) (refused : TextRefused) → NoLine old refused → refused ≢ texts.Memory → (old.rest ≢ []) × (first_words (old.given + 1) old.rest ≡ Err refused)
+no_line old texts.Memory line other = absurd (other refl)
+no_line old (texts.LineLong place) line other = line
+no_line old (texts.Cut place) line other = line
+no_line old (texts.BadWord place) line other = line
+no_line old (texts.BadNumber place) line other = line
+no_line old (texts.BadHex place) line other = line
 
 -- the next line isn't words
-pub ends_at_line : {X : Type 0} (view : X → List Word) (text : List ℕ) (is_cut : Bool) (stage : Stage) (count : ℕ) (old new : Unread) (refused : TextRefused) (ending : Ending)
-    → SoFar text stage count old.rest → old.given ≡ count → TakesWords view old (Err refused) new → (refused ≢ texts.Memory) × (ending ≡ no_words is_cut (count + 1) refused)
+pub ends_at_line : (text : List ℕ) (is_cut : Bool) (stage : Stage) (count : ℕ) (old : Unread) (refused : TextRefused) (ending : Ending)
+    → SoFar text stage count old.rest → old.given ≡ count → NoLine old refused → (refused ≢ texts.Memory) × (ending ≡ no_words is_cut (count + 1) refused)
     → IsReading text is_cut (record { stage = stage; ending = ending })
-ends_at_line view text is_cut stage count old new refused ending so_far given takes is =
-    let line = no_line view old new refused takes is.0 in
+ends_at_line text is_cut stage count old refused ending so_far given takes is =
+    let line = no_line old refused takes is.0 in
     record {
       line = count + 1;
       stop = No_words refused;

@@ -150,17 +150,19 @@ begins : (s : Scenario) (words : List Word) (next : Stage) → IsScenario s → 
     → (lines_to next ≡ scenario_lines s ++ words ∷ []) × AreGood next
 begins s words next good fit is =
     let line = name_line _ words fit in
-    subst (λ (z : Stage). (lines_to z ≡ scenario_lines s ++ words ∷ []) × AreGood z) is
-    (append-nil (header_lines s) ∙ ap (λ (ws : List Word). scenario_lines s ++ ws ∷ []) (sym line),
-      record { scenario = good; events = None_yet; count = omega arith })
+    subst (λ (z : Stage). (lines_to z ≡ scenario_lines s ++ words ∷ []) × AreGood z) is (
+      append-nil (header_lines s) ∙ ap (λ (ws : List Word). scenario_lines s ++ ws ∷ []) (sym line),
+      record { scenario = good; events = None_yet; count = omega arith },
+    )
 
 bad_more : (s : Scenario) (words : List Word) (next : Stage) → IsScenario s → says_bad s words ≡ Ok next → (lines_to next ≡ scenario_lines s ++ words ∷ []) × AreGood next
 bad_more s words next good says_it =
     let step = header_ok (line_of (bad_cells (next_after 1 s.bad) s.graph.nodes) words) (λ x. stages.Bads (with_bad s (bad_node x.0))) next says_it in
     let read = line_read (bad_cells (next_after 1 s.bad) s.graph.nodes) words step.0 step.1 in
-    subst (λ (z : Stage). (lines_to z ≡ scenario_lines s ++ words ∷ []) × AreGood z) step.2
-    (bad_lines s (bad_node step.0.0) ∙ ap (λ (ws : List Word). scenario_lines s ++ ws ∷ []) (sym read.1),
-      record { seed = good.seed; limits = good.limits; graph = good.graph; bad = ascend_push 1 s.graph.nodes s.bad (bad_node step.0.0) good.bad read.0.0 read.0.1 })
+    subst (λ (z : Stage). (lines_to z ≡ scenario_lines s ++ words ∷ []) × AreGood z) step.2 (
+      bad_lines s (bad_node step.0.0) ∙ ap (λ (ws : List Word). scenario_lines s ++ ws ∷ []) (sym read.1),
+      record { seed = good.seed; limits = good.limits; graph = good.graph; bad = ascend_push 1 s.graph.nodes s.bad (bad_node step.0.0) good.bad read.0.0 read.0.1 },
+    )
 
 edge_more : (s : Scenario) (words : List Word) (next : Stage) → IsScenario s → s.bad ≡ [] → says_edge s words ≡ Ok next → (lines_to next ≡ scenario_lines s ++ words ∷ []) × AreGood next
 edge_more s words next good none says_it =
@@ -176,9 +178,10 @@ edge_more s words next good none says_it =
           subst (λ (z : Edge). IsNextEdge s.graph z × (words ≡ edge_words z)) is_e (next_means s.graph (edge_of s.graph.nodes x) read.0 is.0, read.1))
       | inr other ↦ absurd (let out = other.1 in cc)
     ] in
-    subst (λ (z : Stage). (lines_to z ≡ scenario_lines s ++ words ∷ []) × AreGood z) step.2
-    (edge_lines s e none ∙ ap (λ (ws : List Word). scenario_lines s ++ ws ∷ []) (sym all.1),
-      (record { seed = good.seed; limits = good.limits; graph = graph_grows s.graph e good.graph all.0; bad = good.bad }, none))
+    subst (λ (z : Stage). (lines_to z ≡ scenario_lines s ++ words ∷ []) × AreGood z) step.2 (
+      edge_lines s e none ∙ ap (λ (ws : List Word). scenario_lines s ++ ws ∷ []) (sym all.1),
+      (record { seed = good.seed; limits = good.limits; graph = graph_grows s.graph e good.graph all.0; bad = good.bad }, none),
+    )
 
 event_said : (s : Scenario) (es : List Event) (words : List Word) (r : Result Event Fault) (next : Stage) → read_event s es words ≡ r → IsSchedule s es → length es < MAX_EVENTS → event_more s es r ≡ Ok next
     → (lines_to next ≡ lines_to (stages.Events s es) ++ words ∷ []) × AreGood next
@@ -200,7 +203,6 @@ ends s es words next good fit is =
     subst (λ (z : Stage). (lines_to z ≡ lines_to (stages.Events s es) ++ words ∷ []) × AreGood z) is
     (sym (append_assoc (header_lines s) (map (event_words s) es) (end_words ∷ [])) ∙ ap (λ (ws : List Word). (header_lines s ++ map (event_words s) es) ++ ws ∷ []) (sym line), good)
 
-
 pub says_more : (stage : Stage) (words : List Word) (next : Stage) → AreGood stage → says stage words ≡ Ok next → (lines_to next ≡ lines_to stage ++ words ∷ []) × AreGood next
 says_more stages.Start words next good is =
     let step = header_ok (line_of version_cells words) (λ x. stages.Version) next is in
@@ -221,20 +223,25 @@ says_more (stages.Seed seed) words next good is =
 says_more (stages.Height seed height) words next good is =
     let step = header_ok (line_of bounds_cells words) (λ x. stages.Bounds seed height (limits_of x)) next is in
     let read = line_read bounds_cells words step.0 step.1 in
-    subst (λ (z : Stage). (lines_to z ≡ version_words ∷ seed_words seed ∷ height_words height ∷ words ∷ []) × AreGood z) step.2
-    (ap (λ (ws : List Word). version_words ∷ seed_words seed ∷ height_words height ∷ ws ∷ []) (sym read.1),
-      (good, record { buffer = (read.0.0, read.0.1); store = (read.0.2.0, read.0.2.1) }))
+    subst (λ (z : Stage). (lines_to z ≡ version_words ∷ seed_words seed ∷ height_words height ∷ words ∷ []) × AreGood z) step.2 (
+      ap (λ (ws : List Word). version_words ∷ seed_words seed ∷ height_words height ∷ ws ∷ []) (sym read.1),
+      (good, record { buffer = (read.0.0, read.0.1); store = (read.0.2.0, read.0.2.1) }),
+    )
 says_more (stages.Bounds seed height limits) words next good is =
     let step = header_ok (line_of nodes_cells words) (λ x. stages.Edges (bare seed height limits x.0)) next is in
     let read = line_read nodes_cells words step.0 step.1 in
-    subst (λ (z : Stage). (lines_to z ≡ version_words ∷ seed_words seed ∷ height_words height ∷ bounds_words limits ∷ words ∷ []) × AreGood z) step.2
-    (ap (λ (ws : List Word). version_words ∷ seed_words seed ∷ height_words height ∷ bounds_words limits ∷ ws ∷ []) (sym read.1),
-      (record {
-        seed = good.0;
-        limits = good.1;
-        graph = record { nodes = (read.0.0, read.0.1); edges = λ k d inside. absurd (omega (arith, inside)); ascend = λ i j d less inside. absurd (omega (arith, inside)) };
-        bad = tt;
-      }, refl))
+    subst (λ (z : Stage). (lines_to z ≡ version_words ∷ seed_words seed ∷ height_words height ∷ bounds_words limits ∷ words ∷ []) × AreGood z) step.2 (
+      ap (λ (ws : List Word). version_words ∷ seed_words seed ∷ height_words height ∷ bounds_words limits ∷ ws ∷ []) (sym read.1),
+      (
+        record {
+          seed = good.0;
+          limits = good.1;
+          graph = record { nodes = (read.0.0, read.0.1); edges = λ k d inside. absurd (omega (arith, inside)); ascend = λ i j d less inside. absurd (omega (arith, inside)) };
+          bad = tt;
+        },
+        refl,
+      ),
+    )
 says_more (stages.Edges s) words next good is =
     elim (if_cases (fits begin_cells words) (Ok (stages.Events s [])) (if fits (bad_cells 0 0) words then says_bad s words else says_edge s words) (Ok next) is) [
       | inl begin ↦ begins s words next good.0 begin.0 (let to = begin.1 in cc)

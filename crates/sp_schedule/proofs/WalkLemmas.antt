@@ -86,9 +86,9 @@ front_follows s good =
     let b = one stages.Version (stages.Seed s.seed) (seed_words s.seed) (good_row_line seed_cells (s.seed, tt) refl seed) (rw (line_back seed_cells (s.seed, tt) tt seed) refl) in
     let c = one (stages.Seed s.seed) (stages.Height s.seed s.height) (height_words s.height) (height_good s.height) (height_line s.seed s.height) in
     let d = one (stages.Height s.seed s.height) (stages.Bounds s.seed s.height s.limits) (bounds_words s.limits) (good_row_line bounds_cells (bounds_values s.limits) refl bounds)
-        (rw (line_back bounds_cells (bounds_values s.limits) (omega arith, (omega arith, tt)) bounds) refl) in
+    (rw (line_back bounds_cells (bounds_values s.limits) (omega arith, (omega arith, tt)) bounds) refl) in
     let e = one (stages.Bounds s.seed s.height s.limits) (stages.Edges (bare s.seed s.height s.limits s.graph.nodes)) (nodes_words s.graph.nodes) (good_row_line nodes_cells (s.graph.nodes, tt) refl nodes)
-        (rw (line_back nodes_cells (s.graph.nodes, tt) (omega arith, tt) nodes) refl) in
+    (rw (line_back nodes_cells (s.graph.nodes, tt) (omega arith, tt) nodes) refl) in
     both (version_words ∷ []) _ _ _ _ a (both (seed_words s.seed ∷ []) _ _ _ _ b (both (height_words s.height ∷ []) _ _ _ _ c (both (bounds_words s.limits ∷ []) _ _ _ _ d e)))
 
 -- ---- edges
@@ -193,7 +193,7 @@ header_follows s good =
     let edges = edges_follow s [] s.graph.edges good.graph refl in
     let bads = bads_and_begin s s.bad few good.bad in
     let all = both (front_lines s.seed s.height s.limits s.graph.nodes) (map edge_words s.graph.edges ++ (map bad_words s.bad ++ begin_words ∷ [])) _ _ _ front
-        (both (map edge_words s.graph.edges) (map bad_words s.bad ++ begin_words ∷ []) _ _ _ edges bads) in
+    (both (map edge_words s.graph.edges) (map bad_words s.bad ++ begin_words ∷ []) _ _ _ edges bads) in
     let lines : front_lines s.seed s.height s.limits s.graph.nodes ++ (map edge_words s.graph.edges ++ (map bad_words s.bad ++ begin_words ∷ [])) ≡ header_lines s =
     ap (λ (xs : List (List Word)). front_lines s.seed s.height s.limits s.graph.nodes ++ xs) (sym (append_assoc (map edge_words s.graph.edges) (map bad_words s.bad) (begin_words ∷ [])))
     ∙ sym (append_assoc (front_lines s.seed s.height s.limits s.graph.nodes) (map edge_words s.graph.edges ++ map bad_words s.bad) (begin_words ∷ [])) in

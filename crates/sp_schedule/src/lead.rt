@@ -6,8 +6,8 @@ ghost use Rattle.sp_schedule.specs.Header.{bad_cells, next_after};
 ghost use Rattle.sp_schedule.specs.Lines.{IsLead, next_edge, with_bad, with_edge};
 
 use crate::header::{
-    bad, bounds, edge, height, is_bad_line, is_begin, is_end, is_next_edge, is_version, next_after, nodes,
-    seed,
+    bad, bounds, edge, height, is_bad_line, is_begin, is_end, is_next_edge, is_version, next_after,
+    nodes, seed,
 };
 use crate::refused::kind_of;
 use crate::{Edge, Graph, Kind, LineRefused, LmsHeight, Scenario, Stage, Timeline};

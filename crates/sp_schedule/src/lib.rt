@@ -9,9 +9,14 @@ mod reader;
 mod refused;
 mod stage;
 
-pub use laws::{a_good_text_is_read, a_reading_is_of_its_text, a_text_has_one_reading, no_other_text_begins_there};
+pub use laws::{
+    a_good_text_is_read, a_reading_is_of_its_text, a_text_has_one_reading,
+    no_other_text_begins_there,
+};
 pub use printing::print;
 pub use reader::read;
 pub use refused::{Kind, push_refused};
-pub use sp_schedule_events::{Edge, Event, Fault, Graph, LineRefused, LmsHeight, Scenario, Timeline, is_bad};
+pub use sp_schedule_events::{
+    Edge, Event, Fault, Graph, LineRefused, LmsHeight, Scenario, Timeline, is_bad,
+};
 pub use stage::{Ending, Reading, Stage};

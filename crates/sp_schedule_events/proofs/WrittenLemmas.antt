@@ -3,9 +3,10 @@ use Rattle.std.proofs.Common.{◌≡◌, ℕ, List, [], ◌∷◌, ◌++◌, ref
 use Rattle.std.specs.List.{join_with_byte}
 use Rattle.sp_msg.specs.declared.body.Body.TheVariants as bodies
 use Rattle.sp_text.specs.Spelling.{Word}
-use Rattle.sp_lines.specs.Rows.{line_text}
+use Rattle.sp_lines.specs.Rows.{after_spaces, line_text}
+use Rattle.sp_lines.proofs.WrittenLemmas.{after_append, joined}
 use Rattle.sp_schedule_events.specs.Events.{event_words}
-use Rattle.sp_schedule_events.specs.Written.{after_spaces, back_words, event_name, front_words, words_of}
+use Rattle.sp_schedule_events.specs.Written.{back_words, event_name, front_words, words_of}
 use Rattle.sp_schedule_events.specs.declared.scenario.Scenario.{Scenario}
 use Rattle.sp_schedule_events.specs.declared.event.Event.{Event}
 use Rattle.sp_schedule_events.specs.declared.event.Event.TheVariants as events
@@ -27,16 +28,6 @@ same_words z (events.Craft c v key (bodies.Rel r)) = refl
 same_words z (events.Craft c v key (bodies.Ack a)) = refl
 same_words z (events.Craft c v key (bodies.Prio p)) = refl
 same_words z (events.Craft c v key (bodies.Weight w)) = refl
-
--- the words of two lists, each after a space
-pub after_append : (vs ws : List Word) → after_spaces (vs ++ ws) ≡ after_spaces vs ++ after_spaces ws
-after_append [] ws = refl
-after_append (v ∷ vs) ws = rw (after_append vs ws) (sym (append_assoc (32 ∷ v) (after_spaces vs) (after_spaces ws)))
-
--- words, each after a space, are words one space apart
-pub joined : (w : Word) (ws : List Word) → w ++ after_spaces ws ≡ join_with_byte 32 (w ∷ ws)
-joined w [] = append-nil w
-joined w (v ∷ ws) = ap (λ (xs : List ℕ). w ++ 32 ∷ xs) (joined v ws)
 
 -- a name and its fields, written one after the other, and a newline
 pub line_written : (s : Scenario) (e : Event) (old a b c new : List ℕ) → a ≡ old ++ event_name e → b ≡ a ++ after_spaces (front_words e) → c ≡ b ++ after_spaces (back_words e)

@@ -69,8 +69,3 @@ back_words (events.Craft c v key body) = decimal key.0 ∷ body_words body
 -- all words of an event
 abbrev pub words_of : Event → List Word
 words_of e = event_name e ∷ (front_words e ++ back_words e)
-
--- each word after a space
-abbrev pub after_spaces : List Word → List ℕ
-after_spaces [] = []
-after_spaces (w ∷ ws) = (32 ∷ w) ++ after_spaces ws

@@ -4,9 +4,9 @@ ghost use Rattle.std.specs.Fmt.{decimal};
 ghost use Rattle.std.specs.String.{string_bytes};
 ghost use Rattle.sp_text.specs.Spelling.{hex_word};
 ghost use Rattle.sp_lines.specs.Cells.{mask_word};
-ghost use Rattle.sp_lines.specs.Rows.{line_text};
+ghost use Rattle.sp_lines.specs.Rows.{after_spaces, line_text};
 ghost use Rattle.sp_schedule_events.specs.Events.{event_words};
-ghost use Rattle.sp_schedule_events.specs.Written.{after_spaces, back_words, body_words, event_name, front_words, pair_words};
+ghost use Rattle.sp_schedule_events.specs.Written.{back_words, body_words, event_name, front_words, pair_words};
 ghost use Rattle.sp_schedule_events.specs.declared.scenario.Scenario.{Scenario};
 
 use crate::Event;

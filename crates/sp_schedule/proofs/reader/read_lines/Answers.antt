@@ -9,8 +9,8 @@ returns-in-Ok-None c =
 
 pub returns-in-Err : goal.returns-in-Err
 returns-in-Err c =
-    ends_at_line _ c.args.text.now c.args.is_cut c.lines.stage c.lines.count c.lines.lines c.next_words.new.lines c.in-Err.refused c.in_ok-ending.ending c.lines.invariant.goes_on
-    c.lines.invariant.given c.in-Err.ensures c.in_ok-ending.ensures
+    ends_at_line c.args.text.now c.args.is_cut c.lines.stage c.lines.count c.lines.lines c.in-Err.refused c.in_ok-ending-in-Err.ending c.lines.invariant.goes_on
+    c.lines.invariant.given c.in-Err.ensures c.in_ok-ending-in-Err.ensures
 
 pub returns-in-Bad : goal.returns-in-Bad
 returns-in-Bad c =
