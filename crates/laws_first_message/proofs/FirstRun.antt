@@ -2,10 +2,10 @@
 use Rattle.std.proofs.Common.{◌<◌, [], ◌∷◌, refl, inl, inr, arith}
 use Rattle.std.proofs.lemmas.List.Elements.{All-cons, All-nil}
 use Rattle.sp_base.specs.Spelling.{AreBytes}
-use Rattle.sp_schedule.specs.Ranges.{IsHop}
+use Rattle.sp_first_schedule.specs.Ranges.{IsHop}
 use Rattle.sp_first.specs.World.{State, Run, Begins, at_start}
 use Rattle.laws_first_message.specs.FirstMessage.{scenario, happened, journal, id, hi}
-use Rattle.sp_schedule.specs.declared.event.Event.TheVariants as events
+use Rattle.sp_first_schedule.specs.declared.event.Event.TheVariants as events
 use Rattle.laws_first_message.proofs.Steps.{goes}
 
 -- a hop to the next node, and to the one before

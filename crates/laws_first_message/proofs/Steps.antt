@@ -1,10 +1,10 @@
 -- A step computed: what the acting node answers, and the world after it.
 use Rattle.std.proofs.Common.{◌≡◌, List, [], ◌∷◌, ◌++◌, Some, refl, unwrap_or}
 use Rattle.sp_base.specs.Rows.{replace_where}
-use Rattle.sp_schedule.specs.declared.scenario.Scenario.{Scenario}
-use Rattle.sp_schedule.specs.declared.event.Event.{Event}
-use Rattle.sp_schedule.specs.Ranges.{InRange}
-use Rattle.sp_journal.specs.declared.entry.Entry.{Entry}
+use Rattle.sp_first_schedule.specs.declared.scenario.Scenario.{Scenario}
+use Rattle.sp_first_schedule.specs.declared.event.Event.{Event}
+use Rattle.sp_first_schedule.specs.Ranges.{InRange}
+use Rattle.sp_first_journal.specs.declared.entry.Entry.{Entry}
 use Rattle.sp_first.specs.Flow.{no_flow, send_refusal, take_reply, after_take}
 use Rattle.sp_first.specs.Link.{link_in, link_answer}
 use Rattle.sp_first.specs.Rel.{with_flow, frame_to, served}

@@ -2,8 +2,8 @@
 #![tactic(auto)]
 
 ghost use Rattle.std.specs.Prelude.{◌≡◌};
-ghost use Rattle.sp_schedule.specs.Spelling.{schedule_text};
-ghost use Rattle.sp_journal.specs.JournalText.{journal_text};
+ghost use Rattle.sp_first_schedule.specs.Spelling.{schedule_text};
+ghost use Rattle.sp_first_journal.specs.JournalText.{journal_text};
 ghost use Rattle.sp_first.specs.World.{State, Run};
 ghost use Rattle.laws_first_message.specs.FirstMessage.{scenario, happened, journal, schedule, output};
 

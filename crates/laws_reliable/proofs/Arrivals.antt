@@ -3,10 +3,10 @@ use Rattle.std.proofs.Common.{◌≡◌, ◌≤◌, ℕ, Bool, true, false, List
 use Rattle.std.specs.Prelude.{◌==◌}
 use Rattle.std.specs.List.{flat_map}
 use Rattle.std.proofs.lemmas.Bool.Decides.{nat_tests}
-use Rattle.sp_journal.specs.declared.entry.AnswerWord.{AnswerWord}
-use Rattle.sp_journal.specs.declared.entry.AnswerWord.TheVariants as answers
-use Rattle.sp_journal.specs.declared.entry.Effect.{Effect}
-use Rattle.sp_journal.specs.declared.entry.Effect.TheVariants.{Delivered}
+use Rattle.sp_first_journal.specs.declared.entry.AnswerWord.{AnswerWord}
+use Rattle.sp_first_journal.specs.declared.entry.AnswerWord.TheVariants as answers
+use Rattle.sp_first_journal.specs.declared.entry.Effect.{Effect}
+use Rattle.sp_first_journal.specs.declared.entry.Effect.TheVariants.{Delivered}
 use Rattle.sp_first.specs.Flow.{FlowState, judge_rel, pushed, received, admit_rel, delivery, after_answer, effects_of}
 use Rattle.sp_base.specs.Lists.{IsPrefix}
 use Rattle.sp_first.specs.Told.{Message, delivered_by}

@@ -7,15 +7,15 @@ use Rattle.std.proofs.lemmas.List.Concat.{flat_map-append}
 use Rattle.std.proofs.lemmas.Option.{slice_get_past, slice_get_within}
 use Rattle.std.proofs.lemmas.Bool.Decides.{nat_tests}
 use Rattle.sp_base.specs.declared.id.NodeId.{NodeId}
-use Rattle.sp_schedule.specs.declared.scenario.Scenario.{Scenario}
-use Rattle.sp_schedule.specs.declared.event.Event.{Event}
-use Rattle.sp_schedule.specs.declared.event.Event.TheVariants as events
-use Rattle.sp_schedule.specs.Ranges.{IsScenario, InRange}
-use Rattle.sp_journal.specs.declared.entry.Reply.{Reply}
-use Rattle.sp_journal.specs.declared.entry.Reply.TheVariants as replies
-use Rattle.sp_journal.specs.declared.entry.Effect.{Effect}
-use Rattle.sp_journal.specs.declared.entry.Entry.{Entry}
-use Rattle.sp_journal.specs.JournalText.{delivered_count}
+use Rattle.sp_first_schedule.specs.declared.scenario.Scenario.{Scenario}
+use Rattle.sp_first_schedule.specs.declared.event.Event.{Event}
+use Rattle.sp_first_schedule.specs.declared.event.Event.TheVariants as events
+use Rattle.sp_first_schedule.specs.Ranges.{IsScenario, InRange}
+use Rattle.sp_first_journal.specs.declared.entry.Reply.{Reply}
+use Rattle.sp_first_journal.specs.declared.entry.Reply.TheVariants as replies
+use Rattle.sp_first_journal.specs.declared.entry.Effect.{Effect}
+use Rattle.sp_first_journal.specs.declared.entry.Entry.{Entry}
+use Rattle.sp_first_journal.specs.JournalText.{delivered_count}
 use Rattle.sp_first.specs.Flow.{FlowState, take_reply, send_refusal}
 use Rattle.sp_first.specs.Node.{Node, Output, NodeStep, Send, Take, Poll, send_output}
 use Rattle.sp_first.specs.World.{State, Run, Begins, Goes_on, StateStep}

@@ -2,9 +2,9 @@
 use Rattle.std.proofs.Common.{◌≡◌, ◌+◌, List, [], ◌∷◌, ◌++◌, length, Option, Some, refl, sym, ap, ◌∙◌, subst, arith, length-append}
 use Rattle.std.proofs.lemmas.List.{same_from_push}
 use Rattle.sp_base.specs.Rows.{replace_where}
-use Rattle.sp_schedule.specs.declared.scenario.Scenario.{Scenario}
-use Rattle.sp_schedule.specs.declared.event.Event.{Event}
-use Rattle.sp_journal.specs.declared.entry.Entry.{Entry}
+use Rattle.sp_first_schedule.specs.declared.scenario.Scenario.{Scenario}
+use Rattle.sp_first_schedule.specs.declared.event.Event.{Event}
+use Rattle.sp_first_journal.specs.declared.entry.Entry.{Entry}
 use Rattle.sp_first.specs.Node.{Node, Input, Send, Take, Poll, Arrive, Output, NodeStep}
 use Rattle.sp_first.specs.World.{State, Run, Begins, Goes_on, StateStep, acting, node_of, input_of, is_me, reply_to, directions_after}
 

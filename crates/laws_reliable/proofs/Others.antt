@@ -3,18 +3,18 @@ use Rattle.std.proofs.Common.{◌≡◌, ℕ, Bool, true, false, List, [], ◌�
 use Rattle.std.specs.Prelude.{◌==◌}
 use Rattle.std.specs.List.{flat_map}
 use Rattle.sp_base.specs.declared.id.NodeId.{NodeId}
-use Rattle.sp_schedule.specs.declared.scenario.Scenario.{Scenario}
-use Rattle.sp_schedule.specs.declared.event.Event.{Event}
-use Rattle.sp_schedule.specs.declared.event.Event.TheVariants as events
-use Rattle.sp_schedule.specs.Ranges.{IsScenario}
-use Rattle.sp_journal.specs.declared.entry.AnswerWord.{AnswerWord}
-use Rattle.sp_journal.specs.declared.entry.AnswerWord.TheVariants as answers
-use Rattle.sp_journal.specs.declared.entry.LinkWord.{LinkWord}
-use Rattle.sp_journal.specs.declared.entry.LinkWord.TheVariants as links
-use Rattle.sp_journal.specs.declared.entry.Reply.{Reply}
-use Rattle.sp_journal.specs.declared.entry.Effect.{Effect}
-use Rattle.sp_journal.specs.declared.entry.Effect.TheVariants.{Delivered}
-use Rattle.sp_journal.specs.declared.entry.Entry.{Entry}
+use Rattle.sp_first_schedule.specs.declared.scenario.Scenario.{Scenario}
+use Rattle.sp_first_schedule.specs.declared.event.Event.{Event}
+use Rattle.sp_first_schedule.specs.declared.event.Event.TheVariants as events
+use Rattle.sp_first_schedule.specs.Ranges.{IsScenario}
+use Rattle.sp_first_journal.specs.declared.entry.AnswerWord.{AnswerWord}
+use Rattle.sp_first_journal.specs.declared.entry.AnswerWord.TheVariants as answers
+use Rattle.sp_first_journal.specs.declared.entry.LinkWord.{LinkWord}
+use Rattle.sp_first_journal.specs.declared.entry.LinkWord.TheVariants as links
+use Rattle.sp_first_journal.specs.declared.entry.Reply.{Reply}
+use Rattle.sp_first_journal.specs.declared.entry.Effect.{Effect}
+use Rattle.sp_first_journal.specs.declared.entry.Effect.TheVariants.{Delivered}
+use Rattle.sp_first_journal.specs.declared.entry.Entry.{Entry}
 use Rattle.sp_first.specs.declared.frame.FrameValue.{FrameValue}
 use Rattle.sp_first.specs.Flow.{FlowState, judge_rel, delivery, effects_of, send_refusal}
 use Rattle.sp_first.specs.Link.{link_in, link_answer}

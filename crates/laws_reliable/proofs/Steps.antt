@@ -3,13 +3,13 @@ use Rattle.std.proofs.Common.{◌≡◌, ℕ, ◌+◌, Bool, true, false, List, 
 use Rattle.std.specs.Prelude.{◌==◌}
 use Rattle.std.specs.List.{flat_map}
 use Rattle.sp_base.specs.declared.id.NodeId.{NodeId}
-use Rattle.sp_schedule.specs.declared.scenario.Scenario.{Scenario}
-use Rattle.sp_schedule.specs.declared.event.Event.{Event}
-use Rattle.sp_schedule.specs.declared.event.Event.TheVariants as events
-use Rattle.sp_schedule.specs.Ranges.{IsScenario, InRange}
-use Rattle.sp_journal.specs.declared.entry.Reply.{Reply}
-use Rattle.sp_journal.specs.declared.entry.Effect.{Effect}
-use Rattle.sp_journal.specs.declared.entry.Entry.{Entry}
+use Rattle.sp_first_schedule.specs.declared.scenario.Scenario.{Scenario}
+use Rattle.sp_first_schedule.specs.declared.event.Event.{Event}
+use Rattle.sp_first_schedule.specs.declared.event.Event.TheVariants as events
+use Rattle.sp_first_schedule.specs.Ranges.{IsScenario, InRange}
+use Rattle.sp_first_journal.specs.declared.entry.Reply.{Reply}
+use Rattle.sp_first_journal.specs.declared.entry.Effect.{Effect}
+use Rattle.sp_first_journal.specs.declared.entry.Entry.{Entry}
 use Rattle.sp_first.specs.declared.frame.FrameValue.{FrameValue}
 use Rattle.sp_first.specs.Flow.{is_full}
 use Rattle.sp_first.specs.Rel.{next_place, frame_to}

@@ -5,7 +5,7 @@ use Rattle.std.specs.List.{find, slice_get}
 use Rattle.std.proofs.lemmas.Bool.Decides.{nat_tests}
 use Rattle.std.proofs.Common.{arith}
 use Rattle.sp_base.specs.Rows.{replace_where}
-use Rattle.sp_schedule.specs.declared.scenario.Scenario.{Scenario}
+use Rattle.sp_first_schedule.specs.declared.scenario.Scenario.{Scenario}
 use Rattle.sp_first.specs.declared.frame.FrameValue.{FrameValue}
 use Rattle.sp_first.specs.Node.{Node}
 use Rattle.sp_first.specs.World.{Direction, is_me, frames_in, with_frame, node_at_boot}

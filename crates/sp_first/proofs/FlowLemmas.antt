@@ -2,8 +2,8 @@
 use Rattle.std.proofs.Common.{◌≡◌, ℕ, ◌+◌, Bool, true, false, List, [], ◌++◌, length, Some, None, nat_le, nat_lt, cond, refl, append-nil}
 use Rattle.std.specs.Prelude.{◌==◌, ◌&&◌}
 use Rattle.std.specs.declared.option.Option.{Option}
-use Rattle.sp_journal.specs.declared.entry.AnswerWord.TheVariants as answers
-use Rattle.sp_journal.specs.declared.entry.Effect.{Effect}
+use Rattle.sp_first_journal.specs.declared.entry.AnswerWord.TheVariants as answers
+use Rattle.sp_first_journal.specs.declared.entry.Effect.{Effect}
 use Rattle.sp_first.specs.Flow.{FlowState, judge_rel, is_full, after_answer, effects_of}
 use Rattle.sp_first.specs.Rel.{RelState, Handled, report_pieces, rel_pieces, handle_all}
 

@@ -1,9 +1,9 @@
 -- What each step of a node keeps, and what kind of answer it gives.
 use Rattle.std.proofs.Common.{◌≡◌, ℕ, List, Some, None, refl, ap, ◌∙◌}
 use Rattle.std.specs.declared.option.Option.{Option}
-use Rattle.sp_journal.specs.declared.entry.LinkWord.{LinkWord}
-use Rattle.sp_journal.specs.declared.entry.LinkWord.TheVariants as links
-use Rattle.sp_journal.specs.declared.entry.Reply.{Reply}
+use Rattle.sp_first_journal.specs.declared.entry.LinkWord.{LinkWord}
+use Rattle.sp_first_journal.specs.declared.entry.LinkWord.TheVariants as links
+use Rattle.sp_first_journal.specs.declared.entry.Reply.{Reply}
 use Rattle.sp_first.specs.declared.frame.FrameValue.{FrameValue}
 use Rattle.sp_first.specs.Flow.{send_refusal}
 use Rattle.sp_first.specs.Link.{link_in, link_answer}

@@ -1,11 +1,11 @@
 -- One reliable flow at one node: its state, and the rules for sending, forwarding, delivering and taking.
 use Rattle.std.specs.Prelude.{ℕ, ◌+◌, ◌-◌, ◌==◌, ◌&&◌, nat_le, nat_lt, max, Bool, true, false, List, [], ◌∷◌, ◌++◌, length, drop, slice_get, Option, Some, None, option_map, if◌then◌else◌}
-use Rattle.sp_journal.specs.declared.entry.AnswerWord.{AnswerWord}
-use Rattle.sp_journal.specs.declared.entry.AnswerWord.TheVariants as answers
-use Rattle.sp_journal.specs.declared.entry.Reply.{Reply}
-use Rattle.sp_journal.specs.declared.entry.Reply.TheVariants as replies
-use Rattle.sp_journal.specs.declared.entry.Effect.{Effect}
-use Rattle.sp_journal.specs.declared.entry.Effect.TheVariants.{Delivered}
+use Rattle.sp_first_journal.specs.declared.entry.AnswerWord.{AnswerWord}
+use Rattle.sp_first_journal.specs.declared.entry.AnswerWord.TheVariants as answers
+use Rattle.sp_first_journal.specs.declared.entry.Reply.{Reply}
+use Rattle.sp_first_journal.specs.declared.entry.Reply.TheVariants as replies
+use Rattle.sp_first_journal.specs.declared.entry.Effect.{Effect}
+use Rattle.sp_first_journal.specs.declared.entry.Effect.TheVariants.{Delivered}
 use Rattle.sp_base.specs.Position.{Position, start, kept, delivered, message_of}
 
 -- A flow is active from the first message on that the node took. At the destination the position has no list,

@@ -1,14 +1,14 @@
 -- The laws of every run: what is delivered is a prefix of what was sent, buffers stay bounded, and each answer has its cause.
 use Rattle.std.specs.Prelude.{ℕ, ◌≡◌, ◌+◌, ◌<◌, ◌≤◌, ◌==◌, List, length, map, take, slice_get, filter, Bool, false, true, Some, All, if◌then◌else◌}
 use Rattle.std.specs.List.{zip, range_with_len}
-use Rattle.sp_schedule.specs.declared.scenario.Scenario.{Scenario}
-use Rattle.sp_schedule.specs.declared.event.Event.{Event}
-use Rattle.sp_schedule.specs.declared.event.Event.TheVariants as events
-use Rattle.sp_schedule.specs.Ranges.{IsScenario}
-use Rattle.sp_journal.specs.declared.entry.Reply.{Reply}
-use Rattle.sp_journal.specs.declared.entry.Reply.TheVariants as replies
-use Rattle.sp_journal.specs.declared.entry.Entry.{Entry}
-use Rattle.sp_journal.specs.JournalText.{delivered_count}
+use Rattle.sp_first_schedule.specs.declared.scenario.Scenario.{Scenario}
+use Rattle.sp_first_schedule.specs.declared.event.Event.{Event}
+use Rattle.sp_first_schedule.specs.declared.event.Event.TheVariants as events
+use Rattle.sp_first_schedule.specs.Ranges.{IsScenario}
+use Rattle.sp_first_journal.specs.declared.entry.Reply.{Reply}
+use Rattle.sp_first_journal.specs.declared.entry.Reply.TheVariants as replies
+use Rattle.sp_first_journal.specs.declared.entry.Entry.{Entry}
+use Rattle.sp_first_journal.specs.JournalText.{delivered_count}
 use Rattle.sp_first.specs.Node.{Node}
 use Rattle.sp_first.specs.World.{State, Run, acting}
 use Rattle.sp_base.specs.Lists.{IsPrefix}

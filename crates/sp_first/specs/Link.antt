@@ -1,8 +1,8 @@
 -- A link to a neighbour: which of its frames are fresh.
 use Rattle.std.specs.Prelude.{ℕ, ◌==◌, nat_le, Bool, List, if◌then◌else◌}
 use Rattle.sp_base.specs.Rows.{first_where, replace_where}
-use Rattle.sp_journal.specs.declared.entry.LinkWord.{LinkWord}
-use Rattle.sp_journal.specs.declared.entry.LinkWord.TheVariants as links
+use Rattle.sp_first_journal.specs.declared.entry.LinkWord.{LinkWord}
+use Rattle.sp_first_journal.specs.declared.entry.LinkWord.TheVariants as links
 
 -- fresh is the number of the last fresh frame of the neighbour, or 0
 pub record Link : Type 0 where

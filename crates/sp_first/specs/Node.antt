@@ -1,10 +1,10 @@
 -- What a node keeps, and what it does at each event. Each case is the whole of what changes.
 use Rattle.std.specs.Prelude.{ℕ, ◌≡◌, ◌+◌, List, [], map, Option, Some, None}
-use Rattle.sp_journal.specs.declared.entry.LinkWord.{LinkWord}
-use Rattle.sp_journal.specs.declared.entry.LinkWord.TheVariants as links
-use Rattle.sp_journal.specs.declared.entry.Reply.{Reply}
-use Rattle.sp_journal.specs.declared.entry.Reply.TheVariants as replies
-use Rattle.sp_journal.specs.declared.entry.Effect.{Effect}
+use Rattle.sp_first_journal.specs.declared.entry.LinkWord.{LinkWord}
+use Rattle.sp_first_journal.specs.declared.entry.LinkWord.TheVariants as links
+use Rattle.sp_first_journal.specs.declared.entry.Reply.{Reply}
+use Rattle.sp_first_journal.specs.declared.entry.Reply.TheVariants as replies
+use Rattle.sp_first_journal.specs.declared.entry.Effect.{Effect}
 use Rattle.sp_first.specs.declared.frame.FrameValue.{FrameValue}
 use Rattle.sp_first.specs.Flow.{no_flow, pushed, send_refusal, take_reply, after_take}
 use Rattle.sp_first.specs.Link.{Link, new_link, link_in, link_answer, heard}

@@ -2,10 +2,10 @@
 use Rattle.std.specs.Prelude.{ℕ, ◌==◌, Bool, true, false, List, [], ◌∷◌, ◌++◌, Option, Some, None}
 use Rattle.sp_base.specs.Rows.{first_where, replace_where}
 use Rattle.sp_base.specs.Cursor.{next_after}
-use Rattle.sp_journal.specs.declared.entry.AnswerWord.{AnswerWord}
-use Rattle.sp_journal.specs.declared.entry.ItemWord.{ItemWord}
-use Rattle.sp_journal.specs.declared.entry.ItemWord.TheVariants as items
-use Rattle.sp_journal.specs.declared.entry.Effect.{Effect}
+use Rattle.sp_first_journal.specs.declared.entry.AnswerWord.{AnswerWord}
+use Rattle.sp_first_journal.specs.declared.entry.ItemWord.{ItemWord}
+use Rattle.sp_first_journal.specs.declared.entry.ItemWord.TheVariants as items
+use Rattle.sp_first_journal.specs.declared.entry.Effect.{Effect}
 use Rattle.sp_first.specs.declared.frame.FrameValue.{FrameValue}
 use Rattle.sp_first.specs.Flow.{FlowState, message_for, judge_rel, after_answer, effects_of}
 

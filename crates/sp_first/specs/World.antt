@@ -3,13 +3,13 @@ use Rattle.std.specs.Prelude.{ℕ, ◌≡◌, ◌+◌, ◌==◌, ◌&&◌, Bool,
 use Rattle.std.specs.List.{flat_map, range_with_len}
 use Rattle.sp_base.specs.Rows.{first_where, put_where, replace_where}
 use Rattle.sp_topology.specs.declared.topology.Edge.{Edge}
-use Rattle.sp_schedule.specs.declared.scenario.Scenario.{Scenario}
-use Rattle.sp_schedule.specs.declared.event.Event.{Event}
-use Rattle.sp_schedule.specs.declared.event.Event.TheVariants as events
-use Rattle.sp_schedule.specs.Ranges.{InRange}
-use Rattle.sp_journal.specs.declared.entry.Reply.{Reply}
-use Rattle.sp_journal.specs.declared.entry.Reply.TheVariants as replies
-use Rattle.sp_journal.specs.declared.entry.Entry.{Entry}
+use Rattle.sp_first_schedule.specs.declared.scenario.Scenario.{Scenario}
+use Rattle.sp_first_schedule.specs.declared.event.Event.{Event}
+use Rattle.sp_first_schedule.specs.declared.event.Event.TheVariants as events
+use Rattle.sp_first_schedule.specs.Ranges.{InRange}
+use Rattle.sp_first_journal.specs.declared.entry.Reply.{Reply}
+use Rattle.sp_first_journal.specs.declared.entry.Reply.TheVariants as replies
+use Rattle.sp_first_journal.specs.declared.entry.Entry.{Entry}
 use Rattle.sp_first.specs.declared.frame.FrameValue.{FrameValue}
 use Rattle.sp_first.specs.Node.{Node, booted, Input, Answer, Output, NodeStep, Send, Take, Poll, Arrive, Says, Makes}
 

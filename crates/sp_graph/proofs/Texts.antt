@@ -188,7 +188,7 @@ edge_good e low high weight =
 -- ---- the edges of a graph
 
 -- the graph with these edges alone
-abbrev with_edges : Graph → List Edge → Graph
+abbrev pub with_edges : Graph → List Edge → Graph
 with_edges g edges = record { nodes = g.nodes; edges = edges }
 
 in_range : (place : At) (low high n : ℕ) → n < 2 ^ 64 → low ≤ n → n ≤ high → IsField place low high (decimal n) (Ok n)
@@ -218,7 +218,7 @@ ascends_after g (f ∷ front) back e good is =
     subst (λ (o : Option Edge). IfSome o (λ x. IsLower x e)) (sym (ap (slice_get before) there ∙ slice_get-get_or before last e (omega arith))) lower
 
 -- an edge of a graph may come after those before it
-next_of : (g : Graph) (front back : List Edge) (e : Edge) → IsGraph g → g.edges ≡ front ++ e ∷ back → IsEdge g.nodes e × IsNextEdge (with_edges g front) e
+pub next_of : (g : Graph) (front back : List Edge) (e : Edge) → IsGraph g → g.edges ≡ front ++ e ∷ back → IsEdge g.nodes e × IsNextEdge (with_edges g front) e
 next_of g front back e good is =
     let inside : length front < length g.edges = omega (arith, ap length is, length-append front (e ∷ back)) in
     let at : slice_index_or g.edges (length front) e ≡ e = rw is (get_or_at front e back e (length front) refl) in

@@ -1,82 +1,121 @@
-// What a journal keeps of one event.
+// What was answered to an event, and what the event caused. An entry's value is its reply and the list of its effects, and not the room behind that.
 use sp_base::{Bytes, Listed, NodeId};
+use sp_msg::Effect;
 
-/// What was answered to an event.
+/// The reply to an event, and the effects of the event in their order.
+#[derive(Debug, Drop)]
+pub struct Entry {
+    pub reply: Reply,
+    pub effects: Listed<Effect>,
+}
+
+/// What was answered.
 #[derive(Debug, Drop)]
 pub enum Reply {
-    /// A client's message was taken under this number.
+    /// A message or a weight was taken, under this number.
     Accepted {
         seq: u64,
     },
-    /// A client's message was refused: the flow's buffer is full between these two numbers.
+    /// The buffer of the flow is full: it stands at this position.
     Full {
         base: u64,
         have: u64,
     },
-    /// The oldest message that was delivered and not taken.
+    /// The signer has no index left.
+    Spent {
+        index: u64,
+    },
+    /// The message's expiry is below the time of its source.
+    Expired {
+        now: u64,
+    },
+    /// There are fewer disjoint paths than the message should take.
+    NoPaths {
+        found: u8,
+    },
+    /// A reliable message was taken from the inbox.
     Payload(Bytes),
-    /// Nothing was delivered that a client hasn't taken.
+    /// A priority message was taken from the inbox.
+    PayloadPrio {
+        src: NodeId,
+        seq: u64,
+        payload: Bytes,
+    },
+    /// The inbox is empty.
     Empty,
-    /// A poll made the frame of this number in its direction.
+    Ticked,
+    /// A tick would sign, and its signer has no index left.
+    TickSpent {
+        index: u64,
+    },
+    /// A tick would sign, and its signer has no reserved index left.
+    TickNotReserved {
+        bound: u64,
+    },
+    /// The weight is below the least that the link may have.
+    Low {
+        min: u32,
+    },
+    /// A frame was made: its number in its direction, its length, and the SHA-256 of its bytes.
     Frame {
         number: u32,
+        length: u32,
+        digest: [u8; 32],
     },
-    /// A frame arrived: what the link said, and what came of each item.
+    /// Bytes arrived: how the link took them, and what each object was answered.
     Arrived {
         link: LinkWord,
         items: Listed<ItemWord>,
     },
 }
 
-/// What a link says of a frame.
+/// How a link took what arrived.
 #[derive(Clone, Copy, Debug, PartialEq, Eq)]
 pub enum LinkWord {
-    /// It isn't above the last fresh one, which had this boot and counter. Repeated and overtaken frames are so.
+    TooLong,
+    Short { need: u64, left: u64 },
+    Magic,
+    Version,
+    NotForMe,
+    BadTag,
+    Learned { boot: u64 },
     Stale { boot: u64, counter: u64 },
+    Topology { theirs: u32 },
+    Section(SectionWord),
     Fresh,
 }
 
-/// What came of one item of a frame.
+/// Why the sections of a frame are refused.
+#[derive(Clone, Copy, Debug, PartialEq, Eq)]
+pub enum SectionWord {
+    Cut,
+    Count,
+    Object,
+    Tail,
+}
+
+/// What an object of a fresh frame was answered.
 #[derive(Clone, Copy, Debug, PartialEq, Eq)]
 pub enum ItemWord {
-    /// A reliable message.
+    Weight(AnswerWord),
+    Prio(AnswerWord),
+    Ack(AnswerWord),
     Rel(AnswerWord),
 }
 
-/// The answer to one item.
+/// The word of an answer. Which object may have which, is a matter of the rules.
 #[derive(Clone, Copy, Debug, PartialEq, Eq)]
 pub enum AnswerWord {
-    /// It was taken.
     New,
-    /// It was taken before.
+    BadEnd,
+    Foreign,
+    Low,
     Old,
-    /// The source can't have sent it.
+    Expired,
+    Seen,
     Ahead,
-    /// A message before it is missing.
     Gap,
-    /// The flow's buffer is full.
     Full,
-    /// The destination's inbox is full.
     InboxFull,
-}
-
-/// What an event caused at the node that acted.
-#[derive(Debug, Drop)]
-pub enum Effect {
-    /// The reliable message of this number from `src` was put into the inbox of its destination.
-    Delivered {
-        src: NodeId,
-        seq: u64,
-        payload: Bytes,
-    },
-}
-
-/// The effects of an event, in order.
-pub type Effects = Listed<Effect>;
-
-/// The journal's entry of one event.
-#[derive(Debug, Drop)]
-pub struct Entry {
-    pub reply: Reply,
-    pub effects: Effects,
+    BadSig,
 }

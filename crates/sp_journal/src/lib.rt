@@ -1,10 +1,11 @@
-//! Journals: what each event of a run was answered and what it caused, and the text that says so.
+//! Journals as text: what was answered to each event of a run and what it caused, the one text of that, and its summary.
 #![tactic(auto)]
 
 mod effect_text;
 mod entry;
-mod reply_text;
+mod replies;
 mod whole_text;
 
-pub use entry::{AnswerWord, Effect, Effects, Entry, ItemWord, LinkWord, Reply};
+pub use entry::{AnswerWord, Entry, ItemWord, LinkWord, Reply, SectionWord};
+pub use replies::{entry_text, reply_text};
 pub use whole_text::{journal_lines, journal_text};

@@ -1,18 +1,19 @@
 // A journal as text.
-ghost use Rattle.std.specs.Prelude.{◌≡◌, ◌<◌, ◌^◌, ◌++◌, length, IfOk, OnOk};
+ghost use Rattle.std.specs.Prelude.{◌≡◌, ◌<◌, ◌^◌, ◌++◌, ◌∷◌, [], length, filter, IfOk, OnOk};
+ghost use Rattle.std.specs.Fmt.{decimal};
 ghost use Rattle.std.specs.String.{string_bytes};
-ghost use Rattle.sp_journal.specs.JournalText.{entries_from, counted, summary_of, sent_count, delivered_count, frame_count};
+ghost use Rattle.sp_lines.specs.Rows.{after_spaces, line_text};
+ghost use Rattle.sp_journal.specs.JournalText.{delivered_count, entries_from, frame_count, is_delivered, is_delivered_prio, is_frame, is_rel_body, is_sent, priority_count, sent_count, starts_rel, summary_of};
 ghost use Rattle.sp_journal.specs.JournalText as text;
 
-use crate::effect_text::push_effect_lines;
-use crate::reply_text::push_reply_line;
+use crate::replies::push_entry;
 use crate::{Entry, Reply};
 use sp_base::Memory;
-use sp_text::push_number;
+use sp_lines::{push_field, push_name_field};
+use sp_msg::Effect;
 use std::alloc::Global;
 
 /// The journal without its summary.
-#[tactic(auto, unfolding(crate::specs::JournalText::first_line))]
 pub fn journal_lines(alloc: Global, journal: &[Entry]) -> Result<String, Memory>
     requires { length journal.now < 2 ^ 32 }
     ensures { IfOk result (λ out. string_bytes out ≡ text.journal_lines journal.now) }
@@ -26,6 +27,7 @@ pub fn journal_lines(alloc: Global, journal: &[Entry]) -> Result<String, Memory>
 pub fn journal_text(alloc: Global, journal: &[Entry]) -> Result<String, Memory>
     requires entries { length journal.now < 2 ^ 32 }
     requires deliveries { delivered_count journal.now < 2 ^ 64 }
+    requires priority { priority_count journal.now < 2 ^ 64 }
     ensures { IfOk result (λ out. string_bytes out ≡ text.journal_text journal.now) }
 {
     let mut out = journal_lines(alloc, journal)?;
@@ -34,6 +36,7 @@ pub fn journal_text(alloc: Global, journal: &[Entry]) -> Result<String, Memory>
         journal.len() as u64,
         sent(journal),
         delivered(journal),
+        priority(journal),
         frames(journal),
     )?;
     Ok(out)
@@ -49,67 +52,134 @@ fn push_entries(out: &mut String, journal: &[Entry]) -> Result<(), Memory>
     Ok(())
 }
 
-fn push_entry(out: &mut String, number: u64, entry: &Entry) -> Result<(), Memory>
-    ensures { OnOk result (string_bytes out.new ≡ string_bytes out.old ++ text.entry_text number entry.now) }
-{
-    push_reply_line(out, number, &entry.reply)?;
-    push_effect_lines(out, entry.effects.as_slice())
-}
-
 fn push_summary(
     out: &mut String,
     events: u64,
     sent: u64,
     delivered: u64,
+    priority: u64,
     frames: u64,
 ) -> Result<(), Memory>
-    ensures { OnOk result (string_bytes out.new ≡ string_bytes out.old ++ summary_of events sent delivered frames) }
+    ensures { OnOk result (string_bytes out.new ≡ string_bytes out.old ++ line_text (summary_of events sent delivered priority frames)) }
 {
-    push_counted(out, "summary events ", events)?;
-    push_counted(out, " sent ", sent)?;
-    push_counted(out, " delivered ", delivered)?;
-    push_counted(out, " priority ", 0)?;
-    push_counted(out, " frames ", frames)?;
+    out.push_str("summary")?;
+    push_counted(out, "events", events)?;
+    push_counted(out, "sent", sent)?;
+    push_counted(out, "delivered", delivered)?;
+    push_counted(out, "priority", priority)?;
+    push_counted(out, "frames", frames)?;
     out.push_str("\n")?;
     Ok(())
 }
 
-#[tactic(auto, unfolding(crate::specs::JournalText::counted))]
-fn push_counted(out: &mut String, word: &str, n: u64) -> Result<(), Memory>
-    ensures { OnOk result (string_bytes out.new ≡ string_bytes out.old ++ counted word.now n) }
+fn push_counted(out: &mut String, name: &str, n: u64) -> Result<(), Memory>
+    ensures { OnOk result (string_bytes out.new ≡ string_bytes out.old ++ after_spaces (name.now ∷ decimal n ∷ [])) }
 {
-    out.push_str(word)?;
-    push_number(out, n)
+    push_name_field(out, name)?;
+    push_field(out, n)
 }
 
-/// How many messages were accepted.
+/// How many reliable messages were sent.
 fn sent(journal: &[Entry]) -> u64
     ensures { result ≡ sent_count journal.now }
 {
-    journal
-        .iter()
-        .filter(|entry| matches!(entry.reply, Reply::Accepted { .. }))
-        .count() as u64
+    let mut count = 0u64;
+    'entries: for entry in journal {
+        if is_sent(entry) {
+            count += 1;
+        }
+    }
+    count
+}
+
+/// Whether a reliable message was accepted: what that caused first is that it was signed.
+#[tactic(auto, unfolding(crate::specs::JournalText::is_sent))]
+fn is_sent(entry: &Entry) -> bool
+    ensures { result ≡ is_sent entry.now }
+{
+    match entry.reply {
+        Reply::Accepted { .. } => starts_rel(entry.effects.as_slice()),
+        _ => false,
+    }
+}
+
+fn starts_rel(effects: &[Effect]) -> bool
+    ensures { result ≡ starts_rel effects.now }
+{
+    match effects {
+        [first, ..] => is_rel_body(first),
+        [] => false,
+    }
+}
+
+fn is_rel_body(effect: &Effect) -> bool
+    ensures { result ≡ is_rel_body effect.now }
+{
+    match effect {
+        Effect::Signed(body) => matches!(body.as_slice(), [2, ..]),
+        _ => false,
+    }
 }
 
 /// How many frames were made.
 fn frames(journal: &[Entry]) -> u64
     ensures { result ≡ frame_count journal.now }
 {
-    journal
-        .iter()
-        .filter(|entry| matches!(entry.reply, Reply::Frame { .. }))
-        .count() as u64
+    let mut count = 0u64;
+    'entries: for entry in journal {
+        if is_frame(entry) {
+            count += 1;
+        }
+    }
+    count
 }
 
-/// How many messages were delivered.
+/// Whether a frame was made.
+#[tactic(auto, unfolding(crate::specs::JournalText::is_frame))]
+fn is_frame(entry: &Entry) -> bool
+    ensures { result ≡ is_frame entry.now }
+{
+    matches!(entry.reply, Reply::Frame { .. })
+}
+
+/// How many reliable messages were delivered.
 fn delivered(journal: &[Entry]) -> u64
     requires { delivered_count journal.now < 2 ^ 64 }
     ensures { result ≡ delivered_count journal.now }
 {
     let mut count = 0u64;
     'entries: for entry in journal {
-        count += entry.effects.as_slice().len() as u64;
+        count += delivered_in(entry.effects.as_slice());
     }
     count
+}
+
+fn delivered_in(effects: &[Effect]) -> u64
+    ensures { result ≡ length (filter is_delivered effects.now) }
+{
+    effects
+        .iter()
+        .filter(|effect| matches!(effect, Effect::Delivered { .. }))
+        .count() as u64
+}
+
+/// How many priority messages were delivered.
+fn priority(journal: &[Entry]) -> u64
+    requires { priority_count journal.now < 2 ^ 64 }
+    ensures { result ≡ priority_count journal.now }
+{
+    let mut count = 0u64;
+    'entries: for entry in journal {
+        count += priority_in(entry.effects.as_slice());
+    }
+    count
+}
+
+fn priority_in(effects: &[Effect]) -> u64
+    ensures { result ≡ length (filter is_delivered_prio effects.now) }
+{
+    effects
+        .iter()
+        .filter(|effect| matches!(effect, Effect::DeliveredPrio { .. }))
+        .count() as u64
 }

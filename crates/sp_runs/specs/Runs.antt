@@ -87,8 +87,8 @@ IsMade es u v number = (1 ≤ number) × (number ≤ polls es u v)
 abbrev pub InRange : Setting → List Event → Event → Type 0
 InRange x es (events.Rel s d payload) = IsTrue (is_correct x s) × IsTrue (is_other x s d) × (length payload ≤ MAX_PAYLOAD_BYTES) × AreBytes payload
 InRange x es (events.Prio s d prio expiry paths payload) =
-    IsTrue (is_correct x s) × IsTrue (is_other x s d) × (1 ≤ prio) × (prio ≤ MAX_PRIORITY) × (expiry < 2 ^ 64) × (paths ≤ 8) × (length payload ≤ MAX_PAYLOAD_BYTES)
-    × AreBytes payload
+    IsTrue (is_correct x s) × IsTrue (is_other x s d) × (1 ≤ prio) × (prio ≤ MAX_PRIORITY) × (expiry < 2 ^ 64) × (paths ≤ 8)
+    × (length payload ≤ MAX_PAYLOAD_BYTES) × AreBytes payload
 InRange x es (events.Take d s) = IsTrue (is_correct x d) × IsTrue (is_other x d s)
 InRange x es (events.TakePrio d) = IsTrue (is_correct x d)
 InRange x es (events.Tick u now) = IsTrue (is_correct x u) × (now < 2 ^ 64)
@@ -98,7 +98,8 @@ InRange x es (events.Pass u v number) = IsTrue (is_correct x u) × IsTrue (is_co
 InRange x es (events.Flip u v number back bit) =
     IsTrue (is_correct x u) × IsTrue (is_correct x v) × IsTrue (is_hop x u v) × IsMade es u v number × (1 ≤ back) × (back ≤ 64) × (bit ≤ 7)
 InRange x es (events.Inject u v bytes) = IsTrue (is_correct x v) × IsTrue (is_hop x u v) × (length bytes ≤ MAX_FRAME_BYTES) × AreBytes bytes
-InRange x es (events.Craft c v key body) = IsTrue (is_correct x v) × IsTrue (is_hop x c v) × IsTrue (is_node x key) × HasGoodFields body × AreBytes (payload_of body)
+InRange x es (events.Craft c v key body) =
+    IsTrue (is_correct x v) × IsTrue (is_hop x c v) × IsTrue (is_node x key) × HasGoodFields body × AreBytes (payload_of body)
 InRange x es (events.CraftStatus c v s d base have) =
     IsTrue (is_correct x v) × IsTrue (is_hop x c v) × IsTrue (is_node x s) × IsTrue (is_other x s d) × (base < 2 ^ 64) × (have < 2 ^ 64)
 

@@ -1,19 +1,31 @@
--- A text that is read to its end is the schedule that was read, and the text of a schedule is read to its end.
-use Rattle.std.specs.Prelude.{ℕ, ◌≡◌, false, List}
-use Rattle.sp_schedule.specs.declared.scenario.Scenario.{Scenario}
-use Rattle.sp_schedule.specs.declared.event.Event.{Event}
-use Rattle.sp_schedule.specs.declared.stage.Stage.TheVariants as stages
+-- A text that is read to its end is the schedule that was read, the text of a schedule is read to its end, and a text has one reading.
+use Rattle.std.specs.Prelude.{ℕ, ◌≡◌, ◌++◌, Bool, false, List}
+use Rattle.sp_schedule.specs.Readings.{IsReading}
+use Rattle.sp_schedule.specs.Scenarios.{IsSchedule}
+use Rattle.sp_schedule.specs.Spelling.{schedule_text}
 use Rattle.sp_schedule.specs.declared.stage.Ending.TheVariants as endings
 use Rattle.sp_schedule.specs.declared.stage.Reading.{Reading}
-use Rattle.sp_schedule.specs.Reads.{Reads}
-use Rattle.sp_schedule.specs.Readings.{IsReading}
+use Rattle.sp_schedule.specs.declared.stage.Stage.TheVariants as stages
+use Rattle.sp_schedule_events.specs.declared.scenario.Scenario.{Scenario}
+use Rattle.sp_schedule_events.specs.declared.event.Event.{Event}
 
 -- what was read of a whole text is what the text spells
-abbrev pub WholeReadingsRead : Type 0
-WholeReadingsRead =
-    (text : List ℕ) (reading : Reading) (s : Scenario) (es : List Event) → IsReading text false reading → reading.ending ≡ endings.Whole → reading.stage ≡ stages.End s es → Reads text s es
+abbrev pub ReadingsAreOfTheirText : Type 0
+ReadingsAreOfTheirText =
+    (text : List ℕ) (reading : Reading) (s : Scenario) (es : List Event) → IsReading text false reading → reading.ending ≡ endings.Whole → reading.stage ≡ stages.End s es
+    → IsSchedule s es × (text ≡ schedule_text s es)
 
--- no other reading of a schedule's text is right
-abbrev pub GoodTextsAreReadWhole : Type 0
-GoodTextsAreReadWhole =
-    (text : List ℕ) (s : Scenario) (es : List Event) (reading : Reading) → Reads text s es → IsReading text false reading → (reading.stage ≡ stages.End s es) × (reading.ending ≡ endings.Whole)
+-- the text of a schedule is read whole, to just this schedule
+abbrev pub GoodTextsAreRead : Type 0
+GoodTextsAreRead =
+    (s : Scenario) (es : List Event) → IsSchedule s es → IsReading (schedule_text s es) false (record { stage = stages.End s es; ending = endings.Whole })
+
+-- a text leads to one stage and has one ending: one first bad line, and one kind
+abbrev pub OneReading : Type 0
+OneReading = (text : List ℕ) (is_cut : Bool) (a b : Reading) → IsReading text is_cut a → IsReading text is_cut b → a ≡ b
+
+-- where a text begins with the text of a schedule, it begins with that of no other, whatever follows
+abbrev pub NoOtherBeginsThere : Type 0
+NoOtherBeginsThere =
+    (s t : Scenario) (es fs : List Event) (rest others : List ℕ) → IsSchedule s es → IsSchedule t fs → schedule_text s es ++ rest ≡ schedule_text t fs ++ others
+    → (s ≡ t) × (es ≡ fs)

@@ -1,11 +1,7 @@
-pub mod Ranges
+pub mod Header
+pub mod Scenarios
 pub mod Spelling
-pub mod Reads
-pub mod Leads
-pub mod Readings
+pub mod Lines
 pub mod Refusals
+pub mod Readings
 pub mod Laws
--- ---- what proofs and the parts of this crate use among themselves
-pub mod Counts
-pub mod Edges
-pub mod Judged

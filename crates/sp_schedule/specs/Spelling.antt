@@ -1,68 +1,61 @@
--- A schedule as text: lines of words, one space between two words, and a newline after each line.
---
---     schedule 1
---     seed HEX64          the seed, 32 bytes
---     height H            5 or 10
---     bounds B C          messages of a reliable flow, entries of a priority store
---     nodes N             the nodes are 1 to N
---     edge A B W          one line for each edge, with its weight
---     begin
---     rel S D HEX         one line for each event
---     take D S
---     poll U V
---     pass U V NUMBER
---     end
-use Rattle.std.specs.Prelude.{ℕ, List, [], ◌∷◌, ◌++◌, map, codes}
+-- A schedule as text: its header, a line for each event, and `end`.
+use Rattle.std.specs.Prelude.{ℕ, List, [], ◌∷◌, ◌++◌, map}
 use Rattle.std.specs.List.{flat_map}
-use Rattle.std.specs.Fmt.{decimal}
-use Rattle.hex.specs.Hex.{encode_lower}
-use Rattle.sp_text.specs.Spelling.{Word, hex_word}
+use Rattle.sp_base.specs.declared.id.NodeId.{NodeId}
 use Rattle.sp_base.specs.declared.id.Limits.{Limits}
+use Rattle.sp_text.specs.Spelling.{Word}
+use Rattle.sp_lines.specs.Rows.{line_text, spelled}
+use Rattle.sp_topology.specs.declared.topology.Edge.{Edge}
 use Rattle.sp_topology.specs.declared.topology.LmsHeight.{LmsHeight}
-use Rattle.sp_topology.specs.declared.topology.LmsHeight.TheVariants.{Five, Ten}
-use Rattle.sp_graph.specs.Spelling.{edge_words, line_text, nodes_words}
-use Rattle.sp_schedule.specs.declared.scenario.Scenario.{Scenario}
-use Rattle.sp_schedule.specs.declared.event.Event.{Event}
-use Rattle.sp_schedule.specs.declared.event.Event.TheVariants as events
-
-abbrev pub height_of : LmsHeight → ℕ
-height_of Five = 5
-height_of Ten = 10
+use Rattle.sp_schedule_events.specs.Events.{event_words}
+use Rattle.sp_schedule_events.specs.declared.scenario.Scenario.{Scenario}
+use Rattle.sp_schedule_events.specs.declared.event.Event.{Event}
+use Rattle.sp_schedule.specs.Header.{bad_cells, begin_cells, bounds_cells, bounds_values, edge_cells, edge_values, end_cells, height_cells, height_number, nodes_cells, seed_cells, version_cells}
 
 -- ---- the words of each line
 
 abbrev pub version_words : List Word
-version_words = codes "schedule" ∷ codes "1" ∷ []
+version_words = spelled version_cells tt
 
 abbrev pub seed_words : List ℕ → List Word
-seed_words seed = codes "seed" ∷ encode_lower seed ∷ []
+seed_words seed = spelled seed_cells (seed, tt)
 
 abbrev pub height_words : LmsHeight → List Word
-height_words height = codes "height" ∷ decimal (height_of height) ∷ []
+height_words height = spelled height_cells (height_number height, tt)
 
 abbrev pub bounds_words : Limits → List Word
-bounds_words limits = codes "bounds" ∷ decimal limits.buffer ∷ decimal limits.store ∷ []
+bounds_words limits = spelled bounds_cells (bounds_values limits)
+
+abbrev pub nodes_words : ℕ → List Word
+nodes_words nodes = spelled nodes_cells (nodes, tt)
+
+abbrev pub edge_words : Edge → List Word
+edge_words e = spelled (edge_cells 0) (edge_values 0 e)
+
+abbrev pub bad_words : NodeId → List Word
+bad_words id = spelled (bad_cells 0 0) (id.0, tt)
 
 abbrev pub begin_words : List Word
-begin_words = codes "begin" ∷ []
-
-abbrev pub event_words : Event → List Word
-event_words (events.Rel s d payload) = codes "rel" ∷ decimal s.0 ∷ decimal d.0 ∷ hex_word payload ∷ []
-event_words (events.Take d s) = codes "take" ∷ decimal d.0 ∷ decimal s.0 ∷ []
-event_words (events.Poll u v) = codes "poll" ∷ decimal u.0 ∷ decimal v.0 ∷ []
-event_words (events.Pass u v number) = codes "pass" ∷ decimal u.0 ∷ decimal v.0 ∷ decimal number ∷ []
+begin_words = spelled begin_cells tt
 
 abbrev pub end_words : List Word
-end_words = codes "end" ∷ []
+end_words = spelled end_cells tt
 
 -- ---- the whole text
 
+-- the lines up to the number of nodes
+abbrev pub front_lines : List ℕ → LmsHeight → Limits → ℕ → List (List Word)
+front_lines seed height limits nodes = version_words ∷ seed_words seed ∷ height_words height ∷ bounds_words limits ∷ nodes_words nodes ∷ []
+
+-- the lines before `begin`
+abbrev pub scenario_lines : Scenario → List (List Word)
+scenario_lines s = front_lines s.seed s.height s.limits s.graph.nodes ++ (map edge_words s.graph.edges ++ map bad_words s.bad)
+
 abbrev pub header_lines : Scenario → List (List Word)
-header_lines s =
-    version_words ∷ seed_words s.seed ∷ height_words s.height ∷ bounds_words s.limits ∷ nodes_words s.graph.nodes ∷ (map edge_words s.graph.edges ++ begin_words ∷ [])
+header_lines s = scenario_lines s ++ begin_words ∷ []
 
 abbrev pub schedule_lines : Scenario → List Event → List (List Word)
-schedule_lines s es = header_lines s ++ (map event_words es ++ end_words ∷ [])
+schedule_lines s es = header_lines s ++ (map (event_words s) es ++ end_words ∷ [])
 
 unfoldable pub schedule_text : Scenario → List Event → List ℕ
 schedule_text s es = flat_map line_text (schedule_lines s es)

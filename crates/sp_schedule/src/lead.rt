@@ -1,16 +1,18 @@
-// One line at its stage: where it leads, or that it is bad.
+// One line at its stage: where it leads, or why it is bad. The stage stays in its place where the line is bad.
 ghost use Rattle.std.specs.Prelude.{◌≡◌, IfOk, map};
-ghost use Rattle.sp_text.specs.Spelling.{words_of};
-ghost use Rattle.sp_schedule.specs.Judged.{IsLead};
-ghost use Rattle.sp_schedule.specs.Leads.{with_edge};
+ghost use Rattle.sp_lines.specs.Answers.{Says};
+ghost use Rattle.sp_lines.specs.Rows.{line_of};
+ghost use Rattle.sp_schedule.specs.Header.{bad_cells, next_after};
+ghost use Rattle.sp_schedule.specs.Lines.{IsLead, next_edge, with_bad, with_edge};
 
-use crate::event_line::{event, is_end};
-use crate::header::{bounds, height, is_begin, is_version, nodes, seed};
-use crate::node_line::is_line;
-use crate::{Edge, Graph, LmsHeight, Scenario, Stage, Timeline};
-use sp_base::{Limits, Listed, MAX_EVENTS, Memory};
-use sp_graph::edge;
-use sp_text::split_at_spaces;
+use crate::header::{
+    bad, bounds, edge, height, is_bad_line, is_begin, is_end, is_next_edge, is_version, next_after,
+    nodes, seed,
+};
+use crate::refused::kind_of;
+use crate::{Edge, Graph, Kind, LineRefused, LmsHeight, Scenario, Stage, Timeline};
+use sp_base::{Limits, Listed, MAX_EVENTS, Memory, NodeId};
+use sp_schedule_events::read_event;
 use std::alloc::Global;
 
 /// What comes of a line.
@@ -19,19 +21,11 @@ pub enum Lead {
     /// The line is good, and the next one stands here.
     To(Stage),
     /// The line is bad. The stage comes back unchanged.
-    Bad(Stage),
+    Bad(Stage, Kind),
 }
 
-/// Where a line leads from the stage.
-pub fn follow(alloc: Global, stage: Stage, line: &[u8]) -> Result<Lead, Memory>
-    ensures { IfOk result (IsLead stage (words_of line.now)) }
-{
-    let words = split_at_spaces(alloc, line)?;
-    follow_words(alloc, stage, words.as_slice())
-}
-
-/// The same by the words of the line.
-fn follow_words(alloc: Global, stage: Stage, words: &[&[u8]]) -> Result<Lead, Memory>
+/// Where the words of a line lead from the stage.
+pub fn follow(alloc: Global, stage: Stage, words: &[&[u8]]) -> Result<Lead, Memory>
     ensures { IfOk result (IsLead stage (map (λ w. w.now) words.now)) }
 {
     match stage {
@@ -45,8 +39,11 @@ fn follow_words(alloc: Global, stage: Stage, words: &[&[u8]]) -> Result<Lead, Me
             limits,
         } => Ok(after_bounds(alloc, seed, height, limits, words)),
         Stage::Edges(scenario) => after_edges(alloc, scenario, words),
+        Stage::Bads(scenario) => after_bads(alloc, scenario, words),
         Stage::Events(scenario, events) => after_events(alloc, scenario, events, words),
-        Stage::End(scenario, events) => Ok(Lead::Bad(Stage::End(scenario, events))),
+        Stage::End(scenario, events) => {
+            Ok(Lead::Bad(Stage::End(scenario, events), Kind::AfterEnd))
+        }
     }
 }
 
@@ -56,7 +53,7 @@ fn after_start(words: &[&[u8]]) -> Lead
     if is_version(words) {
         Lead::To(Stage::Version)
     } else {
-        Lead::Bad(Stage::Start)
+        Lead::Bad(Stage::Start, Kind::Header)
     }
 }
 
@@ -65,7 +62,7 @@ fn after_version(words: &[&[u8]]) -> Lead
 {
     match seed(words) {
         Some(seed) => Lead::To(Stage::Seed { seed }),
-        None => Lead::Bad(Stage::Version),
+        None => Lead::Bad(Stage::Version, Kind::Header),
     }
 }
 
@@ -74,7 +71,7 @@ fn after_seed(seed: [u8; 32], words: &[&[u8]]) -> Lead
 {
     match height(words) {
         Some(height) => Lead::To(Stage::Height { seed, height }),
-        None => Lead::Bad(Stage::Seed { seed }),
+        None => Lead::Bad(Stage::Seed { seed }, Kind::Header),
     }
 }
 
@@ -87,7 +84,7 @@ fn after_height(seed: [u8; 32], height: LmsHeight, words: &[&[u8]]) -> Lead
             height,
             limits,
         }),
-        None => Lead::Bad(Stage::Height { seed, height }),
+        None => Lead::Bad(Stage::Height { seed, height }, Kind::Header),
     }
 }
 
@@ -109,26 +106,70 @@ fn after_bounds(
                 nodes,
                 edges: Listed::from_vec(Vec::new(alloc)),
             },
+            bad: Listed::from_vec(Vec::new(alloc)),
         })),
-        None => Lead::Bad(Stage::Bounds {
-            seed,
-            height,
-            limits,
-        }),
+        None => Lead::Bad(
+            Stage::Bounds {
+                seed,
+                height,
+                limits,
+            },
+            Kind::Header,
+        ),
     }
 }
 
 fn after_edges(alloc: Global, scenario: Scenario, words: &[&[u8]]) -> Result<Lead, Memory>
     ensures { IfOk result (IsLead (Stage.Edges scenario) (map (λ w. w.now) words.now)) }
 {
-    if let Some(edge) = edge(&scenario.graph, words) {
-        return Ok(Lead::To(Stage::Edges(with_edge(scenario, edge)?)));
+    if is_begin(words) {
+        return Ok(Lead::To(Stage::Events(scenario, Timeline::new(alloc))));
     }
-    if is_begin(words) && is_line(&scenario) {
-        Ok(Lead::To(Stage::Events(scenario, Timeline::new(alloc))))
+    if is_bad_line(words) {
+        let Some(id) = next_bad(&scenario, words) else {
+            return Ok(Lead::Bad(Stage::Edges(scenario), Kind::Header));
+        };
+        return Ok(Lead::To(Stage::Bads(with_bad(scenario, id)?)));
+    }
+    match next_edge(&scenario, words) {
+        Some(edge) => Ok(Lead::To(Stage::Edges(with_edge(scenario, edge)?))),
+        None => Ok(Lead::Bad(Stage::Edges(scenario), Kind::Header)),
+    }
+}
+
+fn after_bads(alloc: Global, scenario: Scenario, words: &[&[u8]]) -> Result<Lead, Memory>
+    ensures { IfOk result (IsLead (Stage.Bads scenario) (map (λ w. w.now) words.now)) }
+{
+    if is_begin(words) {
+        return Ok(Lead::To(Stage::Events(scenario, Timeline::new(alloc))));
+    }
+    let Some(id) = next_bad(&scenario, words) else {
+        return Ok(Lead::Bad(Stage::Bads(scenario), Kind::Header));
+    };
+    Ok(Lead::To(Stage::Bads(with_bad(scenario, id)?)))
+}
+
+/// The edge of a line, where it may come next.
+fn next_edge(scenario: &Scenario, words: &[&[u8]]) -> Option<Edge>
+    ensures { Says (λ e. e) result (next_edge scenario.now (map (λ w. w.now) words.now)) }
+{
+    let edge = edge(scenario.graph.nodes, words)?;
+    if is_next_edge(&scenario.graph, &edge) {
+        Some(edge)
     } else {
-        Ok(Lead::Bad(Stage::Edges(scenario)))
+        None
     }
+}
+
+/// The compromised node of a line, where it may come next.
+fn next_bad(scenario: &Scenario, words: &[&[u8]]) -> Option<NodeId>
+    ensures { Says (λ id. (id.0, tt)) result (line_of (bad_cells (next_after 1 scenario.now.bad) scenario.now.graph.nodes) (map (λ w. w.now) words.now)) }
+{
+    bad(
+        next_after(scenario.bad.as_slice()),
+        scenario.graph.nodes,
+        words,
+    )
 }
 
 /// The scenario with one more edge.
@@ -140,6 +181,7 @@ fn with_edge(scenario: Scenario, edge: Edge) -> Result<Scenario, Memory>
         height,
         limits,
         graph: Graph { nodes, edges },
+        bad,
     } = scenario;
     let mut edges = edges.into_vec();
     edges.push(edge)?;
@@ -151,6 +193,29 @@ fn with_edge(scenario: Scenario, edge: Edge) -> Result<Scenario, Memory>
             nodes,
             edges: Listed::from_vec(edges),
         },
+        bad,
+    })
+}
+
+/// The scenario with one more compromised node.
+fn with_bad(scenario: Scenario, id: NodeId) -> Result<Scenario, Memory>
+    ensures { IfOk result (λ more. more ≡ with_bad scenario id) }
+{
+    let Scenario {
+        seed,
+        height,
+        limits,
+        graph,
+        bad,
+    } = scenario;
+    let mut bad = bad.into_vec();
+    bad.push(id)?;
+    Ok(Scenario {
+        seed,
+        height,
+        limits,
+        graph,
+        bad: Listed::from_vec(bad),
     })
 }
 
@@ -166,13 +231,16 @@ fn after_events(
         return Ok(Lead::To(Stage::End(scenario, events)));
     }
     if events.len() >= MAX_EVENTS {
-        return Ok(Lead::Bad(Stage::Events(scenario, events)));
+        return Ok(Lead::Bad(Stage::Events(scenario, events), Kind::TooMany));
     }
-    match event(alloc, &scenario, &events, words)? {
-        Some(event) => {
+    match read_event(alloc, &scenario, &events, words) {
+        Ok(event) => {
             events.push(event)?;
             Ok(Lead::To(Stage::Events(scenario, events)))
         }
-        None => Ok(Lead::Bad(Stage::Events(scenario, events))),
+        Err(LineRefused::Bad(fault)) => {
+            Ok(Lead::Bad(Stage::Events(scenario, events), kind_of(fault)))
+        }
+        Err(LineRefused::Memory) => Err(Memory),
     }
 }

@@ -1,25 +1,22 @@
-//! Schedules as text: the scenario and the events that a text spells, and its first bad line where it spells none.
+//! Schedules as text: all that can happen to an overlay, the scenario that a header says and the events after it, and the first bad line with its kind.
 #![tactic(auto)]
 
-mod event;
-mod event_line;
 mod header;
 mod laws;
 mod lead;
-mod node_line;
-mod poll_counts;
+mod printing;
 mod reader;
 mod refused;
-mod scenario;
 mod stage;
-mod timeline;
 
-pub use event::Event;
-pub use laws::{a_good_text_is_read_whole, a_whole_reading_reads};
+pub use laws::{
+    a_good_text_is_read, a_reading_is_of_its_text, a_text_has_one_reading,
+    no_other_text_begins_there,
+};
+pub use printing::print;
 pub use reader::read;
 pub use refused::{Kind, push_refused};
-pub use scenario::Scenario;
-pub use sp_graph::Graph;
-pub use sp_topology::{Edge, LmsHeight};
+pub use sp_schedule_events::{
+    Edge, Event, Fault, Graph, LineRefused, LmsHeight, Scenario, Timeline, is_bad,
+};
 pub use stage::{Ending, Reading, Stage};
-pub use timeline::Timeline;

@@ -1,82 +1,94 @@
 // The reading of a whole text, line by line, up to the first bad one.
-ghost use Rattle.std.specs.Prelude.{◌≡◌, ◌+◌, ◌<◌, ◌≤◌, ◌^◌, IfOk, length};
+ghost use Rattle.std.specs.Prelude.{◌≡◌, ◌≢◌, ◌≤◌, IfOk, length};
 ghost use Rattle.sp_base.specs.declared.limits.TheConstants.{MAX_INPUT_BYTES};
-ghost use Rattle.sp_text.specs.Lines.{IsInOneLine};
-ghost use Rattle.sp_schedule.specs.Readings.{EndsAt, IsGoodStage, IsReading, bad_kind};
+ghost use Rattle.sp_schedule.specs.Readings.{IsGoodStage, IsReading, no_words, nothing_left};
 
 use crate::lead::{Lead, follow};
+use crate::refused::text_kind;
 use crate::{Ending, Kind, Reading, Stage};
-use sp_base::{MAX_LINE_BYTES, Memory};
-use sp_text::first_line;
+use sp_base::Memory;
+use sp_lines::next_words;
+use sp_text::{Lines, TextRefused};
 use std::alloc::Global;
 
 /// Reads a schedule of at most 64 MiB. What its good lines say is kept, up to the first bad one. A text that `is_cut` had more bytes,
-/// and is too big where what there is of it is good.
+/// and is too big where all its lines are good.
 pub fn read(alloc: Global, text: &[u8], is_cut: bool) -> Result<Reading, Memory>
     requires { length text.now ≤ MAX_INPUT_BYTES }
-    ensures reading { IfOk result (λ reading. IsReading text.now is_cut reading) }
+    ensures reading { IfOk result (IsReading text.now is_cut) }
     ensures good_stage { IfOk result (λ reading. IsGoodStage reading.stage) }
 {
+    let reading = read_lines(alloc, text, is_cut);
+    reading
+}
+
+/// The same, line by line.
+fn read_lines(alloc: Global, text: &[u8], is_cut: bool) -> Result<Reading, Memory>
+    requires { length text.now ≤ MAX_INPUT_BYTES }
+    ensures { IfOk result (IsReading text.now is_cut) }
+{
+    let mut lines = Lines::new(text);
     let mut stage = Stage::Start;
-    let mut rest = text;
-    let mut count = 0;
-    'lines: while let Some((line, behind)) = first_line(rest) {
-        match follow(alloc, stage, line)? {
-            Lead::To(next) => stage = next,
-            Lead::Bad(back) => return Ok(refused(back, count)),
-        }
-        rest = behind;
+    let mut count = 0u32;
+    'lines: loop {
+        let words = match next_words(alloc, &mut lines) {
+            Ok(Some(words)) => words,
+            Ok(None) => {
+                let ending = nothing_left(is_cut, &stage, count + 1);
+                return Ok(Reading { stage, ending });
+            }
+            Err(refused) => {
+                let ending = no_words(is_cut, count + 1, refused)?;
+                return Ok(Reading { stage, ending });
+            }
+        };
         count += 1;
+        match follow(alloc, stage, words.as_slice())? {
+            Lead::To(next) => stage = next,
+            Lead::Bad(stage, kind) => {
+                let ending = Ending::Refused { line: count, kind };
+                return Ok(Reading { stage, ending });
+            }
+        }
     }
-    let ending = ending_at(&stage, count, rest, is_cut);
-    Ok(Reading { stage, ending })
 }
 
-/// The reading that ends at a bad line after so many good ones.
-fn refused(stage: Stage, count: u32) -> Reading
-    requires { count + 1 < 2 ^ 32 }
-    ensures stage { result.stage ≡ stage }
-    ensures ending { result.ending ≡ Ending.Refused (count + 1) (bad_kind stage) }
+/// How a text ends before the line of this number, with nothing left.
+fn nothing_left(is_cut: bool, stage: &Stage, line: u32) -> Ending
+    ensures { result ≡ nothing_left is_cut stage.now line }
 {
-    let ending = bad_line(&stage, count);
-    Reading { stage, ending }
-}
-
-/// How the reading ends after so many good lines, before these bytes without a newline.
-fn ending_at(stage: &Stage, count: u32, behind: &[u8], is_cut: bool) -> Ending
-    requires count { count + 1 < 2 ^ 32 }
-    requires line { IsInOneLine behind.now }
-    ensures { EndsAt stage.now count behind.now is_cut result }
-{
-    if is_cut && behind.len() <= MAX_LINE_BYTES {
+    if is_cut {
         return Ending::Refused {
             line: 0,
             kind: Kind::TooBig,
         };
     }
-    if !behind.is_empty() {
-        return bad_line(stage, count);
-    }
     match stage {
         Stage::End(..) => Ending::Whole,
-        _ => Ending::Refused {
-            line: count + 1,
+        Stage::Events(..) => Ending::Refused {
+            line,
             kind: Kind::NoEnd,
+        },
+        _ => Ending::Refused {
+            line,
+            kind: Kind::Header,
         },
     }
 }
 
-/// The refusal of a bad line after so many good ones.
-fn bad_line(stage: &Stage, count: u32) -> Ending
-    requires { count + 1 < 2 ^ 32 }
-    ensures { result ≡ Ending.Refused (count + 1) (bad_kind stage.now) }
+/// How a text ends at a line that isn't words, unless memory was wanting.
+fn no_words(is_cut: bool, line: u32, refused: TextRefused) -> Result<Ending, Memory>
+    ensures { IfOk result (λ ending. (refused ≢ TextRefused.Memory) × (ending ≡ no_words is_cut line refused)) }
 {
-    let kind = match stage {
-        Stage::End(..) => Kind::AfterEnd,
-        _ => Kind::Unbuilt,
-    };
-    Ending::Refused {
-        line: count + 1,
-        kind,
+    match refused {
+        TextRefused::Memory => Err(Memory),
+        TextRefused::Cut(_) if is_cut => Ok(Ending::Refused {
+            line: 0,
+            kind: Kind::TooBig,
+        }),
+        refused => Ok(Ending::Refused {
+            line,
+            kind: text_kind(refused),
+        }),
     }
 }

@@ -22,6 +22,8 @@ pub enum Stage {
     },
     /// The number of nodes was read, and the edges so far.
     Edges(Scenario),
+    /// A compromised node was read: no edge may come after it.
+    Bads(Scenario),
     /// The header was read whole, and the events so far.
     Events(Scenario, Timeline),
     /// The line `end` was read.

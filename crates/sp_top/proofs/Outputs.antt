@@ -6,19 +6,19 @@ use Rattle.std.proofs.lemmas.List.{take_all}
 use Rattle.std.proofs.lemmas.Bool.Decides.{nat_tests}
 use Rattle.sp_base.specs.declared.limits.TheConstants.{MAX_INPUT_BYTES}
 use Rattle.sp_outside.specs.Streams.{IsInput}
-use Rattle.sp_schedule.specs.declared.scenario.Scenario.{Scenario}
-use Rattle.sp_schedule.specs.declared.event.Event.{Event}
-use Rattle.sp_schedule.specs.declared.stage.Stage.{Stage}
-use Rattle.sp_schedule.specs.declared.stage.Ending.{Ending}
-use Rattle.sp_schedule.specs.declared.stage.Ending.TheVariants as endings
-use Rattle.sp_schedule.specs.declared.refused.Kind.{Kind}
-use Rattle.sp_schedule.specs.Reads.{Reads}
-use Rattle.sp_schedule.specs.Readings.{IsReading, EndsAt, IsEnd, All_good}
-use Rattle.sp_schedule.specs.Laws.{WholeReadingsRead, GoodTextsAreReadWhole}
+use Rattle.sp_first_schedule.specs.declared.scenario.Scenario.{Scenario}
+use Rattle.sp_first_schedule.specs.declared.event.Event.{Event}
+use Rattle.sp_first_schedule.specs.declared.stage.Stage.{Stage}
+use Rattle.sp_first_schedule.specs.declared.stage.Ending.{Ending}
+use Rattle.sp_first_schedule.specs.declared.stage.Ending.TheVariants as endings
+use Rattle.sp_first_schedule.specs.declared.refused.Kind.{Kind}
+use Rattle.sp_first_schedule.specs.Reads.{Reads}
+use Rattle.sp_first_schedule.specs.Readings.{IsReading, EndsAt, IsEnd, All_good}
+use Rattle.sp_first_schedule.specs.Laws.{WholeReadingsRead, GoodTextsAreReadWhole}
 use Rattle.sp_world.specs.Past.{Past}
 use Rattle.sp_top.specs.declared.ended.Status.{Status}
 use Rattle.sp_top.specs.declared.ended.Status.TheVariants as statuses
-use Rattle.sp_schedule.specs.Refusals.{refused_line}
+use Rattle.sp_first_schedule.specs.Refusals.{refused_line}
 use Rattle.sp_top.specs.Played.{IsTextOf, status_of, IsPlayed}
 use Rattle.sp_outside.specs.Streams.{AppendsFront}
 use Rattle.sp_offline.specs.declared.answered.Verdict.{Verdict}

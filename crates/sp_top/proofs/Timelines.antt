@@ -5,9 +5,9 @@ use Rattle.std.proofs.lemmas.List.{take-append-le}
 use Rattle.std.proofs.lemmas.Option.{slice_get_within}
 use Rattle.std.proofs.Math.Seq.{take-append_seam}
 use Rattle.sp_base.specs.declared.limits.TheConstants.{MAX_EVENTS}
-use Rattle.sp_schedule.specs.declared.scenario.Scenario.{Scenario}
-use Rattle.sp_schedule.specs.declared.event.Event.{Event}
-use Rattle.sp_schedule.specs.Ranges.{InRange, AreInRange, None_yet, One_more}
+use Rattle.sp_first_schedule.specs.declared.scenario.Scenario.{Scenario}
+use Rattle.sp_first_schedule.specs.declared.event.Event.{Event}
+use Rattle.sp_first_schedule.specs.Ranges.{InRange, AreInRange, None_yet, One_more}
 use Rattle.sp_base.proofs.ListLemmas.{get_push, get_seam}
 
 -- each event is in range after those before it

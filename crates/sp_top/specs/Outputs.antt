@@ -1,16 +1,16 @@
 -- What the program writes for its words and its input.
 use Rattle.std.specs.Prelude.{ℕ, ◌≡◌, ◌≢◌, Bool, List, [], ◌∷◌, ◌++◌, length, take, nat_lt, Option, Some, None, codes}
 use Rattle.sp_base.specs.declared.limits.TheConstants.{MAX_INPUT_BYTES}
-use Rattle.sp_schedule.specs.declared.stage.Stage.{Stage}
-use Rattle.sp_schedule.specs.declared.stage.Stage.TheVariants as stages
-use Rattle.sp_schedule.specs.declared.refused.Kind.{Kind}
-use Rattle.sp_schedule.specs.declared.stage.Ending.TheVariants as endings
-use Rattle.sp_schedule.specs.declared.scenario.Scenario.{Scenario}
-use Rattle.sp_schedule.specs.declared.event.Event.{Event}
-use Rattle.sp_schedule.specs.Reads.{Reads}
-use Rattle.sp_schedule.specs.Refusals.{refused_line}
-use Rattle.sp_schedule.specs.Readings.{IsReading}
-use Rattle.sp_journal.specs.JournalText.{journal_lines, journal_text}
+use Rattle.sp_first_schedule.specs.declared.stage.Stage.{Stage}
+use Rattle.sp_first_schedule.specs.declared.stage.Stage.TheVariants as stages
+use Rattle.sp_first_schedule.specs.declared.refused.Kind.{Kind}
+use Rattle.sp_first_schedule.specs.declared.stage.Ending.TheVariants as endings
+use Rattle.sp_first_schedule.specs.declared.scenario.Scenario.{Scenario}
+use Rattle.sp_first_schedule.specs.declared.event.Event.{Event}
+use Rattle.sp_first_schedule.specs.Reads.{Reads}
+use Rattle.sp_first_schedule.specs.Refusals.{refused_line}
+use Rattle.sp_first_schedule.specs.Readings.{IsReading}
+use Rattle.sp_first_journal.specs.JournalText.{journal_lines, journal_text}
 use Rattle.sp_world.specs.Past.{Past}
 use Rattle.sp_outside.specs.Streams.{IsInput}
 use Rattle.sp_offline.specs.declared.answered.Verdict.{Verdict}

@@ -1,11 +1,11 @@
 -- What was read and run, and the text that tells it: what the parts of a replay promise each other.
 use Rattle.std.specs.Prelude.{ℕ, ◌≡◌, ◌++◌, Bool, List, Option, Some, None, IfSome}
-use Rattle.sp_schedule.specs.declared.stage.Stage.{Stage}
-use Rattle.sp_schedule.specs.declared.stage.Ending.{Ending}
-use Rattle.sp_schedule.specs.declared.stage.Ending.TheVariants as endings
-use Rattle.sp_schedule.specs.Readings.{IsReading}
-use Rattle.sp_schedule.specs.Refusals.{refused_line}
-use Rattle.sp_journal.specs.JournalText.{journal_text}
+use Rattle.sp_first_schedule.specs.declared.stage.Stage.{Stage}
+use Rattle.sp_first_schedule.specs.declared.stage.Ending.{Ending}
+use Rattle.sp_first_schedule.specs.declared.stage.Ending.TheVariants as endings
+use Rattle.sp_first_schedule.specs.Readings.{IsReading}
+use Rattle.sp_first_schedule.specs.Refusals.{refused_line}
+use Rattle.sp_first_journal.specs.JournalText.{journal_text}
 use Rattle.sp_world.specs.Past.{Past, IsShort}
 use Rattle.sp_top.specs.declared.ended.Status.{Status}
 use Rattle.sp_top.specs.declared.ended.Status.TheVariants as statuses

@@ -11,7 +11,7 @@ mod top;
 
 pub use ended::{Outcome, Status};
 pub use sp_first::FrameValue;
-pub use sp_journal::{AnswerWord, Effect, Effects, Entry, ItemWord, LinkWord, Reply};
-pub use sp_schedule::{Event, Kind, Scenario};
+pub use sp_first_journal::{AnswerWord, Effect, Effects, Entry, ItemWord, LinkWord, Reply};
+pub use sp_first_schedule::{Event, Kind, Scenario};
 pub use sp_world::World;
 pub use top::run;

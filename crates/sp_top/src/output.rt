@@ -2,13 +2,13 @@
 ghost use Rattle.std.specs.Prelude.{◌≡◌, ◌≤◌, ◌++◌, length, IfOk, OnOk};
 ghost use Rattle.std.specs.String.{string_bytes};
 ghost use Rattle.sp_base.specs.declared.limits.TheConstants.{MAX_EVENTS};
-ghost use Rattle.sp_journal.specs.JournalText as text;
+ghost use Rattle.sp_first_journal.specs.JournalText as text;
 ghost use Rattle.sp_top.specs.Played.{IsTextOf, HasWorld};
 
 use laws_reliable::every_run;
 use sp_base::Memory;
-use sp_journal::{journal_lines, journal_text};
-use sp_schedule::{Ending, push_refused};
+use sp_first_journal::{journal_lines, journal_text};
+use sp_first_schedule::{Ending, push_refused};
 use sp_world::World;
 use std::alloc::Global;
 

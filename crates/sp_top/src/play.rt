@@ -1,13 +1,13 @@
 // The world of what was read of a schedule.
 ghost use Rattle.std.specs.Prelude.{◌≡◌, ◌≤◌, length, IfOk};
 ghost use Rattle.sp_base.specs.declared.limits.TheConstants.{MAX_EVENTS};
-ghost use Rattle.sp_schedule.specs.Ranges.{IsScenario, AreInRange};
-ghost use Rattle.sp_schedule.specs.Readings.{IsGoodStage};
+ghost use Rattle.sp_first_schedule.specs.Ranges.{IsScenario, AreInRange};
+ghost use Rattle.sp_first_schedule.specs.Readings.{IsGoodStage};
 ghost use Rattle.sp_world.specs.Past.{IsShort};
 ghost use Rattle.sp_top.specs.Outputs.{IsWorldOf};
 
 use sp_base::Memory;
-use sp_schedule::{Scenario, Stage, Timeline};
+use sp_first_schedule::{Scenario, Stage, Timeline};
 use sp_world::World;
 use std::alloc::Global;
 

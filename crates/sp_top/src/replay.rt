@@ -13,8 +13,8 @@ use crate::play::play;
 use crate::{Outcome, Status, World};
 use laws_reliable::every_run;
 use sp_base::{MAX_INPUT_BYTES, Memory};
+use sp_first_schedule::{Ending, a_good_text_is_read_whole, a_whole_reading_reads, read};
 use sp_outside::{Input, ReadRefused, Sink, Source, read_up_to, write_all};
-use sp_schedule::{Ending, a_good_text_is_read_whole, a_whole_reading_reads, read};
 use std::alloc::Global;
 
 /// What was read and run, and the text to be written of it.

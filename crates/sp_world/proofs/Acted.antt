@@ -2,15 +2,15 @@
 use Rattle.std.proofs.Common.{◌≡◌, ℕ, ◌+◌, ◌-◌, List, [], length, get_or, set, Some, Result, Ok, Err, IfOk, refl, sym, ap, ◌∙◌}
 use Rattle.sp_base.specs.declared.memory.Memory.{Memory}
 use Rattle.sp_base.specs.declared.id.NodeId.{NodeId}
-use Rattle.sp_schedule.specs.declared.event.Event.TheVariants as events
-use Rattle.sp_journal.specs.declared.entry.Effect.{Effect}
-use Rattle.sp_journal.specs.declared.entry.Reply.TheVariants as replies
+use Rattle.sp_first_schedule.specs.declared.event.Event.TheVariants as events
+use Rattle.sp_first_journal.specs.declared.entry.Effect.{Effect}
+use Rattle.sp_first_journal.specs.declared.entry.Reply.TheVariants as replies
 use Rattle.sp_first.specs.declared.frame.FrameValue.{FrameValue}
 use Rattle.sp_first.specs.Rel.{frame_to, served}
 use Rattle.sp_world.specs.Steps.{output_of_entry}
 use Rattle.sp_base.proofs.RowLemmas.{find_at_first, replace_at}
-use Rattle.sp_schedule.specs.declared.event.Event.{Event}
-use Rattle.sp_journal.specs.declared.entry.Entry.{Entry}
+use Rattle.sp_first_schedule.specs.declared.event.Event.{Event}
+use Rattle.sp_first_journal.specs.declared.entry.Entry.{Entry}
 use Rattle.sp_first.specs.Node.{Node, Input, Output, NodeStep, Poll, Makes, with_rel}
 use Rattle.sp_first.specs.World.{Direction, StateStep, acting, is_me, input_of, reply_to, directions_after, frames_in, with_frame}
 use Rattle.sp_world.specs.Acts.{world, IsThere}

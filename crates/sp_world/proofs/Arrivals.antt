@@ -2,7 +2,7 @@
 use Rattle.std.proofs.Common.{◌≡◌, ℕ, false, List, length, Some, None}
 use Rattle.std.specs.Prelude.{◌==◌, ◌&&◌}
 use Rattle.std.specs.declared.option.Option.{Option}
-use Rattle.sp_journal.specs.declared.entry.AnswerWord.TheVariants as answers
+use Rattle.sp_first_journal.specs.declared.entry.AnswerWord.TheVariants as answers
 use Rattle.sp_first.specs.Flow.{FlowState, judge_rel, is_full}
 use Rattle.sp_first.specs.Rel.{RelState}
 use Rattle.sp_first.proofs.FlowLemmas.{judged_new}

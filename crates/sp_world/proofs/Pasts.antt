@@ -1,10 +1,10 @@
 -- A world's past from its start on, event by event.
 use Rattle.std.proofs.Common.{◌≡◌, ℕ, ◌+◌, List, [], ◌∷◌, ◌++◌, map, sym, ap, ◌∙◌, arith, add-one}
 use Rattle.std.proofs.lemmas.List.{map-append}
-use Rattle.sp_schedule.specs.declared.scenario.Scenario.{Scenario}
-use Rattle.sp_schedule.specs.declared.event.Event.{Event}
-use Rattle.sp_schedule.specs.Ranges.{InRange}
-use Rattle.sp_journal.specs.declared.entry.Entry.{Entry}
+use Rattle.sp_first_schedule.specs.declared.scenario.Scenario.{Scenario}
+use Rattle.sp_first_schedule.specs.declared.event.Event.{Event}
+use Rattle.sp_first_schedule.specs.Ranges.{InRange}
+use Rattle.sp_first_journal.specs.declared.entry.Entry.{Entry}
 use Rattle.sp_first.specs.Node.{Node, booted}
 use Rattle.std.specs.List.{range_with_len}
 use Rattle.sp_first.specs.World.{Direction, Goes_on, StateStep, node_at_boot, neighbours}

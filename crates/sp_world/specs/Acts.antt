@@ -1,8 +1,8 @@
 -- Which event a world can do: its node is there, and so is the frame that arrives.
 use Rattle.std.specs.Prelude.{ℕ, ◌≡◌, ◌+◌, ◌-◌, ◌^◌, ◌<◌, ◌≤◌, List, length, Some}
 use Rattle.sp_base.specs.Rows.{IsFirstAt}
-use Rattle.sp_schedule.specs.declared.event.Event.{Event}
-use Rattle.sp_schedule.specs.declared.event.Event.TheVariants as events
+use Rattle.sp_first_schedule.specs.declared.event.Event.{Event}
+use Rattle.sp_first_schedule.specs.declared.event.Event.TheVariants as events
 use Rattle.sp_first.specs.declared.frame.FrameValue.{FrameValue}
 use Rattle.sp_first.specs.Node.{Node}
 use Rattle.sp_first.specs.World.{State, Direction, acting, is_me, frames_in, frame_in}

@@ -1,6 +1,6 @@
 -- A message that arrived, judged and copied before anything changes.
 use Rattle.std.specs.Prelude.{ℕ, ◌≡◌, ◌≢◌, List}
-use Rattle.sp_journal.specs.declared.entry.AnswerWord.TheVariants as answers
+use Rattle.sp_first_journal.specs.declared.entry.AnswerWord.TheVariants as answers
 use Rattle.sp_first.specs.Flow.{judge_rel, delivery}
 use Rattle.sp_first.specs.Rel.{RelState}
 use Rattle.sp_world.specs.declared.rel.Parcel.{Parcel}

@@ -1,9 +1,9 @@
 -- A node's step as its code makes it: the entry that tells it, and a frame's message after its judgement.
 use Rattle.std.specs.Prelude.{ℕ, ◌≡◌, ◌==◌, ◌&&◌, false, List, [], length, Option, Some, None}
-use Rattle.sp_journal.specs.declared.entry.AnswerWord.{AnswerWord}
-use Rattle.sp_journal.specs.declared.entry.AnswerWord.TheVariants as answers
-use Rattle.sp_journal.specs.declared.entry.Effect.{Effect}
-use Rattle.sp_journal.specs.declared.entry.Entry.{Entry}
+use Rattle.sp_first_journal.specs.declared.entry.AnswerWord.{AnswerWord}
+use Rattle.sp_first_journal.specs.declared.entry.AnswerWord.TheVariants as answers
+use Rattle.sp_first_journal.specs.declared.entry.Effect.{Effect}
+use Rattle.sp_first_journal.specs.declared.entry.Entry.{Entry}
 use Rattle.sp_first.specs.Flow.{is_full, admit_rel}
 use Rattle.sp_first.specs.Link.{heard}
 use Rattle.sp_first.specs.Rel.{RelState, with_flow, reported}

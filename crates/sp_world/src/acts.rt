@@ -6,8 +6,8 @@ ghost use Rattle.sp_world.specs.Acts.{world, IsThere, IsGiven, CanAct};
 use crate::directions::Directions;
 use crate::node::Node;
 use sp_base::{Bytes, Listed, Memory, NodeId};
-use sp_journal::{Entry, Reply};
-use sp_schedule::Event;
+use sp_first_journal::{Entry, Reply};
+use sp_first_schedule::Event;
 use std::alloc::Global;
 
 /// Does the event at its node. After an error nothing has changed.

@@ -3,7 +3,7 @@ ghost use Rattle.std.specs.Prelude.{◌≡◌, ℕ, List, IfOk, map, position};
 ghost use Rattle.sp_first.specs.Link.{is_link, new_link, link_in, link_answer, heard};
 
 use sp_base::{Memory, NodeId};
-use sp_journal::LinkWord;
+use sp_first_journal::LinkWord;
 use std::alloc::Global;
 use std::marker::Model;
 

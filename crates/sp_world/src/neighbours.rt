@@ -3,7 +3,7 @@ ghost use Rattle.std.specs.Prelude.{◌≡◌, IfOk, map};
 ghost use Rattle.sp_first.specs.World.{neighbours, other_end};
 
 use sp_base::{Memory, NodeId};
-use sp_schedule::Edge;
+use sp_first_schedule::Edge;
 use std::alloc::Global;
 
 /// The other ends of the edges of a node, in the order of the edges.

@@ -8,7 +8,7 @@ use crate::links::Links;
 use crate::rel::{Parcel, Rel};
 use sp_base::{Bytes, Flow, Listed, Memory, NodeId};
 use sp_first::FrameValue;
-use sp_journal::{AnswerWord, Entry, ItemWord, LinkWord, Reply};
+use sp_first_journal::{AnswerWord, Entry, ItemWord, LinkWord, Reply};
 use std::alloc::Global;
 use std::marker::Model;
 

@@ -7,8 +7,8 @@ ghost use Rattle.sp_world.specs.Judged.{IsJudged};
 use crate::rel_peers::{RelPeer, RelPeers};
 use sp_base::{Bytes, Flow, Listed, Memory, NodeId, push_in_room};
 use sp_first::FrameValue;
+use sp_first_journal::{AnswerWord, Effect, Effects, Reply};
 use sp_flow::FlowBuffer;
-use sp_journal::{AnswerWord, Effect, Effects, Reply};
 use std::alloc::Global;
 use std::marker::Model;
 

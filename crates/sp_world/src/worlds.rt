@@ -2,7 +2,7 @@
 ghost use Rattle.std.specs.Prelude.{◌≡◌, ◌<◌, ◌∷◌, ◌++◌, [], IfOk, OnOk, OnErr, length, map, vec_len, vec_capacity};
 ghost use Rattle.std.specs.Option.{option_copied};
 ghost use Rattle.sp_base.specs.declared.limits.TheConstants.{MAX_EVENTS};
-ghost use Rattle.sp_schedule.specs.Ranges.{IsScenario, InRange};
+ghost use Rattle.sp_first_schedule.specs.Ranges.{IsScenario, InRange};
 ghost use Rattle.std.specs.List.{range_with_len};
 ghost use Rattle.sp_first.specs.World.{frame_in, node_at_boot};
 ghost use Rattle.sp_world.specs.Past.{IsRun, GoesOn, before_all};
@@ -13,8 +13,8 @@ use crate::neighbours::neighbours;
 use crate::node::Node;
 use sp_base::{Flow, Memory, NodeId, push_in_room};
 use sp_first::FrameValue;
-use sp_journal::Entry;
-use sp_schedule::{Event, Scenario};
+use sp_first_journal::Entry;
+use sp_first_schedule::{Event, Scenario};
 use std::alloc::Global;
 use std::marker::Model;
 

@@ -1,8 +1,8 @@
 use Rattle.std.proofs.Common.{refl}
 use Rattle.std.specs.Fmt.{digits}
 use Rattle.hex.specs.Hex.{encode_with}
-use Rattle.sp_schedule.specs.Spelling.{schedule_text}
-use Rattle.sp_journal.specs.JournalText.{first_line, reply_line, effect_line, counted}
+use Rattle.sp_first_schedule.specs.Spelling.{schedule_text}
+use Rattle.sp_first_journal.specs.JournalText.{first_line, reply_line, effect_line, counted}
 use Rattle.laws_first_message.proofs.FirstRun.{first_run}
 use Rattle.laws_first_message.proofs.first_message.Goals as goal
 

@@ -1,6 +1,6 @@
 use Rattle.std.proofs.Common.{◌++◌, sym, ap, ◌∙◌, List}
 use Rattle.std.specs.Vec.Iter.{into_iter_items}
-use Rattle.sp_schedule.specs.declared.event.Event.{Event}
+use Rattle.sp_first_schedule.specs.declared.event.Event.{Event}
 use Rattle.sp_top.proofs.Timelines.{next_in_range}
 use Rattle.sp_top.proofs.play.play_all.Goals as goal
 

@@ -1,6 +1,6 @@
 use Rattle.std.proofs.Common.{sym, ap, ◌∙◌, option_map}
 use Rattle.std.specs.Option.{option_copied}
-use Rattle.sp_schedule.specs.declared.event.Event.TheVariants as events
+use Rattle.sp_first_schedule.specs.declared.event.Event.TheVariants as events
 use Rattle.sp_first.specs.Node.{Arrive}
 use Rattle.sp_world.proofs.Acted.{acted_if_ok}
 use Rattle.sp_world.proofs.acts.pass.Goals as goal

@@ -1,5 +1,5 @@
 use Rattle.std.proofs.Common.{refl}
-use Rattle.sp_schedule.specs.declared.event.Event.TheVariants as events
+use Rattle.sp_first_schedule.specs.declared.event.Event.TheVariants as events
 use Rattle.sp_first.specs.Node.{Send}
 use Rattle.sp_world.proofs.Acted.{acted_if_ok}
 use Rattle.sp_world.proofs.acts.send.Goals as goal

@@ -1,0 +1,65 @@
+-- What holds in every state of a run without forgery, in parts.
+use Rattle.std.specs.Prelude.{ℕ, ◌≡◌, true, IsTrue, List, Ok, Some, slice_get}
+use Rattle.sp_base.specs.Spelling.{AreBytes}
+use Rattle.sp_base.specs.declared.id.NodeId.{NodeId}
+use Rattle.sp_frame.specs.Sections.{Contents}
+use Rattle.sp_msg.specs.Bodies.{encoded}
+use Rattle.sp_msg.specs.Views.{signer_of}
+use Rattle.sp_msg.specs.declared.kept.Kept.{Kept}
+use Rattle.sp_topology.specs.Keys.{key_of}
+use Rattle.sp_rules.specs.Arts.{Arts}
+use Rattle.sp_rules.specs.Node.{NodeState}
+use Rattle.sp_rules.specs.Parts.{is_signed_by, nodes_of}
+use Rattle.laws_node.specs.Nodes.{NodeHolds}
+use Rattle.laws_node.specs.Shapes.{shape_at_start, shape_of}
+use Rattle.laws_node.specs.Sizes.{Sizes}
+use Rattle.laws_node.proofs.Carried.{AllKeep}
+use Rattle.sp_rules.specs.Pieces.{pieces_of}
+use Rattle.sp_runs.specs.Forgery.{is_among}
+use Rattle.sp_runs.specs.Settings.{Setting, first_signer, fixed_of, is_correct, link_keys}
+use Rattle.sp_runs.specs.Told.{signed}
+use Rattle.sp_runs.specs.Worlds.{World, frames_in, node_in}
+use Rattle.sp_runs.specs.declared.entry.Entry.{Entry}
+use Rattle.sp_runs.specs.declared.event.Event.{Event}
+use Rattle.laws_runs.specs.Premises.{IsOfBytes}
+
+-- ---- signed objects
+
+-- its signer signed it, where that node is correct
+abbrev pub Known : Setting → List Event → List Entry → Kept → Type 0
+Known x es js o = IsTrue (is_correct x (signer_of o.body)) → is_among (encoded o.body) (signed es js (signer_of o.body)) ≡ true
+
+-- and it bears its signer's valid signature, and is of bytes
+pub record Good (arts : Arts) (x : Setting) (es : List Event) (js : List Entry) (o : Kept) : Type 0 where
+  pub known : Known x es js o
+  pub right : IsTrue (is_signed_by arts (key_of (signer_of o.body).0 x.topology.nodes) (encoded o.body) o.signature)
+  pub bytes : IsOfBytes o
+
+-- the sizes of a node of this setting
+abbrev pub sizes_at : Setting → (Kept → Type 0) → NodeId → Sizes
+sizes_at x P u = record {
+  me = u;
+  nodes = nodes_of x.topology;
+  edges = x.topology.edges;
+  signature_len = x.signature_len;
+  buffer = x.buffer;
+  store = x.store;
+  keeps = P;
+}
+
+-- a node of this setting, within its bounds, which keeps messages that are asked this alone
+pub record NodeIs (x : Setting) (P : Kept → Type 0) (u : NodeId) (n : NodeState) : Type 0 where
+  pub correct : IsTrue (is_correct x u)
+  pub fixed : n.fixed ≡ fixed_of x u
+  pub seed : n.signer.seed ≡ x.seed u.0
+  pub total : n.signer.total ≡ x.total
+  -- with its rows and bounds as at its start
+  pub shape : shape_of n ≡ shape_at_start (fixed_of x u) (first_signer x u) (link_keys x u) x.buffer x.store
+  pub holds : NodeHolds (sizes_at x P u) n
+
+-- all that nodes keep, and all that their frames carry, is good, and their frames are bytes
+pub record Signs (arts : Arts) (x : Setting) (es : List Event) (js : List Entry) (w : World) : Type 0 where
+  pub nodes : (u : NodeId) (n : NodeState) → node_in w.nodes u ≡ Some n → NodeIs x (Good arts x es js) u n
+  pub frames : (u v : NodeId) (k : ℕ) (bytes : List ℕ) (s : Contents) → slice_get (frames_in w.directions u v) k ≡ Some bytes
+      → arts.sections x.signature_len bytes ≡ Ok s → AllKeep (Good arts x es js) (pieces_of s)
+  pub bytes : (u v : NodeId) (k : ℕ) (bytes : List ℕ) → slice_get (frames_in w.directions u v) k ≡ Some bytes → AreBytes bytes

@@ -1,0 +1,392 @@
+-- What each piece of a frame keeps of a flow between its ends.
+use Rattle.std.proofs.Common.{◌≡◌, ◌≤◌, ℕ, ◌+◌, Bool, true, false, cond, List, [], ◌∷◌, ◌++◌, length, map, Option, Some, None, refl, sym, ap, subst, ◌∙◌, inl, inr, arith, append_assoc, nat_lt}
+use Rattle.std.specs.Prelude.{◌&&◌, ◌==◌}
+use Rattle.std.specs.List.{flat_map}
+use Rattle.std.proofs.lemmas.Bool.{cases_Bool, eq-eqb, eqb-true, ne_eqb}
+use Rattle.std.proofs.lemmas.Bool.Decides.{nat_tests}
+use Rattle.std.proofs.lemmas.List.{append-nil, length-append}
+use Rattle.std.proofs.lemmas.List.Concat.{flat_map-append}
+use Rattle.sp_base.specs.Lists.{IsPrefix}
+use Rattle.sp_base.specs.declared.id.Flow.{Flow}
+use Rattle.sp_base.specs.declared.id.NodeId.{NodeId}
+use Rattle.sp_msg.specs.Bodies.{payload_of}
+use Rattle.sp_msg.specs.declared.body.Ack.{Ack}
+use Rattle.sp_msg.specs.declared.body.Body.{Body}
+use Rattle.sp_msg.specs.declared.body.Body.TheVariants as bodies
+use Rattle.sp_msg.specs.declared.body.Rel.{Rel}
+use Rattle.sp_msg.specs.declared.effect.Effect.{Effect}
+use Rattle.sp_msg.specs.declared.effect.Effect.TheVariants as effects
+use Rattle.sp_msg.specs.declared.effect.Why.{Why}
+use Rattle.sp_msg.specs.declared.effect.Why.TheVariants.{Acked, Evicted, Expired}
+use Rattle.sp_msg.specs.declared.kept.Kept.{Kept}
+use Rattle.sp_rules.proofs.FlowJudged.{found_ends, new_ack, new_rel, same_flow}
+use Rattle.sp_rules.specs.Answers.{ack_answer, is_new, prio_answer, rel_answer, weight_answer}
+use Rattle.sp_rules.specs.Arts.{Arts}
+use Rattle.sp_rules.specs.Flow.{FlowState, acknowledged_by, flow_said, number_said, pushed, received}
+use Rattle.sp_rules.specs.Handle.{Arrival, handle, handle_all, heard_where, offer_to, weight_effects}
+use Rattle.sp_rules.specs.Parts.{Parts, is_signed}
+use Rattle.sp_rules.specs.Pieces.{Piece, WeightPiece, PrioAckPiece, PrioPiece, ReportPiece, AckPiece, RelPiece}
+use Rattle.sp_rules.specs.Prio as prio
+use Rattle.sp_rules.specs.Prio.{PrioState, admit_prio, acked_effects, judge_prio, prio_effects, expired_effects}
+use Rattle.sp_rules.specs.PrioPeer as rows
+use Rattle.sp_rules.specs.PrioPeer.{PrioPeer}
+use Rattle.sp_rules.specs.Rel.{RelState, admit_ack, admit_rel, delivery, flow_in, is_from, is_to, judge_ack_of, judge_rel_of, rel_effects, reported, with_flow, with_peer, told as told_peer, peer_in}
+use Rattle.sp_rules.specs.Store.{Store, expired_entries}
+use Rattle.sp_rules.specs.Weights.{held}
+use Rattle.sp_rules.specs.declared.answers.Item.{Item}
+use Rattle.sp_rules.specs.declared.answers.Item.TheVariants as items
+use Rattle.sp_rules.specs.declared.answers.PrioAnswer.{PrioAnswer}
+use Rattle.sp_rules.specs.declared.answers.PrioAnswer.TheVariants as prios
+use Rattle.sp_rules.specs.declared.rel.AckJudged.TheVariants as acks
+use Rattle.sp_rules.specs.declared.rel.RelJudged.TheVariants as rels
+use Rattle.sp_rules.specs.declared.store.Entry.{Entry}
+use Rattle.laws_node.specs.Asked.{NewKeep}
+use Rattle.laws_node.proofs.AskedLemmas.{new_left, new_right}
+use Rattle.laws_node.proofs.Handles as judged
+use Rattle.sp_runs.specs.Told.{Message, delivered_by, signed_by}
+use Rattle.laws_runs.specs.Flows.{IsIn}
+use Rattle.laws_runs.proofs.FlowFacts.{FlowAt, RelIs, cases_flow, delivered_next, flow_acked, flow_of, flow_received, flow_took, prefix_length, same_rows_is, with_flow_is}
+use Rattle.laws_runs.proofs.Tables.{same_node}
+
+-- ---- effects that say nothing of reliable messages and signatures
+
+pub record Quiet (es : List Effect) : Type 0 where
+  pub no_delivery : (a : NodeId) → flat_map (delivered_by a) es ≡ []
+  pub no_signature : flat_map signed_by es ≡ []
+
+pub quiet_none : Quiet []
+quiet_none = record { no_delivery = λ a. refl; no_signature = refl }
+
+pub quiet_append : (xs ys : List Effect) → Quiet xs → Quiet ys → Quiet (xs ++ ys)
+quiet_append xs ys h k = record {
+  no_delivery = λ a. flat_map-append (delivered_by a) xs ys ∙ rw (h.no_delivery a, k.no_delivery a) refl;
+  no_signature = flat_map-append signed_by xs ys ∙ rw (h.no_signature, k.no_signature) refl;
+}
+
+quiet_either : (t : Bool) (xs ys : List Effect) → Quiet xs → Quiet ys → Quiet (cond t xs ys)
+quiet_either true xs ys h k = h
+quiet_either false xs ys h k = k
+
+pub quiet_flat : {X : Type 0} (f : X → List Effect) → ((x : X) → Quiet (f x)) → (xs : List X) → Quiet (flat_map f xs)
+quiet_flat f each [] = quiet_none
+quiet_flat f each (x ∷ xs) = quiet_append (f x) (flat_map f xs) (each x) (quiet_flat f each xs)
+
+pub quiet_weight : (body : Body) → Quiet (weight_effects body)
+quiet_weight (bodies.Prio p) = quiet_none
+quiet_weight (bodies.Rel r) = quiet_none
+quiet_weight (bodies.Ack a) = quiet_none
+quiet_weight (bodies.Weight u) = record { no_delivery = λ a. refl; no_signature = refl }
+
+pub quiet_gone : (place : ℕ) (why : Why) (e : Option Entry) → Quiet (rows.gone place why e)
+quiet_gone place why None = quiet_none
+quiet_gone place why (Some e) = record { no_delivery = λ a. refl; no_signature = refl }
+
+quiet_stored : (place id : ℕ) (body : Body) → Quiet (rows.stored place id body)
+quiet_stored place id (bodies.Prio p) = record { no_delivery = λ a. refl; no_signature = refl }
+quiet_stored place id (bodies.Rel r) = quiet_none
+quiet_stored place id (bodies.Ack a) = quiet_none
+quiet_stored place id (bodies.Weight u) = quiet_none
+
+quiet_put : (place : ℕ) (s : Store) (o : Kept) → Quiet (rows.put_effects place s o)
+quiet_put place s o = quiet_append (rows.stored place (s.last + 1) o.body) _ (quiet_stored place (s.last + 1) o.body) (quiet_gone place Evicted _)
+
+quiet_delivered : (body : Body) → Quiet (prio.delivered body)
+quiet_delivered (bodies.Prio p) = record { no_delivery = λ a. refl; no_signature = refl }
+quiet_delivered (bodies.Rel r) = quiet_none
+quiet_delivered (bodies.Ack a) = quiet_none
+quiet_delivered (bodies.Weight u) = quiet_none
+
+pub quiet_prio : (p : PrioState) (o : Kept) (came : Option NodeId) → Quiet (prio_effects p o came)
+quiet_prio p o came =
+    quiet_either (prio.is_here p o.body) (prio.delivered o.body ++ rows.put_effects 0 p.inbox o) (flat_map (rows.given_effects o came) p.peers)
+    (quiet_append (prio.delivered o.body) (rows.put_effects 0 p.inbox o) (quiet_delivered o.body) (quiet_put 0 p.inbox o))
+    (quiet_flat (rows.given_effects o came) (λ q. quiet_either (rows.goes_to o.body came q) (rows.put_effects q.peer q.store o) [] (quiet_put q.peer q.store o) quiet_none) p.peers)
+
+pub quiet_acked : (p : PrioState) (v number : ℕ) → Quiet (acked_effects p v number)
+quiet_acked p v number = quiet_gone (prio.peer_in p v).peer Acked _
+
+quiet_expiring : (place : ℕ) (es : List Entry) → Quiet (map (λ e. effects.Gone place e.id Expired) es)
+quiet_expiring place [] = quiet_none
+quiet_expiring place (e ∷ es) = let rest = quiet_expiring place es in record { no_delivery = λ a. rest.no_delivery a; no_signature = rest.no_signature }
+
+pub quiet_expired : (p : PrioState) (now : ℕ) → Quiet (expired_effects p now)
+quiet_expired p now =
+    quiet_append (rows.expired_effects 0 p.inbox now) _ (quiet_expiring 0 (expired_entries p.inbox now))
+    (quiet_flat (λ (q : PrioPeer). rows.expired_effects q.peer q.store now) (λ q. quiet_expiring q.peer (expired_entries q.store now)) p.peers)
+
+-- ---- what the effects at u say was delivered at d of what s sent
+
+abbrev pub told_here : NodeId → NodeId → NodeId → List Effect → List Message
+told_here u s d es = cond (u.0 == d.0) (flat_map (delivered_by s) es) []
+
+pub told_quiet : (u s d : NodeId) (es : List Effect) → Quiet es → told_here u s d es ≡ []
+told_quiet u s d es h = elim (cases_Bool (u.0 == d.0)) [
+  | inl t ↦ rw t (h.no_delivery s)
+  | inr t ↦ rw t refl
+]
+
+told_both : (u s d : NodeId) (xs ys : List Effect) → told_here u s d (xs ++ ys) ≡ told_here u s d xs ++ told_here u s d ys
+told_both u s d xs ys = elim (cases_Bool (u.0 == d.0)) [
+  | inl t ↦ rw t (flat_map-append (delivered_by s) xs ys)
+  | inr t ↦ rw t refl
+]
+
+-- ---- what is kept over pieces
+
+pub record Handles (C : Type 0) (s d : NodeId) (S D : List Message) (c : ℕ) (u : NodeId) (r : RelState) (es : List Effect) : Type 0 where
+  pub rel : RelIs C s d S (D ++ told_here u s d es) c u r
+  pub prefix : C → IsPrefix (D ++ told_here u s d es) S
+  pub low : c ≤ length (D ++ told_here u s d es)
+  pub unsigned : flat_map signed_by es ≡ []
+
+-- a new object says of the flow what was sent and acknowledged
+pub record Vouched (C : Type 0) (s d : NodeId) (S : List Message) (c : ℕ) (o : Kept) : Type 0 where
+  pub message : C → (m : Rel) → o.body ≡ bodies.Rel m → m.src ≡ s → m.dst ≡ d → IsIn S m.seq m.payload
+  pub ack : (a : Ack) → o.body ≡ bodies.Ack a → a.src ≡ s → a.dst ≡ d → a.seq ≤ c
+
+module _ (C : Type 0) (s d : NodeId) (S : List Message) (c : ℕ) (u : NodeId) (different : s ≡ d → ⊥) where
+  still : (D : List Message) (r r2 : RelState) (es : List Effect) → Quiet es → r2.me ≡ r.me → r2.flows ≡ r.flows → RelIs C s d S D c u r → (C → IsPrefix D S) → c ≤ length D
+      → Handles C s d S D c u r2 es
+  still D r r2 es quiet e f h prefix low =
+      let none : D ++ told_here u s d es ≡ D = ap (λ t. D ++ t) (told_quiet u s d es quiet) ∙ append-nil D in
+      record {
+        rel = subst (λ X. RelIs C s d S X c u r2) (sym none) (same_rows_is C s d S D c u r r2 e f h);
+        prefix = subst (λ X. C → IsPrefix X S) (sym none) prefix;
+        low = subst (λ (X : List Message). c ≤ length X) (sym none) low;
+        unsigned = quiet.no_signature;
+      }
+
+  chosen : (D : List Message) (answer : Item) (new old : Parts) (es : List Effect) → (is_new answer ≡ true → Handles C s d S D c u new.rel es) → Handles C s d S D c u old.rel []
+      → Handles C s d S D c u (cond (is_new answer) new old).rel (cond (is_new answer) es [])
+  chosen D answer new old es here else_ = elim (cases_Bool (is_new answer)) [
+    | inl t ↦ rw t (here t)
+    | inr t ↦ rw t else_
+  ]
+
+  -- ---- an acknowledgement
+
+  record GotAck (r : RelState) (body : Body) : Type 0 where
+    a : Ack
+    is : body ≡ bodies.Ack a
+    not_to : r.me ≡ a.dst → ⊥
+    at_source : r.me ≡ a.src → a.seq ≤ (flow_in r.flows (flow_of a.src a.dst)).at.have
+
+  got_ack : (r : RelState) (flow : Flow) (body : Body) → judge_ack_of r flow body ≡ acks.New → GotAck r body
+  got_ack r flow (bodies.Ack a) new =
+      let facts = new_ack r flow a new in
+      let same : flow ≡ flow_of a.src a.dst = same_flow r flow a.src a.dst facts.ends in
+      let relay : is_to r (flow_of a.src a.dst) ≡ false = subst (λ fl. is_to r fl ≡ false) same facts.relay in
+      let sent : (is_from r (flow_of a.src a.dst) && nat_lt (flow_in r.flows (flow_of a.src a.dst)).at.have a.seq) ≡ false =
+      subst (λ fl. (is_from r fl && nat_lt (flow_in r.flows fl).at.have a.seq) ≡ false) same facts.sent in
+      record {
+        a = a;
+        is = refl;
+        not_to = λ e. absurd (let yes : is_to r (flow_of a.src a.dst) ≡ true = eq-eqb _ _ (ap (λ (v : NodeId). v.0) e) in let f : true ≡ false = sym yes ∙ relay in cc);
+        at_source = λ e. at_most (is_from r (flow_of a.src a.dst)) _ a.seq sent (eq-eqb _ _ (ap (λ (v : NodeId). v.0) e));
+      }
+    where
+      at_most : (t : Bool) (have seq : ℕ) → (t && nat_lt have seq) ≡ false → t ≡ true → seq ≤ have
+      at_most true have seq e is = grind (arith, nat_tests)
+      at_most false have seq e is = absurd (cc)
+  got_ack r flow (bodies.Rel b) new = absurd (cc)
+  got_ack r flow (bodies.Prio b) new = absurd (cc)
+  got_ack r flow (bodies.Weight b) new = absurd (cc)
+
+  ack_taken : (D : List Message) (r : RelState) (flow : Flow) (o : Kept) → judge_ack_of r flow o.body ≡ acks.New → Vouched C s d S c o → RelIs C s d S D c u r → (C → IsPrefix D S) → c ≤ length D
+      → Handles C s d S D c u (admit_ack r o) []
+  ack_taken D r flow o new vouched h prefix low =
+      let got = got_ack r flow o.body new in
+      let a = got.a in
+      let said : flow_said o.body ≡ flow_of a.src a.dst = ap flow_said got.is in
+      let number : number_said o.body ≡ a.seq = ap number_said got.is in
+      let f = flow_in r.flows (flow_said o.body) in
+      let there : f ≡ flow_in r.flows (flow_of a.src a.dst) = ap (flow_in r.flows) said in
+      let few : C → c ≤ length S = λ k. let p = prefix_length S D (prefix k) in omega (arith, p, low) in
+      let after = with_flow_is C s d S D S D c c u r (flow_said o.body) (acknowledged_by f o) (found_ends r.flows (flow_said o.body)) h
+      (λ e.
+      let both : flow_of a.src a.dst ≡ flow_of s d = sym said ∙ e in
+      let src : a.src ≡ s = ap (λ (x : Flow). x.src) both in
+      let dst : a.dst ≡ d = ap (λ (x : Flow). x.dst) both in
+      let here : FlowAt C s d S D c u f = subst (λ fl. FlowAt C s d S D c u (flow_in r.flows fl)) (sym e) h.flow in
+      let known = vouched.ack a got.is src dst in
+      flow_acked C s d S D c u f o (λ z. got.not_to (h.me ∙ z ∙ sym dst)) (omega (arith, number, known)) few
+      (λ z. let most = got.at_source (h.me ∙ z ∙ sym src) in let have = ap (λ (g : FlowState). g.at.have) there in omega (arith, most, number, have)) here)
+      (λ never. h.flow) in
+      let none : D ++ told_here u s d [] ≡ D = ap (λ t. D ++ t) (told_quiet u s d [] quiet_none) ∙ append-nil D in
+      record {
+        rel = subst (λ X. RelIs C s d S X c u (admit_ack r o)) (sym none) after;
+        prefix = subst (λ X. C → IsPrefix X S) (sym none) prefix;
+        low = subst (λ (X : List Message). c ≤ length X) (sym none) low;
+        unsigned = refl;
+      }
+
+  -- ---- a message
+
+  record GotRel (r : RelState) (body : Body) : Type 0 where
+    m : Rel
+    is : body ≡ bodies.Rel m
+    not_from : r.me ≡ m.src → ⊥
+    next : m.seq ≡ (flow_in r.flows (flow_of m.src m.dst)).at.have + 1
+
+  got_rel : (r : RelState) (flow : Flow) (body : Body) → judge_rel_of r flow body ≡ rels.New → GotRel r body
+  got_rel r flow (bodies.Rel m) new =
+      let facts = new_rel r flow m.src m.dst m.seq new in
+      let same : flow ≡ flow_of m.src m.dst = same_flow r flow m.src m.dst facts.ends in
+      let other : is_from r (flow_of m.src m.dst) ≡ false = subst (λ fl. is_from r fl ≡ false) same facts.other in
+      record {
+        m = m;
+        is = refl;
+        not_from = λ e. absurd (let yes : is_from r (flow_of m.src m.dst) ≡ true = eq-eqb _ _ (ap (λ (v : NodeId). v.0) e) in let f : true ≡ false = sym yes ∙ other in cc);
+        next = facts.next ∙ ap (λ fl. (flow_in r.flows fl).at.have + 1) same;
+      }
+  got_rel r flow (bodies.Ack b) new = absurd (cc)
+  got_rel r flow (bodies.Prio b) new = absurd (cc)
+  got_rel r flow (bodies.Weight b) new = absurd (cc)
+
+  -- its delivery is told where it is of the flow
+  told_mine : (body : Body) → flow_said body ≡ flow_of s d → u ≡ d → told_here u s d (delivery body ∷ []) ≡ (number_said body, payload_of body) ∷ []
+  told_mine body e z =
+      let src : ((flow_said body).src.0 == s.0) ≡ true = eq-eqb _ _ (ap (λ (x : Flow). x.src.0) e) in
+      let here : (u.0 == d.0) ≡ true = eq-eqb _ _ (ap (λ (v : NodeId). v.0) z) in
+      rw (here, src) refl
+
+  told_other : (body : Body) → (flow_said body ≡ flow_of s d → ⊥) → u ≡ (flow_said body).dst → told_here u s d (delivery body ∷ []) ≡ []
+  told_other body never z = elim (cases_Bool (u.0 == d.0)) [
+    | inl t ↦
+        let dst : (flow_said body).dst ≡ d = sym z ∙ same_node u d (eqb-true _ _ t) in
+        let src : ((flow_said body).src.0 == s.0) ≡ false = ne_eqb _ _ (λ e. never (ap (λ (v : NodeId). flow_of v (flow_said body).dst) (same_node (flow_said body).src s e) ∙ ap (flow_of s) dst)) in
+        rw (t, src) refl
+    | inr t ↦ rw t refl
+  ]
+
+  delivered_here : (D : List Message) (r : RelState) (o : Kept) (got : GotRel r o.body) → is_to r (flow_said o.body) ≡ true → Vouched C s d S c o → RelIs C s d S D c u r → (C → IsPrefix D S) → c ≤ length D
+      → Handles C s d S D c u (with_flow r (flow_said o.body) (received (flow_in r.flows (flow_said o.body)) (payload_of o.body))) (delivery o.body ∷ [])
+  delivered_here D r o got to vouched h prefix low =
+      let m = got.m in
+      let flow = flow_said o.body in
+      let f = flow_in r.flows flow in
+      let es = delivery o.body ∷ [] in
+      let r2 = with_flow r flow (received f (payload_of o.body)) in
+      let said : flow ≡ flow_of m.src m.dst = ap flow_said got.is in
+      let at_dst : u ≡ flow.dst = sym h.me ∙ same_node r.me flow.dst (eqb-true _ _ to) in
+      let number : number_said o.body ≡ m.seq = ap number_said got.is in
+      let payload : payload_of o.body ≡ m.payload = ap payload_of got.is in
+      let next : m.seq ≡ f.at.have + 1 = got.next ∙ ap (λ fl. (flow_in r.flows fl).at.have + 1) (sym said) in
+      elim (cases_flow flow (flow_of s d)) [
+        | inl e ↦
+            let ud : u ≡ d = at_dst ∙ ap (λ (x : Flow). x.dst) e in
+            let both : flow_of m.src m.dst ≡ flow_of s d = sym said ∙ e in
+            let told : told_here u s d es ≡ (m.seq, m.payload) ∷ [] = told_mine o.body e ud ∙ ap (λ n. (n, payload_of o.body) ∷ []) number ∙ ap (λ p. (m.seq, p) ∷ []) payload in
+            let there : C → IsIn S m.seq m.payload = λ k. vouched.message k m got.is (ap (λ (x : Flow). x.src) both) (ap (λ (x : Flow). x.dst) both) in
+            let mine : FlowAt C s d S D c u f = subst (λ fl. FlowAt C s d S D c u (flow_in r.flows fl)) (sym e) h.flow in
+            let not_s : d ≡ s → ⊥ = λ z. different (sym z) in
+            let received_at : FlowAt C s d S (D ++ (m.seq, m.payload) ∷ []) c u (received f (payload_of o.body)) =
+            subst (λ (v : NodeId). FlowAt C s d S (D ++ (m.seq, m.payload) ∷ []) c v (received f (payload_of o.body))) (sym ud)
+            (subst (λ (p : List ℕ). FlowAt C s d S (D ++ (m.seq, m.payload) ∷ []) c d (received f p)) (sym payload)
+            (flow_received C s d S D c f m.seq m.payload not_s (λ k. subst (λ q. IsIn S q m.payload) next (there k)) (subst (λ (v : NodeId). FlowAt C s d S D c v f) ud mine))) in
+            let after = with_flow_is C s d S D S (D ++ (m.seq, m.payload) ∷ []) c c u r flow (received f (payload_of o.body)) (found_ends r.flows flow) h (λ z. received_at) (λ never. absurd (never e)) in
+            let length_is : m.seq ≡ length D + 1 = next ∙ ap (λ n. n + 1) (mine.have_end ud) in
+            record {
+              rel = subst (λ t. RelIs C s d S (D ++ t) c u r2) (sym told) after;
+              prefix = subst (λ t. C → IsPrefix (D ++ t) S) (sym told) (λ k. delivered_next S D m.seq m.payload (prefix k) length_is (there k));
+              low = subst (λ (t : List Message). c ≤ length (D ++ t)) (sym told) (omega (arith, low, length-append D ((m.seq, m.payload) ∷ [])));
+              unsigned = refl;
+            }
+        | inr never ↦
+            let none : D ++ told_here u s d es ≡ D = ap (λ t. D ++ t) (told_other o.body never at_dst) ∙ append-nil D in
+            let after = with_flow_is C s d S D S D c c u r flow (received f (payload_of o.body)) (found_ends r.flows flow) h (λ e. absurd (never e)) (λ z. h.flow) in
+            record {
+              rel = subst (λ X. RelIs C s d S X c u r2) (sym none) after;
+              prefix = subst (λ X. C → IsPrefix X S) (sym none) prefix;
+              low = subst (λ (X : List Message). c ≤ length X) (sym none) low;
+              unsigned = refl;
+            }
+      ]
+
+  kept_here : (D : List Message) (r : RelState) (o : Kept) (got : GotRel r o.body) → is_to r (flow_said o.body) ≡ false → Vouched C s d S c o → RelIs C s d S D c u r → (C → IsPrefix D S) → c ≤ length D
+      → Handles C s d S D c u (with_flow r (flow_said o.body) (pushed (flow_in r.flows (flow_said o.body)) o)) []
+  kept_here D r o got elsewhere vouched h prefix low =
+      let m = got.m in
+      let flow = flow_said o.body in
+      let f = flow_in r.flows flow in
+      let r2 = with_flow r flow (pushed f o) in
+      let said : flow ≡ flow_of m.src m.dst = ap flow_said got.is in
+      let next : m.seq ≡ f.at.have + 1 = got.next ∙ ap (λ fl. (flow_in r.flows fl).at.have + 1) (sym said) in
+      let none : D ++ told_here u s d [] ≡ D = ap (λ t. D ++ t) (told_quiet u s d [] quiet_none) ∙ append-nil D in
+      let after = with_flow_is C s d S D S D c c u r flow (pushed f o) (found_ends r.flows flow) h
+      (λ e.
+      let both : flow_of m.src m.dst ≡ flow_of s d = sym said ∙ e in
+      let src : m.src ≡ s = ap (λ (x : Flow). x.src) both in
+      let dst : m.dst ≡ d = ap (λ (x : Flow). x.dst) both in
+      let not_d : u ≡ d → ⊥ = λ z. absurd (let yes : is_to r flow ≡ true = eq-eqb _ _ (ap (λ (v : NodeId). v.0) (h.me ∙ z ∙ sym dst ∙ ap (λ (x : Flow). x.dst) (sym said))) in let g : true ≡ false = sym yes ∙ elsewhere in cc) in
+      flow_took C s d S D c u f o m.payload (λ z. got.not_from (h.me ∙ z ∙ sym src)) not_d (λ k. subst (λ q. IsIn S q m.payload) next (vouched.message k m got.is src dst))
+      (subst (λ fl. FlowAt C s d S D c u (flow_in r.flows fl)) (sym e) h.flow))
+      (λ never. h.flow) in
+      record {
+        rel = subst (λ X. RelIs C s d S X c u r2) (sym none) after;
+        prefix = subst (λ X. C → IsPrefix X S) (sym none) prefix;
+        low = subst (λ (X : List Message). c ≤ length X) (sym none) low;
+        unsigned = refl;
+      }
+
+  rel_taken : (D : List Message) (r : RelState) (flow : Flow) (o : Kept) → judge_rel_of r flow o.body ≡ rels.New → Vouched C s d S c o → RelIs C s d S D c u r → (C → IsPrefix D S) → c ≤ length D
+      → Handles C s d S D c u (admit_rel r o) (rel_effects r o)
+  rel_taken D r flow o new vouched h prefix low =
+      let got = got_rel r flow o.body new in
+      elim (cases_Bool (is_to r (flow_said o.body))) [
+        | inl t ↦ let done = delivered_here D r o got t vouched h prefix low in rw t done
+        | inr t ↦ let done = kept_here D r o got t vouched h prefix low in rw t done
+      ]
+
+  -- ---- all pieces
+
+  heard_rel : (answer : PrioAnswer) (v : NodeId) (number : ℕ) (p : Parts) → (heard_where answer v number p).rel ≡ p.rel
+  heard_rel prios.New v number p = refl
+  heard_rel prios.Seen v number p = refl
+  heard_rel prios.BadEnd v number p = refl
+  heard_rel prios.Expired v number p = refl
+  heard_rel prios.BadSig v number p = refl
+
+  reported_flows : (t : Bool) (r : RelState) (x : RelState) → x.me ≡ r.me → x.flows ≡ r.flows → ((cond t x r).me ≡ r.me) × ((cond t x r).flows ≡ r.flows)
+  reported_flows true r x e f = (e, f)
+  reported_flows false r x e f = (refl, refl)
+
+  one_handled : (D : List Message) (arts : Arts) (at : Arrival) (p : Parts) (piece : Piece) → NewKeep (Vouched C s d S c) (handle arts at p piece).answered
+      → RelIs C s d S D c u p.rel → (C → IsPrefix D S) → c ≤ length D → Handles C s d S D c u (handle arts at p piece).parts.rel (handle arts at p piece).effects
+  one_handled D arts at p (WeightPiece o) new h prefix low =
+      chosen D (items.Weight (weight_answer (is_signed arts at.fixed o) (offer_to at.fixed.me p.weights o.body))) (record p { weights = held p.weights o }) p (weight_effects o.body)
+      (λ t. still D p.rel p.rel (weight_effects o.body) (quiet_weight o.body) refl refl h prefix low) (still D p.rel p.rel [] quiet_none refl refl h prefix low)
+  one_handled D arts at p (PrioAckPiece number) new h prefix low = still D p.rel p.rel _ (quiet_acked p.prio at.from.0 number) refl refl h prefix low
+  one_handled D arts at p (PrioPiece number o) new h prefix low =
+      let answer = prio_answer (is_signed arts at.fixed o) (judge_prio p.prio o.body at.now) in
+      let admitted = record p { prio = admit_prio p.prio o (Some at.from) } in
+      subst (λ r. Handles C s d S D c u r (cond (is_new (items.Prio answer)) (prio_effects p.prio o (Some at.from)) []))
+      (sym (heard_rel answer at.from number (cond (is_new (items.Prio answer)) admitted p)))
+      (chosen D (items.Prio answer) admitted p (prio_effects p.prio o (Some at.from))
+      (λ t. still D p.rel p.rel _ (quiet_prio p.prio o (Some at.from)) refl refl h prefix low) (still D p.rel p.rel [] quiet_none refl refl h prefix low))
+  one_handled D arts at p (ReportPiece flow base have) new h prefix low =
+      let same = reported_flows (flow_in p.rel.flows flow).active p.rel (with_peer p.rel at.from (told_peer (peer_in p.rel.peers at.from) flow base have)) refl refl in
+      still D p.rel (reported p.rel at.from flow base have) [] quiet_none same.0 same.1 h prefix low
+  one_handled D arts at p (AckPiece flow o) new h prefix low =
+      chosen D (items.Ack (ack_answer (is_signed arts at.fixed o) (judge_ack_of p.rel flow o.body))) (record p { rel = admit_ack p.rel o }) p []
+      (λ t. ack_taken D p.rel flow o (judged.new_ack _ _ t).1 (new.0 t) h prefix low) (still D p.rel p.rel [] quiet_none refl refl h prefix low)
+  one_handled D arts at p (RelPiece flow o) new h prefix low =
+      chosen D (items.Rel (rel_answer (is_signed arts at.fixed o) (judge_rel_of p.rel flow o.body))) (record p { rel = admit_rel p.rel o }) p (rel_effects p.rel o)
+      (λ t. rel_taken D p.rel flow o (judged.new_rel _ _ t).1 (new.0 t) h prefix low) (still D p.rel p.rel [] quiet_none refl refl h prefix low)
+
+  pub all_handled : (D : List Message) (arts : Arts) (at : Arrival) (p : Parts) (pieces : List Piece) → NewKeep (Vouched C s d S c) (handle_all arts at p pieces).answered
+      → RelIs C s d S D c u p.rel → (C → IsPrefix D S) → c ≤ length D → Handles C s d S D c u (handle_all arts at p pieces).parts.rel (handle_all arts at p pieces).effects
+  all_handled D arts at p [] new h prefix low = still D p.rel p.rel [] quiet_none refl refl h prefix low
+  all_handled D arts at p (piece ∷ pieces) new h prefix low =
+      let first = handle arts at p piece in
+      let others = handle_all arts at first.parts pieces in
+      let one = one_handled D arts at p piece (new_left (Vouched C s d S c) first.answered others.answered new) h prefix low in
+      let rest = all_handled (D ++ told_here u s d first.effects) arts at first.parts pieces (new_right (Vouched C s d S c) first.answered others.answered new) one.rel one.prefix one.low in
+      let both : D ++ told_here u s d (first.effects ++ others.effects) ≡ (D ++ told_here u s d first.effects) ++ told_here u s d others.effects =
+      ap (λ t. D ++ t) (told_both u s d first.effects others.effects) ∙ sym (append_assoc D (told_here u s d first.effects) (told_here u s d others.effects)) in
+      record {
+        rel = subst (λ X. RelIs C s d S X c u others.parts.rel) (sym both) rest.rel;
+        prefix = subst (λ X. C → IsPrefix X S) (sym both) rest.prefix;
+        low = subst (λ (X : List Message). c ≤ length X) (sym both) rest.low;
+        unsigned = flat_map-append signed_by first.effects others.effects ∙ rw (one.unsigned, rest.unsigned) refl;
+      }

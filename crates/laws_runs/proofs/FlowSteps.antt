@@ -1,0 +1,293 @@
+-- What each step of a node keeps of a flow between its ends.
+use Rattle.std.proofs.Common.{◌≡◌, ◌≤◌, ℕ, ◌+◌, max, true, false, cond, eqb, List, [], ◌∷◌, ◌++◌, length, Option, Some, None, Ok, refl, sym, ap, subst, ◌∙◌, inl, inr, arith, append_assoc}
+use Rattle.std.specs.Prelude.{◌&&◌, ◌==◌}
+use Rattle.std.specs.List.{flat_map}
+use Rattle.std.specs.Option.{option_and_then, option_map}
+use Rattle.std.proofs.lemmas.Bool.{cases_Bool, cases_eq, eq-eqb, ne_eqb}
+use Rattle.std.proofs.lemmas.List.{append-nil}
+use Rattle.std.proofs.lemmas.List.Concat.{flat_map-append}
+use Rattle.sp_base.specs.Lists.{IsPrefix}
+use Rattle.sp_base.specs.declared.id.Flow.{Flow}
+use Rattle.sp_base.specs.declared.id.NodeId.{NodeId}
+use Rattle.sp_msg.proofs.EncodedIsRead.{no_other_has_its_bytes, whole_is_read}
+use Rattle.sp_msg.specs.Bodies.{HasGoodFields, encoded, read_body}
+use Rattle.sp_msg.specs.declared.body.Ack.{Ack}
+use Rattle.sp_msg.specs.declared.body.Body.{Body}
+use Rattle.sp_msg.specs.declared.body.Body.TheVariants as bodies
+use Rattle.sp_msg.specs.declared.body.Rel.{Rel}
+use Rattle.sp_msg.specs.declared.effect.Effect.{Effect}
+use Rattle.sp_msg.specs.declared.effect.Effect.TheVariants.{Signed}
+use Rattle.sp_msg.specs.declared.kept.Kept.{Kept}
+use Rattle.sp_rules.proofs.FlowJudged.{found_ends}
+use Rattle.sp_rules.specs.Arts.{Arts}
+use Rattle.sp_rules.specs.Flow.{concluded, after_take, flow_said, number_said, pushed}
+use Rattle.sp_rules.specs.Node.{NodeState, signed_now}
+use Rattle.sp_rules.specs.Rel.{RelState, ack_of, due, due_place, flow_at, flow_in, flow_to_me, own_flow, pushed_in, served, served_at, next_place, settled, settled_at, took}
+use Rattle.sp_rules.specs.Sends.{rel_body, rel_number}
+use Rattle.sp_rules.specs.Window.{greatest}
+use Rattle.laws_node.specs.Sizes.{Sizes}
+use Rattle.sp_runs.specs.Forgery.{is_among}
+use Rattle.sp_runs.specs.Told.{Message, delivered_by, signed_by}
+use Rattle.laws_runs.specs.Acknowledged.{ack_in, acks_in}
+use Rattle.laws_runs.specs.Flows.{IsIn, AreNumbered}
+use Rattle.laws_runs.proofs.FlowFacts.{FlowAt, RelIs, cases_flow, flow_concluded, flow_grown, flow_of, flow_sent, in_last, same_at, same_rows_is, with_flow_is}
+use Rattle.laws_runs.proofs.FlowPieces.{Quiet, told_here, told_quiet}
+use Rattle.laws_runs.proofs.Lists.{among_cons}
+use Rattle.laws_runs.proofs.Tables.{same_node}
+
+-- ---- what the effects at u say that d acknowledged
+
+abbrev pub acked_here : NodeId → NodeId → NodeId → List Effect → ℕ
+acked_here u s d es = greatest (acks_in s d (cond (u.0 == d.0) (flat_map signed_by es) []))
+
+pub record Stepped (C : Type 0) (s d : NodeId) (S T D : List Message) (c : ℕ) (u : NodeId) (es : List Effect) (r : RelState) : Type 0 where
+  pub rel : RelIs C s d (S ++ T) (D ++ told_here u s d es) (max c (acked_here u s d es)) u r
+  pub prefix : C → IsPrefix (D ++ told_here u s d es) (S ++ T)
+  pub low : max c (acked_here u s d es) ≤ length (D ++ told_here u s d es)
+  pub no_t : (u ≡ s → ⊥) → T ≡ []
+  pub numbers : C → AreNumbered (length S) T
+  pub messages : C → u ≡ s → (m : Rel) → HasGoodFields (bodies.Rel m) → m.src ≡ s → m.dst ≡ d → is_among (encoded (bodies.Rel m)) (flat_map signed_by es) ≡ true
+      → IsIn (S ++ T) m.seq m.payload
+
+-- nothing of this flow is acknowledged
+pub acked_none : (u s d : NodeId) (es : List Effect) → flat_map signed_by es ≡ [] → acked_here u s d es ≡ 0
+acked_none u s d es e = elim (cases_Bool (u.0 == d.0)) [ inl t ↦ rw (t, e) refl | inr t ↦ rw t refl ]
+
+-- a message that was signed is read as it is
+pub acked_one : (u s d : NodeId) (es : List Effect) (body : Body) → HasGoodFields body → flat_map signed_by es ≡ encoded body ∷ [] → u ≡ d
+    → acked_here u s d es ≡ greatest (ack_in s d (Ok body))
+acked_one u s d es body good e z =
+    let here : (u.0 == d.0) ≡ true = eq-eqb _ _ (ap (λ (v : NodeId). v.0) z) in
+    let read : ack_in s d (read_body (encoded body)) ≡ ack_in s d (Ok body) = ap (ack_in s d) (whole_is_read body good) in
+    rw (here, e) (ap greatest (append-nil (ack_in s d (read_body (encoded body)))) ∙ ap greatest read)
+
+pub acked_away : (u s d : NodeId) (es : List Effect) → (u ≡ d → ⊥) → acked_here u s d es ≡ 0
+acked_away u s d es never = let away : (u.0 == d.0) ≡ false = ne_eqb _ _ (λ e. never (same_node u d e)) in rw away refl
+
+-- a message that isn't an acknowledgement
+abbrev pub IsNoAck : Body → Type 0
+IsNoAck (bodies.Ack a) = ⊥
+IsNoAck _ = Unit {0}
+
+no_ack : (s d : NodeId) (body : Body) → IsNoAck body → greatest (ack_in s d (Ok body)) ≡ 0
+no_ack s d (bodies.Prio p) is = refl
+no_ack s d (bodies.Rel r) is = refl
+no_ack s d (bodies.Weight w) is = refl
+no_ack s d (bodies.Ack a) is = absurd is
+
+acked_other : (u s d : NodeId) (es : List Effect) (body : Body) → HasGoodFields body → IsNoAck body → flat_map signed_by es ≡ encoded body ∷ [] → acked_here u s d es ≡ 0
+acked_other u s d es body good is e = elim (cases_eq u.0 d.0) [
+  | inl z ↦ acked_one u s d es body good e (same_node u d z) ∙ no_ack s d body is
+  | inr never ↦ acked_away u s d es (λ z. never (ap (λ (v : NodeId). v.0) z))
+]
+
+-- ---- a step of which nothing is told
+
+module _ (C : Type 0) (s d : NodeId) (S D : List Message) (c : ℕ) (u : NodeId) (different : s ≡ d → ⊥) where
+  calm : (es : List Effect) (r : RelState) → told_here u s d es ≡ [] → acked_here u s d es ≡ 0
+      → (C → u ≡ s → (m : Rel) → HasGoodFields (bodies.Rel m) → m.src ≡ s → m.dst ≡ d → is_among (encoded (bodies.Rel m)) (flat_map signed_by es) ≡ true → ⊥)
+      → RelIs C s d S D c u r → (C → IsPrefix D S) → c ≤ length D → Stepped C s d S [] D c u es r
+  calm es r none zero no_message h prefix low =
+      let same_d : D ++ told_here u s d es ≡ D = ap (λ t. D ++ t) none ∙ append-nil D in
+      let same_s : S ++ [] ≡ S = append-nil S in
+      let same_c : max c (acked_here u s d es) ≡ c = omega (arith, zero) in
+      record {
+        rel = subst (λ n. RelIs C s d (S ++ []) (D ++ told_here u s d es) n u r) (sym same_c)
+            (subst (λ X. RelIs C s d (S ++ []) X c u r) (sym same_d) (subst (λ X. RelIs C s d X D c u r) (sym same_s) h));
+        prefix = subst (λ X. C → IsPrefix X (S ++ [])) (sym same_d) (subst (λ X. C → IsPrefix D X) (sym same_s) prefix);
+        low = subst (λ (X : List Message). max c (acked_here u s d es) ≤ length X) (sym same_d) (omega (arith, zero, low));
+        no_t = λ never. refl;
+        numbers = λ y. tt;
+        messages = λ k z m good src dst among. absurd (no_message k z m good src dst among);
+      }
+
+  no_signature : (es : List Effect) → flat_map signed_by es ≡ [] → C → u ≡ s → (m : Rel) → HasGoodFields (bodies.Rel m) → m.src ≡ s → m.dst ≡ d
+      → is_among (encoded (bodies.Rel m)) (flat_map signed_by es) ≡ true → ⊥
+  no_signature es e k z m good src dst among = let f : false ≡ true = rw e at among in cc
+
+  pub silent : (es : List Effect) (r : RelState) → Quiet es → RelIs C s d S D c u r → (C → IsPrefix D S) → c ≤ length D → Stepped C s d S [] D c u es r
+  silent es r quiet h prefix low = calm es r (told_quiet u s d es quiet) (acked_none u s d es quiet.no_signature) (no_signature es quiet.no_signature) h prefix low
+
+  -- another kind of message was signed
+  abbrev pub IsOther : Body → Type 0
+  IsOther (bodies.Prio p) = Unit {0}
+  IsOther (bodies.Weight w) = Unit {0}
+  IsOther _ = ⊥
+
+  other_is_no_ack : (body : Body) → IsOther body → IsNoAck body
+  other_is_no_ack (bodies.Prio p) is = tt
+  other_is_no_ack (bodies.Weight w) is = tt
+  other_is_no_ack (bodies.Rel r) is = absurd is
+  other_is_no_ack (bodies.Ack a) is = absurd is
+
+  other_is_no_rel : (body : Body) (m : Rel) → IsOther body → body ≡ bodies.Rel m → ⊥
+  other_is_no_rel (bodies.Prio p) m is e = cc
+  other_is_no_rel (bodies.Weight w) m is e = cc
+  other_is_no_rel (bodies.Rel r) m is e = absurd is
+  other_is_no_rel (bodies.Ack a) m is e = absurd is
+
+  pub signed_other : (body : Body) (es : List Effect) (r : RelState) → IsOther body → HasGoodFields body → Quiet es → RelIs C s d S D c u r → (C → IsPrefix D S) → c ≤ length D
+      → Stepped C s d S [] D c u (Signed (encoded body) ∷ es) r
+  signed_other body es r other good quiet h prefix low =
+      let one : flat_map signed_by (Signed (encoded body) ∷ es) ≡ encoded body ∷ [] = ap (λ t. encoded body ∷ t) quiet.no_signature in
+      let none : told_here u s d (Signed (encoded body) ∷ es) ≡ [] = elim (cases_Bool (u.0 == d.0)) [ inl t ↦ rw t (quiet.no_delivery s) | inr t ↦ rw t refl ] in
+      calm (Signed (encoded body) ∷ es) r none (acked_other u s d (Signed (encoded body) ∷ es) body good (other_is_no_ack body other) one)
+      (λ k z m good_m src dst among.
+      let there : is_among (encoded (bodies.Rel m)) (encoded body ∷ []) ≡ true = subst (λ xs. is_among (encoded (bodies.Rel m)) xs ≡ true) one among in
+      elim (among_cons (encoded (bodies.Rel m)) (encoded body) [] there) [
+        | inl e ↦ other_is_no_rel body m other (no_other_has_its_bytes body (bodies.Rel m) good good_m e)
+        | inr f ↦ absurd (let g : false ≡ true = f in cc)
+      ]) h prefix low
+
+  -- ---- a client's message
+
+  pub sent_step : (k : Sizes) (n : NodeState) (dst : NodeId) (payload : List ℕ) (arts : Arts) → n.fixed.me ≡ u → HasGoodFields (rel_body n dst payload) → RelIs C s d S D c u n.parts.rel → (C → IsPrefix D S) → c ≤ length D
+      → Stepped C s d S (cond (u.0 == s.0 && dst.0 == d.0) ((rel_number n dst, payload) ∷ []) []) D c u (Signed (encoded (rel_body n dst payload)) ∷ [])
+      (pushed_in n.parts.rel (signed_now arts n (rel_body n dst payload)))
+  sent_step k n dst payload arts me good h prefix low =
+      let r = n.parts.rel in
+      let o = signed_now arts n (rel_body n dst payload) in
+      let flow = flow_said o.body in
+      let f = flow_in r.flows flow in
+      let r2 = pushed_in r o in
+      let own : own_flow r dst ≡ flow = ap (λ v. flow_of v dst) (h.me ∙ sym me) in
+      let m : Message = (rel_number n dst, payload) in
+      let T = cond (u.0 == s.0 && dst.0 == d.0) (m ∷ []) [] in
+      let es = Signed (encoded (rel_body n dst payload)) ∷ [] in
+      let number : rel_number n dst ≡ f.at.have + 1 = ap (λ fl. (flow_in r.flows fl).at.have + 1) own in
+      let none : told_here u s d es ≡ [] = elim (cases_Bool (u.0 == d.0)) [ inl t ↦ rw t refl | inr t ↦ rw t refl ] in
+      let zero : acked_here u s d es ≡ 0 = acked_other u s d es (rel_body n dst payload) good tt refl in
+      let same_d : D ++ told_here u s d es ≡ D ++ [] = ap (λ t. D ++ t) none in
+      let same_c : max c (acked_here u s d es) ≡ c = omega (arith, zero) in
+      let mine : flow ≡ flow_of s d → (u ≡ s) × (T ≡ m ∷ []) =
+      λ e.
+      let us : u ≡ s = sym me ∙ ap (λ (x : Flow). x.src) e in
+      let dd : dst ≡ d = ap (λ (x : Flow). x.dst) e in
+      (us, rw (eq-eqb u.0 s.0 (ap (λ (v : NodeId). v.0) us), eq-eqb dst.0 d.0 (ap (λ (v : NodeId). v.0) dd)) refl) in
+      let others : (flow ≡ flow_of s d → ⊥) → T ≡ [] =
+      λ never. elim (cases_eq u.0 s.0) [
+        | inl x ↦ rw (eq-eqb u.0 s.0 x, ne_eqb dst.0 d.0 (λ y. never (ap (λ v. flow_of v dst) (me ∙ same_node u s x) ∙ ap (flow_of s) (same_node dst d y)))) refl
+        | inr x ↦ rw (ne_eqb u.0 s.0 x) refl
+      ] in
+      let after = with_flow_is C s d S D (S ++ T) (D ++ []) c c u r flow (pushed f o) (found_ends r.flows flow) h
+      (λ e.
+      let is = mine e in
+      let here : FlowAt C s d S D c s f = subst (λ v. FlowAt C s d S D c v f) is.0 (subst (λ fl. FlowAt C s d S D c u (flow_in r.flows fl)) (sym e) h.flow) in
+      subst (λ X. FlowAt C s d (S ++ X) (D ++ []) c u (pushed f o)) (sym is.1)
+      (subst (λ v. FlowAt C s d (S ++ m ∷ []) (D ++ []) c v (pushed f o)) (sym is.0) (flow_sent C s d S D c f o m different here)))
+      (λ never. flow_grown C s d S T D [] c c u (flow_in r.flows (flow_of s d)) (λ z. others never) (λ z. refl) (omega arith) (λ z. refl) h.flow) in
+      record {
+        rel = subst (λ q. RelIs C s d (S ++ T) (D ++ told_here u s d es) q u r2) (sym same_c) (subst (λ X. RelIs C s d (S ++ T) X c u r2) (sym same_d) after);
+        prefix = subst (λ X. C → IsPrefix X (S ++ T)) (sym (same_d ∙ append-nil D)) (λ y. ((prefix y).0 ++ T, ap (λ t. t ++ T) (prefix y).1 ∙ append_assoc D (prefix y).0 T));
+        low = subst (λ (X : List Message). max c (acked_here u s d es) ≤ length X) (sym (same_d ∙ append-nil D)) (omega (arith, zero, low));
+        no_t = λ never. rw (ne_eqb u.0 s.0 (λ e. never (same_node u s e))) refl;
+        numbers = λ y. elim (cases_flow flow (flow_of s d)) [
+          | inl e ↦
+              let is = mine e in
+              let have = (subst (λ fl. FlowAt C s d S D c u (flow_in r.flows fl)) (sym e) h.flow).have_source y is.0 in
+              subst (AreNumbered (length S)) (sym is.1) (omega (arith, number, have), tt)
+          | inr never ↦ subst (AreNumbered (length S)) (sym (others never)) tt
+        ];
+        messages = λ y z w good_w src to among. elim (among_cons (encoded (bodies.Rel w)) (encoded (rel_body n dst payload)) [] among) [
+          | inl e ↦
+              let same : rel_body n dst payload ≡ bodies.Rel w = no_other_has_its_bytes (rel_body n dst payload) (bodies.Rel w) good good_w e in
+              let e2 : flow ≡ flow_of s d = ap flow_said same ∙ ap (λ v. flow_of v w.dst) src ∙ ap (flow_of s) to in
+              let is = mine e2 in
+              let q : rel_number n dst ≡ w.seq = ap number_said same in
+              let p : payload ≡ w.payload = cc in
+              let here : FlowAt C s d S D c u f = subst (λ fl. FlowAt C s d S D c u (flow_in r.flows fl)) (sym e2) h.flow in
+              let have : f.at.have ≡ length S = here.have_source y z in
+              subst (λ X. IsIn (S ++ X) w.seq w.payload) (sym is.1)
+              (subst (λ a. IsIn (S ++ m ∷ []) a w.payload) q (subst (λ b. IsIn (S ++ m ∷ []) (rel_number n dst) b) p (in_last S (rel_number n dst) payload (omega (arith, number, have)))))
+          | inr g ↦ absurd (let x : false ≡ true = g in cc)
+        ];
+      }
+
+  -- ---- the destination's acknowledgement
+
+  pub settled_step : (r : RelState) (ack : Ack) (o : Kept) (es : List Effect) → due r ≡ Some ack → o.body ≡ bodies.Ack ack → ack.dst ≡ u → HasGoodFields (bodies.Ack ack) → Quiet es
+      → RelIs C s d S D c u r → (C → IsPrefix D S) → c ≤ length D → Stepped C s d S [] D c u (es ++ Signed (encoded (bodies.Ack ack)) ∷ []) (settled r o)
+  settled_step r ack o es is_due body mine good quiet h prefix low =
+      let all = es ++ Signed (encoded (bodies.Ack ack)) ∷ [] in
+      let flow = flow_said o.body in
+      let f = flow_in r.flows flow in
+      let said : flow ≡ flow_of ack.src ack.dst = ap flow_said body in
+      let one : flat_map signed_by all ≡ encoded (bodies.Ack ack) ∷ [] =
+      flat_map-append signed_by es (Signed (encoded (bodies.Ack ack)) ∷ []) ∙ ap (λ t. t ++ encoded (bodies.Ack ack) ∷ []) quiet.no_signature in
+      let none : told_here u s d all ≡ [] = elim (cases_Bool (u.0 == d.0)) [
+        | inl t ↦ rw t (flat_map-append (delivered_by s) es (Signed (encoded (bodies.Ack ack)) ∷ []) ∙ ap (λ t. t ++ []) (quiet.no_delivery s))
+        | inr t ↦ rw t refl
+      ] in
+      let no_rel : C → u ≡ s → (m : Rel) → HasGoodFields (bodies.Rel m) → m.src ≡ s → m.dst ≡ d → is_among (encoded (bodies.Rel m)) (flat_map signed_by all) ≡ true → ⊥ =
+      λ y z m good_m src dst among. elim (among_cons (encoded (bodies.Rel m)) (encoded (bodies.Ack ack)) [] (subst (λ xs. is_among (encoded (bodies.Rel m)) xs ≡ true) one among)) [
+        | inl e ↦ let same : bodies.Ack ack ≡ bodies.Rel m = no_other_has_its_bytes (bodies.Ack ack) (bodies.Rel m) good good_m e in cc
+        | inr g ↦ let x : false ≡ true = g in cc
+      ] in
+      let seq : ack.seq ≡ (flow_in r.flows (flow_of ack.src ack.dst)).at.have = due_number r ack is_due in
+      elim (cases_flow flow (flow_of s d)) [
+        | inl e ↦
+            let both : flow_of ack.src ack.dst ≡ flow_of s d = sym said ∙ e in
+            let src : ack.src ≡ s = ap (λ (x : Flow). x.src) both in
+            let dst : ack.dst ≡ d = ap (λ (x : Flow). x.dst) both in
+            let ud : u ≡ d = sym mine ∙ dst in
+            let number : acked_here u s d all ≡ ack.seq =
+            acked_one u s d all (bodies.Ack ack) good one ud ∙ rw (eq-eqb ack.src.0 s.0 (ap (λ (v : NodeId). v.0) src), eq-eqb ack.dst.0 d.0 (ap (λ (v : NodeId). v.0) dst)) (omega arith) in
+            let have : ack.seq ≡ f.at.have = seq ∙ ap (λ fl. (flow_in r.flows fl).at.have) (sym said) in
+            let here : FlowAt C s d S D c d f = subst (λ v. FlowAt C s d S D c v f) ud (subst (λ fl. FlowAt C s d S D c u (flow_in r.flows fl)) (sym e) h.flow) in
+            let end = here.have_end refl in
+            let c2 : max c (acked_here u s d all) ≡ f.at.have = omega (arith, number, have, low, end) in
+            let not_s : d ≡ s → ⊥ = λ z. different (sym z) in
+            let at : FlowAt C s d S D (max c (acked_here u s d all)) u (concluded f o) =
+            subst (λ v. FlowAt C s d S D (max c (acked_here u s d all)) v (concluded f o)) (sym ud) (flow_concluded C s d S D c (max c (acked_here u s d all)) f o not_s low c2 here) in
+            let done = after (max c (acked_here u s d all)) (λ z. at) (λ never. absurd (never e)) in
+            record {
+              rel = subst (λ X. RelIs C s d (S ++ []) X (max c (acked_here u s d all)) u (settled r o)) (sym (ap (λ t. D ++ t) none ∙ append-nil D))
+                  (subst (λ X. RelIs C s d X D (max c (acked_here u s d all)) u (settled r o)) (sym (append-nil S)) done);
+              prefix = subst (λ X. C → IsPrefix X (S ++ [])) (sym (ap (λ t. D ++ t) none ∙ append-nil D)) (subst (λ X. C → IsPrefix D X) (sym (append-nil S)) prefix);
+              low = subst (λ (X : List Message). max c (acked_here u s d all) ≤ length X) (sym (ap (λ t. D ++ t) none ∙ append-nil D)) (omega (arith, c2, end));
+              no_t = λ never. refl;
+              numbers = λ y. tt;
+              messages = λ y z m good_m sr ds among. absurd (no_rel y z m good_m sr ds among);
+            }
+        | inr never ↦
+            let zero : acked_here u s d all ≡ 0 = elim (cases_eq u.0 d.0) [
+              | inl z ↦
+                  let ud = same_node u d z in
+                  let not_src : eqb ack.src.0 s.0 ≡ false = ne_eqb _ _ (λ x. never (said ∙ ap (λ v. flow_of v ack.dst) (same_node ack.src s x) ∙ ap (flow_of s) (mine ∙ ud))) in
+                  acked_one u s d all (bodies.Ack ack) good one ud ∙ rw not_src refl
+              | inr x ↦ acked_away u s d all (λ z. x (ap (λ (v : NodeId). v.0) z))
+            ] in
+            calm all (settled r o) none zero no_rel (after c (λ e. absurd (never e)) (λ z. h.flow)) prefix low
+      ]
+    where
+      due_number : (r : RelState) (ack : Ack) → due r ≡ Some ack → ack.seq ≡ (flow_in r.flows (flow_of ack.src ack.dst)).at.have
+      due_number r ack e = go (option_and_then (flow_at r.flows) (due_place r)) e
+        where
+          go : (o : Option Flow) → option_map (ack_of r) o ≡ Some ack → ack.seq ≡ (flow_in r.flows (flow_of ack.src ack.dst)).at.have
+          go None e = absurd (cc)
+          go (Some flow) e = let is : ack_of r flow ≡ ack = cc in subst (λ (a : Ack). a.seq ≡ (flow_in r.flows (flow_of a.src a.dst)).at.have) is refl
+
+      after : (c2 : ℕ) → (flow_said o.body ≡ flow_of s d → FlowAt C s d S D c2 u (concluded (flow_in r.flows (flow_said o.body)) o))
+          → ((flow_said o.body ≡ flow_of s d → ⊥) → FlowAt C s d S D c2 u (flow_in r.flows (flow_of s d))) → RelIs C s d S D c2 u (settled r o)
+      after c2 when other = go (due_place r) refl
+        where
+          go : (place : Option ℕ) → due_place r ≡ place → RelIs C s d S D c2 u (settled_at r o place)
+          go None e = absurd (let f : None ≡ Some ack = rw e at is_due in cc)
+          go (Some place) e = let x = with_flow_is C s d S D S D c c2 u r (flow_said o.body) (concluded (flow_in r.flows (flow_said o.body)) o) (found_ends r.flows (flow_said o.body)) h when other in
+              record { me = x.me; row = x.row; flow = x.flow }
+
+  -- ---- a client takes
+
+  pub took_step : (r : RelState) (src : NodeId) → RelIs C s d S D c u r → RelIs C s d S D c u (took r src)
+  took_step r src h =
+      let flow = flow_to_me r src in
+      let f = flow_in r.flows flow in
+      with_flow_is C s d S D S D c c u r flow (after_take f) (found_ends r.flows flow) h
+      (λ e. same_at C s d S D c u f (after_take f) refl (subst (λ fl. FlowAt C s d S D c u (flow_in r.flows fl)) (sym e) h.flow)) (λ never. h.flow)
+
+  pub served_step : (r : RelState) (v : NodeId) → RelIs C s d S D c u r → RelIs C s d S D c u (served r v)
+  served_step r v h = go (next_place r v)
+    where
+      go : (place : Option ℕ) → RelIs C s d S D c u (served_at r v place)
+      go None = h
+      go (Some place) = same_rows_is C s d S D c u r _ refl refl h

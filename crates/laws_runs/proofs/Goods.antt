@@ -1,0 +1,195 @@
+-- What is new and what is own is known, valid and of bytes; and each node at its start.
+use Rattle.std.proofs.Common.{◌≡◌, ℕ, Bool, true, false, cond, eqb, List, [], ◌∷◌, ◌++◌, length, map, filter, Option, Some, None, refl, sym, ap, subst, ◌∙◌, inl, inr, arith}
+use Rattle.std.specs.Prelude.{◌&&◌, not, IsTrue, option_map}
+use Rattle.std.specs.List.{All, flat_map}
+use Rattle.std.proofs.lemmas.Bool.{cases_Bool, eq-eqb, eqb-true}
+use Rattle.std.proofs.lemmas.List.Concat.{flat_map-append}
+use Rattle.std.proofs.lemmas.List.Elements.{All-append, All-cons, All-head, All-nil, All-tail}
+use Rattle.sp_base.specs.declared.id.NodeId.{NodeId}
+use Rattle.sp_msg.specs.Bodies.{encoded}
+use Rattle.sp_msg.specs.Views.{signer_of}
+use Rattle.sp_msg.specs.declared.body.Body.{Body}
+use Rattle.sp_msg.specs.declared.effect.Effect.{Effect}
+use Rattle.sp_msg.specs.declared.effect.Effect.TheVariants.{Signed}
+use Rattle.sp_msg.specs.declared.kept.Kept.{Kept}
+use Rattle.sp_rules.specs.Arrivals.{pieces_where}
+use Rattle.sp_rules.specs.Arts.{Arts}
+use Rattle.sp_rules.specs.Node.{NodeState, Signer}
+use Rattle.sp_rules.specs.Parts.{Fixed, is_signed, nodes_of}
+use Rattle.sp_rules.specs.Pieces.{Piece, WeightPiece, PrioAckPiece, PrioPiece, ReportPiece, AckPiece, RelPiece}
+use Rattle.sp_rules.specs.declared.answers.Item.{Item}
+use Rattle.sp_rules.specs.declared.node.LinkReply.{LinkReply}
+use Rattle.sp_rules.specs.declared.node.LinkReply.TheVariants as links
+use Rattle.laws_node.specs.Inputs.{ArtsFit}
+use Rattle.laws_node.specs.Objects.{objects_in, objects_of}
+use Rattle.laws_node.specs.Asked.{IsOwn, NewKeep}
+use Rattle.laws_node.proofs.Boot.{boot_holds, nodes_hold}
+use Rattle.laws_node.proofs.Carried.{AllKeep, PieceKeeps}
+use Rattle.laws_node.proofs.Reliable.{in_range}
+use Rattle.laws_node.proofs.Shapes.{shapes_begin}
+use Rattle.sp_runs.specs.Forgery.{forged_object, is_among, is_forged}
+use Rattle.sp_runs.specs.Inputs.{acting}
+use Rattle.sp_runs.specs.Runs.{Move}
+use Rattle.sp_runs.specs.Settings.{Setting, SettingFits, first_signer, fixed_of, is_correct, link_keys, node_at_boot}
+use Rattle.sp_runs.specs.Told.{signed, signed_by, told_at}
+use Rattle.sp_runs.specs.Worlds.{World, at_start, node_in}
+use Rattle.sp_runs.specs.declared.entry.Entry.{Entry}
+use Rattle.sp_runs.specs.declared.event.Event.{Event}
+use Rattle.sp_runs.specs.declared.what.What.TheVariants as whats
+use Rattle.laws_runs.proofs.Facts.{Good, Known, NodeIs}
+use Rattle.laws_runs.specs.Premises.{IsOfBytes}
+use Rattle.laws_runs.proofs.Lists.{among_left, among_right, both, first_among, told_more}
+use Rattle.laws_runs.proofs.Tables.{same_node}
+
+-- ---- pieces, and their objects
+
+pub all_of : (pieces : List Piece) → AllKeep IsOfBytes pieces → All IsOfBytes (objects_in pieces)
+all_of [] h = All-nil IsOfBytes
+all_of (piece ∷ pieces) h = All-append IsOfBytes (objects_of piece) (objects_in pieces) (one piece h.0) (all_of pieces h.1)
+  where
+    one : (p : Piece) → PieceKeeps IsOfBytes p → All IsOfBytes (objects_of p)
+    one (WeightPiece o) h = All-cons IsOfBytes o [] h (All-nil IsOfBytes)
+    one (PrioAckPiece number) h = All-nil IsOfBytes
+    one (PrioPiece number o) h = All-cons IsOfBytes o [] h (All-nil IsOfBytes)
+    one (ReportPiece flow base have) h = All-nil IsOfBytes
+    one (AckPiece flow o) h = All-cons IsOfBytes o [] h (All-nil IsOfBytes)
+    one (RelPiece flow o) h = All-cons IsOfBytes o [] h (All-nil IsOfBytes)
+
+pub of_all : (pieces : List Piece) → All IsOfBytes (objects_in pieces) → AllKeep IsOfBytes pieces
+of_all [] h = tt
+of_all (WeightPiece o ∷ pieces) h = (All-head IsOfBytes o (objects_in pieces) h, of_all pieces (All-tail IsOfBytes o (objects_in pieces) h))
+of_all (PrioAckPiece number ∷ pieces) h = (tt, of_all pieces h)
+of_all (PrioPiece number o ∷ pieces) h = (All-head IsOfBytes o (objects_in pieces) h, of_all pieces (All-tail IsOfBytes o (objects_in pieces) h))
+of_all (ReportPiece flow base have ∷ pieces) h = (tt, of_all pieces h)
+of_all (AckPiece flow o ∷ pieces) h = (All-head IsOfBytes o (objects_in pieces) h, of_all pieces (All-tail IsOfBytes o (objects_in pieces) h))
+of_all (RelPiece flow o ∷ pieces) h = (All-head IsOfBytes o (objects_in pieces) h, of_all pieces (All-tail IsOfBytes o (objects_in pieces) h))
+
+pub where_keep : (P : Kept → Type 0) (reply : LinkReply) (pieces : List Piece) → AllKeep P pieces → AllKeep P (pieces_where reply pieces)
+where_keep P links.Fresh pieces h = h
+where_keep P links.TooLong pieces h = tt
+where_keep P (links.Short short) pieces h = tt
+where_keep P links.Magic pieces h = tt
+where_keep P links.Version pieces h = tt
+where_keep P links.NotForMe pieces h = tt
+where_keep P links.BadTag pieces h = tt
+where_keep P (links.Learned boot) pieces h = tt
+where_keep P (links.Stale boot counter) pieces h = tt
+where_keep P (links.OtherTopology theirs) pieces h = tt
+where_keep P (links.Section refused) pieces h = tt
+
+-- ---- what isn't forged is known
+
+pub unforged_tag : (t : Bool) (o : Option (List ℕ)) → cond t (Some whats.Tag) (option_map whats.Object o) ≡ None → (t ≡ false) × (o ≡ None)
+unforged_tag true o e = absurd cc
+unforged_tag false None e = (refl, refl)
+unforged_tag false (Some bytes) e = absurd cc
+
+not_forged : (a b c : Bool) → (a && b && not c) ≡ false → a ≡ true → b ≡ true → c ≡ true
+not_forged true true true e one two = refl
+not_forged true true false e one two = absurd cc
+not_forged true false c e one two = absurd cc
+not_forged false b c e one two = absurd cc
+
+pub new_known : (x : Setting) (es : List Event) (js : List Entry) (answered : List (Kept × Item)) → forged_object x es js answered ≡ None
+    → NewKeep (Known x es js) answered
+new_known x es js [] e = tt
+new_known x es js (a ∷ others) e = elim (cases_Bool (is_forged x es js a)) [
+  | inl t ↦ absurd (let f : Some (encoded a.0.body) ≡ None = rw t at e in cc)
+  | inr t ↦ (λ new correct. not_forged _ _ _ t new correct, new_known x es js others (rw t at e))
+]
+
+pub good_new : (arts : Arts) (x : Setting) (es : List Event) (js : List Entry) (answered : List (Kept × Item)) → NewKeep (Known x es js) answered
+    → NewKeep (λ o. IsTrue (is_signed arts (record { me = record { 0 = 0 }; boot = 0; topology = x.topology; signature_len = 0 }) o)) answered
+    → NewKeep IsOfBytes answered → NewKeep (Good arts x es js) answered
+good_new arts x es js [] one two three = tt
+good_new arts x es js (a ∷ others) one two three =
+    (λ new. record { known = one.0 new; right = two.0 new; bytes = three.0 new }, good_new arts x es js others one.1 two.1 three.1)
+
+pub new_less : (P Q : Kept → Type 0) → ((o : Kept) → P o → Q o) → (answered : List (Kept × Item)) → NewKeep P answered → NewKeep Q answered
+new_less P Q less [] h = tt
+new_less P Q less (a ∷ others) h = (λ new. less a.0 (h.0 new), new_less P Q less others h.1)
+
+-- ---- what was signed stays signed
+
+known_more : (x : Setting) (es : List Event) (js : List Entry) (e : Event) (j : Entry) → length es ≡ length js → (o : Kept) → Known x es js o
+    → Known x (es ++ e ∷ []) (js ++ j ∷ []) o
+known_more x es js e j even o h = λ correct.
+    subst (λ these. is_among (encoded o.body) these ≡ true) (sym (told_more (told_at (signer_of o.body) signed_by) es js e j even))
+    (among_left (encoded o.body) (signed es js (signer_of o.body)) _ (h correct))
+
+pub good_more : (arts : Arts) (x : Setting) (es : List Event) (js : List Entry) (e : Event) (j : Entry) → length es ≡ length js → (o : Kept) → Good arts x es js o
+    → Good arts x (es ++ e ∷ []) (js ++ j ∷ []) o
+good_more arts x es js e j even o h = record { known = known_more x es js e j even o h.known; right = h.right; bytes = h.bytes }
+
+-- what a step signs
+signs_it : (effects before after : List Effect) (bytes : List ℕ) → effects ≡ before ++ Signed bytes ∷ after → is_among bytes (flat_map signed_by effects) ≡ true
+signs_it effects before after bytes e =
+    subst (λ (these : List (List ℕ)). is_among bytes these ≡ true)
+    (sym (ap (flat_map signed_by) e ∙ flat_map-append signed_by before (Signed bytes ∷ after)))
+    (among_right bytes (flat_map signed_by before) (bytes ∷ flat_map signed_by after) (first_among bytes (flat_map signed_by after)))
+
+pub own_known : (arts : Arts) (x : Setting) (es : List Event) (js : List Entry) (w new : World) (e : Event) (j : Entry) (m : Move arts x es w e j new)
+    → length es ≡ length js → m.node.fixed.me ≡ acting e → (body : Body) → IsOwn m.node m.input m.output.effects body
+    → is_among (encoded body) (signed (es ++ e ∷ []) (js ++ j ∷ []) (signer_of body)) ≡ true
+own_known arts x es js w new e j m even me body own =
+    let who : signer_of body ≡ acting e = own.mine ∙ me in
+    let here : eqb (acting e).0 (signer_of body).0 ≡ true = eq-eqb _ _ (ap (λ (u : NodeId). u.0) (sym who)) in
+    let all : is_among (encoded body) (flat_map signed_by j.effects) ≡ true =
+    subst (λ es2. is_among (encoded body) (flat_map signed_by es2) ≡ true) (sym m.journal.effects) (signs_it m.output.effects own.before own.after (encoded body) own.told) in
+    subst (λ these. is_among (encoded body) these ≡ true) (sym (told_more (told_at (signer_of body) signed_by) es js e j even))
+    (among_right (encoded body) (signed es js (signer_of body)) _ (rw here all))
+
+-- ---- the arts fit each node
+
+fit_there : (arts : Arts) (f : Fixed) (s t : Signer) → t.seed ≡ s.seed → t.total ≡ s.total → ArtsFit arts f s → ArtsFit arts f t
+fit_there arts f s t seed total h = record {
+  long = rw seed h.long;
+  key = h.key;
+  is_mine = h.is_mine;
+  valid = rw (seed, total) h.valid;
+  heads = h.heads;
+  sections = h.sections;
+}
+
+pub arts_fit : (arts : Arts) (x : Setting) (P : Kept → Type 0) (u : NodeId) (n : NodeState) → SettingFits arts x → NodeIs x P u n → ArtsFit arts n.fixed n.signer
+arts_fit arts x P u n fits is =
+    subst (λ (f : Fixed). ArtsFit arts f n.signer) (sym is.fixed)
+    (fit_there arts (fixed_of x u) (first_signer x u) n.signer is.seed is.total (fits.each u is.correct))
+
+-- ---- the start
+
+pub started : (x : Setting) (us : List NodeId) (u : NodeId) (n : NodeState) → node_in (map (node_at_boot x) (filter (is_correct x) us)) u ≡ Some n
+    → (n ≡ node_at_boot x u) × (is_correct x u ≡ true)
+started x [] u n e = absurd cc
+started x (v ∷ us) u n e = elim (cases_Bool (is_correct x v)) [
+  | inl right ↦
+      let e1 : node_in (node_at_boot x v ∷ map (node_at_boot x) (filter (is_correct x) us)) u ≡ Some n = rw right at e in
+      elim (cases_Bool (eqb v.0 u.0)) [
+        | inl t ↦
+            let f : Some (node_at_boot x v) ≡ Some n = rw t at e1 in
+            let g : node_at_boot x v ≡ n = cc in
+            let is : v ≡ u = same_node v u (eqb-true _ _ t) in
+            (sym g ∙ ap (node_at_boot x) is, subst (λ (y : NodeId). is_correct x y ≡ true) is right)
+        | inr t ↦ started x us u n (rw t at e1)
+      ]
+  | inr wrong ↦ started x us u n (rw wrong at e)
+]
+
+pub starts : (arts : Arts) (x : Setting) (P : Kept → Type 0) → SettingFits arts x → (u : NodeId) (n : NodeState) → node_in (at_start x).nodes u ≡ Some n → NodeIs x P u n
+starts arts x P fits u n e =
+    let is = started x (nodes_of x.topology) u n e in
+    let among = (both _ _ is.1).0 in
+    subst (NodeIs x P u) (sym is.0) (record {
+      correct = is.1;
+      fixed = refl;
+      seed = refl;
+      total = refl;
+      shape = shapes_begin (fixed_of x u) (first_signer x u) (link_keys x u) x.buffer x.store;
+      holds = boot_holds P (fixed_of x u) (first_signer x u) (link_keys x u) x.buffer x.store (record {
+        me = in_range (nodes_of x.topology) u (nodes_hold x.topology.height 0 x.topology.nodes fits.topology.nodes) among;
+        boot = omega arith;
+        topology = fits.topology;
+        short = fits.short;
+        signer = record { index = omega arith; bound = omega arith; total = fits.total };
+      });
+    })

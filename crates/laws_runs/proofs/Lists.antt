@@ -1,0 +1,79 @@
+-- What a longer run tells, and what is among strings of bytes.
+use Rattle.std.proofs.Common.{◌≡◌, ℕ, zero, suc, Bool, true, false, List, [], ◌∷◌, ◌++◌, length, Some, refl, sym, ap, ◌∙◌, inl, inr}
+use Rattle.std.specs.Prelude.{◌&&◌, ◌||◌, ◌⊎◌, nat_eq}
+use Rattle.std.specs.Cmp.Lexicographic.{pointwise}
+use Rattle.std.specs.List.{flat_map, slice_get, zip}
+use Rattle.std.proofs.lemmas.Bool.{eqb-true, eq-eqb}
+use Rattle.std.proofs.lemmas.List.{append-nil}
+use Rattle.std.proofs.lemmas.List.Concat.{flat_map-append}
+use Rattle.std.proofs.lemmas.List.Folds.{list_any-append}
+use Rattle.sp_base.proofs.ListLemmas.{zip-push}
+use Rattle.sp_runs.specs.Forgery.{is_among}
+use Rattle.sp_runs.specs.Told.{told}
+use Rattle.sp_runs.specs.declared.entry.Entry.{Entry}
+use Rattle.sp_runs.specs.declared.event.Event.{Event}
+
+-- one more event adds what it tells
+pub told_more : {X : Type 0} (tells : Event × Entry → List X) (es : List Event) (js : List Entry) (e : Event) (j : Entry) → length es ≡ length js
+    → told tells (es ++ e ∷ []) (js ++ j ∷ []) ≡ told tells es js ++ tells (e, j)
+told_more tells es js e j even =
+    ap (flat_map tells) (zip-push es js e j even) ∙ flat_map-append tells (zip es js) ((e, j) ∷ []) ∙ ap (λ t. told tells es js ++ t) (append-nil (tells (e, j)))
+
+-- ---- two tests
+
+pub both : (x y : Bool) → (x && y) ≡ true → (x ≡ true) × (y ≡ true)
+both true true e = (refl, refl)
+both true false e = absurd cc
+both false y e = absurd cc
+
+-- ---- strings of bytes
+
+pub same_bytes : (xs : List ℕ) → pointwise nat_eq xs xs ≡ true
+same_bytes [] = refl
+same_bytes (x ∷ xs) = rw (eq-eqb x x refl, same_bytes xs) refl
+
+pub are_same : (xs ys : List ℕ) → pointwise nat_eq xs ys ≡ true → xs ≡ ys
+are_same [] [] e = refl
+are_same [] (y ∷ ys) e = absurd cc
+are_same (x ∷ xs) [] e = absurd cc
+are_same (x ∷ xs) (y ∷ ys) e = let parts = both _ _ e in ap (λ n. n ∷ xs) (eqb-true x y parts.0) ∙ ap (λ r. y ∷ r) (are_same xs ys parts.1)
+
+or_true : (a : Bool) → (a || true) ≡ true
+or_true true = refl
+or_true false = refl
+
+pub among_left : (x : List ℕ) (xs ys : List (List ℕ)) → is_among x xs ≡ true → is_among x (xs ++ ys) ≡ true
+among_left x xs ys h = list_any-append (λ y. pointwise nat_eq y x) xs ys ∙ rw h refl
+
+pub among_right : (x : List ℕ) (xs ys : List (List ℕ)) → is_among x ys ≡ true → is_among x (xs ++ ys) ≡ true
+among_right x xs ys h = list_any-append (λ y. pointwise nat_eq y x) xs ys ∙ rw h (or_true (is_among x xs))
+
+either : (a b : Bool) → (a || b) ≡ true → (a ≡ true) ⊎ (b ≡ true)
+either true b e = inl refl
+either false b e = inr e
+
+pub among_or : (x : List ℕ) (xs ys : List (List ℕ)) → is_among x (xs ++ ys) ≡ true → (is_among x xs ≡ true) ⊎ (is_among x ys ≡ true)
+among_or x xs ys h = either _ _ (sym (list_any-append (λ y. pointwise nat_eq y x) xs ys) ∙ h)
+
+pub among_get : (x : List ℕ) (xs : List (List ℕ)) (i : ℕ) → slice_get xs i ≡ Some x → is_among x xs ≡ true
+among_get x [] i e = absurd cc
+among_get x (y ∷ xs) zero e = let is : y ≡ x = cc in rw is (rw (same_bytes x) refl)
+among_get x (y ∷ xs) (suc i) e = let rest = among_get x xs i e in rw rest (or_true (pointwise nat_eq y x))
+
+-- the one of them that it is
+pub among_cons : (x y : List ℕ) (xs : List (List ℕ)) → is_among x (y ∷ xs) ≡ true → (y ≡ x) ⊎ (is_among x xs ≡ true)
+among_cons x y xs h = elim (either _ _ h) [ inl e ↦ inl (are_same y x e) | inr e ↦ inr e ]
+
+pub first_among : (x : List ℕ) (xs : List (List ℕ)) → is_among x (x ∷ xs) ≡ true
+first_among x xs = rw (same_bytes x) refl
+
+-- the front of a list ends where another goes on with an element
+pub front_more : {X : Type 0} (xs ys : List X) (x : X) → slice_get (xs ++ ys) (length xs) ≡ Some x → (rest : List X) × (ys ≡ x ∷ rest)
+front_more [] [] x e = absurd cc
+front_more [] (y ∷ ys) x e = (ys, cc)
+front_more (a ∷ xs) ys x e = front_more xs ys x e
+
+-- each element as one
+pub as_they_are : {X : Type 0} (xs : List X) → flat_map (λ x. x ∷ []) xs ≡ xs
+as_they_are [] = refl
+as_they_are {X} (x ∷ xs) = ap (λ (ys : List X). x ∷ ys) (as_they_are xs)

@@ -1,0 +1,141 @@
+-- Only the adversary forges: no pass of a frame is forged, and no event of a client, a clock or a poll.
+use Rattle.std.proofs.Common.{◌≡◌, ℕ, Bool, true, false, cond, List, [], ◌∷◌, Option, Some, None, Result, Ok, Err, refl, sym, ap, subst, ◌∙◌}
+use Rattle.std.specs.Prelude.{◌&&◌, not, option_map}
+use Rattle.sp_base.specs.declared.id.NodeId.{NodeId}
+use Rattle.sp_frame.specs.Sections.{Contents}
+use Rattle.sp_frame.specs.declared.refused.SectionRefused.{SectionRefused}
+use Rattle.sp_msg.specs.declared.kept.Kept.{Kept}
+use Rattle.sp_msg.specs.declared.refused.SendRefused.{SendRefused}
+use Rattle.sp_rules.specs.Arrivals.{arrival_at, pieces_in, pieces_where, reply_at, sections_in}
+use Rattle.sp_rules.specs.Arts.{Arts}
+use Rattle.sp_rules.specs.Node.{NodeState, call_refusal}
+use Rattle.sp_rules.specs.Parts.{Fixed}
+use Rattle.sp_rules.specs.Sends.{rel_refusal, send_prio_refusal, weight_refusal}
+use Rattle.sp_rules.specs.Steps as steps
+use Rattle.sp_rules.specs.Steps.{Input, NodeStep, Output, arrived, datagram_output, refused_call, refused_send}
+use Rattle.sp_rules.specs.declared.answers.Item.{Item}
+use Rattle.sp_rules.specs.declared.node.NodeRefused.{NodeRefused}
+use Rattle.laws_node.specs.Asked.{NewKeep}
+use Rattle.laws_node.proofs.Carried.{AllKeep, pieces_new}
+use Rattle.sp_runs.specs.Forgery.{forged, forged_object, has_forged_tag, is_among, is_forged, is_tagged}
+use Rattle.sp_runs.specs.Inputs.{input_of}
+use Rattle.sp_runs.specs.Runs.{Clean, Move, Moves, Stays, Turn, forged_in}
+use Rattle.sp_runs.specs.Settings.{Setting, SettingFits, is_correct}
+use Rattle.sp_runs.specs.Worlds.{World, frames_in}
+use Rattle.sp_runs.specs.declared.entry.Entry.{Entry}
+use Rattle.sp_runs.specs.declared.event.Event.{Event}
+use Rattle.sp_runs.specs.declared.event.Event.TheVariants as events
+use Rattle.sp_runs.specs.declared.what.What.{What}
+use Rattle.sp_runs.specs.declared.what.What.TheVariants as whats
+use Rattle.laws_runs.specs.Laws.{IsHostile, OnlyTheAdversaryForges}
+use Rattle.laws_runs.specs.Premises.{Carries}
+use Rattle.laws_runs.proofs.Facts.{Good}
+use Rattle.laws_runs.proofs.Lists.{among_get}
+use Rattle.laws_runs.proofs.Reaches.{came}
+use Rattle.laws_runs.proofs.Goods.{where_keep}
+use Rattle.laws_runs.proofs.Signed.{signs}
+
+-- ---- nothing is forged where all that is new is known
+
+all_three : (a b c : Bool) → (a ≡ true → b ≡ true → c ≡ true) → (a && b && not c) ≡ false
+all_three true true true h = refl
+all_three true true false h = absurd (let e = h refl refl in cc)
+all_three true false c h = refl
+all_three false b c h = refl
+
+nothing_new : (arts : Arts) (x : Setting) (es : List Event) (js : List Entry) (answered : List (Kept × Item)) → NewKeep (Good arts x es js) answered
+    → forged_object x es js answered ≡ None
+nothing_new arts x es js [] h = refl
+nothing_new arts x es js (a ∷ others) h =
+    let fine : is_forged x es js a ≡ false = all_three _ _ _ (λ new correct. (h.0 new).known correct) in
+    rw fine (nothing_new arts x es js others h.1)
+
+neither : (t : Bool) (o : Option (List ℕ)) → t ≡ false → o ≡ None → cond t (Some whats.Tag) (option_map whats.Object o) ≡ None
+neither t o e f = rw (e, f) refl
+
+-- ---- what was made and passed is good
+
+in_good : (P : Kept → Type 0) (r : Result Contents SectionRefused) → ((s : Contents) → r ≡ Ok s → AllKeep P (pieces_in (Ok s))) → AllKeep P (pieces_in r)
+in_good P (Ok s) h = h s refl
+in_good P (Err refused) h = tt
+
+called_good : (P : Kept → Type 0) (o : Output) (r : Option NodeRefused) → NewKeep P o.answered → NewKeep P (refused_call r o).answered
+called_good P o None h = h
+called_good P o (Some refused) h = tt
+
+pub pass_unforged : (arts : Arts) (x : Setting) (es : List Event) (js : List Entry) (w new : World) (u v : NodeId) (number : ℕ) (j : Entry) → SettingFits arts x → Carries arts
+    → Clean arts x es js w → (m : Move arts x es w (events.Pass u v number) j new) → forged arts x es js w m.node m.input m.output ≡ None
+pass_unforged arts x es js w new u v number j fits reads run m =
+    let h = signs arts x es js w fits reads run in
+    let P = Good arts x es js in
+    let it = came w.directions u v number (steps.Datagram u) m.input m.reaches in
+    let is = h.nodes v m.node m.is_there in
+    let me : m.node.fixed.me ≡ v = ap (λ (f : Fixed). f.me) is.fixed in
+    let moves : NodeStep arts m.node (steps.Datagram u it.bytes) m.output m.after = subst (λ i. NodeStep arts m.node i m.output m.after) it.is m.step in
+    let pieces = in_good P (sections_in arts m.node.fixed it.bytes)
+    (λ s read. h.frames u v it.place it.bytes s it.there (ap (λ (f : Fixed). arts.sections f.signature_len it.bytes) (sym is.fixed) ∙ read)) in
+    let news : NewKeep P m.output.answered =
+    subst (λ (o : Output). NewKeep P o.answered) (sym moves.0) (called_good P (arrived arts m.node u it.bytes) (call_refusal m.node u)
+    (pieces_new P arts (arrival_at m.node u) m.node.parts (pieces_where (reply_at arts m.node u it.bytes) (pieces_in (sections_in arts m.node.fixed it.bytes)))
+    (where_keep P (reply_at arts m.node u it.bytes) (pieces_in (sections_in arts m.node.fixed it.bytes)) pieces))) in
+    let tag : has_forged_tag arts x w m.node m.input ≡ false =
+    ap (has_forged_tag arts x w m.node) it.is
+    ∙ all_three (is_correct x u) (is_tagged (reply_at arts m.node u it.bytes)) (is_among it.bytes (frames_in w.directions u m.node.fixed.me)) (λ correct tagged. subst (λ (y : NodeId). is_among it.bytes (frames_in w.directions u y) ≡ true) (sym me) (among_get it.bytes (frames_in w.directions u v) it.place it.there)) in
+    neither _ _ tag (nothing_new arts x es js m.output.answered news)
+
+-- ---- the other events bring no objects
+
+none_answered : (x : Setting) (es : List Event) (js : List Entry) (xs : List (Kept × Item)) → xs ≡ [] → forged_object x es js xs ≡ None
+none_answered x es js xs e = ap (forged_object x es js) e
+
+no_send : (r : Option SendRefused) (o : Output) → o.answered ≡ [] → (refused_send r o).answered ≡ []
+no_send None o e = e
+no_send (Some refused) o e = refl
+
+no_call : (r : Option NodeRefused) (o : Output) → o.answered ≡ [] → (refused_call r o).answered ≡ []
+no_call None o e = e
+no_call (Some refused) o e = refl
+
+-- a step by a client, a clock or a poll
+quiet : (arts : Arts) (x : Setting) (es : List Event) (js : List Entry) (w : World) (n : NodeState) (i : Input) (output : Output) (after : NodeState) → NodeStep arts n i output after
+    → ((u : NodeId) (bytes : List ℕ) → i ≡ steps.Datagram u bytes → ⊥) → forged arts x es js w n i output ≡ None
+quiet arts x es js w n (steps.Poll v) output after s other = neither false _ refl (none_answered x es js _ (ap (λ (o : Output). o.answered) s.0 ∙ no_call (call_refusal n v) _ refl))
+quiet arts x es js w n (steps.Datagram u bytes) output after s other = absurd (other u bytes refl)
+quiet arts x es js w n (steps.Tick now) output after s other = neither false _ refl (none_answered x es js _ (ap (λ (o : Output). o.answered) s.0))
+quiet arts x es js w n (steps.SendRel dst p) output after s other = neither false _ refl (none_answered x es js _ (ap (λ (o : Output). o.answered) s.0 ∙ no_send (rel_refusal n dst) _ refl))
+quiet arts x es js w n (steps.SendPrio m) output after s other = neither false _ refl (none_answered x es js _ (ap (λ (o : Output). o.answered) s.output_is ∙ no_send (send_prio_refusal n m s.choice) _ refl))
+quiet arts x es js w n (steps.SetWeight v weight) output after s other = neither false _ refl (none_answered x es js _ (ap (λ (o : Output). o.answered) s.0 ∙ no_send (weight_refusal n v weight) _ refl))
+quiet arts x es js w n (steps.TakeRel src) output after s other = neither false _ refl (none_answered x es js _ (ap (λ (o : Output). o.answered) s.0))
+quiet arts x es js w n steps.TakePrio output after s other = neither false _ refl (none_answered x es js _ (ap (λ (o : Output). o.answered) s.0))
+
+never : (o : Option What) (what : What) → o ≡ None → o ≡ Some what → ⊥
+never o what e f = cc
+
+calm : (arts : Arts) (x : Setting) (es : List Event) (js : List Entry) (w new : World) (e : Event) (j : Entry) (m : Move arts x es w e j new) (what : What) (i : Input)
+    → input_of arts x es w m.node e ≡ Some i → ((u : NodeId) (bytes : List ℕ) → i ≡ steps.Datagram u bytes → ⊥) → forged arts x es js w m.node m.input m.output ≡ Some what → ⊥
+calm arts x es js w new e j m what i reaches other is =
+    let both : Some m.input ≡ Some i = sym m.reaches ∙ reaches in
+    let same : m.input ≡ i = cc in
+    never _ what (quiet arts x es js w m.node m.input m.output m.after m.step (λ u bytes f. other u bytes (sym same ∙ f))) is
+
+by_move : (arts : Arts) (x : Setting) (es : List Event) (js : List Entry) (w new : World) (e : Event) (j : Entry) → SettingFits arts x → Carries arts → Clean arts x es js w
+    → (m : Move arts x es w e j new) (what : What) → forged arts x es js w m.node m.input m.output ≡ Some what → IsHostile e
+by_move arts x es js w new (events.Pass u v number) j fits reads run m what is = never _ what (pass_unforged arts x es js w new u v number j fits reads run m) is
+by_move arts x es js w new (events.Rel s d p) j fits reads run m what is = calm arts x es js w new _ j m what _ refl (λ u b f. cc) is
+by_move arts x es js w new (events.Prio s d a b c p) j fits reads run m what is = calm arts x es js w new _ j m what _ refl (λ u b f. cc) is
+by_move arts x es js w new (events.Take d s) j fits reads run m what is = calm arts x es js w new _ j m what _ refl (λ u b f. cc) is
+by_move arts x es js w new (events.TakePrio d) j fits reads run m what is = calm arts x es js w new _ j m what _ refl (λ u b f. cc) is
+by_move arts x es js w new (events.Tick u now) j fits reads run m what is = calm arts x es js w new _ j m what _ refl (λ u b f. cc) is
+by_move arts x es js w new (events.Weight u v weight) j fits reads run m what is = calm arts x es js w new _ j m what _ refl (λ u b f. cc) is
+by_move arts x es js w new (events.Poll u v) j fits reads run m what is = calm arts x es js w new _ j m what _ refl (λ u b f. cc) is
+by_move arts x es js w new (events.Flip u v number back bit) j fits reads run m what is = tt
+by_move arts x es js w new (events.Inject u v bytes) j fits reads run m what is = tt
+by_move arts x es js w new (events.Craft c v key body) j fits reads run m what is = tt
+by_move arts x es js w new (events.CraftStatus c v s d base have) j fits reads run m what is = tt
+
+pub only_the_adversary : OnlyTheAdversaryForges
+only_the_adversary arts x es js w e what fits reads run at = go at.turn at.is
+  where
+    go : (turn : Turn arts x es w e at.entry at.new) → forged_in arts x es js w e at.entry at.new turn ≡ Some what → IsHostile e
+    go (Moves m) is = by_move arts x es js w at.new e at.entry fits reads run m what is
+    go (Stays s) is = absurd cc

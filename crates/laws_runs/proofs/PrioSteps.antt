@@ -1,0 +1,291 @@
+-- What each step tells and keeps of priority messages.
+use Rattle.std.proofs.Common.{◌≡◌, ℕ, ◌==◌, Bool, true, false, cond, List, [], ◌∷◌, ◌++◌, Option, Some, None, Result, refl, sym, ap, subst, ◌∙◌, inl, inr}
+use Rattle.std.specs.Prelude.{◌&&◌, ◌||◌}
+use Rattle.std.specs.List.{flat_map}
+use Rattle.std.proofs.lemmas.Bool.{eq-eqb}
+use Rattle.std.proofs.lemmas.List.Concat.{flat_map-append}
+use Rattle.sp_base.specs.declared.id.NodeId.{NodeId}
+use Rattle.sp_msg.proofs.EncodedIsRead.{no_other_has_its_bytes}
+use Rattle.sp_msg.specs.Bodies.{HasGoodFields, encoded}
+use Rattle.sp_msg.specs.declared.body.Ack.{Ack}
+use Rattle.sp_msg.specs.declared.body.Body.{Body}
+use Rattle.sp_msg.specs.declared.body.Body.TheVariants as bodies
+use Rattle.sp_msg.specs.declared.body.Prio.{Prio}
+use Rattle.sp_msg.specs.declared.effect.Effect.{Effect}
+use Rattle.sp_msg.specs.declared.effect.Effect.TheVariants.{Signed}
+use Rattle.sp_msg.specs.declared.effect.Why.TheVariants.{Taken}
+use Rattle.sp_msg.specs.declared.kept.Kept.{Kept}
+use Rattle.sp_msg.specs.declared.refused.SendRefused.{SendRefused}
+use Rattle.sp_msg.specs.declared.refused.SendRefused.TheVariants as refusals
+use Rattle.sp_rules.specs.Answers.{ack_answer, is_new, prio_answer, rel_answer, weight_answer}
+use Rattle.sp_rules.specs.Arrivals.{arrival_at, handled, link_after, pieces_in, pieces_where, reply_at, sections_in}
+use Rattle.sp_rules.specs.Arts.{Arts}
+use Rattle.sp_rules.specs.Flow.{flow_said}
+use Rattle.sp_rules.specs.Handle.{Arrival, handle, handle_all, offer_to, weight_effects}
+use Rattle.sp_rules.specs.Link.{advanced}
+use Rattle.sp_rules.specs.Node.{NodeState, call_refusal, called, kept_or, link_in, signed_now, signed_once, with_link}
+use Rattle.sp_rules.specs.Parts.{Fixed, Parts, is_signed}
+use Rattle.sp_rules.specs.Pieces.{Piece, WeightPiece, PrioAckPiece, PrioPiece, ReportPiece, AckPiece, RelPiece}
+use Rattle.sp_rules.specs.Polls.{frame_to, polled}
+use Rattle.sp_rules.specs.Prio as prio
+use Rattle.sp_rules.specs.Prio.{PrioState, admit_prio, expired_effects, is_here, judge_prio, marked, place_of, prio_effects, windows_with}
+use Rattle.sp_rules.specs.PrioPeer.{gone}
+use Rattle.sp_rules.specs.Rel.{delivery, due, is_to, judge_ack_of, judge_rel_of, pushed_in, rel_effects}
+use Rattle.sp_rules.specs.Sends.{PrioSend, mask_in, no_paths, own_prio, prio_body, prio_refusal, prio_sent as prio_told, rel_body, rel_number, rel_refusal, rel_sent, send_prio_refusal, signer_refusal, weight_body, weight_number, weight_refusal, weight_sent}
+use Rattle.sp_rules.specs.Steps as steps
+use Rattle.sp_rules.specs.Steps.{Input, NodeStep, Output, accepted, arrived, refused_call, refused_send, replied}
+use Rattle.sp_rules.specs.Store.{oldest, said}
+use Rattle.sp_rules.specs.Ticks.{ack_effects, at_time, settled_by, time_after}
+use Rattle.sp_rules.specs.Weights.{held}
+use Rattle.sp_rules.specs.declared.answers.Item.TheVariants as items
+use Rattle.sp_rules.specs.declared.node.NodeRefused.{NodeRefused}
+use Rattle.laws_node.specs.Inputs.{InputFits}
+use Rattle.laws_node.specs.Asked.{NewKeep}
+use Rattle.laws_node.proofs.Own.{either, prio_sent_fits, rel_sent_fits, weight_sent_fits}
+use Rattle.laws_node.proofs.Reliable.{due_fits}
+use Rattle.sp_runs.specs.Forgery.{is_among}
+use Rattle.sp_runs.specs.Journals.{Says, refused_word, reply_word}
+use Rattle.sp_runs.specs.Settings.{Setting}
+use Rattle.sp_runs.specs.Told.{Message, prio_accepted_in, prio_by, signed_by}
+use Rattle.sp_runs.specs.declared.entry.Entry.{Entry}
+use Rattle.sp_runs.specs.declared.entry.Reply.{Reply}
+use Rattle.sp_runs.specs.declared.entry.Reply.TheVariants as replies
+use Rattle.sp_runs.specs.declared.event.Event.TheVariants as events
+use Rattle.laws_runs.specs.Priority.{AreAmong, IsOneOf}
+use Rattle.laws_runs.proofs.Facts.{NodeIs, sizes_at}
+use Rattle.laws_runs.proofs.FlowPieces.{quiet_acked, quiet_expired, quiet_gone, quiet_prio, quiet_weight}
+use Rattle.laws_runs.proofs.Lists.{among_cons}
+use Rattle.laws_runs.proofs.PrioFacts.{Mute, PrioIs, VouchedPrio, all_handled, marks, mute_append, mute_expired, mute_gone, mute_none, mute_own, mute_signed, mute_weight, muted, prio_numbers, same_windows, spread_same}
+
+-- ---- pieces sign nothing
+
+either_unsigned : (t : Bool) (es : List Effect) → flat_map signed_by es ≡ [] → flat_map signed_by (cond t es []) ≡ []
+either_unsigned true es e = e
+either_unsigned false es e = refl
+
+rel_unsigned : (t : Bool) (body : Body) → flat_map signed_by (cond t (delivery body ∷ []) []) ≡ []
+rel_unsigned true body = refl
+rel_unsigned false body = refl
+
+unsigned_piece : (arts : Arts) (at : Arrival) (p : Parts) (piece : Piece) → flat_map signed_by (handle arts at p piece).effects ≡ []
+unsigned_piece arts at p (WeightPiece o) = either_unsigned (is_new (items.Weight (weight_answer (is_signed arts at.fixed o) (offer_to at.fixed.me p.weights o.body)))) (weight_effects o.body) (quiet_weight o.body).no_signature
+unsigned_piece arts at p (PrioAckPiece number) = (quiet_acked p.prio at.from.0 number).no_signature
+unsigned_piece arts at p (PrioPiece number o) = either_unsigned (is_new (items.Prio (prio_answer (is_signed arts at.fixed o) (judge_prio p.prio o.body at.now)))) (prio_effects p.prio o (Some at.from)) (quiet_prio p.prio o (Some at.from)).no_signature
+unsigned_piece arts at p (ReportPiece flow base have) = refl
+unsigned_piece arts at p (AckPiece flow o) = either_unsigned (is_new (items.Ack (ack_answer (is_signed arts at.fixed o) (judge_ack_of p.rel flow o.body)))) [] refl
+unsigned_piece arts at p (RelPiece flow o) =
+    either_unsigned (is_new (items.Rel (rel_answer (is_signed arts at.fixed o) (judge_rel_of p.rel flow o.body)))) (rel_effects p.rel o) (rel_unsigned (is_to p.rel (flow_said o.body)) o.body)
+
+pub unsigned_all : (arts : Arts) (at : Arrival) (p : Parts) (pieces : List Piece) → flat_map signed_by (handle_all arts at p pieces).effects ≡ []
+unsigned_all arts at p [] = refl
+unsigned_all arts at p (piece ∷ pieces) =
+    let first = handle arts at p piece in
+    flat_map-append signed_by first.effects (handle_all arts at first.parts pieces).effects ∙ rw (unsigned_piece arts at p piece, unsigned_all arts at first.parts pieces) refl
+
+-- ---- the acting node's part
+
+pub record Acted (C : Type 0) (s d : NodeId) (S T : List Message) (told : List ℕ) (u : NodeId) (p : PrioState) (es : List Effect) : Type 0 where
+  pub at : u ≡ d → PrioIs s d (told ++ prio_numbers s es) p
+  pub sent : u ≡ d → C → AreAmong (flat_map (prio_by s) es) S
+  pub messages : C → u ≡ s → (b : Prio) → HasGoodFields (bodies.Prio b) → b.src ≡ s → b.dst ≡ d → is_among (encoded (bodies.Prio b)) (flat_map signed_by es) ≡ true
+      → IsOneOf (b.seq, b.payload) T
+
+abbrev pub IsNoPrio : Body → Type 0
+IsNoPrio (bodies.Prio b) = ⊥
+IsNoPrio _ = Unit {0}
+
+never_prio : (body : Body) (b : Prio) → IsNoPrio body → body ≡ bodies.Prio b → ⊥
+never_prio (bodies.Prio r) b is e = absurd is
+never_prio (bodies.Rel r) b is e = cc
+never_prio (bodies.Ack r) b is e = cc
+never_prio (bodies.Weight r) b is e = cc
+
+module _ (C : Type 0) (x : Setting) (P : Kept → Type 0) (arts : Arts) (s d : NodeId) (S : List Message) (told : List ℕ) (u : NodeId) where
+  -- nothing was signed
+  unsigned : (p p2 : PrioState) (es : List Effect) → Mute es → flat_map signed_by es ≡ [] → p2.me ≡ p.me → p2.nodes ≡ p.nodes → p2.windows ≡ p.windows → (u ≡ d → PrioIs s d told p)
+      → Acted C s d S [] told u p2 es
+  unsigned p p2 es mute none e f g h = record {
+    at = λ z. (muted C s d S told p2 es mute (same_windows s d told p p2 e f g (h z))).at;
+    sent = λ z k. (muted C s d S told p2 es mute (same_windows s d told p p2 e f g (h z))).sent k;
+    messages = λ k z b good src dst among. absurd (let q : false ≡ true = rw none at among in cc);
+  }
+
+  -- a message of another kind was signed
+  signed_other : (p p2 : PrioState) (es : List Effect) (body : Body) → Mute es → flat_map signed_by es ≡ encoded body ∷ [] → HasGoodFields body → IsNoPrio body → p2.me ≡ p.me → p2.nodes ≡ p.nodes
+      → p2.windows ≡ p.windows → (u ≡ d → PrioIs s d told p) → Acted C s d S [] told u p2 es
+  signed_other p p2 es body mute one good is e f g h = record {
+    at = λ z. (muted C s d S told p2 es mute (same_windows s d told p p2 e f g (h z))).at;
+    sent = λ z k. (muted C s d S told p2 es mute (same_windows s d told p p2 e f g (h z))).sent k;
+    messages = λ k z b good_b src dst among.
+        elim (among_cons (encoded (bodies.Prio b)) (encoded body) [] (subst (λ xs. is_among (encoded (bodies.Prio b)) xs ≡ true) one among)) [
+          | inl same ↦ absurd (never_prio body b is (no_other_has_its_bytes body (bodies.Prio b) good good_b same))
+          | inr q ↦ absurd (let y : false ≡ true = q in cc)
+        ];
+  }
+
+  quietly : (n : NodeState) → (u ≡ d → PrioIs s d told n.parts.prio) → Acted C s d S [] told u n.parts.prio []
+  quietly n h = unsigned n.parts.prio n.parts.prio [] mute_none refl refl refl refl h
+
+  pub datagram_done : (n : NodeState) (v : NodeId) (bytes : List ℕ) (output : Output) (after : NodeState) → NodeStep arts n (steps.Datagram v bytes) output after → NewKeep (VouchedPrio C s d S) output.answered
+      → (u ≡ d → PrioIs s d told n.parts.prio) → Acted C s d S [] told u after.parts.prio output.effects
+  datagram_done n v bytes output after step new h =
+      go (call_refusal n v) (subst (λ (o : Output). NewKeep (VouchedPrio C s d S) o.answered) step.0 new) (ap (λ (o : Output). o.effects) step.0) step.1
+    where
+      go : (r : Option NodeRefused) → NewKeep (VouchedPrio C s d S) (refused_call r (arrived arts n v bytes)).answered → output.effects ≡ (refused_call r (arrived arts n v bytes)).effects
+          → after ≡ kept_or r n (called n (with_link n v (link_after arts n v bytes)) (handled arts n v bytes).parts) → Acted C s d S [] told u after.parts.prio output.effects
+      go None new e f = subst (λ es. Acted C s d S [] told u after.parts.prio es) (sym e)
+          (subst (λ (m : NodeState). Acted C s d S [] told u m.parts.prio (handled arts n v bytes).effects) (sym f) (record {
+            at = λ z. (all_handled C s d S told arts (arrival_at n v) n.parts (pieces_where (reply_at arts n v bytes) (pieces_in (sections_in arts n.fixed bytes))) new (h z)).at;
+            sent = λ z k. (all_handled C s d S told arts (arrival_at n v) n.parts (pieces_where (reply_at arts n v bytes) (pieces_in (sections_in arts n.fixed bytes))) new (h z)).sent k;
+            messages = λ k z b good src dst among.
+                absurd (let q : false ≡ true = rw (unsigned_all arts (arrival_at n v) n.parts (pieces_where (reply_at arts n v bytes) (pieces_in (sections_in arts n.fixed bytes)))) at among in cc);
+          }))
+      go (Some refused) new e f = subst (λ es. Acted C s d S [] told u after.parts.prio es) (sym e)
+          (subst (λ (m : NodeState). Acted C s d S [] told u m.parts.prio []) (sym f) (quietly n h))
+
+  pub poll_done : (n : NodeState) (v : NodeId) (output : Output) (after : NodeState) → NodeStep arts n (steps.Poll v) output after → (u ≡ d → PrioIs s d told n.parts.prio) → Acted C s d S [] told u after.parts.prio output.effects
+  poll_done n v output after step h = go (call_refusal n v) (ap (λ (o : Output). o.effects) step.0) step.1
+    where
+      go : (r : Option NodeRefused) → output.effects ≡ (refused_call r (replied (steps.Frame (frame_to arts n v)))).effects
+          → after ≡ kept_or r n (called n (with_link n v (advanced (link_in n v))) (polled n.fixed n.parts v)) → Acted C s d S [] told u after.parts.prio output.effects
+      go None e f = subst (λ es. Acted C s d S [] told u after.parts.prio es) (sym e)
+          (subst (λ (m : NodeState). Acted C s d S [] told u m.parts.prio []) (sym f) (unsigned n.parts.prio (prio.carried n.parts.prio v.0) [] mute_none refl refl refl refl h))
+      go (Some refused) e f = subst (λ es. Acted C s d S [] told u after.parts.prio es) (sym e)
+          (subst (λ (m : NodeState). Acted C s d S [] told u m.parts.prio []) (sym f) (quietly n h))
+
+  pub tick_done : (n : NodeState) (now : ℕ) (output : Output) (after : NodeState) → NodeStep arts n (steps.Tick now) output after → NodeIs x P u n → (u ≡ d → PrioIs s d told n.parts.prio)
+      → Acted C s d S [] told u after.parts.prio output.effects
+  tick_done n now output after step is h =
+      subst (λ es. Acted C s d S [] told u after.parts.prio es) (sym (ap (λ (o : Output). o.effects) step.0))
+      (subst (λ (m : NodeState). Acted C s d S [] told u m.parts.prio (expired_effects n.parts.prio (time_after n now) ++ ack_effects (due n.parts.rel) (signer_refusal n.signer))) (sym step.1) (go (due n.parts.rel) refl (signer_refusal n.signer)))
+    where
+      mute : Mute (expired_effects n.parts.prio (time_after n now))
+      mute = mute_expired n.parts.prio (time_after n now)
+
+      none : flat_map signed_by (expired_effects n.parts.prio (time_after n now)) ≡ []
+      none = (quiet_expired n.parts.prio (time_after n now)).no_signature
+
+      plain : flat_map signed_by (expired_effects n.parts.prio (time_after n now) ++ []) ≡ []
+      plain = flat_map-append signed_by (expired_effects n.parts.prio (time_after n now)) [] ∙ rw none refl
+
+      go : (o : Option Ack) → due n.parts.rel ≡ o → (r : Option SendRefused) → Acted C s d S [] told u (settled_by arts (at_time n now) o r).parts.prio (expired_effects n.parts.prio (time_after n now) ++ ack_effects o r)
+      go None is_due r = unsigned n.parts.prio (prio.expired n.parts.prio (time_after n now)) _ (mute_append _ [] mute mute_none) plain refl refl refl h
+      go (Some ack) is_due (Some refusal) = unsigned n.parts.prio (prio.expired n.parts.prio (time_after n now)) _ (mute_append _ [] mute mute_none) plain refl refl refl h
+      go (Some ack) is_due None =
+          let facts = due_fits (sizes_at x P u) n.signer.index n.parts.rel ack is_due is.holds.parts.rel in
+          signed_other n.parts.prio (prio.expired n.parts.prio (time_after n now)) _ (bodies.Ack ack) (mute_append _ (Signed (encoded (bodies.Ack ack)) ∷ []) mute (mute_signed (encoded (bodies.Ack ack)) [] mute_none))
+          (flat_map-append signed_by (expired_effects n.parts.prio (time_after n now)) (Signed (encoded (bodies.Ack ack)) ∷ []) ∙ rw none refl) facts.fields tt refl refl refl h
+
+  pub send_done : (n : NodeState) (dst : NodeId) (payload : List ℕ) (output : Output) (after : NodeState) → NodeStep arts n (steps.SendRel dst payload) output after → InputFits (steps.SendRel dst payload) → NodeIs x P u n
+      → (u ≡ d → PrioIs s d told n.parts.prio) → Acted C s d S [] told u after.parts.prio output.effects
+  send_done n dst payload output after step short is h = go (rel_refusal n dst) refl (ap (λ (o : Output). o.effects) step.0) step.1
+    where
+      go : (r : Option SendRefused) → rel_refusal n dst ≡ r → output.effects ≡ (refused_send r (accepted (rel_number n dst) (rel_sent n dst payload))).effects
+          → after ≡ kept_or r n (signed_once n (record n.parts { rel = pushed_in n.parts.rel (signed_now arts n (rel_body n dst payload)) })) → Acted C s d S [] told u after.parts.prio output.effects
+      go None free e f =
+          let facts = rel_sent_fits (sizes_at x P u) n dst payload short free is.holds in
+          subst (λ es. Acted C s d S [] told u after.parts.prio es) (sym e)
+          (subst (λ (m : NodeState). Acted C s d S [] told u m.parts.prio (rel_sent n dst payload)) (sym f)
+          (signed_other n.parts.prio n.parts.prio (rel_sent n dst payload) (rel_body n dst payload) (mute_signed _ [] mute_none) refl facts.fields tt refl refl refl h))
+      go (Some refused) free e f = subst (λ es. Acted C s d S [] told u after.parts.prio es) (sym e)
+          (subst (λ (m : NodeState). Acted C s d S [] told u m.parts.prio []) (sym f) (quietly n h))
+
+  pub weight_done : (n : NodeState) (v : NodeId) (weight : ℕ) (output : Output) (after : NodeState) → NodeStep arts n (steps.SetWeight v weight) output after → InputFits (steps.SetWeight v weight) → NodeIs x P u n
+      → (u ≡ d → PrioIs s d told n.parts.prio) → Acted C s d S [] told u after.parts.prio output.effects
+  weight_done n v weight output after step sizes is h = go (weight_refusal n v weight) refl (ap (λ (o : Output). o.effects) step.0) step.1
+    where
+      go : (r : Option SendRefused) → weight_refusal n v weight ≡ r → output.effects ≡ (refused_send r (accepted (weight_number n v) (weight_sent n v weight))).effects
+          → after ≡ kept_or r n (signed_once n (record n.parts { weights = held n.parts.weights (signed_now arts n (weight_body n v weight)) })) → Acted C s d S [] told u after.parts.prio output.effects
+      go None free e f =
+          let facts = weight_sent_fits (sizes_at x P u) n v weight sizes.0 sizes.1 free is.holds in
+          subst (λ es. Acted C s d S [] told u after.parts.prio es) (sym e)
+          (subst (λ (m : NodeState). Acted C s d S [] told u m.parts.prio (weight_sent n v weight)) (sym f)
+          (signed_other n.parts.prio n.parts.prio (weight_sent n v weight) (weight_body n v weight) (mute_signed _ (weight_effects (weight_body n v weight)) (mute_weight (weight_body n v weight)))
+          (ap (λ t. encoded (weight_body n v weight) ∷ t) (quiet_weight (weight_body n v weight)).no_signature) facts.fields tt refl refl refl h))
+      go (Some refused) free e f = subst (λ es. Acted C s d S [] told u after.parts.prio es) (sym e)
+          (subst (λ (m : NodeState). Acted C s d S [] told u m.parts.prio []) (sym f) (quietly n h))
+
+  -- a client's priority message
+  abbrev sent_now : NodeState → PrioSend → List Message
+  sent_now n m = cond (u.0 == s.0 && m.dst.0 == d.0) ((n.parts.prio.next, m.payload) ∷ []) []
+
+  abbrev sent_if : Option SendRefused → NodeState → PrioSend → List Message
+  sent_if None n m = sent_now n m
+  sent_if (Some refused) n m = []
+
+  first_false : (a b : Bool) (q : SendRefused) (o : Option SendRefused) → cond (a || b) (Some q) o ≡ None → a ≡ false
+  first_false true b q o e = absurd (cc)
+  first_false false b q o e = refl
+
+  pub prio_done : (n : NodeState) (m : PrioSend) (output : Output) (after : NodeState) (step : NodeStep arts n (steps.SendPrio m) output after) → InputFits (steps.SendPrio m) → NodeIs x P u n
+      → (u ≡ d → PrioIs s d told n.parts.prio) → Acted C s d S (sent_if (send_prio_refusal n m step.choice) n m) told u after.parts.prio output.effects
+  prio_done n m output after step sizes is h = go (send_prio_refusal n m step.choice) refl (ap (λ (o : Output). o.effects) step.output_is) step.new_is
+    where
+      me : n.fixed.me ≡ u
+      me = ap (λ (f : Fixed). f.me) is.fixed
+
+      go : (r : Option SendRefused) → send_prio_refusal n m step.choice ≡ r → output.effects ≡ (refused_send r (accepted n.parts.prio.next (prio_told arts n m step.choice))).effects
+          → after ≡ kept_or r n (signed_once n (record n.parts { prio = admit_prio n.parts.prio (own_prio arts n m step.choice) None })) → Acted C s d S (sent_if r n m) told u after.parts.prio output.effects
+      go None free e f =
+          let both = either (prio_refusal n m) (no_paths step.choice) free in
+          let facts = prio_sent_fits (sizes_at x P u) n m step.choice sizes free (step.is_choice both.0) is.holds in
+          let p = n.parts.prio in
+          let o = own_prio arts n m step.choice in
+          let body = prio_body n m (mask_in step.choice) in
+          let other : (m.dst.0 == n.fixed.me.0) ≡ false = first_false _ _ _ _ both.0 in
+          let away : is_here p o.body ≡ false = ap (λ k. m.dst.0 == k) (is.holds.parts.prio.me ∙ ap (λ (v : NodeId). v.0) (sym me)) ∙ other in
+          let mute : Mute (prio_told arts n m step.choice) = mute_signed (encoded body) (prio_effects p o None) (mute_own p o away) in
+          let one : flat_map signed_by (prio_told arts n m step.choice) ≡ encoded body ∷ [] = ap (λ t. encoded body ∷ t) (quiet_prio p o None).no_signature in
+          let same = spread_same (marked p o.body None) o None in
+          let there : u ≡ d → PrioIs s d told (admit_prio p o None) = λ z. marks s d told p (admit_prio p o None) n.fixed.me.0 p.next same.0 same.1 same.2 (h z) in
+          subst (λ es. Acted C s d S (sent_now n m) told u after.parts.prio es) (sym e)
+          (subst (λ (y : NodeState). Acted C s d S (sent_now n m) told u y.parts.prio (prio_told arts n m step.choice)) (sym f) (record {
+            at = λ z. (muted C s d S told (admit_prio p o None) (prio_told arts n m step.choice) mute (there z)).at;
+            sent = λ z k. (muted C s d S told (admit_prio p o None) (prio_told arts n m step.choice) mute (there z)).sent k;
+            messages = λ k z b good_b src dst among.
+                elim (among_cons (encoded (bodies.Prio b)) (encoded body) [] (subst (λ xs. is_among (encoded (bodies.Prio b)) xs ≡ true) one among)) [
+                  | inl is_it ↦
+                      let bodies_are : body ≡ bodies.Prio b = no_other_has_its_bytes body (bodies.Prio b) facts.fields good_b is_it in
+                      let number : p.next ≡ b.seq = ap (said (λ r. r.seq)) bodies_are in
+                      let to : m.dst.0 ≡ b.dst.0 = ap (said (λ r. r.dst.0)) bodies_are in
+                      let payload : m.payload ≡ b.payload = cc in
+                      let now : sent_now n m ≡ (p.next, m.payload) ∷ [] = rw (eq-eqb u.0 s.0 (ap (λ (v : NodeId). v.0) z), eq-eqb m.dst.0 d.0 (to ∙ ap (λ (v : NodeId). v.0) dst)) refl in
+                      subst (λ t. IsOneOf (b.seq, b.payload) t) (sym now) (inl (ap (λ q. (q, m.payload)) number ∙ ap (λ y. (b.seq, y)) payload))
+                  | inr q ↦ absurd (let y : false ≡ true = q in cc)
+                ];
+          }))
+      go (Some refused) free e f = subst (λ es. Acted C s d S [] told u after.parts.prio es) (sym e)
+          (subst (λ (y : NodeState). Acted C s d S [] told u y.parts.prio []) (sym f) (quietly n h))
+
+  pub take_done : (n : NodeState) (src : NodeId) (output : Output) (after : NodeState) → NodeStep arts n (steps.TakeRel src) output after → (u ≡ d → PrioIs s d told n.parts.prio) → Acted C s d S [] told u after.parts.prio output.effects
+  take_done n src output after step h =
+      subst (λ es. Acted C s d S [] told u after.parts.prio es) (sym (ap (λ (o : Output). o.effects) step.0))
+      (subst (λ (m : NodeState). Acted C s d S [] told u m.parts.prio []) (sym step.1) (quietly n h))
+
+  pub takep_done : (n : NodeState) (output : Output) (after : NodeState) → NodeStep arts n steps.TakePrio output after → (u ≡ d → PrioIs s d told n.parts.prio) → Acted C s d S [] told u after.parts.prio output.effects
+  takep_done n output after step h =
+      subst (λ es. Acted C s d S [] told u after.parts.prio es) (sym (ap (λ (o : Output). o.effects) step.0))
+      (subst (λ (m : NodeState). Acted C s d S [] told u m.parts.prio (gone 0 Taken (oldest n.parts.prio.inbox))) (sym step.1)
+      (unsigned n.parts.prio (prio.taken n.parts.prio) (gone 0 Taken (oldest n.parts.prio.inbox)) (mute_gone 0 Taken (oldest n.parts.prio.inbox)) (quiet_gone 0 Taken (oldest n.parts.prio.inbox)).no_signature refl refl refl h))
+
+-- ---- what a step tells of a client's message
+
+not_accepted : (s d from to : NodeId) (a b c : ℕ) (payload : List ℕ) (refused : SendRefused) (reply : Reply) → refused_word refused ≡ Some reply → prio_accepted_in s d (events.Prio from to a b c payload) reply ≡ []
+not_accepted s d from to a b c payload (refusals.Full base have) reply e = let is : replies.Full base have ≡ reply = cc in subst (λ r. prio_accepted_in s d (events.Prio from to a b c payload) r ≡ []) is refl
+not_accepted s d from to a b c payload (refusals.Expired now) reply e = let is : replies.Expired now ≡ reply = cc in subst (λ r. prio_accepted_in s d (events.Prio from to a b c payload) r ≡ []) is refl
+not_accepted s d from to a b c payload (refusals.NoPaths found) reply e = let is : replies.NoPaths found ≡ reply = cc in subst (λ r. prio_accepted_in s d (events.Prio from to a b c payload) r ≡ []) is refl
+not_accepted s d from to a b c payload (refusals.Low least) reply e = let is : replies.Low least ≡ reply = cc in subst (λ r. prio_accepted_in s d (events.Prio from to a b c payload) r ≡ []) is refl
+not_accepted s d from to a b c payload (refusals.Spent index) reply e = let is : replies.Spent index ≡ reply = cc in subst (λ r. prio_accepted_in s d (events.Prio from to a b c payload) r ≡ []) is refl
+not_accepted s d from to a b c payload refusals.BadEnd reply e = absurd (cc)
+not_accepted s d from to a b c payload (refusals.NotReserved bound) reply e = absurd (cc)
+not_accepted s d from to a b c payload refusals.Memory reply e = absurd (cc)
+
+pub accepted_is : (C : Type 0) (x : Setting) (P : Kept → Type 0) (arts : Arts) (s d from : NodeId) (S : List Message) (told : List ℕ) (number : ℕ) (m : PrioSend) (n : NodeState) (choice : Result ℕ ℕ) (output : Output) (j : Entry) (r : Option SendRefused)
+    → Says x number output j → output ≡ refused_send r (accepted n.parts.prio.next (prio_told arts n m choice))
+    → prio_accepted_in s d (events.Prio from m.dst m.prio m.expiry m.paths m.payload) j.reply ≡ sent_if C x P arts s d S told from r n m
+accepted_is C x P arts s d from S told number m n choice output j None says e =
+    let word : Some (replies.Accepted n.parts.prio.next) ≡ Some j.reply = sym (ap (λ (o : Output). reply_word x number o.reply) e) ∙ says.reply in
+    let is : replies.Accepted n.parts.prio.next ≡ j.reply = cc in
+    subst (λ q. prio_accepted_in s d (events.Prio from m.dst m.prio m.expiry m.paths m.payload) q ≡ cond (from.0 == s.0 && m.dst.0 == d.0) ((n.parts.prio.next, m.payload) ∷ []) []) is refl
+accepted_is C x P arts s d from S told number m n choice output j (Some refused) says e =
+    not_accepted s d from m.dst m.prio m.expiry m.paths m.payload refused j.reply (sym (ap (λ (o : Output). reply_word x number o.reply) e) ∙ says.reply)

@@ -1,0 +1,157 @@
+-- What reaches a node is in its ranges, since the schedule is and all frames are bytes.
+use Rattle.std.proofs.Common.{◌≡◌, ◌<◌, ◌≤◌, ℕ, zero, suc, ◌-◌, ◌^◌, Bool, true, false, cond, List, [], ◌∷◌, length, Option, Some, None, refl, sym, subst, arith}
+use Rattle.std.specs.Prelude.{bit_xor, nat_lt, option_map, slice_get, slice_index_or}
+use Rattle.std.proofs.lemmas.List.Elements.{All-append, All-cons, All-head, All-nil, All-set, All-tail}
+use Rattle.std.proofs.lemmas.Nat.{xor_of_8}
+use Rattle.sp_base.specs.Spelling.{AreBytes}
+use Rattle.sp_base.specs.declared.id.NodeId.{NodeId}
+use Rattle.sp_frame.specs.Sections.{Contents}
+use Rattle.sp_msg.specs.declared.body.Body.{Body}
+use Rattle.sp_msg.specs.declared.body.Body.TheVariants as bodies
+use Rattle.sp_msg.specs.declared.kept.Kept.{Kept}
+use Rattle.sp_rules.specs.Arts.{Arts}
+use Rattle.sp_rules.specs.Node.{NodeState, link_in}
+use Rattle.sp_rules.specs.Steps as steps
+use Rattle.sp_rules.specs.Steps.{Input}
+use Rattle.laws_node.specs.Asked.{payload_in}
+use Rattle.laws_node.specs.Inputs.{InputFits}
+use Rattle.sp_runs.specs.Inputs.{crafted_frame, crafted_head, crafted_object, crafts, flipped, input_of, object_alone, slot_alone}
+use Rattle.sp_runs.specs.Runs.{InRange}
+use Rattle.sp_runs.specs.Settings.{Setting}
+use Rattle.sp_runs.specs.Worlds.{Direction, World, frame_in, frames_in}
+use Rattle.sp_runs.specs.declared.event.Event.{Event}
+use Rattle.sp_runs.specs.declared.event.Event.TheVariants as events
+use Rattle.laws_runs.specs.Premises.{AreOfBytes, Carries, IsOfBytes}
+
+-- ---- a frame that was made comes
+
+pub record Came (ds : List Direction) (u v : NodeId) (number : ℕ) (take : List ℕ → Input) (input : Input) : Type 0 where
+  pub bytes : List ℕ
+  pub place : ℕ
+  pub is : input ≡ take bytes
+  pub there : slice_get (frames_in ds u v) place ≡ Some bytes
+
+pub came : (ds : List Direction) (u v : NodeId) (number : ℕ) (take : List ℕ → Input) (input : Input) → option_map take (frame_in ds u v number) ≡ Some input
+    → Came ds u v number take input
+came ds u v zero take input e = absurd cc
+came ds u v (suc before) take input e = go (slice_get (frames_in ds u v) before) refl e
+  where
+    go : (o : Option (List ℕ)) → slice_get (frames_in ds u v) before ≡ o → option_map take o ≡ Some input → Came ds u v (suc before) take input
+    go None at e = absurd cc
+    go (Some bytes) at e = record { bytes = bytes; place = before; is = cc; there = at }
+
+-- ---- bytes
+
+small : (bit : ℕ) → bit ≤ 7 → 2 ^ bit < 2 ^ 8
+small zero most = omega arith
+small (suc zero) most = omega arith
+small (suc (suc zero)) most = omega arith
+small (suc (suc (suc zero))) most = omega arith
+small (suc (suc (suc (suc zero)))) most = omega arith
+small (suc (suc (suc (suc (suc zero))))) most = omega arith
+small (suc (suc (suc (suc (suc (suc zero)))))) most = omega arith
+small (suc (suc (suc (suc (suc (suc (suc zero))))))) most = omega arith
+small (suc (suc (suc (suc (suc (suc (suc (suc bit)))))))) most = absurd (omega (arith, most))
+
+a_byte : (bytes : List ℕ) (i : ℕ) → AreBytes bytes → slice_index_or bytes i 0 < 2 ^ 8
+a_byte [] i are = omega arith
+a_byte (b ∷ bytes) zero are = let first = All-head (λ (x : ℕ). x < 256) b bytes are in omega (arith, first)
+a_byte (b ∷ bytes) (suc i) are = a_byte bytes i (All-tail (λ (x : ℕ). x < 256) b bytes are)
+
+flip_bytes : (back bit : ℕ) (bytes : List ℕ) → bit ≤ 7 → AreBytes bytes → AreBytes (flipped back bit bytes)
+flip_bytes back bit bytes most are =
+    let i = length bytes - back in
+    let new = bit_xor (slice_index_or bytes i 0) (2 ^ bit) in
+    let fits : new < 2 ^ 8 = xor_of_8 (slice_index_or bytes i 0) (2 ^ bit) (a_byte bytes i are) (small bit most) in
+    All-set (λ (x : ℕ). x < 256) bytes i new (omega (arith, fits)) are
+
+-- ---- a crafted frame
+
+one_object : (o : Kept) (body : Body) → o.body ≡ body → IsOfBytes o → AreOfBytes (object_alone body o)
+one_object o (bodies.Prio p) is of = All-cons IsOfBytes o [] of (All-nil IsOfBytes)
+one_object o (bodies.Rel r) is of = All-cons IsOfBytes o [] of (All-nil IsOfBytes)
+one_object o (bodies.Ack a) is of = All-cons IsOfBytes o [] of (All-nil IsOfBytes)
+one_object o (bodies.Weight w) is of = All-cons IsOfBytes o [] of (All-nil IsOfBytes)
+
+crafted_bytes : (arts : Arts) (n : NodeState) (c : NodeId) (s : Contents) → Carries arts → AreOfBytes s → AreBytes (crafted_frame arts n c s)
+crafted_bytes arts n c s carries of =
+    All-append (λ (b : ℕ). b < 256) (arts.frame (crafted_head n c) s) (arts.tag (link_in n c).key (arts.frame (crafted_head n c) s))
+    (carries.frames (crafted_head n c) s of) (carries.tags (link_in n c).key (arts.frame (crafted_head n c) s))
+
+-- ---- all events
+
+no_bytes : AreBytes []
+no_bytes = All-nil (λ (b : ℕ). b < 256)
+
+abbrev pub FramesAreBytes : World → Type 0
+FramesAreBytes w = (u v : NodeId) (k : ℕ) (bytes : List ℕ) → slice_get (frames_in w.directions u v) k ≡ Some bytes → AreBytes bytes
+
+same_input : (a b : Input) → Some a ≡ Some b → a ≡ b
+same_input a b e = cc
+
+pub input_fits : (arts : Arts) (x : Setting) (es : List Event) (w : World) (n : NodeState) (e : Event) (input : Input) → Carries arts → FramesAreBytes w → InRange x es e
+    → input_of arts x es w n e ≡ Some input → InputFits input
+input_fits arts x es w n (events.Rel s d payload) input carries are range reaches = subst InputFits (same_input _ input reaches) range.2
+input_fits arts x es w n (events.Prio s d prio expiry paths payload) input carries are range reaches =
+    subst InputFits (same_input _ input reaches) (range.2, range.3, range.4, range.6)
+input_fits arts x es w n (events.Take d s) input carries are range reaches = subst InputFits (same_input _ input reaches) tt
+input_fits arts x es w n (events.TakePrio d) input carries are range reaches = subst InputFits (same_input _ input reaches) tt
+input_fits arts x es w n (events.Tick u now) input carries are range reaches = subst InputFits (same_input _ input reaches) range.1
+input_fits arts x es w n (events.Weight u v weight) input carries are range reaches = subst InputFits (same_input _ input reaches) (range.2, range.3)
+input_fits arts x es w n (events.Poll u v) input carries are range reaches = subst InputFits (same_input _ input reaches) tt
+input_fits arts x es w n (events.Pass u v number) input carries are range reaches =
+    let it = came w.directions u v number (steps.Datagram u) input reaches in
+    subst InputFits (sym it.is) (are u v it.place it.bytes it.there)
+input_fits arts x es w n (events.Flip u v number back bit) input carries are range reaches =
+    let it = came w.directions u v number (λ bytes. steps.Datagram u (flipped back bit bytes)) input reaches in
+    subst InputFits (sym it.is) (flip_bytes back bit it.bytes range.6 (are u v it.place it.bytes it.there))
+input_fits arts x es w n (events.Inject u v bytes) input carries are range reaches = subst InputFits (same_input _ input reaches) range.3
+input_fits arts x es w n (events.Craft c v key body) input carries are range reaches = go (nat_lt (crafts es key) x.total) reaches
+  where
+    o : Kept
+    o = crafted_object arts x es key body
+
+    frame : List ℕ
+    frame = crafted_frame arts n c (object_alone body o)
+
+    bytes : AreBytes frame
+    bytes = crafted_bytes arts n c (object_alone body o) carries (one_object o body refl (range.4, carries.signatures x.topology.height _ _ _))
+
+    go : (t : Bool) → cond t (Some (steps.Datagram c frame)) None ≡ Some input → InputFits input
+    go true e = subst InputFits (same_input (steps.Datagram c frame) input e) bytes
+    go false e = absurd cc
+input_fits arts x es w n (events.CraftStatus c v s d base have) input carries are range reaches =
+    let contents = slot_alone (record { src = s; dst = d }) base have None [] in
+    subst InputFits (same_input (steps.Datagram c (crafted_frame arts n c contents)) input reaches)
+    (crafted_bytes arts n c contents carries (All-nil IsOfBytes))
+
+-- the payload that a client asks to be sent is bytes
+pub payload_fits : (arts : Arts) (x : Setting) (es : List Event) (w : World) (n : NodeState) (e : Event) (input : Input) → InRange x es e
+    → input_of arts x es w n e ≡ Some input → AreBytes (payload_in input)
+payload_fits arts x es w n (events.Rel s d payload) input range reaches = subst (λ (i : Input). AreBytes (payload_in i)) (same_input _ input reaches) range.3
+payload_fits arts x es w n (events.Prio s d prio expiry paths payload) input range reaches =
+    subst (λ (i : Input). AreBytes (payload_in i)) (same_input _ input reaches) range.7
+payload_fits arts x es w n (events.Take d s) input range reaches = subst (λ (i : Input). AreBytes (payload_in i)) (same_input _ input reaches) no_bytes
+payload_fits arts x es w n (events.TakePrio d) input range reaches = subst (λ (i : Input). AreBytes (payload_in i)) (same_input _ input reaches) no_bytes
+payload_fits arts x es w n (events.Tick u now) input range reaches = subst (λ (i : Input). AreBytes (payload_in i)) (same_input _ input reaches) no_bytes
+payload_fits arts x es w n (events.Weight u v weight) input range reaches =
+    subst (λ (i : Input). AreBytes (payload_in i)) (same_input _ input reaches) no_bytes
+payload_fits arts x es w n (events.Poll u v) input range reaches = subst (λ (i : Input). AreBytes (payload_in i)) (same_input _ input reaches) no_bytes
+payload_fits arts x es w n (events.Pass u v number) input range reaches =
+    let it = came w.directions u v number (steps.Datagram u) input reaches in
+    subst (λ (i : Input). AreBytes (payload_in i)) (sym it.is) no_bytes
+payload_fits arts x es w n (events.Flip u v number back bit) input range reaches =
+    let it = came w.directions u v number (λ bytes. steps.Datagram u (flipped back bit bytes)) input reaches in
+    subst (λ (i : Input). AreBytes (payload_in i)) (sym it.is) no_bytes
+payload_fits arts x es w n (events.Inject u v bytes) input range reaches =
+    subst (λ (i : Input). AreBytes (payload_in i)) (same_input _ input reaches) no_bytes
+payload_fits arts x es w n (events.Craft c v key body) input range reaches = go (nat_lt (crafts es key) x.total) reaches
+  where
+    frame : List ℕ
+    frame = crafted_frame arts n c (object_alone body (crafted_object arts x es key body))
+
+    go : (t : Bool) → cond t (Some (steps.Datagram c frame)) None ≡ Some input → AreBytes (payload_in input)
+    go true e = subst (λ (i : Input). AreBytes (payload_in i)) (same_input (steps.Datagram c frame) input e) no_bytes
+    go false e = absurd cc
+payload_fits arts x es w n (events.CraftStatus c v s d base have) input range reaches =
+    subst (λ (i : Input). AreBytes (payload_in i)) (same_input _ input reaches) no_bytes

@@ -1,0 +1,242 @@
+-- The part on links and signed objects: all that correct nodes keep, and all that their frames carry, is signed and known.
+use Rattle.std.proofs.Common.{◌≡◌, ◌<◌, ℕ, List, [], ◌∷◌, ◌++◌, length, Option, Some, None, Result, Ok, Err, refl, sym, ap, subst, ◌∙◌, inl, inr, arith}
+use Rattle.std.specs.Prelude.{IsTrue, slice_get}
+use Rattle.std.proofs.lemmas.List.{length_push}
+use Rattle.std.proofs.lemmas.List.Elements.{All-append}
+use Rattle.sp_base.specs.Spelling.{AreBytes}
+use Rattle.sp_base.specs.declared.id.NodeId.{NodeId}
+use Rattle.sp_frame.specs.Sections.{Contents}
+use Rattle.sp_frame.specs.declared.refused.SectionRefused.{SectionRefused}
+use Rattle.sp_msg.specs.Bodies.{encoded}
+use Rattle.sp_msg.specs.declared.kept.Kept.{Kept}
+use Rattle.sp_rules.specs.Arrivals.{arrival_at, pieces_in, pieces_where, reply_at, sections_in}
+use Rattle.sp_rules.specs.Arts.{Arts}
+use Rattle.sp_rules.specs.Link.{next_head}
+use Rattle.sp_rules.specs.Node.{NodeState, call_refusal, link_in, signed_now}
+use Rattle.sp_rules.specs.Parts.{Fixed, is_signed}
+use Rattle.sp_rules.specs.Pieces.{Piece, pieces_of}
+use Rattle.sp_rules.specs.Polls.{contents_to, frame_to}
+use Rattle.sp_rules.specs.Sends.{rel_refusal, send_prio_refusal, weight_refusal}
+use Rattle.sp_rules.specs.Steps as steps
+use Rattle.sp_rules.specs.Steps.{Input, NodeStep, Output, arrived, poll_output, refused_call, replied}
+use Rattle.sp_rules.specs.declared.node.NodeRefused.{NodeRefused}
+use Rattle.laws_node.specs.Inputs.{InputFits}
+use Rattle.laws_node.specs.Asked.{NewKeep, OwnKeep, payload_in}
+use Rattle.laws_node.proofs.AskedLemmas.{none_new}
+use Rattle.laws_node.proofs.Carried.{AllKeep, all_less, contents_kept, pieces_new}
+use Rattle.laws_node.proofs.Frames.{contents_fit}
+use Rattle.laws_node.proofs.Own.{own_is_signed}
+use Rattle.laws_node.proofs.Steps.{none_called, none_sent, step_holds, step_new}
+use Rattle.laws_runs.proofs.Lives.{step_stays}
+use Rattle.laws_node.proofs.Shapes.{shapes_stay}
+use Rattle.laws_node.proofs.Weaker.{node_weaker}
+use Rattle.sp_runs.specs.Forgery.{forged_object, has_forged_tag}
+use Rattle.sp_runs.specs.Inputs.{acting, input_of}
+use Rattle.sp_runs.specs.Runs.{Clean, InRange, Starts, Turned, Moves, Stays, Move, directions_after}
+use Rattle.sp_runs.specs.Settings.{Setting, SettingFits, fixed_of}
+use Rattle.sp_runs.specs.Worlds.{Direction, World, frames_in}
+use Rattle.sp_runs.specs.declared.entry.Entry.{Entry}
+use Rattle.sp_runs.specs.declared.event.Event.{Event}
+use Rattle.sp_runs.specs.declared.event.Event.TheVariants as events
+use Rattle.laws_runs.proofs.Facts.{Good, NodeIs, Signs, sizes_at}
+use Rattle.laws_runs.specs.Premises.{Carries, IsOfBytes}
+use Rattle.laws_runs.proofs.Reaches.{input_fits, payload_fits}
+use Rattle.laws_runs.proofs.Tables.{frame_put, node_put}
+use Rattle.laws_runs.proofs.Goods.{all_of, of_all, where_keep, unforged_tag, new_known, good_new, new_less, good_more, own_known, arts_fit, starts}
+
+-- ---- one event
+
+pub even : (arts : Arts) (x : Setting) (es : List Event) (js : List Entry) (w : World) → Clean arts x es js w → length es ≡ length js
+even arts x es js w Starts = refl
+even arts x es js w (Turned {es = es'} {js = js'} {old = old} {e = e} {j = j} run range turn unforged) =
+    let h = even arts x es' js' old run in omega (arith, h, length_push es' e, length_push js' j)
+
+-- what came in a datagram of bytes is of bytes
+sections_bytes : (arts : Arts) (f : Fixed) (bytes : List ℕ) (o : Result Contents SectionRefused) → Carries arts → AreBytes bytes → sections_in arts f bytes ≡ o
+    → AllKeep IsOfBytes (pieces_in o)
+sections_bytes arts f bytes (Ok s) carries are is = of_all (pieces_of s) (carries.reads f.signature_len bytes s are is)
+sections_bytes arts f bytes (Err refused) carries are is = tt
+
+new_bytes : (arts : Arts) (n : NodeState) (input : Input) (output : Output) (after : NodeState) → Carries arts → InputFits input → NodeStep arts n input output after
+    → NewKeep IsOfBytes output.answered
+new_bytes arts n (steps.Datagram v bytes) output after carries are s =
+    subst (λ (o : Output). NewKeep IsOfBytes o.answered) (sym s.0) (go (call_refusal n v))
+  where
+    pieces : List Piece
+    pieces = pieces_where (reply_at arts n v bytes) (pieces_in (sections_in arts n.fixed bytes))
+
+    go : (r : Option NodeRefused) → NewKeep IsOfBytes (refused_call r (arrived arts n v bytes)).answered
+    go (Some refused) = tt
+    go None = pieces_new IsOfBytes arts (arrival_at n v) n.parts pieces
+        (where_keep IsOfBytes (reply_at arts n v bytes) (pieces_in (sections_in arts n.fixed bytes)) (sections_bytes arts n.fixed bytes (sections_in arts n.fixed bytes) carries are refl))
+new_bytes arts n (steps.Poll v) output after carries are s = none_new _ output.answered (ap (λ (o : Output). o.answered) s.0 ∙ none_called _ (call_refusal n v) refl)
+new_bytes arts n (steps.Tick now) output after carries are s = none_new _ output.answered (ap (λ (o : Output). o.answered) s.0)
+new_bytes arts n (steps.SendRel dst payload) output after carries are s =
+    none_new _ output.answered (ap (λ (o : Output). o.answered) s.0 ∙ none_sent _ (rel_refusal n dst) refl)
+new_bytes arts n (steps.SendPrio m) output after carries are s =
+    none_new _ output.answered (ap (λ (o : Output). o.answered) s.output_is ∙ none_sent _ (send_prio_refusal n m s.choice) refl)
+new_bytes arts n (steps.SetWeight v weight) output after carries are s =
+    none_new _ output.answered (ap (λ (o : Output). o.answered) s.0 ∙ none_sent _ (weight_refusal n v weight) refl)
+new_bytes arts n (steps.TakeRel src) output after carries are s = none_new _ output.answered (ap (λ (o : Output). o.answered) s.0)
+new_bytes arts n steps.TakePrio output after carries are s = none_new _ output.answered (ap (λ (o : Output). o.answered) s.0)
+
+-- the acting node keeps what it keeps
+acted : (arts : Arts) (x : Setting) (es : List Event) (js : List Entry) (w new : World) (e : Event) (j : Entry) (m : Move arts x es w e j new)
+    → SettingFits arts x → Carries arts → InputFits m.input → AreBytes (payload_in m.input) → length es ≡ length js → forged_object x es js m.output.answered ≡ None
+    → NodeIs x (Good arts x es js) (acting e) m.node → NodeIs x (Good arts x (es ++ e ∷ []) (js ++ j ∷ [])) (acting e) m.after
+acted arts x es js w new e j m fits carries reach asked same unforged is =
+    let P = Good arts x es js in
+    let Q = Good arts x (es ++ e ∷ []) (js ++ j ∷ []) in
+    let more : (o : Kept) → P o → Q o = good_more arts x es js e j same in
+    let fit = arts_fit arts x P (acting e) m.node fits is in
+    let stays = step_stays arts m.node m.input m.output m.after m.step in
+    let me : m.node.fixed.me ≡ acting e = ap (λ (f : Fixed). f.me) is.fixed in
+    let signed_new : NewKeep (λ o. IsTrue (is_signed arts (fixed_of x (acting e)) o)) m.output.answered =
+    subst (λ (f : Fixed). NewKeep (λ o. IsTrue (is_signed arts f o)) m.output.answered) is.fixed (step_new arts m.node m.input m.output m.after m.step) in
+    let news = new_less P Q more m.output.answered (good_new arts x es js m.output.answered (new_known x es js m.output.answered unforged) signed_new
+    (new_bytes arts m.node m.input m.output m.after carries reach m.step)) in
+    let owns : OwnKeep arts Q m.node m.input m.output.effects = λ body own. record {
+      known = λ correct. own_known arts x es js w new e j m same me body own;
+      right = subst (λ (f : Fixed). IsTrue (is_signed arts f (signed_now arts m.node body))) is.fixed (own_is_signed arts m.node body fit own.left own.mine);
+      bytes = (subst AreBytes (sym own.payload) asked, carries.signatures m.node.fixed.topology.height m.node.signer.seed m.node.signer.index (encoded body));
+    } in
+    record {
+      correct = is.correct;
+      fixed = stays.fixed ∙ is.fixed;
+      seed = stays.seed ∙ is.seed;
+      total = stays.total ∙ is.total;
+      shape = shapes_stay arts m.node m.input m.output m.after m.step ∙ is.shape;
+      holds = step_holds (sizes_at x Q (acting e)) arts m.node m.input m.output m.after fit reach news owns m.step (node_weaker (sizes_at x P (acting e)) Q more m.node is.holds);
+    }
+
+-- a frame that a poll gave carries what the node keeps
+polled_frame : (arts : Arts) (x : Setting) (P : Kept → Type 0) (n : NodeState) (u v : NodeId) (output : Output) (bytes : List ℕ) (s : Contents) → Carries arts → NodeIs x P u n
+    → output ≡ poll_output arts n v → output.reply ≡ steps.Frame bytes → arts.sections x.signature_len bytes ≡ Ok s → AllKeep P (pieces_of s)
+polled_frame arts x P n u v output bytes s reads is out reply read =
+    let len : n.fixed.signature_len ≡ x.signature_len = ap (λ (f : Fixed). f.signature_len) is.fixed in
+    let c = contents_to n.fixed n.parts v in
+    let back : arts.sections n.fixed.signature_len (frame_to arts n v) ≡ Ok c = reads.back n.fixed.signature_len (next_head (link_in n v) n.fixed.topology.version) c (link_in n v).key (contents_fit (sizes_at x P u) n v is.holds) in
+    let bytes_are : frame_to arts n v ≡ bytes = gives (call_refusal n v) (ap (λ (o : Output). o.reply) (sym out) ∙ reply) in
+    let here : Ok s ≡ Ok c = sym read ∙ ap (λ (l : ℕ). arts.sections l bytes) (sym len) ∙ ap (arts.sections n.fixed.signature_len) (sym bytes_are) ∙ back in
+    let same : s ≡ c = cc in
+    subst (λ (y : Contents). AllKeep P (pieces_of y)) (sym same) (contents_kept (sizes_at x P u) n v is.holds)
+  where
+    gives : (r : Option NodeRefused) → (refused_call r (replied (steps.Frame (frame_to arts n v)))).reply ≡ steps.Frame bytes → frame_to arts n v ≡ bytes
+    gives None e = cc
+    gives (Some refused) e = absurd cc
+
+-- what holds of all frames that were made, and of a new one, holds of all
+frames_after : (F : List ℕ → Type 0) (ds : List Direction) (e : Event) (r : steps.Reply)
+    → ((a b : NodeId) (made : List ℕ) → e ≡ events.Poll a b → r ≡ steps.Frame made → F made)
+    → ((u v : NodeId) (k : ℕ) (bytes : List ℕ) → slice_get (frames_in ds u v) k ≡ Some bytes → F bytes)
+    → (u v : NodeId) (k : ℕ) (bytes : List ℕ) → slice_get (frames_in (directions_after ds e r) u v) k ≡ Some bytes → F bytes
+frames_after F ds (events.Poll a b) (steps.Frame made) new old u v k bytes at = elim (frame_put u v a b ds made k bytes at) [
+  | inl last ↦ subst F (sym last.2) (new a b made refl refl)
+  | inr was ↦ old u v k bytes was
+]
+frames_after F ds (events.Poll a b) (steps.Arrived link items) new old u v k bytes at = old u v k bytes at
+frames_after F ds (events.Poll a b) (steps.Ticked reply) new old u v k bytes at = old u v k bytes at
+frames_after F ds (events.Poll a b) (steps.Accepted number) new old u v k bytes at = old u v k bytes at
+frames_after F ds (events.Poll a b) (steps.Refused refused) new old u v k bytes at = old u v k bytes at
+frames_after F ds (events.Poll a b) (steps.NotCalled refused) new old u v k bytes at = old u v k bytes at
+frames_after F ds (events.Poll a b) (steps.Payload payload) new old u v k bytes at = old u v k bytes at
+frames_after F ds (events.Poll a b) (steps.Message entry) new old u v k bytes at = old u v k bytes at
+frames_after F ds (events.Rel a b p) r new old u v k bytes at = old u v k bytes at
+frames_after F ds (events.Prio a b c d f p) r new old u v k bytes at = old u v k bytes at
+frames_after F ds (events.Take a b) r new old u v k bytes at = old u v k bytes at
+frames_after F ds (events.TakePrio a) r new old u v k bytes at = old u v k bytes at
+frames_after F ds (events.Tick a b) r new old u v k bytes at = old u v k bytes at
+frames_after F ds (events.Weight a b c) r new old u v k bytes at = old u v k bytes at
+frames_after F ds (events.Pass a b c) r new old u v k bytes at = old u v k bytes at
+frames_after F ds (events.Flip a b c d f) r new old u v k bytes at = old u v k bytes at
+frames_after F ds (events.Inject a b c) r new old u v k bytes at = old u v k bytes at
+frames_after F ds (events.Craft a b c d) r new old u v k bytes at = old u v k bytes at
+frames_after F ds (events.CraftStatus a b c d f g) r new old u v k bytes at = old u v k bytes at
+
+-- a frame that a poll gave is the node's
+polled : (arts : Arts) (x : Setting) (es : List Event) (w : World) (n : NodeState) (a b : NodeId) (input : Input) (output : Output) (after : NodeState) (made : List ℕ)
+    → input_of arts x es w n (events.Poll a b) ≡ Some input → NodeStep arts n input output after → output.reply ≡ steps.Frame made
+    → output ≡ poll_output arts n b
+polled arts x es w n a b input output after made reaches step reply =
+    let same : input ≡ steps.Poll b = cc in
+    let moves : NodeStep arts n (steps.Poll b) output after = subst (λ i. NodeStep arts n i output after) same step in
+    moves.0
+
+-- the frame of a node whose objects are of bytes is bytes
+made_bytes : (arts : Arts) (n : NodeState) (v : NodeId) (output : Output) (made : List ℕ) → Carries arts → AllKeep IsOfBytes (pieces_of (contents_to n.fixed n.parts v))
+    → output ≡ poll_output arts n v → output.reply ≡ steps.Frame made → AreBytes made
+made_bytes arts n v output made carries of out reply =
+    let h = next_head (link_in n v) n.fixed.topology.version in
+    let c = contents_to n.fixed n.parts v in
+    let is : frame_to arts n v ≡ made = gives (call_refusal n v) (ap (λ (o : Output). o.reply) (sym out) ∙ reply) in
+    subst AreBytes is (All-append (λ (b : ℕ). b < 256) (arts.frame h c) (arts.tag (link_in n v).key (arts.frame h c))
+    (carries.frames h c (all_of (pieces_of c) of)) (carries.tags (link_in n v).key (arts.frame h c)))
+  where
+    gives : (r : Option NodeRefused) → (refused_call r (replied (steps.Frame (frame_to arts n v)))).reply ≡ steps.Frame made → frame_to arts n v ≡ made
+    gives None e = cc
+    gives (Some refused) e = absurd cc
+
+-- ---- a whole run
+
+no_frames : (u v : NodeId) (k : ℕ) (bytes : List ℕ) → slice_get (frames_in [] u v) k ≡ Some bytes → ⊥
+no_frames u v k bytes e = absurd cc
+
+node_more : (x : Setting) (P Q : Kept → Type 0) (u : NodeId) (n : NodeState) → ((o : Kept) → P o → Q o) → NodeIs x P u n → NodeIs x Q u n
+node_more x P Q u n less is = record {
+  correct = is.correct;
+  fixed = is.fixed;
+  seed = is.seed;
+  total = is.total;
+  shape = is.shape;
+  holds = node_weaker (sizes_at x P u) Q less n is.holds;
+}
+
+pub signs : (arts : Arts) (x : Setting) (es : List Event) (js : List Entry) (w : World) → SettingFits arts x → Carries arts → Clean arts x es js w → Signs arts x es js w
+signs arts x es js w fits reads Starts = record {
+  nodes = starts arts x (Good arts x [] []) fits;
+  frames = λ u v k bytes s at read. absurd (no_frames u v k bytes at);
+  bytes = λ u v k bytes at. absurd (no_frames u v k bytes at);
+}
+signs arts x es js w fits reads (Turned {es = es'} {js = js'} {old = old} {e = e} {j = j} run range (Moves m) unforged) =
+    let h = signs arts x es' js' old fits reads run in
+    let reach = input_fits arts x es' old m.node e m.input reads h.bytes range m.reaches in
+    let same = even arts x es' js' old run in
+    let P = Good arts x es' js' in
+    let Q = Good arts x (es' ++ e ∷ []) (js' ++ j ∷ []) in
+    let more = good_more arts x es' js' e j same in
+    let nothing = unforged_tag (has_forged_tag arts x old m.node m.input) (forged_object x es' js' m.output.answered) unforged in
+    let is = h.nodes (acting e) m.node m.is_there in
+    let asked = payload_fits arts x es' old m.node e m.input range m.reaches in
+    let done = acted arts x es' js' old w e j m fits reads reach asked same nothing.1 is in
+    subst (Signs arts x (es' ++ e ∷ []) (js' ++ j ∷ [])) (sym m.world) (record {
+      nodes = λ u n at. elim (node_put u (acting e) m.after n old.nodes (ap (λ (f : Fixed). f.me) done.fixed) at) [
+        | inl here ↦ subst (NodeIs x Q u) (sym here.1) (subst (λ (v : NodeId). NodeIs x Q v m.after) (sym here.0) done)
+        | inr other ↦ node_more x P Q u n more (h.nodes u n other.1)
+      ];
+      frames = λ u v k bytes s at read. frames_after (λ (bs : List ℕ). (s : Contents) → arts.sections x.signature_len bs ≡ Ok s → AllKeep Q (pieces_of s)) old.directions e m.output.reply
+          (λ a b made poll reply s read. all_less P Q more (pieces_of s)
+          (polled_frame arts x P m.node (acting e) b m.output made s reads is
+          (polled arts x es' old m.node a b m.input m.output m.after made (subst (λ (y : Event). input_of arts x es' old m.node y ≡ Some m.input) poll m.reaches) m.step reply) reply read))
+          (λ u v k bs at s read. all_less P Q more (pieces_of s) (h.frames u v k bs s at read)) u v k bytes at s read;
+      bytes = frames_after AreBytes old.directions e m.output.reply
+          (λ a b made poll reply. made_bytes arts m.node b m.output made reads
+          (all_less P IsOfBytes (λ o good. good.bytes) (pieces_of (contents_to m.node.fixed m.node.parts b)) (contents_kept (sizes_at x P (acting e)) m.node b is.holds))
+          (polled arts x es' old m.node a b m.input m.output m.after made (subst (λ (y : Event). input_of arts x es' old m.node y ≡ Some m.input) poll m.reaches) m.step reply) reply)
+          h.bytes;
+    })
+signs arts x es js w fits reads (Turned {es = es'} {js = js'} {old = old} {e = e} {j = j} run range (Stays s) unforged) =
+    let h = signs arts x es' js' old fits reads run in
+    let same = even arts x es' js' old run in
+    let P = Good arts x es' js' in
+    let Q = Good arts x (es' ++ e ∷ []) (js' ++ j ∷ []) in
+    let more = good_more arts x es' js' e j same in
+    subst (Signs arts x (es' ++ e ∷ []) (js' ++ j ∷ [])) (sym s.world) (record {
+      nodes = λ u n at. node_more x P Q u n more (h.nodes u n at);
+      frames = λ u v k bytes c at read. all_less P Q more (pieces_of c) (h.frames u v k bytes c at read);
+      bytes = h.bytes;
+    })
+
+-- what reaches a node after a run without forgery is in its ranges
+pub reached : (arts : Arts) (x : Setting) (es : List Event) (js : List Entry) (w new : World) (e : Event) (j : Entry) → SettingFits arts x → Carries arts
+    → Clean arts x es js w → InRange x es e → (m : Move arts x es w e j new) → InputFits m.input
+reached arts x es js w new e j fits carries run range m = input_fits arts x es w m.node e m.input carries (signs arts x es js w fits carries run).bytes range m.reaches

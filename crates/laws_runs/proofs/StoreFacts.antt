@@ -1,0 +1,341 @@
+-- What a store's effects say that it holds, and that each eviction leaves the fullest source its share.
+use Rattle.std.proofs.Common.{◌≡◌, ◌<◌, ◌≤◌, ℕ, ◌+◌, ◌==◌, Bool, true, false, cond, List, [], ◌∷◌, ◌++◌, length, map, filter, Option, Some, None, refl, sym, ap, subst, ◌∙◌, inl, inr, arith, not, nat_lt}
+use Rattle.std.specs.Prelude.{drop, find, slice_get}
+use Rattle.std.specs.List.{All, list_any}
+use Rattle.std.proofs.lemmas.Bool.{cases_Bool, eq-eqb, eqb-true, ne_eqb}
+use Rattle.std.proofs.lemmas.Bool.Decides.{nat_tests}
+use Rattle.std.proofs.lemmas.List.{length-append, length-drop, map-append}
+use Rattle.std.proofs.lemmas.List.Elements.{All-head, All-nil, All-tail}
+use Rattle.sp_base.specs.declared.id.EdgeId.{EdgeId}
+use Rattle.sp_base.specs.declared.id.NodeId.{NodeId}
+use Rattle.sp_msg.specs.declared.body.Body.{Body}
+use Rattle.sp_msg.specs.declared.body.Body.TheVariants as bodies
+use Rattle.sp_msg.specs.declared.effect.Effect.{Effect}
+use Rattle.sp_msg.specs.declared.effect.Effect.TheVariants as effects
+use Rattle.sp_msg.specs.declared.effect.Why.{Why}
+use Rattle.sp_msg.specs.declared.effect.Why.TheVariants as whys
+use Rattle.sp_msg.specs.declared.kept.Kept.{Kept}
+use Rattle.sp_rules.specs.Choices.{less_first}
+use Rattle.sp_rules.specs.PrioPeer as rows
+use Rattle.sp_rules.specs.Store.{Store, arriving, entry_in, evicted, expired_entries, has_id, is_expired, less_expired, less_oldest, oldest, removed, said, source, victim, without}
+use Rattle.sp_rules.specs.declared.store.Entry.{Entry}
+use Rattle.sp_rules.specs.declared.store.TheConstants.{IDS}
+use Rattle.laws_node.specs.Stores.{IsPrio}
+use Rattle.laws_node.proofs.Lost.{all_filter, all_less_first, filter_shorter, less_first_shorter, less_one, one_goes}
+use Rattle.laws_node.proofs.Tables.{all_drop_first, all_push, all_weaker, cond_where}
+use Rattle.sp_runs.specs.Held.{Held, IsShare, ShareIf}
+use Rattle.laws_runs.proofs.Played.{FreshIf, Shelf, Steps, less_held, shelf_after, shelf_by}
+use Rattle.laws_runs.proofs.Evictions.{as_held, all_held, shelf, Rising, rising_push, rising_less, rising_filter, rising_drop, keeps_all, less_one_held, above_all, is_share}
+
+-- ---- what effects make of a place
+
+-- from this shelf effects lead to that one, all fresh, and each eviction leaves a share
+pub record Leads (capacity p : ℕ) (st : Shelf) (es : List Effect) (after : Shelf) : Type 0 where
+  pub held : shelf_by p st es ≡ after
+  pub shares : Steps capacity p st es
+
+pub held_both : (p : ℕ) (st : Shelf) (xs ys : List Effect) → shelf_by p st (xs ++ ys) ≡ shelf_by p (shelf_by p st xs) ys
+held_both p st [] ys = refl
+held_both p st (e ∷ xs) ys = held_both p (shelf_after p st e) xs ys
+
+pub shares_both : (capacity p : ℕ) (st : Shelf) (xs ys : List Effect) → Steps capacity p st xs → Steps capacity p (shelf_by p st xs) ys → Steps capacity p st (xs ++ ys)
+shares_both capacity p st [] ys one two = two
+shares_both capacity p st (e ∷ xs) ys one two = (one.0, shares_both capacity p (shelf_after p st e) xs ys one.1 two)
+
+pub leads_on : (capacity p : ℕ) (st mid after : Shelf) (xs ys : List Effect) → Leads capacity p st xs mid → Leads capacity p mid ys after → Leads capacity p st (xs ++ ys) after
+leads_on capacity p st mid after xs ys one two = record {
+  held = held_both p st xs ys ∙ ap (λ h. shelf_by p h ys) one.held ∙ two.held;
+  shares = shares_both capacity p st xs ys one.shares (subst (λ h. Steps capacity p h ys) (sym one.held) two.shares);
+}
+
+pub leads_nowhere : (capacity p : ℕ) (st : Shelf) → Leads capacity p st [] st
+leads_nowhere capacity p st = record { held = refl; shares = tt }
+
+-- one effect of another place, or of none
+pub data IsAway (p : ℕ) : Effect → Type 0 where
+  Signs_it : {bytes : List ℕ} → IsAway p (effects.Signed bytes)
+  Tells_rel : {src : NodeId} {seq : ℕ} {payload : List ℕ} → IsAway p (effects.Delivered src seq payload)
+  Tells_prio : {src : NodeId} {seq : ℕ} {payload : List ℕ} → IsAway p (effects.DeliveredPrio src seq payload)
+  Tells_weight : {origin : NodeId} {edge : EdgeId} {seq weight : ℕ} → IsAway p (effects.WeightHeld origin edge seq weight)
+  Stores : {place id seq prio : ℕ} {src : NodeId} → (place ≡ p → ⊥) → IsAway p (effects.Stored place id src seq prio)
+  Leaves : {place id : ℕ} {why : Why} → (place ≡ p → ⊥) → IsAway p (effects.Gone place id why)
+
+abbrev pub AreAway : ℕ → List Effect → Type 0
+AreAway p [] = Unit {0}
+AreAway p (e ∷ es) = IsAway p e × AreAway p es
+
+pub away_both : (p : ℕ) (xs ys : List Effect) → AreAway p xs → AreAway p ys → AreAway p (xs ++ ys)
+away_both p [] ys one two = two
+away_both p (e ∷ xs) ys one two = (one.0, away_both p xs ys one.1 two)
+
+one_away : (capacity p : ℕ) (st : Shelf) (e : Effect) → IsAway p e → (shelf_after p st e ≡ st) × (FreshIf p st.top e × ShareIf capacity p st.held e)
+one_away capacity p st (effects.Signed bytes) is = (refl, (tt, tt))
+one_away capacity p st (effects.Delivered src seq payload) is = (refl, (tt, tt))
+one_away capacity p st (effects.DeliveredPrio src seq payload) is = (refl, (tt, tt))
+one_away capacity p st (effects.WeightHeld origin edge seq weight) is = (refl, (tt, tt))
+one_away capacity p st (effects.Stored place id src seq prio) (Stores other) =
+    let f : (place == p) ≡ false = ne_eqb place p other in (rw f refl, (λ same. absurd (other same), tt))
+one_away capacity p st (effects.Gone place id whys.Evicted) (Leaves other) =
+    let f : (place == p) ≡ false = ne_eqb place p other in (rw f refl, (λ same. absurd (other same), λ same. absurd (other same)))
+one_away capacity p st (effects.Gone place id whys.Expired) (Leaves other) =
+    let f : (place == p) ≡ false = ne_eqb place p other in (rw f refl, (λ same. absurd (other same), tt))
+one_away capacity p st (effects.Gone place id whys.Acked) (Leaves other) =
+    let f : (place == p) ≡ false = ne_eqb place p other in (rw f refl, (λ same. absurd (other same), tt))
+one_away capacity p st (effects.Gone place id whys.Taken) (Leaves other) =
+    let f : (place == p) ≡ false = ne_eqb place p other in (rw f refl, (λ same. absurd (other same), tt))
+
+pub leads_away : (capacity p : ℕ) (st : Shelf) (es : List Effect) → AreAway p es → Leads capacity p st es st
+leads_away capacity p st [] away = leads_nowhere capacity p st
+leads_away capacity p st (e ∷ es) away =
+    let first = one_away capacity p st e away.0 in
+    let rest = leads_away capacity p st es away.1 in
+    record {
+      held = ap (λ h. shelf_by p h es) first.0 ∙ rest.held;
+      shares = (first.1, subst (λ h. Steps capacity p h es) (sym first.0) rest.shares);
+    }
+
+-- ---- what each change of a store tells of its place
+
+pub record StoreIs (capacity : ℕ) (s : Store) : Type 0 where
+  pub capacity_is : s.capacity ≡ capacity
+  pub rising : Rising 0 s.entries
+  pub last : All (λ e. e.id ≤ s.last) s.entries
+  pub few : length s.entries ≤ s.capacity
+  pub small : All (λ e. source e < IDS) s.entries
+
+pub store_empty : (capacity : ℕ) → StoreIs capacity (record { capacity = capacity; last = 0; entries = [] })
+store_empty capacity = record {
+  capacity_is = refl;
+  rising = tt;
+  last = All-nil (λ (e : Entry). e.id ≤ 0);
+  few = omega arith;
+  small = All-nil (λ (e : Entry). source e < IDS);
+}
+
+-- one is gone of the place itself
+less_shelf : ℕ → Shelf → Shelf
+less_shelf id st = record { top = st.top; held = less_held id st.held }
+
+gone_here : (capacity p : ℕ) (st : Shelf) (id : ℕ) (why : Why) → id ≤ st.top → (why ≡ whys.Evicted → IsShare capacity st.held id)
+    → Leads capacity p st (effects.Gone p id why ∷ []) (less_shelf id st)
+unfolding less_shelf
+gone_here capacity p st id whys.Evicted given share = let t : (p == p) ≡ true = eq-eqb p p refl in record { held = rw t refl; shares = ((λ same. given, λ same. share refl), tt) }
+gone_here capacity p st id whys.Expired given share = let t : (p == p) ≡ true = eq-eqb p p refl in record { held = rw t refl; shares = ((λ same. given, tt), tt) }
+gone_here capacity p st id whys.Acked given share = let t : (p == p) ≡ true = eq-eqb p p refl in record { held = rw t refl; shares = ((λ same. given, tt), tt) }
+gone_here capacity p st id whys.Taken given share = let t : (p == p) ≡ true = eq-eqb p p refl in record { held = rw t refl; shares = ((λ same. given, tt), tt) }
+
+-- the shelf of these entries
+abbrev shelf_of : ℕ → List Entry → Shelf
+shelf_of top es = record { top = top; held = all_held es }
+
+stored_here : (capacity p top id : ℕ) (o : Kept) (es : List Entry) → top < id → IsPrio o.body
+    → Leads capacity p (shelf_of top es) (rows.stored p id o.body) (shelf_of id (es ++ (record { id = id; kept = o }) ∷ []))
+stored_here capacity p top id o es above is = go o.body refl is
+  where
+    go : (body : Body) → o.body ≡ body → IsPrio body → Leads capacity p (shelf_of top es) (rows.stored p id body) (shelf_of id (es ++ (record { id = id; kept = o }) ∷ []))
+    go (bodies.Prio b) same is =
+        let t : (p == p) ≡ true = eq-eqb p p refl in
+        let new : as_held (record { id = id; kept = o }) ≡ record { id = id; src = b.src.0; seq = b.seq; prio = b.prio } =
+        ap (λ (y : Body). record { id = id; src = said (λ r. r.src.0) y; seq = said (λ r. r.seq) y; prio = said (λ r. r.prio) y }) same in
+        let grown : all_held es ++ (record { id = id; src = b.src.0; seq = b.seq; prio = b.prio }) ∷ [] ≡ all_held (es ++ (record { id = id; kept = o }) ∷ []) =
+        sym (map-append as_held es ((record { id = id; kept = o }) ∷ []) ∙ ap (λ h. all_held es ++ h ∷ []) new) in
+        record {
+          held = rw t (ap (λ (hs : List Held). record { top = id; held = hs }) grown);
+          shares = ((λ here. above, tt), tt);
+        }
+    go (bodies.Rel b) same is = absurd is
+    go (bodies.Ack b) same is = absurd is
+    go (bodies.Weight b) same is = absurd is
+
+pub record PutFacts (capacity p : ℕ) (s : Store) (o : Kept) (gone : Option Entry) : Type 0 where
+  pub leads : Leads capacity p (shelf s) (rows.stored p (s.last + 1) o.body ++ rows.gone p whys.Evicted gone) (shelf_of (s.last + 1) (without gone (arriving s o)))
+  pub after : StoreIs capacity (record { capacity = s.capacity; last = s.last + 1; entries = without gone (arriving s o) })
+
+-- one that is there has a given id
+given_id : (es : List Entry) (id last : ℕ) → list_any (has_id id) es ≡ true → All (λ e. e.id ≤ last) es → id ≤ last
+given_id [] id last some all = absurd (let wrong : false ≡ true = some in cc)
+given_id (e ∷ es) id last some all = elim (cases_Bool (e.id == id)) [
+  | inl t ↦ let first = All-head (λ (x : Entry). x.id ≤ last) e es all in let same = eqb-true e.id id t in omega (arith, first, same)
+  | inr t ↦ given_id es id last (rw t at some) (All-tail (λ (x : Entry). x.id ≤ last) e es all)
+]
+
+pub put_here : (capacity p : ℕ) (s : Store) (o : Kept) → IsPrio o.body → said (λ r. r.src.0) o.body < IDS → StoreIs capacity s → PutFacts capacity p s o (evicted s o)
+unfolding less_shelf
+put_here capacity p s o is small h =
+    let new : Entry = record { id = s.last + 1; kept = o } in
+    let all = arriving s o in
+    let grown : length all ≡ length s.entries + 1 = length-append s.entries (new ∷ []) in
+    let below : All (λ e. e.id < s.last + 1) s.entries = all_weaker (λ (e : Entry). e.id ≤ s.last) (λ (e : Entry). e.id < s.last + 1) s.entries (λ e le. omega (arith, le)) h.last in
+    let rising : Rising 0 all = rising_push 0 s.entries new below (omega arith) h.rising in
+    let last : All (λ e. e.id ≤ s.last + 1) all =
+    all_push (λ (e : Entry). e.id ≤ s.last + 1) s.entries new (all_weaker (λ (e : Entry). e.id ≤ s.last) (λ (e : Entry). e.id ≤ s.last + 1) s.entries (λ e le. omega (arith, le)) h.last) (omega arith) in
+    let sources_small : All (λ e. source e < IDS) all = all_push (λ (e : Entry). source e < IDS) s.entries new h.small small in
+    let stored = stored_here capacity p s.last (s.last + 1) o s.entries (omega arith) is in
+    let goes = one_goes s.entries new small in
+    let v = goes.entry in
+    cond_where (PutFacts capacity p s o) (nat_lt s.capacity (length all)) (victim all) None
+    (λ full.
+    let over : s.capacity < length all = grind (arith, nat_tests, full) in
+    let many : length all ≡ capacity + 1 = omega (arith, over, grown, h.few, h.capacity_is) in
+    subst (PutFacts capacity p s o) (sym goes.is) (record {
+      leads = leads_on capacity p (shelf s) (shelf_of (s.last + 1) all) (shelf_of (s.last + 1) (less_first (has_id v.id) all)) (rows.stored p (s.last + 1) o.body) (effects.Gone p v.id whys.Evicted ∷ []) stored
+          (subst (λ (hs : List Held). Leads capacity p (shelf_of (s.last + 1) all) (effects.Gone p v.id whys.Evicted ∷ []) (record { top = s.last + 1; held = hs })) (less_one_held v.id 0 all rising)
+          (gone_here capacity p (shelf_of (s.last + 1) all) v.id whys.Evicted (given_id all v.id (s.last + 1) goes.there last) (λ why. is_share capacity all v rising sources_small many goes.is)));
+      after = record {
+        capacity_is = h.capacity_is;
+        rising = rising_less 0 (has_id v.id) all rising;
+        last = all_less_first (λ (e : Entry). e.id ≤ s.last + 1) (has_id v.id) all last;
+        few = let less = less_one (has_id v.id) all goes.there in omega (arith, less, many, h.capacity_is);
+        small = all_less_first (λ (e : Entry). source e < IDS) (has_id v.id) all sources_small;
+      };
+    }))
+    (λ free. record {
+      leads = leads_on capacity p (shelf s) (shelf_of (s.last + 1) all) (shelf_of (s.last + 1) all) (rows.stored p (s.last + 1) o.body) [] stored (leads_nowhere capacity p (shelf_of (s.last + 1) all));
+      after = record { capacity_is = h.capacity_is; rising = rising; last = last; few = grind (arith, nat_tests, free); small = sources_small };
+    })
+
+-- one is removed by its id, where it is there
+none_less : (id : ℕ) (es : List Entry) → find (has_id id) es ≡ None → less_first (has_id id) es ≡ es
+none_less id [] e = refl
+none_less id (x ∷ es) e = elim (cases_Bool (x.id == id)) [
+  | inl t ↦ absurd (let f : Some x ≡ None = rw t at e in cc)
+  | inr t ↦ rw t (ap (λ ys. x ∷ ys) (none_less id es (rw t at e)))
+]
+
+found_id : (id : ℕ) (es : List Entry) (x : Entry) → find (has_id id) es ≡ Some x → x.id ≡ id
+found_id id [] x e = absurd (cc)
+found_id id (y ∷ es) x e = elim (cases_Bool (y.id == id)) [
+  | inl t ↦ let f : Some y ≡ Some x = rw t at e in let same : y ≡ x = cc in sym (ap (λ (z : Entry). z.id) same) ∙ eqb-true y.id id t
+  | inr t ↦ found_id id es x (rw t at e)
+]
+
+found_given : (id last : ℕ) (es : List Entry) (x : Entry) → find (has_id id) es ≡ Some x → All (λ e. e.id ≤ last) es → x.id ≤ last
+found_given id last [] x e all = absurd (cc)
+found_given id last (y ∷ es) x e all = elim (cases_Bool (y.id == id)) [
+  | inl t ↦
+      let f : Some y ≡ Some x = rw t at e in
+      let same : y ≡ x = cc in
+      subst (λ (z : Entry). z.id ≤ last) same (All-head (λ (z : Entry). z.id ≤ last) y es all)
+  | inr t ↦ found_given id last es x (rw t at e) (All-tail (λ (z : Entry). z.id ≤ last) y es all)
+]
+
+pub removed_leads : (capacity p : ℕ) (s : Store) (id : ℕ) → StoreIs capacity s → Leads capacity p (shelf s) (rows.gone p whys.Acked (entry_in s id)) (shelf (removed s id))
+unfolding less_shelf
+removed_leads capacity p s id h = go (entry_in s id) refl
+  where
+    go : (o : Option Entry) → entry_in s id ≡ o → Leads capacity p (shelf s) (rows.gone p whys.Acked o) (shelf (removed s id))
+    go None is = subst (λ (es : List Entry). Leads capacity p (shelf s) [] (shelf_of s.last es)) (sym (none_less id s.entries is)) (leads_nowhere capacity p (shelf s))
+    go (Some x) is =
+        let same : x.id ≡ id = found_id id s.entries x is in
+        let given : id ≤ s.last = subst (λ n. n ≤ s.last) same (found_given id s.last s.entries x is h.last) in
+        subst (λ n. Leads capacity p (shelf s) (effects.Gone p n whys.Acked ∷ []) (shelf (removed s id))) (sym same)
+        (subst (λ (hs : List Held). Leads capacity p (shelf s) (effects.Gone p id whys.Acked ∷ []) (record { top = s.last; held = hs })) (less_one_held id 0 s.entries h.rising)
+        (gone_here capacity p (shelf s) id whys.Acked given (λ why. absurd (cc))))
+
+pub removed_is : (capacity : ℕ) (s : Store) (id : ℕ) → StoreIs capacity s → StoreIs capacity (removed s id)
+removed_is capacity s id h = record {
+  capacity_is = h.capacity_is;
+  rising = rising_less 0 (has_id id) s.entries h.rising;
+  last = all_less_first (λ (e : Entry). e.id ≤ s.last) (has_id id) s.entries h.last;
+  few = let less = less_first_shorter (has_id id) s.entries in omega (arith, less, h.few);
+  small = all_less_first (λ (e : Entry). source e < IDS) (has_id id) s.entries h.small;
+}
+
+-- the oldest is taken
+pub oldest_leads : (capacity p : ℕ) (s : Store) → StoreIs capacity s → Leads capacity p (shelf s) (rows.gone p whys.Taken (oldest s)) (shelf (less_oldest s))
+unfolding less_shelf
+oldest_leads capacity p s h = go s.entries h.rising h.last
+  where
+    go : (es : List Entry) → Rising 0 es → All (λ e. e.id ≤ s.last) es
+        → Leads capacity p (shelf_of s.last es) (rows.gone p whys.Taken (slice_get es 0)) (shelf_of s.last (drop 1 es))
+    go [] rising last = leads_nowhere capacity p (shelf_of s.last [])
+    go (e ∷ es) rising last =
+        let t : (e.id == e.id) ≡ true = eq-eqb e.id e.id refl in
+        let rest : less_held e.id (all_held (e ∷ es)) ≡ all_held es = rw t (keeps_all e.id e.id es (omega arith) rising.1) in
+        subst (λ (hs : List Held). Leads capacity p (shelf_of s.last (e ∷ es)) (effects.Gone p e.id whys.Taken ∷ []) (record { top = s.last; held = hs })) rest
+        (gone_here capacity p (shelf_of s.last (e ∷ es)) e.id whys.Taken (All-head (λ (x : Entry). x.id ≤ s.last) e es last) (λ why. absurd (cc)))
+
+pub oldest_is : (capacity : ℕ) (s : Store) → StoreIs capacity s → StoreIs capacity (less_oldest s)
+oldest_is capacity s h = record {
+  capacity_is = h.capacity_is;
+  rising = rising_drop 0 s.entries h.rising;
+  last = all_drop_first (λ (e : Entry). e.id ≤ s.last) 1 s.entries h.last;
+  few = omega (arith, length-drop 1 s.entries, h.few);
+  small = all_drop_first (λ (e : Entry). source e < IDS) 1 s.entries h.small;
+}
+
+-- all that expired leave
+abbrev leaving : ℕ → List Entry → List Effect
+leaving p es = map (λ e. effects.Gone p e.id whys.Expired) es
+
+-- what is left of a list when these leave
+abbrev less_all : List Held → List Entry → List Held
+less_all hs [] = hs
+less_all hs (g ∷ gs) = less_all (less_held g.id hs) gs
+
+less_other : (x : Held) (hs : List Held) (id : ℕ) → (x.id ≡ id → ⊥) → less_held id (x ∷ hs) ≡ x ∷ less_held id hs
+less_other x hs id never = let other : (x.id == id) ≡ false = ne_eqb x.id id never in rw other refl
+
+stays_first : (x : Held) (hs : List Held) (gs : List Entry) → All (λ g. x.id < g.id) gs → less_all (x ∷ hs) gs ≡ x ∷ less_all hs gs
+stays_first x hs [] all = refl
+stays_first x hs (g ∷ gs) all =
+    let above = All-head (λ (y : Entry). x.id < y.id) g gs all in
+    ap (λ h. less_all h gs) (less_other x hs g.id (λ same. omega (arith, same, above)))
+    ∙ stays_first x (less_held g.id hs) gs (All-tail (λ (y : Entry). x.id < y.id) g gs all)
+
+filter_held : (b : ℕ) (test : Entry → Bool) (es : List Entry) → Rising b es → less_all (all_held es) (filter test es) ≡ all_held (filter (λ e. not (test e)) es)
+filter_held b test [] rising = refl
+filter_held b test (e ∷ es) rising = go (test e) (filter_held e.id test es rising.1)
+  where
+    itself : less_held e.id (all_held (e ∷ es)) ≡ all_held es
+    itself = let same : (e.id == e.id) ≡ true = eq-eqb e.id e.id refl in rw same (keeps_all e.id e.id es (omega arith) rising.1)
+
+    go : (t : Bool) → less_all (all_held es) (filter test es) ≡ all_held (filter (λ x. not (test x)) es)
+        → less_all (all_held (e ∷ es)) (cond t (e ∷ filter test es) (filter test es)) ≡ all_held (cond (not t) (e ∷ filter (λ x. not (test x)) es) (filter (λ x. not (test x)) es))
+    go true rest = ap (λ h. less_all h (filter test es)) itself ∙ rest
+    go false rest =
+        stays_first (as_held e) (all_held es) (filter test es) (all_filter (λ (g : Entry). e.id < g.id) test es (above_all e.id es rising.1)) ∙ ap (λ hs. as_held e ∷ hs) rest
+
+all_leave : (capacity p : ℕ) (st : Shelf) (gs : List Entry) → All (λ g. g.id ≤ st.top) gs → Leads capacity p st (leaving p gs) (record { top = st.top; held = less_all st.held gs })
+unfolding less_shelf
+all_leave capacity p st [] all = leads_nowhere capacity p st
+all_leave capacity p st (g ∷ gs) all =
+    let first = gone_here capacity p st g.id whys.Expired (All-head (λ (x : Entry). x.id ≤ st.top) g gs all) (λ why. absurd (cc)) in
+    leads_on capacity p st (less_shelf g.id st) (record { top = st.top; held = less_all st.held (g ∷ gs) }) (effects.Gone p g.id whys.Expired ∷ []) (leaving p gs) first
+    (all_leave capacity p (less_shelf g.id st) gs (All-tail (λ (x : Entry). x.id ≤ st.top) g gs all))
+
+pub expired_leads : (capacity p : ℕ) (s : Store) (now : ℕ) → StoreIs capacity s → Leads capacity p (shelf s) (rows.expired_effects p s now) (shelf (less_expired s now))
+expired_leads capacity p s now h =
+    subst (λ (hs : List Held). Leads capacity p (shelf s) (rows.expired_effects p s now) (record { top = s.last; held = hs })) (filter_held 0 (is_expired now) s.entries h.rising)
+    (all_leave capacity p (shelf s) (filter (is_expired now) s.entries) (all_filter (λ (e : Entry). e.id ≤ s.last) (is_expired now) s.entries h.last))
+
+pub expired_is : (capacity : ℕ) (s : Store) (now : ℕ) → StoreIs capacity s → StoreIs capacity (less_expired s now)
+expired_is capacity s now h = record {
+  capacity_is = h.capacity_is;
+  rising = rising_filter 0 (λ e. not (is_expired now e)) s.entries h.rising;
+  last = all_filter (λ (e : Entry). e.id ≤ s.last) (λ e. not (is_expired now e)) s.entries h.last;
+  few = let less = filter_shorter (λ e. not (is_expired now e)) s.entries in omega (arith, less, h.few);
+  small = all_filter (λ (e : Entry). source e < IDS) (λ e. not (is_expired now e)) s.entries h.small;
+}
+
+-- ---- effects of other places
+
+pub gone_away : (p place : ℕ) (why : Why) (e : Option Entry) → (place ≡ p → ⊥) → AreAway p (rows.gone place why e)
+gone_away p place why None other = tt
+gone_away p place why (Some e) other = (Leaves other, tt)
+
+pub put_away : (p place : ℕ) (s : Store) (o : Kept) → (place ≡ p → ⊥) → AreAway p (rows.put_effects place s o)
+put_away p place s o other = away_both p (rows.stored place (s.last + 1) o.body) _ (stored o.body) (gone_away p place whys.Evicted (evicted s o) other)
+  where
+    stored : (body : Body) → AreAway p (rows.stored place (s.last + 1) body)
+    stored (bodies.Prio b) = (Stores other, tt)
+    stored (bodies.Rel b) = tt
+    stored (bodies.Ack b) = tt
+    stored (bodies.Weight b) = tt
+
+pub expired_away : (p place : ℕ) (s : Store) (now : ℕ) → (place ≡ p → ⊥) → AreAway p (rows.expired_effects place s now)
+expired_away p place s now other = go (expired_entries s now)
+  where
+    go : (es : List Entry) → AreAway p (leaving place es)
+    go [] = tt
+    go (e ∷ es) = (Leaves other, go es)

@@ -1,0 +1,159 @@
+-- The part on weights over a whole run.
+use Rattle.std.proofs.Common.{◌≡◌, ℕ, ◌+◌, ◌*◌, ◌==◌, max, true, false, cond, List, [], ◌∷◌, ◌++◌, length, Some, None, refl, sym, ap, subst, ◌∙◌, inl, inr, arith}
+use Rattle.std.specs.Prelude.{◌⊎◌, IsTrue}
+use Rattle.std.specs.List.{slice_get}
+use Rattle.std.proofs.lemmas.Bool.{cases_Bool, eq-eqb, eqb-true, ne_eqb}
+use Rattle.std.proofs.lemmas.List.{append-nil, length-replicate}
+use Rattle.sp_base.specs.declared.id.NodeId.{NodeId}
+use Rattle.sp_msg.specs.Bodies.{encoded}
+use Rattle.sp_msg.specs.Views.{signer_of}
+use Rattle.sp_msg.specs.declared.body.Body.TheVariants as bodies
+use Rattle.sp_msg.specs.declared.body.WeightBody.{WeightBody}
+use Rattle.sp_msg.specs.declared.kept.Kept.{Kept}
+use Rattle.sp_rules.specs.Arts.{Arts}
+use Rattle.sp_rules.specs.Node.{NodeState}
+use Rattle.sp_rules.specs.Parts.{Fixed, nodes_of}
+use Rattle.sp_rules.specs.Weights.{minimum, minimum_of, row_of}
+use Rattle.sp_rules.specs.declared.answers.Item.{Item}
+use Rattle.laws_node.specs.Asked.{NewKeep}
+use Rattle.laws_runs.proofs.Lives.{step_stays}
+use Rattle.laws_node.proofs.LastWeights.{At, HasRows, said as row_said}
+use Rattle.laws_node.proofs.UpdateRows.{ends_differ, nothing_held}
+use Rattle.sp_runs.specs.Forgery.{forged_object, has_forged_tag, is_among}
+use Rattle.sp_runs.specs.Inputs.{acting}
+use Rattle.sp_runs.specs.Runs.{Clean, Starts, Turned, Moves, Stays, Move, Spends}
+use Rattle.sp_runs.specs.Settings.{Setting, SettingFits, is_correct}
+use Rattle.sp_runs.specs.Told.{effects_at, signed, signed_by, told_at}
+use Rattle.sp_runs.specs.Worlds.{World, at_start, node_in}
+use Rattle.sp_runs.specs.declared.entry.Entry.{Entry as JournalEntry}
+use Rattle.sp_runs.specs.declared.event.Event.{Event}
+use Rattle.laws_runs.specs.Premises.{Carries}
+use Rattle.laws_runs.specs.Weights.{EachHeld, IsSaid, WeightsAreKept}
+use Rattle.laws_runs.proofs.Facts.{Good, Known}
+use Rattle.laws_runs.proofs.FlowRuns.{here_is, none_either}
+use Rattle.laws_runs.proofs.Lists.{among_left, as_they_are, told_more}
+use Rattle.laws_runs.proofs.Goods.{new_known, own_known, started, unforged_tag}
+use Rattle.laws_runs.proofs.Signed.{even, signs, reached}
+use Rattle.laws_runs.proofs.Tables.{node_put, same_node}
+use Rattle.laws_runs.proofs.WeightSteps.{last_weight, last_both, each_both, each_less, WTurns, at_later, turned}
+
+-- ---- a whole run
+
+pub record WeightsHold (x : Setting) (es : List Event) (js : List JournalEntry) (w : World) : Type 0 where
+  pub rows : (u : NodeId) (n : NodeState) → node_in w.nodes u ≡ Some n → HasRows n.parts.weights
+  pub edges : (u : NodeId) (n : NodeState) → node_in w.nodes u ≡ Some n → n.parts.weights.edges ≡ x.topology.edges
+  pub last : (u : NodeId) (n : NodeState) (edge : ℕ) (end : NodeId) (row : ℕ) → node_in w.nodes u ≡ Some n → At n.parts.weights edge end.0 row
+      → row_said n.parts.weights row ≡ last_weight edge end 0 (effects_at es js u)
+  pub said : (u : NodeId) → EachHeld (IsSaid x es js) (effects_at es js u)
+
+said_more : (x : Setting) (es : List Event) (js : List JournalEntry) (e : Event) (j : JournalEntry) → length es ≡ length js → (u : WeightBody) → IsSaid x es js u → IsSaid x (es ++ e ∷ []) (js ++ j ∷ []) u
+said_more x es js e j same u h = λ correct.
+    subst (λ these. is_among (encoded (bodies.Weight u)) these ≡ true) (sym (told_more (told_at u.origin signed_by) es js e j same)) (among_left (encoded (bodies.Weight u)) (signed es js u.origin) _ (h correct))
+
+known_weights : (x : Setting) (es : List Event) (js : List JournalEntry) (Q : WeightBody → Type 0) → ((u : WeightBody) → IsSaid x es js u → Q u) → (answered : List (Kept × Item)) → NewKeep (Known x es js) answered
+    → NewKeep (λ o. (u : WeightBody) → o.body ≡ bodies.Weight u → Q u) answered
+known_weights x es js Q less [] h = tt
+known_weights x es js Q less (a ∷ others) h = (
+  λ new u is. less u (λ correct.
+      let signer : signer_of a.0.body ≡ u.origin = ap signer_of is in
+      let among : is_among (encoded a.0.body) (signed es js (signer_of a.0.body)) ≡ true = h.0 new (subst (λ v. IsTrue (is_correct x v)) (sym signer) correct) in
+      subst (λ b. is_among (encoded b) (signed es js u.origin) ≡ true) is (subst (λ v. is_among (encoded a.0.body) (signed es js v) ≡ true) signer among)),
+  known_weights x es js Q less others h.1,
+)
+
+moved_on : (arts : Arts) (x : Setting) (es : List Event) (js : List JournalEntry) (w new : World) (e : Event) (j : JournalEntry) (m : Move arts x es w e j new) → length es ≡ length js
+    → m.after.fixed.me ≡ acting e → WeightsHold x es js w → WTurns (IsSaid x (es ++ e ∷ []) (js ++ j ∷ [])) m.node.parts.weights m.output.effects m.after.parts.weights → WeightsHold x (es ++ e ∷ []) (js ++ j ∷ []) new
+moved_on arts x es js w new e j m same me h turns =
+    let es2 = es ++ e ∷ [] in
+    let js2 = js ++ j ∷ [] in
+    let a = acting e in
+    let all : (u : NodeId) → effects_at es2 js2 u ≡ effects_at es js u ++ cond (a.0 == u.0) m.output.effects [] =
+    λ u. told_more (told_at u (λ y. y ∷ [])) es js e j same ∙ ap (λ t. effects_at es js u ++ t) (here_is u (λ y. y ∷ []) e j m.output.effects m.journal.effects ∙ ap (λ t. cond (a.0 == u.0) t []) (as_they_are m.output.effects)) in
+    let acted : effects_at es2 js2 a ≡ effects_at es js a ++ m.output.effects = all a ∙ (let t : (a.0 == a.0) ≡ true = eq-eqb a.0 a.0 refl in rw t refl) in
+    let other : (u : NodeId) → (a.0 == u.0) ≡ false → effects_at es2 js2 u ≡ effects_at es js u = λ u f. all u ∙ rw f (append-nil (effects_at es js u)) in
+    let now : (edge : ℕ) (end : NodeId) (row : ℕ) → At m.after.parts.weights edge end.0 row → row_said m.after.parts.weights row ≡ last_weight edge end 0 (effects_at es2 js2 a) =
+    λ edge end row at.
+    let before = at_later m.after.parts.weights m.node.parts.weights edge end.0 row (sym turns.edges) at in
+    turns.said edge end row before ∙ ap (λ n. last_weight edge end n m.output.effects) (h.last a m.node edge end row m.is_there before) ∙ sym (last_both edge end 0 (effects_at es js a) m.output.effects)
+    ∙ ap (last_weight edge end 0) (sym acted) in
+    let put : (u : NodeId) (n : NodeState) → node_in new.nodes u ≡ Some n → ((u ≡ a) × (n ≡ m.after)) ⊎ ((u ≡ a → ⊥) × (node_in w.nodes u ≡ Some n)) =
+    λ u n at. node_put u a m.after n w.nodes me (subst (λ (y : World). node_in y.nodes u ≡ Some n) m.world at) in
+    record {
+      rows = λ u n at. elim (put u n at) [ inl it ↦ subst (λ (y : NodeState). HasRows y.parts.weights) (sym it.1) turns.rows | inr away ↦ h.rows u n away.1 ];
+      edges = λ u n at. elim (put u n at) [
+        | inl it ↦ ap (λ (y : NodeState). y.parts.weights.edges) it.1 ∙ turns.edges ∙ h.edges a m.node m.is_there
+        | inr away ↦ h.edges u n away.1
+      ];
+      last = λ u n edge end row at there. elim (put u n at) [
+        | inl it ↦
+            subst (λ v. row_said n.parts.weights row ≡ last_weight edge end 0 (effects_at es2 js2 v)) (sym it.0)
+            (subst (λ (y : NodeState). At y.parts.weights edge end.0 row → row_said y.parts.weights row ≡ last_weight edge end 0 (effects_at es2 js2 a)) (sym it.1) (λ here. now edge end row here) there)
+        | inr away ↦ h.last u n edge end row away.1 there ∙ ap (last_weight edge end 0) (sym (other u (ne_eqb a.0 u.0 (λ y. away.0 (sym (same_node a u y))))))
+      ];
+      said = λ u. elim (cases_Bool (a.0 == u.0)) [
+        | inl t ↦
+            let is : a ≡ u = same_node a u (eqb-true a.0 u.0 t) in
+            subst (λ v. EachHeld (IsSaid x es2 js2) (effects_at es2 js2 v)) is (subst (EachHeld (IsSaid x es2 js2)) (sym acted)
+            (each_both (IsSaid x es2 js2) (effects_at es js a) m.output.effects (each_less (IsSaid x es js) (IsSaid x es2 js2) (said_more x es js e j same) (effects_at es js a) (h.said a)) turns.each))
+        | inr t ↦ subst (EachHeld (IsSaid x es2 js2)) (sym (other u t)) (each_less (IsSaid x es js) (IsSaid x es2 js2) (said_more x es js e j same) (effects_at es js u) (h.said u))
+      ];
+    }
+
+stayed_on : (x : Setting) (es : List Event) (js : List JournalEntry) (w new : World) (e : Event) (j : JournalEntry) → length es ≡ length js → Spends x es w e j new → WeightsHold x es js w → WeightsHold x (es ++ e ∷ []) (js ++ j ∷ []) new
+stayed_on x es js w new e j same m h =
+    let es2 = es ++ e ∷ [] in
+    let js2 = js ++ j ∷ [] in
+    let all : (u : NodeId) → effects_at es2 js2 u ≡ effects_at es js u =
+    λ u. told_more (told_at u (λ y. y ∷ [])) es js e j same ∙ ap (λ t. effects_at es js u ++ t) (here_is u (λ y. y ∷ []) e j [] m.effects ∙ none_either ((acting e).0 == u.0)) ∙ append-nil (effects_at es js u) in
+    let back : (u : NodeId) (n : NodeState) → node_in new.nodes u ≡ Some n → node_in w.nodes u ≡ Some n = λ u n at. subst (λ (y : World). node_in y.nodes u ≡ Some n) m.world at in
+    record {
+      rows = λ u n at. h.rows u n (back u n at);
+      edges = λ u n at. h.edges u n (back u n at);
+      last = λ u n edge end row at there. h.last u n edge end row (back u n at) there ∙ ap (last_weight edge end 0) (sym (all u));
+      said = λ u. subst (EachHeld (IsSaid x es2 js2)) (sym (all u)) (each_less (IsSaid x es js) (IsSaid x es2 js2) (said_more x es js e j same) (effects_at es js u) (h.said u));
+    }
+
+starts : (x : Setting) → WeightsHold x [] [] (at_start x)
+starts x = record {
+  rows = λ u n at. subst (λ (y : NodeState). HasRows y.parts.weights) (sym (started x (nodes_of x.topology) u n at).0) (record { rows = length-replicate (2 * length x.topology.edges) None });
+  edges = λ u n at. ap (λ (y : NodeState). y.parts.weights.edges) (started x (nodes_of x.topology) u n at).0;
+  last = λ u n edge end row at there. ap (λ (y : NodeState). row_said y.parts.weights row) (started x (nodes_of x.topology) u n at).0 ∙ nothing_held (2 * length x.topology.edges) row;
+  said = λ u. tt;
+}
+
+weights_hold : (arts : Arts) (x : Setting) (es : List Event) (js : List JournalEntry) (w : World) → SettingFits arts x → Carries arts → Clean arts x es js w → WeightsHold x es js w
+weights_hold arts x es js w fits reads Starts = starts x
+weights_hold arts x es js w fits reads (Turned {es = es'} {js = js'} {old = old} {e = e} {j = j} run range (Moves m) unforged) =
+    let h = weights_hold arts x es' js' old fits reads run in
+    let same = even arts x es' js' old run in
+    let is = (signs arts x es' js' old fits reads run).nodes (acting e) m.node m.is_there in
+    let nothing = unforged_tag (has_forged_tag arts x old m.node m.input) (forged_object x es' js' m.output.answered) unforged in
+    let before : m.node.fixed.me ≡ acting e = ap (λ (f : Fixed). f.me) is.fixed in
+    let me : m.after.fixed.me ≡ acting e = ap (λ (f : Fixed). f.me) ((step_stays arts m.node m.input m.output m.after m.step).fixed ∙ is.fixed) in
+    let Q = IsSaid x (es' ++ e ∷ []) (js' ++ j ∷ []) in
+    moved_on arts x es' js' old w e j m same me h
+    (turned x arts (Good arts x es' js') Q (acting e) m.node m.input m.output m.after m.step (reached arts x es' js' old w e j fits reads run range m) is
+    (known_weights x es' js' Q (said_more x es' js' e j same) m.output.answered (new_known x es' js' m.output.answered nothing.1))
+    (λ u own correct. own_known arts x es' js' old w e j m same before (bodies.Weight u) own) (h.rows (acting e) m.node m.is_there))
+weights_hold arts x es js w fits reads (Turned {es = es'} {js = js'} {old = old} {e = e} {j = j} run range (Stays m) unforged) =
+    stayed_on x es' js' old w e j (even arts x es' js' old run) m (weights_hold arts x es' js' old fits reads run)
+
+pub weights_are_kept : WeightsAreKept
+weights_are_kept arts x es js w fits reads run =
+    let h = weights_hold arts x es js w fits reads run in
+    record {
+      effective_is = λ u n edge e at there.
+          let s = n.parts.weights in
+          let edges = h.edges u n at in
+          let here : slice_get s.edges edge ≡ Some e = ap (λ es. slice_get es edge) edges ∙ there in
+          let differ = ends_differ _ (0, 0) x.topology.edges edge e fits.topology.graph.are_edges there in
+          let low_is : row_of edge e e.low.0 ≡ Some (2 * edge) = let t : (e.low.0 == e.low.0) ≡ true = eq-eqb e.low.0 e.low.0 refl in rw t refl in
+          let high_is : row_of edge e e.high.0 ≡ Some (2 * edge + 1) =
+          let f : (e.low.0 == e.high.0) ≡ false = ne_eqb e.low.0 e.high.0 (λ same. omega (arith, same, differ)) in let t : (e.high.0 == e.high.0) ≡ true = eq-eqb e.high.0 e.high.0 refl in rw (f, t) refl in
+          let low = h.last u n edge e.low (2 * edge) at (record { joined = e; there = here; placed = low_is }) in
+          let high = h.last u n edge e.high (2 * edge + 1) at (record { joined = e; there = here; placed = high_is }) in
+          let least : minimum s edge ≡ e.weight = ap minimum_of here in
+          ap (λ a. max a (max (row_said s (2 * edge)) (row_said s (2 * edge + 1)))) least
+          ∙ ap (λ b. max e.weight (max b (row_said s (2 * edge + 1)))) low ∙ ap (λ c. max e.weight (max (last_weight edge e.low 0 (effects_at es js u)) c)) high;
+      said = h.said;
+    }

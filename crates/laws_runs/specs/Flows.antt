@@ -1,0 +1,65 @@
+-- Reliable messages over a run: what stands at each node of the flow from any node to a correct one.
+use Rattle.std.specs.Prelude.{ℕ, ◌≡◌, ◌+◌, ◌-◌, ◌≤◌, true, IsTrue, List, [], ◌∷◌, length, Some, slice_get}
+use Rattle.sp_base.specs.Lists.{IsPrefix}
+use Rattle.sp_base.specs.declared.id.NodeId.{NodeId}
+use Rattle.sp_msg.specs.Bodies.{HasGoodFields, encoded, payload_of}
+use Rattle.sp_msg.specs.declared.body.Body.TheVariants as bodies
+use Rattle.sp_msg.specs.declared.body.Rel.{Rel}
+use Rattle.sp_msg.specs.declared.kept.Kept.{Kept}
+use Rattle.sp_rules.specs.Arts.{Arts}
+use Rattle.sp_rules.specs.Flow.{FlowState}
+use Rattle.sp_rules.specs.Node.{NodeState}
+use Rattle.sp_rules.specs.Rel.{flow_in}
+use Rattle.sp_runs.specs.Forgery.{is_among}
+use Rattle.sp_runs.specs.Runs.{Clean}
+use Rattle.sp_runs.specs.Settings.{Setting, SettingFits, is_correct, is_node}
+use Rattle.sp_runs.specs.Told.{Message, delivered, sent, signed}
+use Rattle.sp_runs.specs.Worlds.{World, node_in}
+use Rattle.sp_runs.specs.declared.entry.Entry.{Entry}
+use Rattle.sp_runs.specs.declared.event.Event.{Event}
+use Rattle.laws_runs.specs.Acknowledged.{acknowledged}
+use Rattle.laws_runs.specs.Premises.{Carries}
+
+-- the messages have the numbers after this one, in order
+abbrev pub AreNumbered : ℕ → List Message → Type 0
+AreNumbered after [] = Unit {0}
+AreNumbered after (m ∷ messages) = (m.0 ≡ after + 1) × AreNumbered (after + 1) messages
+
+-- the message of this number and payload is among what was sent
+pub record IsIn (S : List Message) (q : ℕ) (p : List ℕ) : Type 0 where
+  pub number : 1 ≤ q
+  pub there : slice_get S (q - 1) ≡ Some (q, p)
+
+-- the messages of the list are those that were sent under the numbers after this one
+abbrev pub AreSent : List Message → ℕ → List Kept → Type 0
+AreSent S after [] = Unit {0}
+AreSent S after (o ∷ os) = IsIn S (after + 1) (payload_of o.body) × AreSent S (after + 1) os
+
+-- the flow from s to d at a node
+abbrev pub flow_at : NodeState → NodeId → NodeId → FlowState
+flow_at n s d = flow_in n.parts.rel.flows (record { src = s; dst = d })
+
+-- d is correct
+pub record FlowClaims (x : Setting) (s d : NodeId) (es : List Event) (js : List Entry) (w : World) : Type 0 where
+  -- at each correct node, what counts as acknowledged was acknowledged by d, and d acknowledged only what it delivered
+  pub base : (u : NodeId) (n : NodeState) → node_in w.nodes u ≡ Some n → (flow_at n s d).at.base ≤ acknowledged es js s d
+  pub base_at_end : (n : NodeState) → node_in w.nodes d ≡ Some n → (flow_at n s d).at.base ≡ acknowledged es js s d
+  pub acknowledged : acknowledged es js s d ≤ length (delivered es js s d)
+  -- what came to d was delivered
+  pub have_at_end : (n : NodeState) → node_in w.nodes d ≡ Some n → (flow_at n s d).at.have ≡ length (delivered es js s d)
+  -- where s is correct, what came anywhere was sent, and so are the messages of each list. What was delivered is a prefix of what was sent,
+  -- with the numbers 1, 2, 3 and so on
+  pub have : IsTrue (is_correct x s) → (u : NodeId) (n : NodeState) → node_in w.nodes u ≡ Some n → (flow_at n s d).at.have ≤ length (sent es js s d)
+  pub have_at_source : IsTrue (is_correct x s) → (n : NodeState) → node_in w.nodes s ≡ Some n → (flow_at n s d).at.have ≡ length (sent es js s d)
+  pub lists : IsTrue (is_correct x s) → (u : NodeId) (n : NodeState) → node_in w.nodes u ≡ Some n
+      → AreSent (sent es js s d) (flow_at n s d).at.base (flow_at n s d).at.list
+  -- and whatever it signed as a message of this flow
+  pub messages : IsTrue (is_correct x s) → (m : Rel) → HasGoodFields (bodies.Rel m) → m.src ≡ s → m.dst ≡ d
+      → is_among (encoded (bodies.Rel m)) (signed es js s) ≡ true → IsIn (sent es js s d) m.seq m.payload
+  pub prefix : IsTrue (is_correct x s) → IsPrefix (delivered es js s d) (sent es js s d)
+  pub numbered : IsTrue (is_correct x s) → AreNumbered 0 (delivered es js s d)
+
+-- of any node s and a correct other one d
+abbrev pub FlowsAreKept : Type 0
+FlowsAreKept = (arts : Arts) (x : Setting) (es : List Event) (js : List Entry) (w : World) → SettingFits arts x → Carries arts → Clean arts x es js w
+    → (s d : NodeId) → IsTrue (is_node x s) → IsTrue (is_correct x d) → (s ≡ d → ⊥) → FlowClaims x s d es js w

@@ -1,0 +1,8 @@
+pub mod Premises
+pub mod Laws
+pub mod Acknowledged
+pub mod Flows
+pub mod Priority
+pub mod Weights
+pub mod States
+pub mod Shares

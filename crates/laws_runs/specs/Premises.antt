@@ -1,0 +1,30 @@
+-- What laws of runs ask of arts beside that they fit the nodes: what is written is read back, and is bytes.
+use Rattle.std.specs.Prelude.{ℕ, ◌≡◌, List, ◌++◌, Ok}
+use Rattle.std.specs.List.{All}
+use Rattle.sp_base.specs.Spelling.{AreBytes}
+use Rattle.sp_frame.specs.Ranges.{IsContents}
+use Rattle.sp_frame.specs.Sections.{Contents}
+use Rattle.sp_frame.specs.declared.head.Head.{Head}
+use Rattle.sp_msg.specs.Bodies.{payload_of}
+use Rattle.sp_msg.specs.declared.kept.Kept.{Kept}
+use Rattle.sp_rules.specs.Arts.{Arts}
+use Rattle.sp_rules.specs.Pieces.{pieces_of}
+use Rattle.sp_topology.specs.declared.topology.LmsHeight.{LmsHeight}
+use Rattle.laws_node.specs.Objects.{objects_in}
+
+-- the payload and the signature of a message are bytes
+abbrev pub IsOfBytes : Kept → Type 0
+IsOfBytes o = AreBytes (payload_of o.body) × AreBytes o.signature
+
+-- those of all objects of a frame
+abbrev pub AreOfBytes : Contents → Type 0
+AreOfBytes s = All IsOfBytes (objects_in (pieces_of s))
+
+pub record Carries (arts : Arts) : Type 0 where
+  -- under any head and tag
+  pub back : (len : ℕ) (h : Head) (s : Contents) (key : List ℕ) → IsContents len s
+      → arts.sections len (arts.frame h s ++ arts.tag key (arts.frame h s)) ≡ Ok s
+  pub frames : (h : Head) (s : Contents) → AreOfBytes s → AreBytes (arts.frame h s)
+  pub tags : (key bytes : List ℕ) → AreBytes (arts.tag key bytes)
+  pub signatures : (height : LmsHeight) (seed : List ℕ) (index : ℕ) (message : List ℕ) → AreBytes (arts.sign height seed index message)
+  pub reads : (len : ℕ) (bytes : List ℕ) (s : Contents) → AreBytes bytes → arts.sections len bytes ≡ Ok s → AreOfBytes s

@@ -1,0 +1,229 @@
+-- A frame's sections are bytes exactly where the payloads and signatures of its objects are.
+use Rattle.std.proofs.Common.{◌≡◌, ◌<◌, ℕ, List, [], ◌∷◌, ◌++◌, length, map, append_assoc, Option, Some, None, refl, sym, ap, subst, ◌∙◌, arith}
+use Rattle.std.specs.List.{All, flat_map}
+use Rattle.std.proofs.lemmas.List.Elements.{All-append, All-cons, All-head, All-nil, All-tail}
+use Rattle.byteorder.specs.Endian.{big_bytes}
+use Rattle.sp_base.specs.Spelling.{AreBytes}
+use Rattle.sp_frame.specs.Frames.{ends_bytes, head_bytes, numbers_bytes}
+use Rattle.sp_frame.specs.Grammar.{counted_bytes}
+use Rattle.sp_frame.specs.Objects.{object_bytes}
+use Rattle.sp_frame.specs.Prioritized.{numbered_bytes, prios_bytes}
+use Rattle.sp_frame.specs.Reliable.{Report, ack_bytes, place_bytes, rels_bytes, report_bytes, slot_bytes}
+use Rattle.sp_frame.specs.Sections.{Contents, sections_bytes}
+use Rattle.sp_frame.specs.Views.{as_list}
+use Rattle.sp_frame.specs.Weights.{weights_bytes}
+use Rattle.sp_frame.specs.declared.head.Head.{Head}
+use Rattle.sp_msg.specs.Bodies.{encoded, fields_of, kind_of, numbers_of, payload_of}
+use Rattle.sp_msg.specs.Fields.{Rule, size_of, spelled}
+use Rattle.sp_msg.specs.declared.body.Body.{Body}
+use Rattle.sp_msg.specs.declared.body.Body.TheVariants as bodies
+use Rattle.sp_msg.specs.declared.kept.Kept.{Kept}
+use Rattle.sp_rules.specs.Pieces.{Piece, WeightPiece, PrioAckPiece, AckPiece, RelPiece, pieces_of, prio_piece, slot_pieces}
+use Rattle.laws_node.specs.Objects.{objects_in, objects_of}
+use Rattle.laws_runs.specs.Premises.{AreOfBytes, IsOfBytes}
+use Rattle.laws_runs_format.proofs.Bytes.{joined, joined3, joined4, left, none, of_number, one_first, parts3, parts4, right}
+
+-- ---- one object
+
+spelled_are : (rules : List Rule) (xs : List ℕ) → AreBytes (spelled rules xs)
+spelled_are [] xs = none
+spelled_are (r ∷ rules) [] = none
+spelled_are (r ∷ rules) (x ∷ xs) = joined (big_bytes (size_of r) x) (spelled rules xs) (of_number (size_of r) x) (spelled_are rules xs)
+
+small_kind : (body : Body) → kind_of body < 256
+small_kind (bodies.Prio p) = omega arith
+small_kind (bodies.Rel r) = omega arith
+small_kind (bodies.Ack a) = omega arith
+small_kind (bodies.Weight w) = omega arith
+
+body_in : (body : Body) → AreBytes (payload_of body) → AreBytes (encoded body)
+body_in body are =
+    one_first (kind_of body) (spelled (fields_of body) (numbers_of body) ++ payload_of body) (small_kind body)
+    (joined (spelled (fields_of body) (numbers_of body)) (payload_of body) (spelled_are (fields_of body) (numbers_of body)) are)
+
+body_out : (body : Body) → AreBytes (encoded body) → AreBytes (payload_of body)
+body_out body are =
+    right (spelled (fields_of body) (numbers_of body)) (payload_of body)
+    (All-tail (λ (b : ℕ). b < 256) (kind_of body) (spelled (fields_of body) (numbers_of body) ++ payload_of body) are)
+
+object_in : (o : Kept) → IsOfBytes o → AreBytes (object_bytes o)
+unfolding object_bytes
+object_in o h =
+    joined4 (big_bytes 2 (length (encoded o.body))) (encoded o.body) (big_bytes 2 (length o.signature)) o.signature
+    (of_number 2 (length (encoded o.body))) (body_in o.body h.0) (of_number 2 (length o.signature)) h.1
+
+object_out : (o : Kept) → AreBytes (object_bytes o) → IsOfBytes o
+unfolding object_bytes
+object_out o are =
+    let parts = parts4 (big_bytes 2 (length (encoded o.body))) (encoded o.body) (big_bytes 2 (length o.signature)) o.signature are in
+    (body_out o.body parts.1, parts.3)
+
+-- ---- many
+
+module _ {X : Type 0} (P : X → Type 0) (spell : X → List ℕ) where
+  flat_in : ((x : X) → P x → AreBytes (spell x)) → (xs : List X) → All P xs → AreBytes (flat_map spell xs)
+  flat_in each [] all = none
+  flat_in each (x ∷ xs) all = joined (spell x) (flat_map spell xs) (each x (All-head P x xs all)) (flat_in each xs (All-tail P x xs all))
+
+  flat_out : ((x : X) → AreBytes (spell x) → P x) → (xs : List X) → AreBytes (flat_map spell xs) → All P xs
+  flat_out each [] are = All-nil P
+  flat_out each (x ∷ xs) are =
+      All-cons P x xs (each x (left (spell x) (flat_map spell xs) are)) (flat_out each xs (right (spell x) (flat_map spell xs) are))
+
+  counted_in : ((x : X) → P x → AreBytes (spell x)) → (xs : List X) → All P xs → AreBytes (counted_bytes spell xs)
+  counted_in each xs all = joined (big_bytes 1 (length xs)) (flat_map spell xs) (of_number 1 (length xs)) (flat_in each xs all)
+
+  counted_out : ((x : X) → AreBytes (spell x) → P x) → (xs : List X) → AreBytes (counted_bytes spell xs) → All P xs
+  counted_out each xs are = flat_out each xs (right (big_bytes 1 (length xs)) (flat_map spell xs) are)
+
+IsNumberedOf : ℕ × Kept → Type 0
+IsNumberedOf m = IsOfBytes m.1
+
+numbered_in : (m : ℕ × Kept) → IsNumberedOf m → AreBytes (numbered_bytes m)
+unfolding numbered_bytes IsNumberedOf
+numbered_in m h = joined (big_bytes 8 m.0) (object_bytes m.1) (of_number 8 m.0) (object_in m.1 h)
+
+numbered_out : (m : ℕ × Kept) → AreBytes (numbered_bytes m) → IsNumberedOf m
+unfolding numbered_bytes IsNumberedOf
+numbered_out m are = object_out m.1 (right (big_bytes 8 m.0) (object_bytes m.1) are)
+
+-- ---- the slot
+
+ack_in : (o : Option Kept) → All IsOfBytes (as_list o) → AreBytes (ack_bytes o)
+unfolding ack_bytes
+ack_in None all = of_number 1 0
+ack_in (Some o) all = joined (big_bytes 1 1) (object_bytes o) (of_number 1 1) (object_in o (All-head IsOfBytes o [] all))
+
+ack_out : (o : Option Kept) → AreBytes (ack_bytes o) → All IsOfBytes (as_list o)
+unfolding ack_bytes
+ack_out None are = All-nil IsOfBytes
+ack_out (Some o) are = All-cons IsOfBytes o [] (object_out o (right (big_bytes 1 1) (object_bytes o) are)) (All-nil IsOfBytes)
+
+place_are : (r : Report) → AreBytes (place_bytes r)
+unfolding place_bytes
+place_are r =
+    joined4 (big_bytes 1 r.flow.src.0) (big_bytes 1 r.flow.dst.0) (big_bytes 8 r.base) (big_bytes 8 r.have)
+    (of_number 1 r.flow.src.0) (of_number 1 r.flow.dst.0) (of_number 8 r.base) (of_number 8 r.have)
+
+rels_in : (rs : List Kept) → All IsOfBytes rs → AreBytes (rels_bytes rs)
+unfolding rels_bytes
+rels_in rs all = counted_in IsOfBytes object_bytes object_in rs all
+
+rels_out : (rs : List Kept) → AreBytes (rels_bytes rs) → All IsOfBytes rs
+unfolding rels_bytes
+rels_out rs are = counted_out IsOfBytes object_bytes object_out rs are
+
+-- the objects of a slot
+abbrev slot_objects : Option Report → List Kept
+slot_objects None = []
+slot_objects (Some r) = as_list r.ack ++ r.rels
+
+all_left : (xs ys : List Kept) → All IsOfBytes (xs ++ ys) → All IsOfBytes xs
+all_left [] ys all = All-nil IsOfBytes
+all_left (x ∷ xs) ys all = All-cons IsOfBytes x xs (All-head IsOfBytes x (xs ++ ys) all) (all_left xs ys (All-tail IsOfBytes x (xs ++ ys) all))
+
+all_right : (xs ys : List Kept) → All IsOfBytes (xs ++ ys) → All IsOfBytes ys
+all_right [] ys all = all
+all_right (x ∷ xs) ys all = all_right xs ys (All-tail IsOfBytes x (xs ++ ys) all)
+
+report_in : (r : Report) → All IsOfBytes (as_list r.ack ++ r.rels) → AreBytes (report_bytes r)
+unfolding report_bytes
+report_in r all =
+    joined3 (place_bytes r) (ack_bytes r.ack) (rels_bytes r.rels) (place_are r) (ack_in r.ack (all_left (as_list r.ack) r.rels all))
+    (rels_in r.rels (all_right (as_list r.ack) r.rels all))
+
+report_out : (r : Report) → AreBytes (report_bytes r) → All IsOfBytes (as_list r.ack ++ r.rels)
+unfolding report_bytes
+report_out r are =
+    let parts = parts3 (place_bytes r) (ack_bytes r.ack) (rels_bytes r.rels) are in
+    All-append IsOfBytes (as_list r.ack) r.rels (ack_out r.ack parts.1) (rels_out r.rels parts.2)
+
+slot_in : (s : Option Report) → All IsOfBytes (slot_objects s) → AreBytes (slot_bytes s)
+unfolding slot_bytes
+slot_in None all = of_number 1 0
+slot_in (Some r) all = joined (big_bytes 1 1) (report_bytes r) (of_number 1 1) (report_in r all)
+
+slot_out : (s : Option Report) → AreBytes (slot_bytes s) → All IsOfBytes (slot_objects s)
+unfolding slot_bytes
+slot_out None are = All-nil IsOfBytes
+slot_out (Some r) are = report_out r (right (big_bytes 1 1) (report_bytes r) are)
+
+-- ---- all objects, in their order
+
+abbrev prio_objects : List (ℕ × Kept) → List Kept
+prio_objects ms = map (λ m. m.1) ms
+
+objects_both : (xs ys : List Piece) → objects_in (xs ++ ys) ≡ objects_in xs ++ objects_in ys
+objects_both [] ys = refl
+objects_both (x ∷ xs) ys = ap (λ (os : List Kept). objects_of x ++ os) (objects_both xs ys) ∙ sym (append_assoc (objects_of x) (objects_in xs) (objects_in ys))
+
+each_one : (one : Kept → Piece) → ((o : Kept) → objects_of (one o) ≡ o ∷ []) → (os : List Kept) → objects_in (map one os) ≡ os
+each_one one is [] = refl
+each_one one is (o ∷ os) = ap (λ (xs : List Kept). xs ++ objects_in (map one os)) (is o) ∙ ap (λ (xs : List Kept). o ∷ xs) (each_one one is os)
+
+prio_ones : (ms : List (ℕ × Kept)) → objects_in (map prio_piece ms) ≡ prio_objects ms
+prio_ones [] = refl
+prio_ones (m ∷ ms) = ap (λ (xs : List Kept). m.1 ∷ xs) (prio_ones ms)
+
+slot_ones : (s : Option Report) → objects_in (slot_pieces s) ≡ slot_objects s
+slot_ones None = refl
+slot_ones (Some r) =
+    objects_both (map (AckPiece r.flow) (as_list r.ack)) (map (RelPiece r.flow) r.rels)
+    ∙ ap (λ (xs : List Kept). xs ++ objects_in (map (RelPiece r.flow) r.rels)) (each_one (AckPiece r.flow) (λ o. refl) (as_list r.ack))
+    ∙ ap (λ (xs : List Kept). as_list r.ack ++ xs) (each_one (RelPiece r.flow) (λ o. refl) r.rels)
+
+objects_are : (s : Contents) → objects_in (pieces_of s) ≡ s.weights ++ (prio_objects s.prios ++ slot_objects s.slot)
+objects_are s =
+    objects_both (map WeightPiece s.weights) (PrioAckPiece s.prio_ack ∷ (map prio_piece s.prios ++ slot_pieces s.slot))
+    ∙ ap (λ (xs : List Kept). xs ++ objects_in (map prio_piece s.prios ++ slot_pieces s.slot)) (each_one WeightPiece (λ o. refl) s.weights)
+    ∙ ap (λ (xs : List Kept). s.weights ++ xs) (objects_both (map prio_piece s.prios) (slot_pieces s.slot)
+    ∙ ap (λ (xs : List Kept). xs ++ objects_in (slot_pieces s.slot)) (prio_ones s.prios) ∙ ap (λ (xs : List Kept). prio_objects s.prios ++ xs) (slot_ones s.slot))
+
+prios_in : (ms : List (ℕ × Kept)) → All IsOfBytes (prio_objects ms) → All IsNumberedOf ms
+unfolding IsNumberedOf
+prios_in [] all = All-nil IsNumberedOf
+prios_in (m ∷ ms) all = All-cons IsNumberedOf m ms (All-head IsOfBytes m.1 (prio_objects ms) all) (prios_in ms (All-tail IsOfBytes m.1 (prio_objects ms) all))
+
+prios_out : (ms : List (ℕ × Kept)) → All IsNumberedOf ms → All IsOfBytes (prio_objects ms)
+unfolding IsNumberedOf
+prios_out [] all = All-nil IsOfBytes
+prios_out (m ∷ ms) all = All-cons IsOfBytes m.1 (prio_objects ms) (All-head IsNumberedOf m ms all) (prios_out ms (All-tail IsNumberedOf m ms all))
+
+-- ---- all sections
+
+pub sections_in : (s : Contents) → AreOfBytes s → AreBytes (sections_bytes s)
+unfolding sections_bytes weights_bytes prios_bytes
+sections_in s of =
+    let all = subst (All IsOfBytes) (objects_are s) of in
+    let rest = all_right s.weights (prio_objects s.prios ++ slot_objects s.slot) all in
+    joined4 (weights_bytes s.weights) (big_bytes 8 s.prio_ack) (prios_bytes s.prios) (slot_bytes s.slot)
+    (counted_in IsOfBytes object_bytes object_in s.weights (all_left s.weights (prio_objects s.prios ++ slot_objects s.slot) all))
+    (of_number 8 s.prio_ack)
+    (counted_in IsNumberedOf numbered_bytes numbered_in s.prios (prios_in s.prios (all_left (prio_objects s.prios) (slot_objects s.slot) rest)))
+    (slot_in s.slot (all_right (prio_objects s.prios) (slot_objects s.slot) rest))
+
+pub sections_out : (s : Contents) → AreBytes (sections_bytes s) → AreOfBytes s
+unfolding sections_bytes weights_bytes prios_bytes
+sections_out s are =
+    let parts = parts4 (weights_bytes s.weights) (big_bytes 8 s.prio_ack) (prios_bytes s.prios) (slot_bytes s.slot) are in
+    subst (All IsOfBytes) (sym (objects_are s))
+    (All-append IsOfBytes s.weights (prio_objects s.prios ++ slot_objects s.slot) (counted_out IsOfBytes object_bytes object_out s.weights parts.0)
+    (All-append IsOfBytes (prio_objects s.prios) (slot_objects s.slot)
+    (prios_out s.prios (counted_out IsNumberedOf numbered_bytes numbered_out s.prios parts.2)) (slot_out s.slot parts.3)))
+
+-- ---- heads
+
+-- a frame's name, and its version
+name : List ℕ
+name = big_bytes 2 21321
+
+version : List ℕ
+version = big_bytes 1 1
+
+pub head_are : (h : Head) → AreBytes (head_bytes h)
+unfolding head_bytes ends_bytes numbers_bytes name version
+head_are h =
+    joined (ends_bytes h) (numbers_bytes h)
+    (joined4 name version (big_bytes 1 h.from.0) (big_bytes 1 h.to.0) (of_number 2 21321) (of_number 1 1) (of_number 1 h.from.0) (of_number 1 h.to.0))
+    (joined4 (big_bytes 8 h.boot) (big_bytes 8 h.echo) (big_bytes 8 h.counter) (big_bytes 4 h.topology)
+    (of_number 8 h.boot) (of_number 8 h.echo) (of_number 8 h.counter) (of_number 4 h.topology))

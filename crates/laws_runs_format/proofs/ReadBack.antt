@@ -1,0 +1,43 @@
+-- This format's frames are read back, and all of them is bytes.
+use Rattle.std.proofs.Common.{◌≡◌, ◌<◌, ℕ, ◌-◌, List, ◌++◌, length, take, drop, length-append, sym, ap, subst, ◌∙◌, arith}
+use Rattle.std.proofs.Math.Seq.{drop-append_seam, take-append_seam}
+use Rattle.std.proofs.lemmas.List.Elements.{All-drop, All-take}
+use Rattle.sp_base.specs.Spelling.{AreBytes}
+use Rattle.sp_frame.proofs.SectionLemmas.{read_is_spelled, spelled_is_read}
+use Rattle.sp_frame.specs.Frames.{ends_bytes, head_bytes, numbers_bytes, sections_part, signed_part}
+use Rattle.sp_frame.specs.Sections.{Contents, sections_bytes, sections_of}
+use Rattle.sp_frame.specs.declared.head.Head.{Head}
+use Rattle.sp_hmac.proofs.Lengths.{length-hmac}
+use Rattle.sp_hmac.specs.Hmac.{hmac}
+use Rattle.sp_sign.specs.Heights.{param_of}
+use Rattle.laws_runs_format.specs.FormatCarries.{FormatCarries}
+use Rattle.laws_runs_format.proofs.Bytes.{joined, of_tag}
+use Rattle.laws_runs_format.proofs.FrameBytes.{head_are, sections_in, sections_out}
+use Rattle.laws_runs_format.proofs.Signatures.{signature_are}
+
+head_long : (h : Head) → length (head_bytes h) ≡ 33
+unfolding head_bytes ends_bytes numbers_bytes
+head_long h = omega arith
+
+between : (h : Head) (s : Contents) (tag : List ℕ) → length tag ≡ 32 → sections_part ((head_bytes h ++ sections_bytes s) ++ tag) ≡ sections_bytes s
+between h s tag long =
+    let body = head_bytes h ++ sections_bytes s in
+    let all : length (body ++ tag) - 32 ≡ length body = omega (arith, length-append body tag, long) in
+    ap (λ n. drop 33 (take n (body ++ tag))) all ∙ ap (drop 33) (take-append_seam body tag)
+    ∙ ap (λ n. drop n body) (sym (head_long h)) ∙ drop-append_seam (head_bytes h) (sections_bytes s)
+
+part_are : (bytes : List ℕ) → AreBytes bytes → AreBytes (sections_part bytes)
+part_are bytes are = All-drop (λ (b : ℕ). b < 256) 33 (signed_part bytes) (All-take (λ (b : ℕ). b < 256) (length bytes - 32) bytes are)
+
+pub format_carries : FormatCarries
+format_carries = record {
+  back = λ len h s key is.
+      let inner = head_bytes h ++ sections_bytes s in
+      ap (sections_of len) (between h s (hmac key inner) (length-hmac key inner)) ∙ spelled_is_read len s is;
+  frames = λ h s of. joined (head_bytes h) (sections_bytes s) (head_are h) (sections_in s of);
+  tags = λ key bytes. of_tag key bytes;
+  signatures = λ height seed index message. signature_are (param_of height) seed index message;
+  reads = λ len bytes s are is.
+      let spelling = (read_is_spelled len (sections_part bytes) s (part_are bytes are) is).0 in
+      sections_out s (subst AreBytes spelling (part_are bytes are));
+}

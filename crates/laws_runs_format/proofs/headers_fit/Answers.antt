@@ -1,0 +1,9 @@
+use Rattle.laws_runs_format.proofs.Headers.{headers_fit}
+use Rattle.laws_runs_format.proofs.Topologies.{topologies_fit}
+use Rattle.laws_runs_format.proofs.headers_fit.Goals as goal
+
+pub returns-clause-topology : goal.returns-clause-topology
+returns-clause-topology c = topologies_fit
+
+pub returns-clause-setting : goal.returns-clause-setting
+returns-clause-setting c = headers_fit

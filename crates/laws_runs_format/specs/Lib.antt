@@ -1,0 +1,2 @@
+pub mod FormatCarries
+pub mod Headers

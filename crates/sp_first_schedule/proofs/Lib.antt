@@ -1,0 +1,13 @@
+pub mod CountLemmas
+pub mod NodeLines
+pub mod EventLemmas
+pub mod ReadLemmas
+pub mod StageLemmas
+pub mod Texts
+pub mod WholeReadings
+pub mod Spelled
+pub mod Unique
+pub mod Walks
+pub mod LineTexts
+pub mod ScheduleWalks
+pub mod GoodTexts

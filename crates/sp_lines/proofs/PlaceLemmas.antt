@@ -1,0 +1,113 @@
+-- One place: what is spelled is read, and what is read is spelled.
+use Rattle.std.proofs.Common.{◌≡◌, ℕ, ◌<◌, ◌≤◌, ◌^◌, ◌&&◌, Bool, true, false, inl, inr, List, [], length, Ok, Err, Option, Some, None, refl, sym, ap, ◌∙◌, arith, if◌then◌else◌, append-nil}
+use Rattle.std.specs.Prelude.{nat_le, nat_lt}
+use Rattle.std.specs.Fmt.{decimal}
+use Rattle.std.proofs.lemmas.Bool.{and_parts, cases_Bool}
+use Rattle.std.proofs.lemmas.Bool.Decides.{nat_tests}
+use Rattle.std.proofs.lemmas.List.{take_all}
+use Rattle.byteorder.specs.Endian.{big_bytes, big_from, big_number}
+use Rattle.byteorder.specs.Numbers.{big_number-reads_back, length-bytes_high_first}
+use Rattle.sp_base.specs.declared.limits.TheConstants.{MAX_EDGES}
+use Rattle.sp_base.proofs.NumberLemmas.{AreBytes-big_bytes, bytes_back as number_bytes}
+use Rattle.sp_base.proofs.RefusalLemmas.{then_ok}
+use Rattle.sp_text.specs.Spelling.{Word, hex_word}
+use Rattle.sp_lines.specs.Cells.{AreSoMany, bytes_at, bytes_of, in_range, mask_at, mask_word, number_at, number_of, of_length, tested_at}
+use Rattle.sp_lines.specs.declared.fault.Fault.TheVariants as faults
+use Rattle.sp_lines.proofs.Words.{bytes_back, bytes_read, number_back, number_read}
+
+-- ---- what is spelled is read
+
+pub number_at_back : (low high n : ℕ) → high < 2 ^ 64 → low ≤ n → n ≤ high → number_at low high (decimal n) ≡ Ok n
+unfolding number_at
+number_at_back low high n room above below =
+    let up : nat_le low n ≡ true = grind (arith, nat_tests, above) in
+    let down : nat_le n high ≡ true = grind (arith, nat_tests, below) in
+    rw (number_back n (omega (arith, room, below)), up, down) refl
+
+pub tested_at_back : (low high n : ℕ) (test : ℕ → Bool) → high < 2 ^ 64 → low ≤ n → n ≤ high → test n ≡ true → tested_at low high test (decimal n) ≡ Ok n
+unfolding tested_at
+tested_at_back low high n test room above below good = rw (number_at_back low high n room above below) (rw good refl)
+
+pub bytes_at_back : (low high : ℕ) (bs : List ℕ) → AreSoMany low high bs → bytes_at low high (hex_word bs) ≡ Ok bs
+unfolding bytes_at
+bytes_at_back low high bs is =
+    let up : nat_le low (length bs) ≡ true = let above = is.0 in grind (arith, nat_tests, above) in
+    let down : nat_le (length bs) high ≡ true = let below = is.1 in grind (arith, nat_tests, below) in
+    rw (bytes_back bs is.2, up, down) refl
+
+sixteen : (n : ℕ) → AreSoMany 16 16 (big_bytes 16 n)
+sixteen n =
+    let count : length (big_bytes 16 n) ≡ 16 = length-bytes_high_first 16 n in
+    (omega (arith, count), omega (arith, count), AreBytes-big_bytes 16 n)
+
+pub mask_at_back : (n : ℕ) → n < 2 ^ MAX_EDGES → mask_at (mask_word n) ≡ Ok n
+unfolding mask_at mask_word
+mask_at_back n small =
+    let back : big_number 16 (big_bytes 16 n) ≡ n = ap (λ bs. big_from 0 16 bs) (sym (append-nil (big_bytes 16 n))) ∙ big_number-reads_back 16 n [] (omega (arith, small)) in
+    let below : nat_lt n (2 ^ MAX_EDGES) ≡ true = grind (arith, nat_tests, small) in
+    rw (bytes_at_back 16 16 (big_bytes 16 n) (sixteen n)) (rw (back, below) refl)
+
+-- ---- what is read is spelled
+
+in_range_read : (low high n : ℕ) (o : Option ℕ) → in_range low high o ≡ Ok n → (o ≡ Some n) × (low ≤ n) × (n ≤ high)
+in_range_read low high n None e = absurd (cc)
+in_range_read low high n (Some m) e = elim (cases_Bool (nat_le low m && nat_le m high)) [
+  | inr f ↦ absurd (let g = rw f at e in cc)
+  | inl t ↦
+      let g : Ok m ≡ Ok n = rw t at e in
+      let is : m ≡ n = cc in
+      let both = and_parts (nat_le low m) (nat_le m high) t in
+      (cc, grind (arith, nat_tests, is), grind (arith, nat_tests, is))
+]
+
+pub number_at_read : (low high n : ℕ) (w : Word) → number_at low high w ≡ Ok n → (w ≡ decimal n) × (low ≤ n) × (n ≤ high)
+unfolding number_at
+number_at_read low high n w e =
+    let r = in_range_read low high n (number_of w) e in
+    ((number_read w n r.0).0, r.1, r.2)
+
+tested_read : (t : Bool) (n m : ℕ) → (if t then Ok m else Err faults.Range) ≡ Ok n → (m ≡ n) × (t ≡ true)
+tested_read true n m e = (cc, refl)
+tested_read false n m e = absurd (cc)
+
+pub tested_at_read : (low high n : ℕ) (test : ℕ → Bool) (w : Word) → tested_at low high test w ≡ Ok n → (w ≡ decimal n) × (low ≤ n) × (n ≤ high) × (test n ≡ true)
+unfolding tested_at
+tested_at_read low high n test w e =
+    let step = then_ok (number_at low high w) (λ m. if test m then Ok m else Err faults.Range) n e in
+    let r = number_at_read low high step.0 w step.1 in
+    let good = tested_read (test step.0) n step.0 step.2 in
+    (rw good.0 at r.0, rw good.0 at r.1, rw good.0 at r.2, rw good.0 at good.1)
+
+of_length_read : (low high : ℕ) (bs : List ℕ) (o : Option (List ℕ)) → of_length low high o ≡ Ok bs → (o ≡ Some bs) × (low ≤ length bs) × (length bs ≤ high)
+of_length_read low high bs None e = absurd (cc)
+of_length_read low high bs (Some cs) e = elim (cases_Bool (nat_le low (length cs) && nat_le (length cs) high)) [
+  | inr f ↦ absurd (let g = rw f at e in cc)
+  | inl t ↦
+      let g : Ok cs ≡ Ok bs = rw t at e in
+      let is : cs ≡ bs = cc in
+      let both = and_parts (nat_le low (length cs)) (nat_le (length cs) high) t in
+      let long : length cs ≡ length bs = ap length is in
+      (cc, grind (arith, nat_tests, long), grind (arith, nat_tests, long))
+]
+
+pub bytes_at_read : (low high : ℕ) (bs : List ℕ) (w : Word) → bytes_at low high w ≡ Ok bs → (w ≡ hex_word bs) × AreSoMany low high bs
+unfolding bytes_at
+bytes_at_read low high bs w e =
+    let r = of_length_read low high bs (bytes_of w) e in
+    let b = bytes_read w bs r.0 in
+    (b.0, (r.1, r.2, b.1))
+
+mask_read : (t : Bool) (n m : ℕ) → (if t then Ok m else Err faults.Range) ≡ Ok n → (m ≡ n) × (t ≡ true)
+mask_read true n m e = (cc, refl)
+mask_read false n m e = absurd (cc)
+
+pub mask_at_read : (n : ℕ) (w : Word) → mask_at w ≡ Ok n → (w ≡ mask_word n) × (n < 2 ^ MAX_EDGES)
+unfolding mask_at mask_word
+mask_at_read n w e =
+    let step = then_ok (bytes_at 16 16 w) (λ bs. if nat_lt (big_number 16 bs) (2 ^ MAX_EDGES) then Ok (big_number 16 bs) else Err faults.Range) n e in
+    let bs = step.0 in
+    let r = bytes_at_read 16 16 bs w step.1 in
+    let good = mask_read (nat_lt (big_number 16 bs) (2 ^ MAX_EDGES)) n (big_number 16 bs) step.2 in
+    let bytes : big_bytes 16 (big_number 16 bs) ≡ bs = number_bytes 16 bs r.1.0 r.1.2 ∙ take_all 16 bs r.1.1 in
+    let small : big_number 16 bs < 2 ^ MAX_EDGES = grind (arith, nat_tests, good.1) in
+    (r.0 ∙ ap hex_word (sym bytes ∙ ap (big_bytes 16) good.0), rw good.0 at small)

@@ -1,0 +1,83 @@
+-- The places of a line: what may stand in each, how it is read, and how it is spelled.
+--
+--     Name W               this word
+--     Number LOW HIGH      a decimal from LOW to HIGH
+--     Tested LOW HIGH T    a decimal from LOW to HIGH that passes the test T
+--     Bytes LOW HIGH       so many bytes in hexadecimal
+--     Mask                 a set of edges: 16 bytes in hexadecimal, the highest first, a bit for each edge
+use Rattle.std.specs.Prelude.{ℕ, ◌≤◌, ◌^◌, ◌&&◌, nat_le, nat_lt, nat_eq, Bool, List, [], length, Option, Some, None, Result, Ok, Err, if◌then◌else◌}
+use Rattle.std.specs.Str.Parse.{digits_value}
+use Rattle.std.specs.Cmp.Lexicographic.{pointwise}
+use Rattle.std.specs.Fmt.{decimal}
+use Rattle.byteorder.specs.Endian.{big_bytes, big_number}
+use Rattle.hex.specs.Hex.{decode_of}
+use Rattle.hex.specs.declared.error.FromHexError.{FromHexError}
+use Rattle.sp_base.specs.Refusals.{◌>>=◌}
+use Rattle.sp_base.specs.Spelling.{AreBytes}
+use Rattle.sp_base.specs.declared.limits.TheConstants.{MAX_EDGES}
+use Rattle.sp_text.specs.Spelling.{Word, hex_word}
+use Rattle.sp_lines.specs.declared.fault.Fault.{Fault}
+use Rattle.sp_lines.specs.declared.fault.Fault.TheVariants as faults
+
+-- what may stand in a place
+pub data Cell : Type 0 where
+  Name : Word → Cell
+  Number : ℕ → ℕ → Cell
+  Tested : ℕ → ℕ → (ℕ → Bool) → Cell
+  Bytes : ℕ → ℕ → Cell
+  Mask : Cell
+
+-- ---- words as values
+
+-- the two words are one
+abbrev pub same : Word → Word → Bool
+same a b = pointwise nat_eq a b
+
+abbrev pub if_number : ℕ → Word → Option ℕ
+if_number n word = if same (decimal n) word && nat_lt n (2 ^ 64) then Some n else None
+
+-- the number below 2^64 whose decimal the word is
+unfoldable pub number_of : Word → Option ℕ
+number_of word = if_number (digits_value 10 word) word
+
+abbrev pub if_bytes : Result (List ℕ) FromHexError → Word → Option (List ℕ)
+if_bytes (Ok bs) word = if same (hex_word bs) word then Some bs else None
+if_bytes (Err e) word = None
+
+-- the bytes that the word spells
+unfoldable pub bytes_of : Word → Option (List ℕ)
+bytes_of word = if same word (hex_word []) then Some [] else if_bytes (decode_of word) word
+
+-- ---- one place
+
+abbrev pub in_range : ℕ → ℕ → Option ℕ → Result ℕ Fault
+in_range low high None = Err faults.Number
+in_range low high (Some n) = if nat_le low n && nat_le n high then Ok n else Err faults.Range
+
+-- a number is judged before its range
+unfoldable pub number_at : ℕ → ℕ → Word → Result ℕ Fault
+number_at low high word = in_range low high (number_of word)
+
+-- and its range before its test
+unfoldable pub tested_at : ℕ → ℕ → (ℕ → Bool) → Word → Result ℕ Fault
+tested_at low high test word = number_at low high word >>= λ n. if test n then Ok n else Err faults.Range
+
+abbrev pub of_length : ℕ → ℕ → Option (List ℕ) → Result (List ℕ) Fault
+of_length low high None = Err faults.Hex
+of_length low high (Some bs) = if nat_le low (length bs) && nat_le (length bs) high then Ok bs else Err faults.Range
+
+-- bytes are judged before their count
+unfoldable pub bytes_at : ℕ → ℕ → Word → Result (List ℕ) Fault
+bytes_at low high word = of_length low high (bytes_of word)
+
+-- a set of edges as a word
+unfoldable pub mask_word : ℕ → Word
+mask_word n = hex_word (big_bytes 16 n)
+
+-- sixteen bytes whose number has a bit for edges alone
+unfoldable pub mask_at : Word → Result ℕ Fault
+mask_at word = bytes_at 16 16 word >>= λ bs. if nat_lt (big_number 16 bs) (2 ^ MAX_EDGES) then Ok (big_number 16 bs) else Err faults.Range
+
+-- so many bytes
+abbrev pub AreSoMany : ℕ → ℕ → List ℕ → Type 0
+AreSoMany low high bs = (low ≤ length bs) × (length bs ≤ high) × AreBytes bs

@@ -1,0 +1,56 @@
+-- What is printed, piece by piece, is the text of the schedule.
+use Rattle.std.proofs.Common.{◌≡◌, ℕ, List, [], ◌∷◌, ◌++◌, map, refl, sym, ap, ◌∙◌, append_assoc, append-nil}
+use Rattle.std.specs.Prelude.{codes}
+use Rattle.std.specs.List.{flat_map}
+use Rattle.std.proofs.lemmas.Grind.{flat_map-append}
+use Rattle.sp_text.specs.Spelling.{Word}
+use Rattle.sp_lines.specs.Rows.{line_text}
+use Rattle.sp_schedule_events.specs.Events.{event_words}
+use Rattle.sp_schedule_events.specs.declared.scenario.Scenario.{Scenario}
+use Rattle.sp_schedule_events.specs.declared.event.Event.{Event}
+use Rattle.sp_schedule.specs.Spelling.{bad_words, begin_words, edge_words, end_words, front_lines, schedule_text}
+
+lines_of : {X : Type 0} (words : X → List Word) (xs : List X) → flat_map line_text (map words xs) ≡ flat_map (λ x. line_text (words x)) xs
+lines_of words [] = refl
+lines_of words (x ∷ xs) = ap (λ (ys : List ℕ). line_text (words x) ++ ys) (lines_of words xs)
+
+one_line : (words : List Word) → flat_map line_text (words ∷ []) ≡ line_text words
+one_line words = append-nil (line_text words)
+
+-- the text of lines in five parts
+parts : (front edges bads events : List (List Word)) (begin end : List Word)
+    → flat_map line_text (((front ++ (edges ++ bads)) ++ begin ∷ []) ++ (events ++ end ∷ []))
+    ≡ ((((flat_map line_text front ++ flat_map line_text edges) ++ flat_map line_text bads) ++ line_text begin) ++ flat_map line_text events) ++ line_text end
+parts front edges bads events begin end =
+    flat_map-append line_text ((front ++ (edges ++ bads)) ++ begin ∷ []) (events ++ end ∷ [])
+    ∙ ap (λ (xs : List ℕ). xs ++ flat_map line_text (events ++ end ∷ [])) (flat_map-append line_text (front ++ (edges ++ bads)) (begin ∷ []))
+    ∙ ap (λ (xs : List ℕ). (xs ++ flat_map line_text (begin ∷ [])) ++ flat_map line_text (events ++ end ∷ [])) (flat_map-append line_text front (edges ++ bads))
+    ∙ ap (λ (xs : List ℕ). ((flat_map line_text front ++ xs) ++ flat_map line_text (begin ∷ [])) ++ flat_map line_text (events ++ end ∷ [])) (flat_map-append line_text edges bads)
+    ∙ ap (λ (xs : List ℕ). ((flat_map line_text front ++ (flat_map line_text edges ++ flat_map line_text bads)) ++ xs) ++ flat_map line_text (events ++ end ∷ [])) (one_line begin)
+    ∙ ap (λ (xs : List ℕ). ((flat_map line_text front ++ (flat_map line_text edges ++ flat_map line_text bads)) ++ line_text begin) ++ xs) (flat_map-append line_text events (end ∷ []))
+    ∙ ap (λ (xs : List ℕ). ((flat_map line_text front ++ (flat_map line_text edges ++ flat_map line_text bads)) ++ line_text begin) ++ (flat_map line_text events ++ xs)) (one_line end)
+    ∙ join (flat_map line_text front) (flat_map line_text edges) (flat_map line_text bads) (line_text begin) (flat_map line_text events) (line_text end)
+  where
+    join : (a b c d e f : List ℕ) → ((a ++ (b ++ c)) ++ d) ++ (e ++ f) ≡ ((((a ++ b) ++ c) ++ d) ++ e) ++ f
+    join a b c d e f = simp append_assoc
+
+pub printed : (s : Scenario) (es : List Event) (a b c d e f : List ℕ) → a ≡ flat_map line_text (front_lines s.seed s.height s.limits s.graph.nodes)
+    → b ≡ a ++ flat_map (λ x. line_text (edge_words x)) s.graph.edges → c ≡ b ++ flat_map (λ x. line_text (bad_words x)) s.bad → d ≡ c ++ codes "begin\n"
+    → e ≡ d ++ flat_map (λ x. line_text (event_words s x)) es → f ≡ e ++ codes "end\n" → f ≡ schedule_text s es
+unfolding schedule_text
+printed s es a b c d e f is_a is_b is_c is_d is_e is_f =
+    let text = parts (front_lines s.seed s.height s.limits s.graph.nodes) (map edge_words s.graph.edges) (map bad_words s.bad) (map (event_words s) es) begin_words end_words in
+    let front = flat_map line_text (front_lines s.seed s.height s.limits s.graph.nodes) in
+    let edges = lines_of edge_words s.graph.edges in
+    let bads = lines_of bad_words s.bad in
+    let events = lines_of (event_words s) es in
+    is_f
+    ∙ ap (λ (xs : List ℕ). xs ++ codes "end\n") (is_e
+    ∙ ap (λ (xs : List ℕ). xs ++ flat_map (λ x. line_text (event_words s x)) es) (is_d
+    ∙ ap (λ (xs : List ℕ). xs ++ codes "begin\n") (is_c
+    ∙ ap (λ (xs : List ℕ). xs ++ flat_map (λ x. line_text (bad_words x)) s.bad) (is_b
+    ∙ ap (λ (xs : List ℕ). xs ++ flat_map (λ x. line_text (edge_words x)) s.graph.edges) is_a))))
+    ∙ ap (λ (xs : List ℕ). ((((front ++ xs) ++ flat_map (λ x. line_text (bad_words x)) s.bad) ++ codes "begin\n") ++ flat_map (λ x. line_text (event_words s x)) es) ++ codes "end\n") (sym edges)
+    ∙ ap (λ (xs : List ℕ). ((((front ++ flat_map line_text (map edge_words s.graph.edges)) ++ xs) ++ codes "begin\n") ++ flat_map (λ x. line_text (event_words s x)) es) ++ codes "end\n") (sym bads)
+    ∙ ap (λ (xs : List ℕ). ((((front ++ flat_map line_text (map edge_words s.graph.edges)) ++ flat_map line_text (map bad_words s.bad)) ++ codes "begin\n") ++ xs) ++ codes "end\n") (sym events)
+    ∙ sym text

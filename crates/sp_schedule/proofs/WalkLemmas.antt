@@ -1,0 +1,250 @@
+-- The lines of a schedule lead to its end, each good in its place.
+use Rattle.std.proofs.Common.{◌≡◌, ◌≤◌, ◌<◌, ◌+◌, ◌&&◌, ℕ, Bool, true, false, List, [], ◌∷◌, ◌++◌, length, map, Option, Some, None, Result, Ok, Err, inl, inr, refl, sym, ap, ◌∙◌, subst, arith, append_assoc, append-nil, length-append, if◌then◌else◌}
+use Rattle.std.specs.Prelude.{All, IfSome, codes, nat_le, nat_lt, ◌==◌, ◌||◌, ◌^◌}
+use Rattle.std.proofs.lemmas.Bool.{and_from, cases_Bool, eq-eqb}
+use Rattle.std.proofs.lemmas.Bool.Decides.{nat_tests}
+use Rattle.std.proofs.lemmas.List.{map-append}
+use Rattle.std.proofs.lemmas.List.Elements.{All-append, All-cons, All-nil}
+use Rattle.sp_base.specs.Refusals.{◌>>=◌}
+use Rattle.sp_base.proofs.RefusalLemmas.{then_ok}
+use Rattle.sp_base.specs.declared.limits.TheConstants.{MAX_EVENTS, MAX_NODES}
+use Rattle.sp_base.specs.declared.id.NodeId.{NodeId}
+use Rattle.sp_text.specs.Spelling.{Word}
+use Rattle.sp_lines.specs.Cells.{same}
+use Rattle.sp_lines.specs.Rows.{AreIn, fits, line_of, spelled}
+use Rattle.sp_lines.specs.Texts.{follow_all}
+use Rattle.sp_lines.specs.Widths.{is_good_row}
+use Rattle.sp_lines.proofs.RowLemmas.{line_back}
+use Rattle.sp_lines.proofs.TextLemmas.{IsGoodLine}
+use Rattle.sp_lines.proofs.WidthLemmas.{good_row_line}
+use Rattle.sp_graph.specs.Edges.{IsEdge, IsGraph, IsLower, IsNextEdge, last_edge}
+use Rattle.sp_graph.specs.declared.graph.Graph.{Graph}
+use Rattle.sp_graph.proofs.Texts.{next_of, with_edges}
+use Rattle.sp_topology.specs.declared.topology.Edge.{Edge}
+use Rattle.sp_topology.specs.declared.topology.LmsHeight.{LmsHeight}
+use Rattle.sp_topology.specs.declared.topology.LmsHeight.TheVariants.{Five, Ten}
+use Rattle.sp_schedule_events.specs.Events.{event_words}
+use Rattle.sp_schedule_events.specs.EventLines.{InRange, read_event}
+use Rattle.sp_schedule_events.specs.declared.scenario.Scenario.{Scenario}
+use Rattle.sp_schedule_events.specs.declared.event.Event.{Event}
+use Rattle.sp_schedule_events.specs.declared.event.Event.TheVariants as events
+use Rattle.sp_msg.specs.declared.body.Body.TheVariants as bodies
+use Rattle.sp_lines.specs.declared.fault.Fault.{Fault}
+use Rattle.sp_schedule.specs.declared.refused.Kind.TheVariants as kinds
+use Rattle.sp_schedule_events.proofs.EventLemmas.{events_have_one_line, good_event_line}
+use Rattle.sp_schedule.specs.Header.{bad_cells, begin_cells, bounds_cells, bounds_values, edge_cells, edge_values, end_cells, height_cells, height_number, next_after, nodes_cells, seed_cells, version_cells}
+use Rattle.sp_schedule.specs.Lines.{bare, event_more, is_above, is_lower, is_next_edge, says, with_bad, with_edge}
+use Rattle.sp_schedule.specs.Scenarios.{AreInRange, Ascend, IsScenario, IsSchedule, None_yet, One_more}
+use Rattle.sp_schedule.specs.Spelling.{bad_words, begin_words, bounds_words, edge_words, end_words, front_lines, header_lines, height_words, nodes_words, scenario_lines, schedule_lines, seed_words, version_words}
+use Rattle.sp_schedule.specs.declared.refused.Kind.{Kind}
+use Rattle.sp_schedule.specs.declared.stage.Stage.{Stage}
+use Rattle.sp_schedule.specs.declared.stage.Stage.TheVariants as stages
+
+-- these lines, which can be read, lead from one stage to another
+record Follows (stage : Stage) (lines : List (List Word)) (last : Stage) : Type 0 where
+  pub good : All IsGoodLine lines
+  pub follows : follow_all says stage lines ≡ Ok last
+
+none : (stage : Stage) → Follows stage [] stage
+none stage = record { good = All-nil IsGoodLine; follows = refl }
+
+one : (stage next : Stage) (words : List Word) → IsGoodLine words → says stage words ≡ Ok next → Follows stage (words ∷ []) next
+one stage next words good is = record { good = All-cons IsGoodLine words [] good (All-nil IsGoodLine); follows = rw is refl }
+
+follow_then : (front back : List (List Word)) (stage mid last : Stage) → follow_all says stage front ≡ Ok mid → follow_all says mid back ≡ Ok last → follow_all says stage (front ++ back) ≡ Ok last
+follow_then [] back stage mid last first second = let at : stage ≡ mid = cc in subst (λ (z : Stage). follow_all says z back ≡ Ok last) (sym at) second
+follow_then (words ∷ front) back stage mid last first second =
+    let step = then_ok (says stage words) (λ next. follow_all says next front) mid first in
+    rw step.1 (follow_then front back step.0 mid last step.2 second)
+
+both : (front back : List (List Word)) (stage mid last : Stage) → Follows stage front mid → Follows mid back last → Follows stage (front ++ back) last
+both front back stage mid last first second = record {
+  good = All-append IsGoodLine front back first.good second.good;
+  follows = follow_then front back stage mid last first.follows second.follows;
+}
+
+-- ---- the header
+
+height_is : (h : LmsHeight) → (5 ≤ height_number h) × (height_number h ≤ 10)
+height_is Five = (omega arith, omega arith)
+height_is Ten = (omega arith, omega arith)
+
+height_line : (seed : List ℕ) (h : LmsHeight) → says (stages.Seed seed) (height_words h) ≡ Ok (stages.Height seed h)
+height_line seed Five = rw (line_back height_cells (5, tt) (omega arith, tt) (omega arith, omega arith, refl, tt)) refl
+height_line seed Ten = rw (line_back height_cells (10, tt) (omega arith, tt) (omega arith, omega arith, refl, tt)) refl
+
+height_good : (h : LmsHeight) → IsGoodLine (height_words h)
+height_good Five = good_row_line height_cells (5, tt) refl (omega arith, omega arith, refl, tt)
+height_good Ten = good_row_line height_cells (10, tt) refl (omega arith, omega arith, refl, tt)
+
+front_follows : (s : Scenario) → IsScenario s → Follows stages.Start (front_lines s.seed s.height s.limits s.graph.nodes) (stages.Edges (bare s.seed s.height s.limits s.graph.nodes))
+front_follows s good =
+    let seed : AreIn seed_cells (s.seed, tt) = ((omega (arith, good.seed.0), omega (arith, good.seed.0), good.seed.1), tt) in
+    let bounds : AreIn bounds_cells (bounds_values s.limits) = (good.limits.buffer.0, good.limits.buffer.1, (good.limits.store.0, good.limits.store.1, tt)) in
+    let nodes : AreIn nodes_cells (s.graph.nodes, tt) = (good.graph.nodes.0, good.graph.nodes.1, tt) in
+    let a = one stages.Start stages.Version version_words (good_row_line version_cells tt refl tt) refl in
+    let b = one stages.Version (stages.Seed s.seed) (seed_words s.seed) (good_row_line seed_cells (s.seed, tt) refl seed) (rw (line_back seed_cells (s.seed, tt) tt seed) refl) in
+    let c = one (stages.Seed s.seed) (stages.Height s.seed s.height) (height_words s.height) (height_good s.height) (height_line s.seed s.height) in
+    let d = one (stages.Height s.seed s.height) (stages.Bounds s.seed s.height s.limits) (bounds_words s.limits) (good_row_line bounds_cells (bounds_values s.limits) refl bounds)
+    (rw (line_back bounds_cells (bounds_values s.limits) (omega arith, (omega arith, tt)) bounds) refl) in
+    let e = one (stages.Bounds s.seed s.height s.limits) (stages.Edges (bare s.seed s.height s.limits s.graph.nodes)) (nodes_words s.graph.nodes) (good_row_line nodes_cells (s.graph.nodes, tt) refl nodes)
+    (rw (line_back nodes_cells (s.graph.nodes, tt) (omega arith, tt) nodes) refl) in
+    both (version_words ∷ []) _ _ _ _ a (both (seed_words s.seed ∷ []) _ _ _ _ b (both (height_words s.height ∷ []) _ _ _ _ c (both (bounds_words s.limits ∷ []) _ _ _ _ d e)))
+
+-- ---- edges
+
+lower_is : (f e : Edge) → IsLower f e → is_lower f e ≡ true
+lower_is f e (inl less) = let first : nat_lt f.low.0 e.low.0 ≡ true = grind (arith, nat_tests, less) in rw first refl
+lower_is f e (inr tie) =
+    let here : (f.low.0 == e.low.0) ≡ true = eq-eqb f.low.0 e.low.0 tie.0 in
+    let less : nat_lt f.high.0 e.high.0 ≡ true = let h = tie.1 in grind (arith, nat_tests, h) in
+    elim (cases_Bool (nat_lt f.low.0 e.low.0)) [
+      | inl first ↦ rw first refl
+      | inr first ↦ rw (first, here, less) refl
+    ]
+
+above_is : (last : Option Edge) (e : Edge) → IfSome last (λ f. IsLower f e) → is_above last e ≡ true
+above_is None e is = refl
+above_is (Some f) e is = lower_is f e is
+
+next_is : (g : Graph) (e : Edge) → IsNextEdge g e → is_next_edge g e ≡ true
+next_is g e is =
+    let less : nat_lt e.low.0 e.high.0 ≡ true = let h = is.ends.1 in grind (arith, nat_tests, h) in
+    and_from (nat_lt e.low.0 e.high.0) (is_above (last_edge g.edges) e) less (above_is (last_edge g.edges) e is.ascends)
+
+-- the scenario with these edges alone, and no compromised node
+abbrev edges_so_far : Scenario → List Edge → Scenario
+edges_so_far s edges = record { seed = s.seed; height = s.height; limits = s.limits; graph = with_edges s.graph edges; bad = [] }
+
+few_nodes : (n : ℕ) → n ≤ MAX_NODES → nat_lt n (2 ^ 64) ≡ true
+few_nodes n few = grind (arith, nat_tests, few)
+
+edge_in : (s : Scenario) (e : Edge) → IsEdge s.graph.nodes e → AreIn (edge_cells s.graph.nodes) (edge_values s.graph.nodes e)
+edge_in s e is = (is.0, omega (arith, is.1, is.2), (omega (arith, is.0, is.1), is.2, (is.3.0, is.3.1, tt)))
+
+edge_good : (s : Scenario) (e : Edge) → s.graph.nodes ≤ MAX_NODES → IsEdge s.graph.nodes e → IsGoodLine (edge_words e)
+edge_good s e few is = good_row_line (edge_cells s.graph.nodes) (edge_values s.graph.nodes e) (rw (few_nodes s.graph.nodes few) refl) (edge_in s e is)
+
+edge_line : (s : Scenario) (front : List Edge) (e : Edge) → s.graph.nodes ≤ MAX_NODES → IsEdge s.graph.nodes e → IsNextEdge (with_edges s.graph front) e
+    → says (stages.Edges (edges_so_far s front)) (edge_words e) ≡ Ok (stages.Edges (edges_so_far s (front ++ e ∷ [])))
+edge_line s front e few is next =
+    let room : s.graph.nodes < 2 ^ 64 = omega (arith, few) in
+    let read : line_of (edge_cells s.graph.nodes) (edge_words e) ≡ Ok (edge_values s.graph.nodes e) =
+    line_back (edge_cells s.graph.nodes) (edge_values s.graph.nodes e) (room, (room, (omega arith, tt))) (edge_in s e is) in
+    rw read (rw (next_is (with_edges s.graph front) e next) refl)
+
+edges_follow : (s : Scenario) (front back : List Edge) → IsGraph s.graph → s.graph.edges ≡ front ++ back
+    → Follows (stages.Edges (edges_so_far s front)) (map edge_words back) (stages.Edges (edges_so_far s s.graph.edges))
+edges_follow s front [] good is =
+    let all : front ≡ s.graph.edges = sym (is ∙ append-nil front) in
+    subst (λ (es : List Edge). Follows (stages.Edges (edges_so_far s front)) [] (stages.Edges (edges_so_far s es))) all (none (stages.Edges (edges_so_far s front)))
+edges_follow s front (e ∷ back) good is =
+    let next = next_of s.graph front back e good is in
+    let few = good.nodes.1 in
+    let first = one (stages.Edges (edges_so_far s front)) (stages.Edges (edges_so_far s (front ++ e ∷ []))) (edge_words e) (edge_good s e few next.0) (edge_line s front e few next.0 next.1) in
+    both (edge_words e ∷ []) (map edge_words back) _ _ _ first (edges_follow s (front ++ e ∷ []) back good (is ∙ sym (append_assoc front (e ∷ []) back)))
+
+-- ---- compromised nodes
+
+-- the scenario with these compromised nodes alone
+abbrev bads_so_far : Scenario → List NodeId → Scenario
+bads_so_far s bad = record { seed = s.seed; height = s.height; limits = s.limits; graph = s.graph; bad = bad }
+
+next_after_append : (low : ℕ) (front : List NodeId) (b : NodeId) → next_after low (front ++ b ∷ []) ≡ b.0 + 1
+next_after_append low [] b = refl
+next_after_append low (c ∷ front) b = next_after_append (c.0 + 1) front b
+
+bad_read : (s : Scenario) (front : List NodeId) (b : NodeId) → s.graph.nodes ≤ MAX_NODES → next_after 1 front ≤ b.0 → b.0 ≤ s.graph.nodes
+    → line_of (bad_cells (next_after 1 front) s.graph.nodes) (bad_words b) ≡ Ok (b.0, tt)
+bad_read s front b few above below = line_back (bad_cells (next_after 1 front) s.graph.nodes) (b.0, tt) (omega (arith, few), tt) (above, below, tt)
+
+bad_good : (s : Scenario) (b : NodeId) → s.graph.nodes ≤ MAX_NODES → b.0 ≤ s.graph.nodes → IsGoodLine (bad_words b)
+bad_good s b few below = good_row_line (bad_cells 0 s.graph.nodes) (b.0, tt) (rw (few_nodes s.graph.nodes few) refl) (omega arith, below, tt)
+
+bads_follow : (s : Scenario) (front back : List NodeId) → s.graph.nodes ≤ MAX_NODES → Ascend (next_after 1 front) s.graph.nodes back
+    → Follows (stages.Bads (bads_so_far s front)) (map bad_words back) (stages.Bads (bads_so_far s (front ++ back)))
+bads_follow s front [] few good =
+    subst (λ (bs : List NodeId). Follows (stages.Bads (bads_so_far s front)) [] (stages.Bads (bads_so_far s bs))) (sym (append-nil front)) (none (stages.Bads (bads_so_far s front)))
+bads_follow s front (b ∷ back) few good =
+    let read = bad_read s front b few good.0 good.1 in
+    let first = one (stages.Bads (bads_so_far s front)) (stages.Bads (bads_so_far s (front ++ b ∷ []))) (bad_words b) (bad_good s b few good.1) (rw read refl) in
+    let rest = bads_follow s (front ++ b ∷ []) back few (rw (next_after_append 1 front b) good.2) in
+    let all : Follows (stages.Bads (bads_so_far s (front ++ b ∷ []))) (map bad_words back) (stages.Bads (bads_so_far s (front ++ b ∷ back))) =
+    subst (λ (bs : List NodeId). Follows (stages.Bads (bads_so_far s (front ++ b ∷ []))) (map bad_words back) (stages.Bads (bads_so_far s bs))) (append_assoc front (b ∷ []) back) rest in
+    both (bad_words b ∷ []) (map bad_words back) _ _ _ first all
+
+begin_good : IsGoodLine begin_words
+begin_good = good_row_line begin_cells tt refl tt
+
+bads_and_begin : (s : Scenario) (bad : List NodeId) → s.graph.nodes ≤ MAX_NODES → Ascend 1 s.graph.nodes bad
+    → Follows (stages.Edges (bads_so_far s [])) (map bad_words bad ++ begin_words ∷ []) (stages.Events (bads_so_far s bad) [])
+bads_and_begin s [] few good = one (stages.Edges (bads_so_far s [])) (stages.Events (bads_so_far s []) []) begin_words begin_good refl
+bads_and_begin s (b ∷ back) few good =
+    let read = bad_read s [] b few good.0 good.1 in
+    let first = one (stages.Edges (bads_so_far s [])) (stages.Bads (bads_so_far s (b ∷ []))) (bad_words b) (bad_good s b few good.1) (rw read refl) in
+    let rest = bads_follow s (b ∷ []) back few good.2 in
+    let begin = one (stages.Bads (bads_so_far s (b ∷ back))) (stages.Events (bads_so_far s (b ∷ back)) []) begin_words begin_good refl in
+    both (bad_words b ∷ []) (map bad_words back ++ begin_words ∷ []) _ _ _ first (both (map bad_words back) (begin_words ∷ []) _ _ _ rest begin)
+
+header_follows : (s : Scenario) → IsScenario s → Follows stages.Start (header_lines s) (stages.Events s [])
+header_follows s good =
+    let few = good.graph.nodes.1 in
+    let front = front_follows s good in
+    let edges = edges_follow s [] s.graph.edges good.graph refl in
+    let bads = bads_and_begin s s.bad few good.bad in
+    let all = both (front_lines s.seed s.height s.limits s.graph.nodes) (map edge_words s.graph.edges ++ (map bad_words s.bad ++ begin_words ∷ [])) _ _ _ front
+    (both (map edge_words s.graph.edges) (map bad_words s.bad ++ begin_words ∷ []) _ _ _ edges bads) in
+    let lines : front_lines s.seed s.height s.limits s.graph.nodes ++ (map edge_words s.graph.edges ++ (map bad_words s.bad ++ begin_words ∷ [])) ≡ header_lines s =
+    ap (λ (xs : List (List Word)). front_lines s.seed s.height s.limits s.graph.nodes ++ xs) (sym (append_assoc (map edge_words s.graph.edges) (map bad_words s.bad) (begin_words ∷ [])))
+    ∙ sym (append_assoc (front_lines s.seed s.height s.limits s.graph.nodes) (map edge_words s.graph.edges ++ map bad_words s.bad) (begin_words ∷ [])) in
+    subst (λ (ls : List (List Word)). Follows stages.Start ls (stages.Events s [])) lines all
+
+-- ---- events
+
+-- the line of an event isn't `end`
+end_not : (s : Scenario) (e : Event) → fits end_cells (event_words s e) ≡ false
+end_not z (events.Rel s d payload) = refl
+end_not z (events.Prio s d prio expiry paths payload) = refl
+end_not z (events.Take d s) = refl
+end_not z (events.TakePrio d) = refl
+end_not z (events.Tick u now) = refl
+end_not z (events.Weight u v weight) = refl
+end_not z (events.Poll u v) = refl
+end_not z (events.Pass u v n) = refl
+end_not z (events.Flip u v n back bit) = refl
+end_not z (events.Inject u v bytes) = refl
+end_not z (events.CraftStatus c v s d base have) = refl
+end_not z (events.Craft c v key (bodies.Rel r)) = refl
+end_not z (events.Craft c v key (bodies.Ack a)) = refl
+end_not z (events.Craft c v key (bodies.Prio p)) = refl
+end_not z (events.Craft c v key (bodies.Weight w)) = refl
+
+event_line : (s : Scenario) (es : List Event) (e : Event) → s.graph.nodes ≤ MAX_NODES → length es < MAX_EVENTS → InRange s es e
+    → says (stages.Events s es) (event_words s e) ≡ Ok (stages.Events s (es ++ e ∷ []))
+event_line s es e few room is =
+    let read : read_event s es (event_words s e) ≡ Ok e = (events_have_one_line s es (event_words s e) e few).1 (is, refl) in
+    let more : nat_le MAX_EVENTS (length es) ≡ false = grind (arith, nat_tests, room) in
+    go (fits end_cells (event_words s e)) (nat_le MAX_EVENTS (length es)) (read_event s es (event_words s e)) (end_not s e) more read
+  where
+    go : (a b : Bool) (r : Result Event Fault) → a ≡ false → b ≡ false → r ≡ Ok e
+        → (if a then Ok (stages.End s es) else (if b then Err kinds.TooMany else event_more s es r)) ≡ Ok (stages.Events s (es ++ e ∷ []))
+    go a b r no_end some read = rw (no_end, some, read) refl
+
+events_follow : (s : Scenario) (es : List Event) → s.graph.nodes ≤ MAX_NODES → AreInRange s es → length es ≤ MAX_EVENTS
+    → Follows (stages.Events s []) (map (event_words s) es) (stages.Events s es)
+events_follow s es few None_yet count = none (stages.Events s [])
+events_follow s es few (One_more {before = before} e are is) count =
+    let room : length before < MAX_EVENTS = omega (arith, count, length-append before (e ∷ [])) in
+    let front = events_follow s before few are (omega (arith, room)) in
+    let last = one (stages.Events s before) (stages.Events s (before ++ e ∷ [])) (event_words s e) (good_event_line s before e few is) (event_line s before e few room is) in
+    subst (λ (ls : List (List Word)). Follows (stages.Events s []) ls (stages.Events s (before ++ e ∷ []))) (sym (map-append (event_words s) before (e ∷ [])))
+    (both (map (event_words s) before) (event_words s e ∷ []) _ _ _ front last)
+
+-- a schedule's lines lead to its end
+pub schedule_follows : (s : Scenario) (es : List Event) → IsSchedule s es → (All IsGoodLine (schedule_lines s es)) × (follow_all says stages.Start (schedule_lines s es) ≡ Ok (stages.End s es))
+schedule_follows s es good =
+    let few = good.scenario.graph.nodes.1 in
+    let end = one (stages.Events s es) (stages.End s es) end_words (good_row_line end_cells tt refl tt) refl in
+    let back = both (map (event_words s) es) (end_words ∷ []) _ _ _ (events_follow s es few good.events good.count) end in
+    let all = both (header_lines s) (map (event_words s) es ++ end_words ∷ []) _ _ _ (header_follows s good.scenario) back in
+    (all.good, all.follows)

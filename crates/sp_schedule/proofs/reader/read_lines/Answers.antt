@@ -1,0 +1,29 @@
+use Rattle.std.proofs.Common.{◌∙◌, ap, arith, ◌+◌, ℕ}
+use Rattle.sp_schedule.proofs.ReadingLemmas.{ends_at_end, ends_at_line, ends_at_words, leads_on_from}
+use Rattle.sp_schedule.proofs.reader.read_lines.Goals as goal
+
+pub returns-in-Ok-None : goal.returns-in-Ok-None
+returns-in-Ok-None c =
+    ends_at_end c.args.text.now c.args.is_cut c.lines.stage c.lines.count c.lines.lines.rest c.nothing_left-ending.result c.lines.invariant.goes_on
+    (rw c.in-Ok-None.field-0-is at c.in-Ok-None.ensures) c.nothing_left-ending.ensures
+
+pub returns-in-Err : goal.returns-in-Err
+returns-in-Err c =
+    ends_at_line c.args.text.now c.args.is_cut c.lines.stage c.lines.count c.lines.lines c.in-Err.refused c.in_ok-ending-in-Err.ending c.lines.invariant.goes_on
+    c.lines.invariant.given c.in-Err.ensures c.in_ok-ending-in-Err.ensures
+
+pub returns-in-Bad : goal.returns-in-Bad
+returns-in-Bad c =
+    let takes = rw c.in-Ok-Some.field-0-is at c.in-Ok-Some.ensures in
+    ends_at_words c.args.text.now c.args.is_cut c.lines.stage c.in-Bad.stage c.in-Bad.kind c.lines.count c.lines.lines.rest c.next_words.new.lines.rest _ c.in_ok-next.field-0
+    c.lines.invariant.goes_on (rw c.lines.invariant.given at takes.2) (rw c.as_slice.ensures.value at c.in_ok-next.ensures) c.in-Bad.is
+
+pub lines-preserved : goal.lines-preserved
+lines-preserved c =
+    let takes = rw c.in-Ok-Some.field-0-is at c.in-Ok-Some.ensures in
+    record {
+      given = takes.0 ∙ ap (λ (n : ℕ). n + 1) c.lines.invariant.given;
+      fits = omega (arith, takes.1, c.lines.invariant.fits);
+      goes_on = leads_on_from c.args.text.now c.lines.stage c.in-To.next c.lines.count c.lines.lines.rest c.next_words.new.lines.rest _ c.in_ok-next.field-0 c.lines.invariant.goes_on
+          (rw c.lines.invariant.given at takes.2) (rw c.as_slice.ensures.value at c.in_ok-next.ensures) c.in-To.is;
+    }

@@ -1,0 +1,80 @@
+-- The lines of a schedule's header, a row for each, and the line that ends a schedule.
+--
+--     schedule 1
+--     seed HEX64
+--     height H            5 or 10
+--     bounds B C
+--     nodes N             2..=16; the nodes are 1 to N
+--     edge A B W          none or more, A < B, lexically ascending
+--     bad I               none or more, ascending
+--     begin
+use Rattle.std.specs.Prelude.{ℕ, ◌==◌, ◌||◌, ◌+◌, Bool, List, [], ◌∷◌, codes, if◌then◌else◌}
+use Rattle.sp_base.specs.declared.limits.TheConstants.{MAX_BUFFER, MAX_NODES, MAX_STORE, MAX_WEIGHT}
+use Rattle.sp_base.specs.declared.id.NodeId.{NodeId}
+use Rattle.sp_base.specs.declared.id.Limits.{Limits}
+use Rattle.sp_lines.specs.Cells.{Bytes, Cell, Name, Number, Tested}
+use Rattle.sp_lines.specs.Rows.{Values}
+use Rattle.sp_topology.specs.declared.topology.Edge.{Edge}
+use Rattle.sp_topology.specs.declared.topology.LmsHeight.{LmsHeight}
+use Rattle.sp_topology.specs.declared.topology.LmsHeight.TheVariants.{Five, Ten}
+
+abbrev pub is_height : ℕ → Bool
+is_height n = (n == 5) || (n == 10)
+
+-- the height of a number that is one
+abbrev pub height_at : ℕ → LmsHeight
+height_at n = if n == 5 then Five else Ten
+
+abbrev pub height_number : LmsHeight → ℕ
+height_number Five = 5
+height_number Ten = 10
+
+-- the least id that may come after these compromised nodes
+abbrev pub next_after : ℕ → List NodeId → ℕ
+next_after low [] = low
+next_after low (b ∷ bs) = next_after (b.0 + 1) bs
+
+-- ---- rows
+
+abbrev pub version_cells : List Cell
+version_cells = Name (codes "schedule") ∷ Name (codes "1") ∷ []
+
+abbrev pub seed_cells : List Cell
+seed_cells = Name (codes "seed") ∷ Bytes 32 32 ∷ []
+
+abbrev pub height_cells : List Cell
+height_cells = Name (codes "height") ∷ Tested 5 10 is_height ∷ []
+
+abbrev pub bounds_cells : List Cell
+bounds_cells = Name (codes "bounds") ∷ Number 1 MAX_BUFFER ∷ Number 1 MAX_STORE ∷ []
+
+abbrev pub nodes_cells : List Cell
+nodes_cells = Name (codes "nodes") ∷ Number 2 MAX_NODES ∷ []
+
+-- an edge between so many nodes
+abbrev pub edge_cells : ℕ → List Cell
+edge_cells nodes = Name (codes "edge") ∷ Number 1 nodes ∷ Number 1 nodes ∷ Number 1 MAX_WEIGHT ∷ []
+
+-- a compromised node, from this id on
+abbrev pub bad_cells : ℕ → ℕ → List Cell
+bad_cells low nodes = Name (codes "bad") ∷ Number low nodes ∷ []
+
+abbrev pub begin_cells : List Cell
+begin_cells = Name (codes "begin") ∷ []
+
+abbrev pub end_cells : List Cell
+end_cells = Name (codes "end") ∷ []
+
+-- ---- their values
+
+abbrev pub limits_of : Values bounds_cells → Limits
+limits_of x = record { buffer = x.0; store = x.1.0 }
+
+abbrev pub bounds_values : Limits → Values bounds_cells
+bounds_values limits = (limits.buffer, (limits.store, tt))
+
+abbrev pub edge_of : (nodes : ℕ) → Values (edge_cells nodes) → Edge
+edge_of nodes x = record { low = record { 0 = x.0 }; high = record { 0 = x.1.0 }; weight = x.1.1.0 }
+
+abbrev pub edge_values : (nodes : ℕ) → Edge → Values (edge_cells nodes)
+edge_values nodes e = (e.low.0, (e.high.0, (e.weight, tt)))

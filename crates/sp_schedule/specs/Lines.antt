@@ -1,0 +1,117 @@
+-- What one line of a schedule says at its stage: the next stage, or why it is refused.
+--
+--     stage       good lines       the next stage
+--     Start       schedule 1       Version
+--     Version     seed HEX64       Seed
+--     Seed        height H         Height
+--     Height      bounds B C       Bounds
+--     Bounds      nodes N          Edges, with no edge yet
+--     Edges       edge A B W       Edges, with one edge more
+--                 bad I            Bads
+--                 begin            Events, with no event yet
+--     Bads        bad I            Bads, with one node more
+--                 begin            Events, with no event yet
+--     Events      an event         Events, with one event more
+--                 end              End
+--     End         none
+--
+-- Every bad line of the header is `Header`. After 16,384 events each line but `end` is `TooMany`, whatever else is wrong with it.
+use Rattle.std.specs.Prelude.{ℕ, ◌≡◌, ◌-◌, ◌&&◌, ◌||◌, ◌==◌, nat_le, nat_lt, Bool, true, List, [], ◌∷◌, ◌++◌, length, slice_get, Option, Some, None, Result, Ok, Err, if◌then◌else◌}
+use Rattle.sp_base.specs.Refusals.{◌>>=◌}
+use Rattle.sp_base.specs.declared.limits.TheConstants.{MAX_EVENTS}
+use Rattle.sp_base.specs.declared.id.NodeId.{NodeId}
+use Rattle.sp_base.specs.declared.id.Limits.{Limits}
+use Rattle.sp_text.specs.Spelling.{Word}
+use Rattle.sp_lines.specs.Rows.{fits, line_of}
+use Rattle.sp_lines.specs.declared.fault.Fault.{Fault}
+use Rattle.sp_lines.specs.declared.fault.Fault.TheVariants as faults
+use Rattle.sp_graph.specs.Edges.{last_edge, with_edge as with_edge_more}
+use Rattle.sp_graph.specs.declared.graph.Graph.{Graph}
+use Rattle.sp_topology.specs.declared.topology.Edge.{Edge}
+use Rattle.sp_topology.specs.declared.topology.LmsHeight.{LmsHeight}
+use Rattle.sp_schedule_events.specs.EventLines.{read_event}
+use Rattle.sp_schedule_events.specs.declared.scenario.Scenario.{Scenario}
+use Rattle.sp_schedule_events.specs.declared.event.Event.{Event}
+use Rattle.sp_schedule.specs.Header.{bad_cells, begin_cells, bounds_cells, edge_cells, edge_of, end_cells, height_at, height_cells, limits_of, next_after, nodes_cells, seed_cells, version_cells}
+use Rattle.sp_schedule.specs.Refusals.{kind_of}
+use Rattle.sp_schedule.specs.declared.lead.Lead.{Lead}
+use Rattle.sp_schedule.specs.declared.lead.Lead.TheVariants as leads
+use Rattle.sp_schedule.specs.declared.stage.Stage.{Stage}
+use Rattle.sp_schedule.specs.declared.stage.Stage.TheVariants as stages
+use Rattle.sp_schedule.specs.declared.refused.Kind.{Kind}
+use Rattle.sp_schedule.specs.declared.refused.Kind.TheVariants as kinds
+
+-- ---- scenarios that grow
+
+-- no edge yet, and no compromised node
+abbrev pub bare : List ℕ → LmsHeight → Limits → ℕ → Scenario
+bare seed height limits nodes = record { seed = seed; height = height; limits = limits; graph = record { nodes = nodes; edges = [] }; bad = [] }
+
+-- one edge more
+abbrev pub with_edge : Scenario → Edge → Scenario
+with_edge s e = record { seed = s.seed; height = s.height; limits = s.limits; graph = with_edge_more s.graph e; bad = s.bad }
+
+-- one compromised node more
+abbrev pub with_bad : Scenario → NodeId → Scenario
+with_bad s id = record { seed = s.seed; height = s.height; limits = s.limits; graph = s.graph; bad = s.bad ++ id ∷ [] }
+
+-- the first edge stands before the second in the order of their ends
+abbrev pub is_lower : Edge → Edge → Bool
+is_lower f e = nat_lt f.low.0 e.low.0 || ((f.low.0 == e.low.0) && nat_lt f.high.0 e.high.0)
+
+abbrev pub is_above : Option Edge → Edge → Bool
+is_above None e = true
+is_above (Some f) e = is_lower f e
+
+-- the lower end comes first, and the edge stands after the edges so far
+abbrev pub is_next_edge : Graph → Edge → Bool
+is_next_edge g e = nat_lt e.low.0 e.high.0 && is_above (last_edge g.edges) e
+
+-- ---- lines
+
+-- a line of the header, with where it leads
+abbrev pub header : {X : Type 0} → Result X Fault → (X → Stage) → Result Stage Kind
+header (Ok x) next = Ok (next x)
+header (Err fault) next = Err kinds.Header
+
+abbrev pub if_next : Graph → Edge → Result Edge Fault
+if_next g e = if is_next_edge g e then Ok e else Err faults.Range
+
+-- the edge of a line, where it may come next
+abbrev pub next_edge : Scenario → List Word → Result Edge Fault
+next_edge s words = line_of (edge_cells s.graph.nodes) words >>= λ x. if_next s.graph (edge_of s.graph.nodes x)
+
+abbrev pub bad_node : ℕ → NodeId
+bad_node n = record { 0 = n }
+
+-- a line of a compromised node
+abbrev pub says_bad : Scenario → List Word → Result Stage Kind
+says_bad s words = header (line_of (bad_cells (next_after 1 s.bad) s.graph.nodes) words) (λ x. stages.Bads (with_bad s (bad_node x.0)))
+
+-- a line of an edge
+abbrev pub says_edge : Scenario → List Word → Result Stage Kind
+says_edge s words = header (next_edge s words) (λ e. stages.Edges (with_edge s e))
+
+-- an event is one event more
+abbrev pub event_more : Scenario → List Event → Result Event Fault → Result Stage Kind
+event_more s es (Ok e) = Ok (stages.Events s (es ++ e ∷ []))
+event_more s es (Err fault) = Err (kind_of fault)
+
+-- what the words of a line say at a stage: where they lead, or why they are refused
+abbrev pub says : Stage → List Word → Result Stage Kind
+says stages.Start words = header (line_of version_cells words) (λ x. stages.Version)
+says stages.Version words = header (line_of seed_cells words) (λ x. stages.Seed x.0)
+says (stages.Seed seed) words = header (line_of height_cells words) (λ x. stages.Height seed (height_at x.0))
+says (stages.Height seed height) words = header (line_of bounds_cells words) (λ x. stages.Bounds seed height (limits_of x))
+says (stages.Bounds seed height limits) words = header (line_of nodes_cells words) (λ x. stages.Edges (bare seed height limits x.0))
+says (stages.Edges s) words =
+    if fits begin_cells words then Ok (stages.Events s []) else (if fits (bad_cells 0 0) words then says_bad s words else says_edge s words)
+says (stages.Bads s) words = if fits begin_cells words then Ok (stages.Events s []) else says_bad s words
+says (stages.Events s es) words =
+    if fits end_cells words then Ok (stages.End s es) else (if nat_le MAX_EVENTS (length es) then Err kinds.TooMany else event_more s es (read_event s es words))
+says (stages.End s es) words = Err kinds.AfterEnd
+
+-- what came of a line: it leads on, or the stage comes back
+abbrev pub IsLead : Stage → List Word → Lead → Type 0
+IsLead stage words (leads.To next) = says stage words ≡ Ok next
+IsLead stage words (leads.Bad back kind) = (back ≡ stage) × (says stage words ≡ Err kind)

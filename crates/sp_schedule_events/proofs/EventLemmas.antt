@@ -1,0 +1,179 @@
+-- Events, their rows and their words.
+use Rattle.std.proofs.Common.{◌≡◌, ℕ, ◌<◌, ◌≤◌, ◌^◌, Bool, true, false, List, [], ◌∷◌, Option, Some, None, Ok, Err, refl, sym, subst, ◌∙◌, arith, inl, inr, if◌then◌else◌}
+use Rattle.std.specs.Prelude.{codes, find, nat_lt}
+use Rattle.std.specs.Fmt.{decimal}
+use Rattle.std.specs.Str.Parse.{AllDigits}
+use Rattle.std.proofs.lemmas.Fmt.{decimal_is_IsNumeral}
+use Rattle.std.proofs.lemmas.Str.Parse.{digit_from_value}
+use Rattle.std.proofs.lemmas.Bool.{cases_Bool}
+use Rattle.std.proofs.lemmas.Bool.Decides.{nat_tests}
+use Rattle.sp_base.specs.declared.limits.TheConstants.{MAX_NODES}
+use Rattle.sp_base.proofs.RefusalLemmas.{then_ok}
+use Rattle.sp_msg.specs.declared.body.Body.TheVariants as bodies
+use Rattle.sp_text.specs.Spelling.{Word}
+use Rattle.sp_lines.specs.Cells.{same}
+use Rattle.sp_lines.specs.Rows.{AreIn, Values, fits, row_at, spelled}
+use Rattle.sp_lines.specs.Widths.{is_good_row}
+use Rattle.sp_lines.specs.declared.fault.Fault.TheVariants as faults
+use Rattle.sp_lines.proofs.RowLemmas.{fit_parts, row_back, row_read}
+use Rattle.sp_lines.proofs.TextLemmas.{IsGoodLine}
+use Rattle.sp_lines.proofs.WidthLemmas.{good_row_line, good_row_room}
+use Rattle.sp_lines.proofs.Words.{same_words}
+use Rattle.sp_schedule_events.specs.Events.{event_of, event_words, form_of, is_joined, values_of}
+use Rattle.sp_schedule_events.specs.EventLines.{InRange, form_for, if_joined, read_event, read_for, read_form}
+use Rattle.sp_schedule_events.specs.Laws.{EventsHaveOneLine}
+use Rattle.sp_schedule_events.specs.Table as forms
+use Rattle.sp_schedule_events.specs.Table.{Form, cells}
+use Rattle.sp_schedule_events.specs.declared.scenario.Scenario.{Scenario}
+use Rattle.sp_schedule_events.specs.declared.event.Event.{Event}
+use Rattle.sp_schedule_events.specs.declared.event.Event.TheVariants as events
+
+-- ---- rows and events
+
+-- an event is that of its row with its values
+event_back : (s : Scenario) (e : Event) → event_of s (form_of e) (values_of s e) ≡ e
+event_back z (events.Rel s d payload) = refl
+event_back z (events.Prio s d prio expiry paths payload) = refl
+event_back z (events.Take d s) = refl
+event_back z (events.TakePrio d) = refl
+event_back z (events.Tick u now) = refl
+event_back z (events.Weight u v weight) = refl
+event_back z (events.Poll u v) = refl
+event_back z (events.Pass u v n) = refl
+event_back z (events.Flip u v n back bit) = refl
+event_back z (events.Inject u v bytes) = refl
+event_back z (events.CraftStatus c v s d base have) = refl
+event_back z (events.Craft c v key (bodies.Rel r)) = refl
+event_back z (events.Craft c v key (bodies.Ack a)) = refl
+event_back z (events.Craft c v key (bodies.Prio p)) = refl
+event_back z (events.Craft c v key (bodies.Weight w)) = refl
+
+-- the words of a row's values are those of its event, which are in the same ranges
+record IsOfForm (s : Scenario) (form : Form) (xs : Values (cells s form)) : Type 0 where
+  words : event_words s (event_of s form xs) ≡ spelled (cells s form) xs
+  ranges : AreIn (cells s form) xs → AreIn (cells s (form_of (event_of s form xs))) (values_of s (event_of s form xs))
+
+of_form : (s : Scenario) (form : Form) (xs : Values (cells s form)) → IsOfForm s form xs
+of_form s forms.Rel xs = record { words = refl; ranges = λ are. are }
+of_form s forms.Prio xs = record { words = refl; ranges = λ are. are }
+of_form s forms.Take xs = record { words = refl; ranges = λ are. are }
+of_form s forms.TakePrio xs = record { words = refl; ranges = λ are. are }
+of_form s forms.Tick xs = record { words = refl; ranges = λ are. are }
+of_form s forms.Weight xs = record { words = refl; ranges = λ are. are }
+of_form s forms.Poll xs = record { words = refl; ranges = λ are. are }
+of_form s forms.Pass xs = record { words = refl; ranges = λ are. are }
+of_form s forms.Flip xs = record { words = refl; ranges = λ are. are }
+of_form s forms.Inject xs = record { words = refl; ranges = λ are. are }
+of_form s forms.CraftStatus xs = record { words = refl; ranges = λ are. are }
+of_form s forms.CraftRel xs = record { words = refl; ranges = λ are. are }
+of_form s forms.CraftAck xs = record { words = refl; ranges = λ are. are }
+of_form s forms.CraftPrio xs = record { words = refl; ranges = λ are. are }
+of_form s forms.CraftWeight xs = record { words = refl; ranges = λ are. are }
+
+-- ---- the row that an event's words fit
+
+-- no decimal is the word `status`
+not_digits : AllDigits 10 (codes "status") → ⊥
+not_digits all = let range = digit_from_value 115 all.0 in absurd (omega (arith, range.0, range.1))
+
+not_status : (n : ℕ) → n < 2 ^ 64 → same (decimal n) (codes "status") ≡ false
+not_status n small =
+    elim (cases_Bool (same (decimal n) (codes "status"))) [
+      | inr other ↦ other
+      | inl is_same ↦ absurd (not_digits (subst (AllDigits 10) (same_words (decimal n) (codes "status") is_same) (decimal_is_IsNumeral n small).0.1))
+    ]
+
+-- the key of an acknowledgement is a node
+key_small : (s : Scenario) → s.graph.nodes ≤ MAX_NODES → (n : ℕ) → n ≤ s.graph.nodes → n < 2 ^ 64
+key_small s few n below = omega (arith, few, below)
+
+form_again : (s : Scenario) (e : Event) → s.graph.nodes ≤ MAX_NODES → AreIn (cells s (form_of e)) (values_of s e) → form_for s (event_words s e) ≡ Some (form_of e)
+form_again z (events.Rel s d payload) few are = refl
+form_again z (events.Prio s d prio expiry paths payload) few are = refl
+form_again z (events.Take d s) few are = refl
+form_again z (events.TakePrio d) few are = refl
+form_again z (events.Tick u now) few are = refl
+form_again z (events.Weight u v weight) few are = refl
+form_again z (events.Poll u v) few are = refl
+form_again z (events.Pass u v n) few are = refl
+form_again z (events.Flip u v n back bit) few are = refl
+form_again z (events.Inject u v bytes) few are = refl
+form_again z (events.CraftStatus c v s d base have) few are = refl
+form_again z (events.Craft c v key (bodies.Rel r)) few are = refl
+form_again z (events.Craft c v key (bodies.Ack a)) few are = rw (not_status key.0 (key_small z few key.0 are.2.3.1)) refl
+form_again z (events.Craft c v key (bodies.Prio p)) few are = refl
+form_again z (events.Craft c v key (bodies.Weight w)) few are = refl
+
+-- the row that was found is fitted
+found_fits : {F : Type 0} (test : F → Bool) (all : List F) (found : F) → find test all ≡ Some found → test found ≡ true
+found_fits test [] found is = absurd cc
+found_fits test (x ∷ all) found is =
+    elim (cases_Bool (test x)) [
+      | inl passes ↦ (let here : Some x ≡ Some found = rw passes at is in let same_form : x ≡ found = cc in rw same_form at passes)
+      | inr fails ↦ found_fits test all found (rw fails at is)
+    ]
+
+-- ---- good rows
+
+-- each row of the table has lines that can be read
+pub good_form : (s : Scenario) (form : Form) → s.graph.nodes ≤ MAX_NODES → is_good_row (cells s form) ≡ true
+good_form s form few = go form
+  where
+    room : nat_lt s.graph.nodes (2 ^ 64) ≡ true
+    room = grind (arith, nat_tests, few)
+
+    go : (f : Form) → is_good_row (cells s f) ≡ true
+    go forms.Rel = rw room refl
+    go forms.Prio = rw room refl
+    go forms.Take = rw room refl
+    go forms.TakePrio = rw room refl
+    go forms.Tick = rw room refl
+    go forms.Weight = rw room refl
+    go forms.Poll = rw room refl
+    go forms.Pass = rw room refl
+    go forms.Flip = rw room refl
+    go forms.Inject = rw room refl
+    go forms.CraftStatus = rw room refl
+    go forms.CraftRel = rw room refl
+    go forms.CraftAck = rw room refl
+    go forms.CraftPrio = rw room refl
+    go forms.CraftWeight = rw room refl
+
+-- the line of an event in its ranges can be read
+pub good_event_line : (s : Scenario) (es : List Event) (e : Event) → s.graph.nodes ≤ MAX_NODES → InRange s es e → IsGoodLine (event_words s e)
+good_event_line s es e few is = good_row_line (cells s (form_of e)) (values_of s e) (good_form s (form_of e) few) is.values
+
+-- ---- both ways
+
+joined_read : (t : Bool) (e f : Event) → (if t then Ok e else Err faults.Range) ≡ Ok f → (e ≡ f) × (t ≡ true)
+joined_read true e f is = (cc, refl)
+joined_read false e f is = absurd cc
+
+form_read : (s : Scenario) (es : List Event) (form : Form) (words : List Word) (e : Event) → fits (cells s form) words ≡ true → read_form s es form words ≡ Ok e
+    → InRange s es e × (words ≡ event_words s e)
+unfolding read_form
+form_read s es form words e fit read =
+    let step = then_ok (row_at (cells s form) words) (λ xs. if_joined s es (event_of s form xs)) e read in
+    let xs = step.0 in
+    let joined = joined_read (is_joined s es (event_of s form xs)) (event_of s form xs) e step.2 in
+    let parts = fit_parts (cells s form) words fit in
+    let row = row_read (cells s form) words xs parts.0 parts.1 step.1 in
+    let of = of_form s form xs in
+    let all : InRange s es (event_of s form xs) × (words ≡ event_words s (event_of s form xs)) =
+    (record { values = of.ranges row.0; joined = joined.1 }, row.1 ∙ sym of.words) in
+    subst (λ (f : Event). InRange s es f × (words ≡ event_words s f)) joined.0 all
+
+event_read : (s : Scenario) (es : List Event) (words : List Word) (e : Event) → (found : Option Form) → form_for s words ≡ found → read_for s es found words ≡ Ok e
+    → InRange s es e × (words ≡ event_words s e)
+event_read s es words e None is read = absurd cc
+event_read s es words e (Some form) is read = form_read s es form words e (found_fits (λ f. fits (cells s f) words) forms.forms form is) read
+
+event_back_read : (s : Scenario) (es : List Event) (e : Event) → s.graph.nodes ≤ MAX_NODES → InRange s es e → read_event s es (event_words s e) ≡ Ok e
+unfolding read_form
+event_back_read s es e few is =
+    let row = row_back (cells s (form_of e)) (values_of s e) (good_row_room (cells s (form_of e)) (good_form s (form_of e) few)) is.values in
+    rw (form_again s e few is.values) (rw row (rw (event_back s e) (rw is.joined refl)))
+
+pub events_have_one_line : EventsHaveOneLine
+events_have_one_line s es words e few =
+    (λ read. event_read s es words e (form_for s words) refl read, λ is. rw is.1 (event_back_read s es e few is.0))

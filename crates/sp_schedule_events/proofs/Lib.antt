@@ -1,0 +1,4 @@
+pub mod CountLemmas
+pub mod EventLemmas
+pub mod WordLists
+pub mod WrittenLemmas

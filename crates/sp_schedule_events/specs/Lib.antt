@@ -1,0 +1,8 @@
+pub mod Scenarios
+pub mod Table
+pub mod Events
+pub mod EventLines
+pub mod Laws
+-- ---- what proofs and the parts of this crate use among themselves
+pub mod Counts
+pub mod Written

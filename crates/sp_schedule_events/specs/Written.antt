@@ -1,0 +1,71 @@
+-- An event as it is written: its name, and its other words, each after a space.
+use Rattle.std.specs.Prelude.{ℕ, List, [], ◌∷◌, ◌++◌, codes}
+use Rattle.std.specs.Fmt.{decimal}
+use Rattle.sp_base.specs.declared.id.NodeId.{NodeId}
+use Rattle.sp_msg.specs.declared.body.Body.{Body}
+use Rattle.sp_msg.specs.declared.body.Body.TheVariants as bodies
+use Rattle.sp_text.specs.Spelling.{Word, hex_word}
+use Rattle.sp_lines.specs.Cells.{mask_word}
+use Rattle.sp_schedule_events.specs.declared.event.Event.{Event}
+use Rattle.sp_schedule_events.specs.declared.event.Event.TheVariants as events
+
+-- the words of a crafted message
+abbrev pub body_words : Body → List Word
+body_words (bodies.Rel r) = codes "rel" ∷ decimal r.src.0 ∷ decimal r.dst.0 ∷ decimal r.seq ∷ hex_word r.payload ∷ []
+body_words (bodies.Ack a) = codes "ack" ∷ decimal a.src.0 ∷ decimal a.dst.0 ∷ decimal a.seq ∷ []
+body_words (bodies.Prio p) =
+    codes "prio" ∷ decimal p.src.0 ∷ decimal p.dst.0 ∷ decimal p.seq ∷ decimal p.prio ∷ decimal p.expiry ∷ mask_word p.mask ∷ hex_word p.payload ∷ []
+body_words (bodies.Weight w) = codes "weight" ∷ decimal w.origin.0 ∷ decimal w.edge.0 ∷ decimal w.seq ∷ decimal w.weight ∷ []
+
+-- two nodes
+abbrev pub pair_words : NodeId → NodeId → List Word
+pair_words a b = decimal a.0 ∷ decimal b.0 ∷ []
+
+-- the name of an event
+abbrev pub event_name : Event → Word
+event_name (events.Rel s d payload) = codes "rel"
+event_name (events.Prio s d prio expiry paths payload) = codes "prio"
+event_name (events.Take d s) = codes "take"
+event_name (events.TakePrio d) = codes "takep"
+event_name (events.Tick u now) = codes "tick"
+event_name (events.Weight u v weight) = codes "weight"
+event_name (events.Poll u v) = codes "poll"
+event_name (events.Pass u v n) = codes "pass"
+event_name (events.Flip u v n back bit) = codes "flip"
+event_name (events.Inject u v bytes) = codes "inject"
+event_name (events.CraftStatus c v s d base have) = codes "craft"
+event_name (events.Craft c v key body) = codes "craft"
+
+-- the node that acts, and the other node or the moment
+abbrev pub front_words : Event → List Word
+front_words (events.Rel s d payload) = pair_words s d
+front_words (events.Prio s d prio expiry paths payload) = pair_words s d
+front_words (events.Take d s) = pair_words d s
+front_words (events.TakePrio d) = decimal d.0 ∷ []
+front_words (events.Tick u now) = decimal u.0 ∷ decimal now ∷ []
+front_words (events.Weight u v weight) = pair_words u v
+front_words (events.Poll u v) = pair_words u v
+front_words (events.Pass u v n) = pair_words u v
+front_words (events.Flip u v n back bit) = pair_words u v
+front_words (events.Inject u v bytes) = pair_words u v
+front_words (events.CraftStatus c v s d base have) = pair_words c v
+front_words (events.Craft c v key body) = pair_words c v
+
+-- what comes after these
+abbrev pub back_words : Event → List Word
+back_words (events.Rel s d payload) = hex_word payload ∷ []
+back_words (events.Prio s d prio expiry paths payload) = decimal prio ∷ decimal expiry ∷ decimal paths ∷ hex_word payload ∷ []
+back_words (events.Take d s) = []
+back_words (events.TakePrio d) = []
+back_words (events.Tick u now) = []
+back_words (events.Weight u v weight) = decimal weight ∷ []
+back_words (events.Poll u v) = []
+back_words (events.Pass u v n) = decimal n ∷ []
+back_words (events.Flip u v n back bit) = decimal n ∷ decimal back ∷ decimal bit ∷ []
+back_words (events.Inject u v bytes) = hex_word bytes ∷ []
+back_words (events.CraftStatus c v s d base have) = codes "status" ∷ decimal s.0 ∷ decimal d.0 ∷ decimal base ∷ decimal have ∷ []
+back_words (events.Craft c v key body) = decimal key.0 ∷ body_words body
+
+-- all words of an event
+abbrev pub words_of : Event → List Word
+words_of e = event_name e ∷ (front_words e ++ back_words e)

@@ -1,0 +1,86 @@
+// What happens in a run, one event after the other.
+ghost use Rattle.std.specs.Prelude.{◌≡◌, IfOk};
+
+use sp_base::{Bytes, NodeId};
+use sp_msg::Body;
+
+/// One event of a schedule: a step of one node.
+#[derive(Debug, Drop)]
+pub enum Event {
+    /// A client of `s` sends a payload of at most 1,024 bytes to `d` on their reliable flow.
+    Rel {
+        s: NodeId,
+        d: NodeId,
+        payload: Bytes,
+    },
+    /// A client of `s` sends a priority message to `d`, over so many disjoint paths, or over all edges where these are 0.
+    Prio {
+        s: NodeId,
+        d: NodeId,
+        prio: u8,
+        expiry: u64,
+        paths: u8,
+        payload: Bytes,
+    },
+    /// A client of `d` takes the oldest message of the flow from `s` that was delivered and not taken yet.
+    Take {
+        d: NodeId,
+        s: NodeId,
+    },
+    /// A client of `d` takes the oldest priority message of its inbox.
+    TakePrio {
+        d: NodeId,
+    },
+    /// The clock of `u` says this moment.
+    Tick {
+        u: NodeId,
+        now: u64,
+    },
+    /// `u` sets the weight of its link to `v`.
+    Weight {
+        u: NodeId,
+        v: NodeId,
+        weight: u32,
+    },
+    /// `u` makes its next frame for its neighbour `v`. The frames of a direction are numbered 1, 2, 3.
+    Poll {
+        u: NodeId,
+        v: NodeId,
+    },
+    /// The frame of this number that `u` made for `v` arrives at `v`.
+    Pass {
+        u: NodeId,
+        v: NodeId,
+        number: u32,
+    },
+    /// It arrives with one bit changed, 0 the least, of the byte that stands so far from its end, 1 the last.
+    Flip {
+        u: NodeId,
+        v: NodeId,
+        number: u32,
+        back: u8,
+        bit: u8,
+    },
+    /// At most 65,507 bytes arrive at `v` from the address of `u`.
+    Inject {
+        u: NodeId,
+        v: NodeId,
+        bytes: Bytes,
+    },
+    /// `c` sends `v` a frame with one message that is signed by the key of a node.
+    Craft {
+        c: NodeId,
+        v: NodeId,
+        key: NodeId,
+        body: Body,
+    },
+    /// `c` sends `v` a frame with a report and no message.
+    CraftStatus {
+        c: NodeId,
+        v: NodeId,
+        s: NodeId,
+        d: NodeId,
+        base: u64,
+        have: u64,
+    },
+}

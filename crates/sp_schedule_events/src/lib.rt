@@ -1,0 +1,27 @@
+//! What happens to an overlay, one event after the other, and the line that says each.
+#![tactic(auto)]
+
+mod craft_line;
+mod dispatch;
+mod event;
+mod event_copy;
+mod event_line;
+mod event_text;
+mod frame_line;
+mod joined;
+mod laws;
+mod nodes;
+mod poll_counts;
+mod scenario;
+mod timeline;
+
+pub use dispatch::read_event;
+pub use event::Event;
+pub use event_text::push_event;
+pub use laws::events_have_one_line;
+pub use nodes::is_bad;
+pub use scenario::Scenario;
+pub use sp_graph::Graph;
+pub use sp_lines::{Fault, LineRefused};
+pub use sp_topology::{Edge, LmsHeight};
+pub use timeline::Timeline;

@@ -1,0 +1,75 @@
+// The events of a schedule in their order, with the number of polls of each direction.
+ghost use Rattle.std.specs.Prelude.{◌≡◌, ◌<◌, ◌∷◌, ◌++◌, [], length, OnOk, OnErr};
+ghost use Rattle.sp_base.specs.declared.limits.TheConstants.{MAX_EVENTS};
+ghost use Rattle.sp_schedule_events.specs.Events.{polls};
+
+use crate::Event;
+use crate::poll_counts::PollCounts;
+use sp_base::{Memory, NodeId, push_in_room};
+use std::alloc::Global;
+use std::marker::Model;
+
+/// Events in the order in which they happen.
+#[derive(Debug, Drop)]
+pub struct Timeline {
+    events: Vec<Event>,
+    counts: PollCounts,
+}
+
+impl Model for Timeline {
+    ghost use Rattle.std.specs.Prelude.{List};
+    ghost use Rattle.sp_schedule_events.specs.declared.event.Event as event;
+    ghost use Rattle.sp_schedule_events.specs.Counts.{AreCounted};
+
+    ghost Value = { List event.Event };
+
+    ghost view = { λ t. t.events.items };
+
+    ghost invariant = { λ t. AreCounted t.events.items t.counts };
+}
+
+impl Timeline {
+    /// No event yet. It takes no memory.
+    pub fn new(alloc: Global) -> Timeline
+        ensures { result ≡ [] }
+    {
+        Timeline {
+            events: Vec::new(alloc),
+            counts: PollCounts::new(alloc),
+        }
+    }
+
+    /// The events. It takes no memory.
+    pub fn into_events(self) -> Vec<Event>
+        ensures { result.items ≡ self }
+    {
+        let Timeline { events, counts } = self;
+        drop(counts);
+        events
+    }
+
+    pub fn len(&self) -> usize
+        ensures { result ≡ length self.now }
+    {
+        self.events.len()
+    }
+
+    /// How many frames the events make of `u` for `v`.
+    pub fn polls(&self, u: NodeId, v: NodeId) -> u32
+        ensures { result ≡ polls self.now u.0 v.0 }
+    {
+        self.counts.polls(u, v)
+    }
+
+    /// One more event at the end. After an error the events are as before.
+    pub fn push(&mut self, event: Event) -> Result<(), Memory>
+        requires { length self.old < MAX_EVENTS }
+        ensures ok { OnOk result (self.new ≡ self.old ++ event ∷ []) }
+        ensures err { OnErr result (self.new ≡ self.old) }
+    {
+        self.events.reserve(1)?;
+        self.counts.count(&event)?;
+        push_in_room(&mut self.events, event);
+        Ok(())
+    }
+}
