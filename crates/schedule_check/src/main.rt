@@ -1,5 +1,6 @@
 //! `schedule_check`: reads a schedule from standard input, and writes its text again, or the line that tells its first refusal.
 #![tactic(auto)]
+
 ghost use Rattle.std.specs.Prelude.{◌≤◌, length};
 ghost use Rattle.sp_base.specs.declared.limits.TheConstants.{MAX_INPUT_BYTES};
 

@@ -7,8 +7,7 @@ ghost use Rattle.sp_lms.specs.Nodes.{HasGrown, HasNodes};
 
 use crate::LmsParam;
 use crate::hashes::{inner_hash, leaf_hash};
-use sp_ots::LANES;
-use sp_ots::{OtsParam, publics};
+use sp_ots::{LANES, OtsParam, publics};
 
 /// Writes every node of the seed's tree at the place of its number, several leaves at once.
 pub(crate) fn grow_all(

@@ -6,8 +6,7 @@ use crate::tree::{ID, LEAF, message};
 use crate::work::{Bench, Work};
 use sha2::{Digest, Sha256};
 use sp_hss::LmsParam;
-use sp_ots::LANES;
-use sp_ots::OtsParam;
+use sp_ots::{LANES, OtsParam};
 
 /// The compressions that the work takes for the messages below `count`, with what was prepared for it.
 pub fn compressions(work: Work, count: u32, bench: &mut Bench) -> u64 {

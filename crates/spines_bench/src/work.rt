@@ -7,8 +7,9 @@ use crate::tree::{ID, LEAF, SEED, message};
 use sha2::{Digest, Sha256};
 use sp_hmac::Keyed;
 use sp_hss::{HssRefused, LmsParam};
-use sp_ots::{LANES, digests};
-use sp_ots::{OtsParam, candidate, run_chains, run_chains_one_by_one, sig_len, sign};
+use sp_ots::{
+    LANES, OtsParam, candidate, digests, run_chains, run_chains_one_by_one, sig_len, sign,
+};
 use std::alloc::Global;
 
 /// A work that is done again and again.

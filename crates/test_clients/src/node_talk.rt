@@ -1,8 +1,8 @@
 // A talk of clients with a whole node: node 1 of three in a line 1-2-3, with weights 10, two messages of a flow and four of a store.
 use sp_base::{EdgeId, Limits, Listed, NodeId};
 use sp_client::Clients;
-use sp_hss::{LmsParam, Signer, public_key};
 use sp_client_node::LocalNode;
+use sp_hss::{LmsParam, Signer, public_key};
 use sp_node::{Node, NodeConfig, can_boot};
 use sp_sign::NodeSigner;
 use sp_topology::Topology;
