@@ -1,4 +1,31 @@
-//! One node: every call of it is one step of the overlay's rules, or is refused with its cause and leaves all as it was.
+//! One node of the overlay, without a network, a clock or a disk: every call of it is one step of the overlay's rules, or is refused with its
+//! cause and leaves all as it was.
+//!
+//! # The order of calls
+//! 1. `Node::boot`, with a boot number above that of every life before. The signer has its indexes reserved up to a bound.
+//! 2. Then, in any order and as often as the caller likes: `tick` with the time, `datagram` with what came from a neighbour's address, `poll` of a
+//!    neighbour and then the frame out to it, and what clients ask: `send_rel`, `send_prio`, `set_weight`, `take_rel`, `take_prio`.
+//!
+//! # When to call
+//! - `poll` a neighbour whenever a frame may go to it. A frame is made at each poll, also where nothing waits: it carries the acknowledged link number,
+//!   a report, and the boot that the neighbour must echo. So a neighbour that isn't polled hears nothing, and sends on what it has sent. A poll too many
+//!   costs a frame and a tag. A frame that is lost is no harm: what it carried goes again until the neighbour reports it.
+//! - `tick` as time goes on. A tick with an earlier time leaves the clock as it is. One tick signs at most one acknowledgement, so a destination of many
+//!   flows ticks as often as messages come to it. Without ticks nothing expires and nothing is acknowledged.
+//! - `datagram` at once, in the order of arrival. A datagram that comes twice is `Stale` the second time, and changes nothing.
+//!
+//! # What a caller owes
+//! - `Effect::Signed(bytes)` says that an index of the key is used. The index must never come again, whatever stops the process: so indexes are reserved on
+//!   a disk first, then `extend` hands them to the signer, and only then may a frame with such a signature leave. `index` and `bound` say how many are left.
+//! - `extend(upto)` may only be called once the reservation up to `upto` is on the disk.
+//! - `Effect::Delivered` and `DeliveredPrio` are told once, when the message arrives; its payload waits until a client takes it. A full inbox refuses what
+//!   comes after it, until somebody takes.
+//! - `Stored`, `Gone` and `WeightHeld` ask for nothing: they tell what the node keeps.
+//! - After `Memory` the node is as before the call, and the call may be made again. After `Worn` the life is over: boot again, with the next number.
+//!
+//! # What it costs
+//! A datagram costs one tag where it is a frame for this node, and a signature check for each object that may be new when its turn comes: `datagram` promises
+//! that it is no more. A poll costs one tag, a send one signature, and a send over paths one search beside it.
 #![tactic(auto)]
 
 mod datagram;
