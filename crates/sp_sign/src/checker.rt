@@ -1,5 +1,5 @@
 // Checking the signatures of all nodes of a topology: of each node, the half that its signatures share is checked once.
-ghost use Rattle.std.specs.Prelude.{◌≡◌, ◌<◌, ◌≤◌, ◌+◌, ◌↔◌, Some, None, Ok, Err, IfOk, IfSome, IsNone, IsOk, IsTrue, map};
+ghost use Rattle.std.specs.Prelude.{◌≡◌, ◌≢◌, ◌<◌, ◌≤◌, ◌+◌, ◌-◌, ◌^◌, ◌↔◌, min, Some, None, Ok, Err, IfOk, IfSome, IsNone, IsOk, IsTrue, map};
 ghost use Rattle.sp_msg.specs.Bodies.{read_body};
 ghost use Rattle.sp_msg.specs.Views.{as_body, signer_of};
 ghost use Rattle.sp_topology.specs.Keys.{key_of};
@@ -70,8 +70,9 @@ impl Checker {
         ensures unknown { (result ≡ Err SignRefused.UnknownSigner) ↔ (key_of (signer_of (as_body body.now)).0 self.old.nodes ≡ None) }
         ensures bad { (result ≡ Err SignRefused.BadSignature) ↔ IsForged (key_of (signer_of (as_body body.now)).0 self.old.nodes) bytes.now signature.now }
         ensures nodes { self.new.nodes ≡ self.old.nodes }
-        ensures counted { self.new.checks ≤ self.old.checks + 1 }
+        ensures counted { result ≢ Err SignRefused.UnknownSigner → self.new.checks ≡ min (self.old.checks + 1) (2 ^ 64 - 1) }
         ensures uncounted { result ≡ Err SignRefused.UnknownSigner → self.new.checks ≡ self.old.checks }
+        ensures at_most_one { self.new.checks ≤ self.old.checks + 1 }
     {
         let Some(place) = place_of(&self.nodes, signer(body)) else {
             return Err(SignRefused::UnknownSigner);
