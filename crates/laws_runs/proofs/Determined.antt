@@ -22,9 +22,9 @@ use Rattle.sp_runs.specs.Journals.{Says, reply_word}
 use Rattle.sp_runs.specs.Runs.{Clean, InRange, Move, Moves, Spends, Starts, Stays, Turn, Turned, directions_after, next_frame}
 use Rattle.sp_runs.specs.Settings.{Setting, SettingFits}
 use Rattle.sp_runs.specs.Worlds.{World, at_start, with_node}
-use Rattle.sp_runs.specs.declared.entry.Entry.{Entry}
-use Rattle.sp_runs.specs.declared.event.Event.{Event}
-use Rattle.sp_runs.specs.declared.event.Event.TheVariants as events
+use Rattle.sp_journal.specs.declared.entry.Entry.{Entry}
+use Rattle.sp_schedule_events.specs.declared.event.Event.{Event}
+use Rattle.sp_schedule_events.specs.declared.event.Event.TheVariants as events
 use Rattle.laws_runs.specs.Premises.{Carries}
 use Rattle.laws_runs.specs.States.{RunsAreDetermined}
 use Rattle.laws_runs.proofs.Facts.{Good, sizes_at}

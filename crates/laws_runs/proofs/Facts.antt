@@ -19,8 +19,8 @@ use Rattle.sp_runs.specs.Forgery.{is_among}
 use Rattle.sp_runs.specs.Settings.{Setting, first_signer, fixed_of, is_correct, link_keys}
 use Rattle.sp_runs.specs.Told.{signed}
 use Rattle.sp_runs.specs.Worlds.{World, frames_in, node_in}
-use Rattle.sp_runs.specs.declared.entry.Entry.{Entry}
-use Rattle.sp_runs.specs.declared.event.Event.{Event}
+use Rattle.sp_journal.specs.declared.entry.Entry.{Entry}
+use Rattle.sp_schedule_events.specs.declared.event.Event.{Event}
 use Rattle.laws_runs.specs.Premises.{IsOfBytes}
 
 -- ---- signed objects

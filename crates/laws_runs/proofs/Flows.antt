@@ -49,11 +49,11 @@ use Rattle.sp_runs.specs.Journals.{Says, refused_word, reply_word}
 use Rattle.sp_runs.specs.Settings.{Setting, SettingFits, is_correct}
 use Rattle.sp_runs.specs.Told.{Message, accepted_in, delivered, sent, signed}
 use Rattle.sp_runs.specs.Worlds.{World, node_in}
-use Rattle.sp_runs.specs.declared.entry.Entry.{Entry}
-use Rattle.sp_runs.specs.declared.entry.Reply.{Reply}
-use Rattle.sp_runs.specs.declared.entry.Reply.TheVariants as replies
-use Rattle.sp_runs.specs.declared.event.Event.{Event}
-use Rattle.sp_runs.specs.declared.event.Event.TheVariants as events
+use Rattle.sp_journal.specs.declared.entry.Entry.{Entry}
+use Rattle.sp_journal.specs.declared.entry.Reply.{Reply}
+use Rattle.sp_journal.specs.declared.entry.Reply.TheVariants as replies
+use Rattle.sp_schedule_events.specs.declared.event.Event.{Event}
+use Rattle.sp_schedule_events.specs.declared.event.Event.TheVariants as events
 use Rattle.laws_runs.specs.Acknowledged.{ack_in, acknowledged, acks_in}
 use Rattle.laws_runs.specs.Flows.{IsIn, AreNumbered}
 use Rattle.laws_runs.proofs.Facts.{Good, Known, NodeIs, sizes_at}

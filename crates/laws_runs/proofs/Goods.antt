@@ -33,8 +33,8 @@ use Rattle.sp_runs.specs.Runs.{Move}
 use Rattle.sp_runs.specs.Settings.{Setting, SettingFits, first_signer, fixed_of, is_correct, link_keys, node_at_boot}
 use Rattle.sp_runs.specs.Told.{signed, signed_by, told_at}
 use Rattle.sp_runs.specs.Worlds.{World, at_start, node_in}
-use Rattle.sp_runs.specs.declared.entry.Entry.{Entry}
-use Rattle.sp_runs.specs.declared.event.Event.{Event}
+use Rattle.sp_journal.specs.declared.entry.Entry.{Entry}
+use Rattle.sp_schedule_events.specs.declared.event.Event.{Event}
 use Rattle.sp_runs.specs.declared.what.What.TheVariants as whats
 use Rattle.laws_runs.proofs.Facts.{Good, Known, NodeIs}
 use Rattle.laws_runs.specs.Premises.{IsOfBytes}

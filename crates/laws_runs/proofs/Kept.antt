@@ -19,8 +19,8 @@ use Rattle.laws_node.proofs.Weaker.{node_weaker}
 use Rattle.sp_runs.specs.Forgery.{is_among}
 use Rattle.sp_runs.specs.Settings.{Setting, is_correct}
 use Rattle.sp_runs.specs.Told.{signed}
-use Rattle.sp_runs.specs.declared.entry.Entry.{Entry}
-use Rattle.sp_runs.specs.declared.event.Event.{Event}
+use Rattle.sp_journal.specs.declared.entry.Entry.{Entry}
+use Rattle.sp_schedule_events.specs.declared.event.Event.{Event}
 use Rattle.laws_runs.specs.States.{WhatIsKeptWasSigned, is_good_in, is_known_in, is_valid_in}
 use Rattle.laws_runs.proofs.Facts.{Good, sizes_at}
 use Rattle.laws_runs.proofs.Signed.{signs}

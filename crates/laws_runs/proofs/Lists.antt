@@ -10,8 +10,8 @@ use Rattle.std.proofs.lemmas.List.Folds.{list_any-append}
 use Rattle.sp_base.proofs.ListLemmas.{zip-push}
 use Rattle.sp_runs.specs.Forgery.{is_among}
 use Rattle.sp_runs.specs.Told.{told}
-use Rattle.sp_runs.specs.declared.entry.Entry.{Entry}
-use Rattle.sp_runs.specs.declared.event.Event.{Event}
+use Rattle.sp_journal.specs.declared.entry.Entry.{Entry}
+use Rattle.sp_schedule_events.specs.declared.event.Event.{Event}
 
 -- one more event adds what it tells
 pub told_more : {X : Type 0} (tells : Event × Entry → List X) (es : List Event) (js : List Entry) (e : Event) (j : Entry) → length es ≡ length js

@@ -22,9 +22,9 @@ use Rattle.sp_runs.specs.Inputs.{input_of}
 use Rattle.sp_runs.specs.Runs.{Clean, Move, Moves, Stays, Turn, forged_in}
 use Rattle.sp_runs.specs.Settings.{Setting, SettingFits, is_correct}
 use Rattle.sp_runs.specs.Worlds.{World, frames_in}
-use Rattle.sp_runs.specs.declared.entry.Entry.{Entry}
-use Rattle.sp_runs.specs.declared.event.Event.{Event}
-use Rattle.sp_runs.specs.declared.event.Event.TheVariants as events
+use Rattle.sp_journal.specs.declared.entry.Entry.{Entry}
+use Rattle.sp_schedule_events.specs.declared.event.Event.{Event}
+use Rattle.sp_schedule_events.specs.declared.event.Event.TheVariants as events
 use Rattle.sp_runs.specs.declared.what.What.{What}
 use Rattle.sp_runs.specs.declared.what.What.TheVariants as whats
 use Rattle.laws_runs.specs.Laws.{IsHostile, OnlyTheAdversaryForges}

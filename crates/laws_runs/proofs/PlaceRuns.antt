@@ -23,8 +23,8 @@ use Rattle.sp_runs.specs.Runs.{Clean, Starts, Turned, Moves, Stays, Move, Spends
 use Rattle.sp_runs.specs.Settings.{Setting, SettingFits, fixed_of, node_at_boot}
 use Rattle.sp_runs.specs.Told.{effects_at, told_at}
 use Rattle.sp_runs.specs.Worlds.{World, at_start, node_in}
-use Rattle.sp_runs.specs.declared.entry.Entry.{Entry as JournalEntry}
-use Rattle.sp_runs.specs.declared.event.Event.{Event}
+use Rattle.sp_journal.specs.declared.entry.Entry.{Entry as JournalEntry}
+use Rattle.sp_schedule_events.specs.declared.event.Event.{Event}
 use Rattle.laws_runs.specs.Premises.{Carries}
 use Rattle.laws_runs.specs.Shares.{EvictionsLeaveShares}
 use Rattle.laws_runs.proofs.Facts.{Good}

@@ -47,10 +47,10 @@ use Rattle.sp_runs.specs.Forgery.{is_among}
 use Rattle.sp_runs.specs.Journals.{Says, refused_word, reply_word}
 use Rattle.sp_runs.specs.Settings.{Setting}
 use Rattle.sp_runs.specs.Told.{Message, prio_accepted_in, prio_by, signed_by}
-use Rattle.sp_runs.specs.declared.entry.Entry.{Entry}
-use Rattle.sp_runs.specs.declared.entry.Reply.{Reply}
-use Rattle.sp_runs.specs.declared.entry.Reply.TheVariants as replies
-use Rattle.sp_runs.specs.declared.event.Event.TheVariants as events
+use Rattle.sp_journal.specs.declared.entry.Entry.{Entry}
+use Rattle.sp_journal.specs.declared.entry.Reply.{Reply}
+use Rattle.sp_journal.specs.declared.entry.Reply.TheVariants as replies
+use Rattle.sp_schedule_events.specs.declared.event.Event.TheVariants as events
 use Rattle.laws_runs.specs.Priority.{AreAmong, IsOneOf}
 use Rattle.laws_runs.proofs.Facts.{NodeIs, sizes_at}
 use Rattle.laws_runs.proofs.FlowPieces.{quiet_acked, quiet_expired, quiet_gone, quiet_prio, quiet_weight}

@@ -19,8 +19,8 @@ use Rattle.sp_runs.specs.Inputs.{crafted_frame, crafted_head, crafted_object, cr
 use Rattle.sp_runs.specs.Runs.{InRange}
 use Rattle.sp_runs.specs.Settings.{Setting}
 use Rattle.sp_runs.specs.Worlds.{Direction, World, frame_in, frames_in}
-use Rattle.sp_runs.specs.declared.event.Event.{Event}
-use Rattle.sp_runs.specs.declared.event.Event.TheVariants as events
+use Rattle.sp_schedule_events.specs.declared.event.Event.{Event}
+use Rattle.sp_schedule_events.specs.declared.event.Event.TheVariants as events
 use Rattle.laws_runs.specs.Premises.{AreOfBytes, Carries, IsOfBytes}
 
 -- ---- a frame that was made comes

@@ -22,8 +22,8 @@ use Rattle.sp_runs.specs.Forgery.{is_among}
 use Rattle.sp_runs.specs.Settings.{Setting, SettingFits, is_correct, is_node}
 use Rattle.sp_runs.specs.Told.{sent, signed}
 use Rattle.sp_runs.specs.Worlds.{World}
-use Rattle.sp_runs.specs.declared.entry.Entry.{Entry}
-use Rattle.sp_runs.specs.declared.event.Event.{Event}
+use Rattle.sp_journal.specs.declared.entry.Entry.{Entry}
+use Rattle.sp_schedule_events.specs.declared.event.Event.{Event}
 use Rattle.laws_runs.specs.Flows.{AreSent, IsIn, flow_at}
 use Rattle.laws_runs.proofs.Facts.{Good, NodeIs, sizes_at}
 use Rattle.laws_runs.proofs.FlowFacts.{flow_of}

@@ -35,9 +35,9 @@ use Rattle.sp_runs.specs.Inputs.{acting, input_of}
 use Rattle.sp_runs.specs.Runs.{Clean, InRange, Starts, Turned, Moves, Stays, Move, directions_after}
 use Rattle.sp_runs.specs.Settings.{Setting, SettingFits, fixed_of}
 use Rattle.sp_runs.specs.Worlds.{Direction, World, frames_in}
-use Rattle.sp_runs.specs.declared.entry.Entry.{Entry}
-use Rattle.sp_runs.specs.declared.event.Event.{Event}
-use Rattle.sp_runs.specs.declared.event.Event.TheVariants as events
+use Rattle.sp_journal.specs.declared.entry.Entry.{Entry}
+use Rattle.sp_schedule_events.specs.declared.event.Event.{Event}
+use Rattle.sp_schedule_events.specs.declared.event.Event.TheVariants as events
 use Rattle.laws_runs.proofs.Facts.{Good, NodeIs, Signs, sizes_at}
 use Rattle.laws_runs.specs.Premises.{Carries, IsOfBytes}
 use Rattle.laws_runs.proofs.Reaches.{input_fits, payload_fits}

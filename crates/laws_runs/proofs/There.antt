@@ -11,8 +11,8 @@ use Rattle.sp_runs.specs.Runs.{Clean, Starts, Turned, Moves, Stays}
 use Rattle.sp_runs.specs.Settings.{Setting, SettingFits, is_correct, is_one_of, node_at_boot}
 use Rattle.sp_runs.specs.Worlds.{World, is_me, node_in}
 use Rattle.sp_runs.specs.Inputs.{acting}
-use Rattle.sp_runs.specs.declared.entry.Entry.{Entry}
-use Rattle.sp_runs.specs.declared.event.Event.{Event}
+use Rattle.sp_journal.specs.declared.entry.Entry.{Entry}
+use Rattle.sp_schedule_events.specs.declared.event.Event.{Event}
 use Rattle.laws_runs.specs.Premises.{Carries}
 use Rattle.laws_runs.specs.States.{CorrectNodesAreThere}
 use Rattle.laws_runs.proofs.FlowFacts.{still_there}

@@ -8,8 +8,8 @@ use Rattle.sp_msg.specs.declared.body.Body.TheVariants as bodies
 use Rattle.sp_msg.specs.declared.refused.MsgRefused.{MsgRefused}
 use Rattle.sp_rules.specs.Window.{greatest}
 use Rattle.sp_runs.specs.Told.{signed}
-use Rattle.sp_runs.specs.declared.entry.Entry.{Entry}
-use Rattle.sp_runs.specs.declared.event.Event.{Event}
+use Rattle.sp_journal.specs.declared.entry.Entry.{Entry}
+use Rattle.sp_schedule_events.specs.declared.event.Event.{Event}
 
 -- the number of the acknowledgement of this flow that a message is
 abbrev pub ack_in : NodeId → NodeId → Result Body MsgRefused → List ℕ

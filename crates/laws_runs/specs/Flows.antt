@@ -15,8 +15,8 @@ use Rattle.sp_runs.specs.Runs.{Clean}
 use Rattle.sp_runs.specs.Settings.{Setting, SettingFits, is_correct, is_node}
 use Rattle.sp_runs.specs.Told.{Message, delivered, sent, signed}
 use Rattle.sp_runs.specs.Worlds.{World, node_in}
-use Rattle.sp_runs.specs.declared.entry.Entry.{Entry}
-use Rattle.sp_runs.specs.declared.event.Event.{Event}
+use Rattle.sp_journal.specs.declared.entry.Entry.{Entry}
+use Rattle.sp_schedule_events.specs.declared.event.Event.{Event}
 use Rattle.laws_runs.specs.Acknowledged.{acknowledged}
 use Rattle.laws_runs.specs.Premises.{Carries}
 

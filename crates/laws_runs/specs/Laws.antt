@@ -7,9 +7,9 @@ use Rattle.sp_runs.specs.Bounds.{IsBounded}
 use Rattle.sp_runs.specs.Runs.{Clean, IsForgedAt}
 use Rattle.sp_runs.specs.Settings.{Setting, SettingFits}
 use Rattle.sp_runs.specs.Worlds.{World, node_in}
-use Rattle.sp_runs.specs.declared.entry.Entry.{Entry}
-use Rattle.sp_runs.specs.declared.event.Event.{Event}
-use Rattle.sp_runs.specs.declared.event.Event.TheVariants as events
+use Rattle.sp_journal.specs.declared.entry.Entry.{Entry}
+use Rattle.sp_schedule_events.specs.declared.event.Event.{Event}
+use Rattle.sp_schedule_events.specs.declared.event.Event.TheVariants as events
 use Rattle.sp_runs.specs.declared.what.What.{What}
 use Rattle.laws_runs.specs.Premises.{Carries}
 

@@ -7,8 +7,8 @@ use Rattle.sp_runs.specs.Told.{effects_at}
 use Rattle.sp_runs.specs.Runs.{Clean}
 use Rattle.sp_runs.specs.Settings.{Setting, SettingFits}
 use Rattle.sp_runs.specs.Worlds.{World}
-use Rattle.sp_runs.specs.declared.entry.Entry.{Entry}
-use Rattle.sp_runs.specs.declared.event.Event.{Event}
+use Rattle.sp_journal.specs.declared.entry.Entry.{Entry}
+use Rattle.sp_schedule_events.specs.declared.event.Event.{Event}
 use Rattle.laws_runs.specs.Premises.{Carries}
 
 -- at each place of each node

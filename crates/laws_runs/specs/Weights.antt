@@ -16,8 +16,8 @@ use Rattle.sp_runs.specs.Runs.{Clean}
 use Rattle.sp_runs.specs.Settings.{Setting, SettingFits, is_correct}
 use Rattle.sp_runs.specs.Told.{effects_at, signed}
 use Rattle.sp_runs.specs.Worlds.{World, node_in}
-use Rattle.sp_runs.specs.declared.entry.Entry.{Entry}
-use Rattle.sp_runs.specs.declared.event.Event.{Event}
+use Rattle.sp_journal.specs.declared.entry.Entry.{Entry}
+use Rattle.sp_schedule_events.specs.declared.event.Event.{Event}
 use Rattle.laws_runs.specs.Premises.{Carries}
 
 -- this holds of each update that the effects say is held

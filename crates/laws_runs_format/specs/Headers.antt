@@ -4,7 +4,7 @@ use Rattle.sp_topology.specs.Ranges.{IsTopology}
 use Rattle.sp_node_core.specs.Format.{format}
 use Rattle.sp_runs.specs.Scenarios.{setting_of, topology_of}
 use Rattle.sp_runs.specs.Settings.{SettingFits}
-use Rattle.sp_runs.specs.declared.scenario.Scenario.{Scenario}
+use Rattle.sp_schedule_events.specs.declared.scenario.Scenario.{Scenario}
 
 -- of a header whose graph is in its ranges
 abbrev pub TopologiesFit : Type 0

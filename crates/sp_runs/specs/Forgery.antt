@@ -16,8 +16,8 @@ use Rattle.sp_rules.specs.declared.node.LinkReply.TheVariants as links
 use Rattle.sp_runs.specs.Settings.{Setting, is_correct}
 use Rattle.sp_runs.specs.Told.{signed}
 use Rattle.sp_runs.specs.Worlds.{World, frames_in}
-use Rattle.sp_runs.specs.declared.entry.Entry.{Entry}
-use Rattle.sp_runs.specs.declared.event.Event.{Event}
+use Rattle.sp_journal.specs.declared.entry.Entry.{Entry}
+use Rattle.sp_schedule_events.specs.declared.event.Event.{Event}
 use Rattle.sp_runs.specs.declared.what.What.{What}
 use Rattle.sp_runs.specs.declared.what.What.TheVariants as whats
 

@@ -7,8 +7,8 @@ use Rattle.sp_msg.specs.declared.effect.Effect.TheVariants as effects
 use Rattle.sp_msg.specs.declared.effect.Why.TheVariants.{Evicted}
 use Rattle.sp_rules.specs.Store.{ids}
 use Rattle.sp_runs.specs.Told.{effects_at}
-use Rattle.sp_runs.specs.declared.entry.Entry.{Entry}
-use Rattle.sp_runs.specs.declared.event.Event.{Event}
+use Rattle.sp_journal.specs.declared.entry.Entry.{Entry}
+use Rattle.sp_schedule_events.specs.declared.event.Event.{Event}
 
 -- ---- what a place holds
 

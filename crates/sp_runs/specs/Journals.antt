@@ -23,17 +23,17 @@ use Rattle.sp_rules.specs.declared.node.LinkReply.TheVariants as links
 use Rattle.sp_rules.specs.declared.node.TickReply.{TickReply}
 use Rattle.sp_rules.specs.declared.node.TickReply.TheVariants as ticks
 use Rattle.sp_rules.specs.declared.store.Entry.{Entry as Stored}
-use Rattle.sp_runs.specs.declared.entry.AnswerWord.{AnswerWord}
-use Rattle.sp_runs.specs.declared.entry.AnswerWord.TheVariants as answers
-use Rattle.sp_runs.specs.declared.entry.Entry.{Entry}
-use Rattle.sp_runs.specs.declared.entry.ItemWord.{ItemWord}
-use Rattle.sp_runs.specs.declared.entry.ItemWord.TheVariants as item_words
-use Rattle.sp_runs.specs.declared.entry.LinkWord.{LinkWord}
-use Rattle.sp_runs.specs.declared.entry.LinkWord.TheVariants as link_words
-use Rattle.sp_runs.specs.declared.entry.Reply.{Reply}
-use Rattle.sp_runs.specs.declared.entry.Reply.TheVariants as replies
-use Rattle.sp_runs.specs.declared.entry.SectionWord.{SectionWord}
-use Rattle.sp_runs.specs.declared.entry.SectionWord.TheVariants as section_words
+use Rattle.sp_journal.specs.declared.entry.AnswerWord.{AnswerWord}
+use Rattle.sp_journal.specs.declared.entry.AnswerWord.TheVariants as answers
+use Rattle.sp_journal.specs.declared.entry.Entry.{Entry}
+use Rattle.sp_journal.specs.declared.entry.ItemWord.{ItemWord}
+use Rattle.sp_journal.specs.declared.entry.ItemWord.TheVariants as item_words
+use Rattle.sp_journal.specs.declared.entry.LinkWord.{LinkWord}
+use Rattle.sp_journal.specs.declared.entry.LinkWord.TheVariants as link_words
+use Rattle.sp_journal.specs.declared.entry.Reply.{Reply}
+use Rattle.sp_journal.specs.declared.entry.Reply.TheVariants as replies
+use Rattle.sp_journal.specs.declared.entry.SectionWord.{SectionWord}
+use Rattle.sp_journal.specs.declared.entry.SectionWord.TheVariants as section_words
 use Rattle.sp_runs.specs.Settings.{Setting}
 
 -- ---- a datagram

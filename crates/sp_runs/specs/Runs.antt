@@ -16,10 +16,10 @@ use Rattle.sp_runs.specs.Inputs.{acting, crafts, input_of}
 use Rattle.sp_runs.specs.Journals.{Says}
 use Rattle.sp_runs.specs.Settings.{Setting, is_correct, is_node}
 use Rattle.sp_runs.specs.Worlds.{Direction, World, at_start, frames_in, node_in, with_frame, with_node}
-use Rattle.sp_runs.specs.declared.entry.Entry.{Entry}
-use Rattle.sp_runs.specs.declared.entry.Reply.TheVariants as replies
-use Rattle.sp_runs.specs.declared.event.Event.{Event}
-use Rattle.sp_runs.specs.declared.event.Event.TheVariants as events
+use Rattle.sp_journal.specs.declared.entry.Entry.{Entry}
+use Rattle.sp_journal.specs.declared.entry.Reply.TheVariants as replies
+use Rattle.sp_schedule_events.specs.declared.event.Event.{Event}
+use Rattle.sp_schedule_events.specs.declared.event.Event.TheVariants as events
 use Rattle.sp_runs.specs.declared.what.What.{What}
 
 -- ---- one event

@@ -11,7 +11,7 @@ use Rattle.sp_topology.specs.declared.topology.LmsHeight.{LmsHeight}
 use Rattle.sp_topology.specs.declared.topology.NodeKey.{NodeKey}
 use Rattle.sp_topology.specs.declared.topology.Topology.{Topology}
 use Rattle.sp_runs.specs.Settings.{Setting}
-use Rattle.sp_runs.specs.declared.scenario.Scenario.{Scenario}
+use Rattle.sp_schedule_events.specs.declared.scenario.Scenario.{Scenario}
 
 -- the seed of a node's key
 abbrev pub node_seed : List ℕ → ℕ → List ℕ

@@ -4,11 +4,11 @@ use Rattle.std.specs.List.{flat_map, zip}
 use Rattle.sp_base.specs.declared.id.NodeId.{NodeId}
 use Rattle.sp_msg.specs.declared.effect.Effect.{Effect}
 use Rattle.sp_msg.specs.declared.effect.Effect.TheVariants as effects
-use Rattle.sp_runs.specs.declared.entry.Entry.{Entry}
-use Rattle.sp_runs.specs.declared.entry.Reply.{Reply}
-use Rattle.sp_runs.specs.declared.entry.Reply.TheVariants as replies
-use Rattle.sp_runs.specs.declared.event.Event.{Event}
-use Rattle.sp_runs.specs.declared.event.Event.TheVariants as events
+use Rattle.sp_journal.specs.declared.entry.Entry.{Entry}
+use Rattle.sp_journal.specs.declared.entry.Reply.{Reply}
+use Rattle.sp_journal.specs.declared.entry.Reply.TheVariants as replies
+use Rattle.sp_schedule_events.specs.declared.event.Event.{Event}
+use Rattle.sp_schedule_events.specs.declared.event.Event.TheVariants as events
 use Rattle.sp_runs.specs.Inputs.{acting}
 
 -- a message: its number and its payload

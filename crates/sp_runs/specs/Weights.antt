@@ -4,8 +4,8 @@ use Rattle.sp_base.specs.declared.id.NodeId.{NodeId}
 use Rattle.sp_topology.specs.declared.topology.Edge.{Edge}
 use Rattle.laws_node.specs.Lives.{last_told}
 use Rattle.sp_runs.specs.Told.{effects_at}
-use Rattle.sp_runs.specs.declared.entry.Entry.{Entry}
-use Rattle.sp_runs.specs.declared.event.Event.{Event}
+use Rattle.sp_journal.specs.declared.entry.Entry.{Entry}
+use Rattle.sp_schedule_events.specs.declared.event.Event.{Event}
 
 -- the greatest of the minimum and the last weight that u holds of each end
 abbrev pub effective_weight : List Event → List Entry → NodeId → ℕ → Edge → ℕ

@@ -2,12 +2,6 @@
 //! events are forged. For whoever asks what the world promises: these are all its words.
 #![tactic(auto)]
 
-mod entry;
-mod event;
-mod scenario;
 mod what;
 
-pub use entry::{AnswerWord, Entry, ItemWord, LinkWord, Reply, SectionWord};
-pub use event::Event;
-pub use scenario::Scenario;
 pub use what::What;
