@@ -10,25 +10,18 @@ const LEAF: u32 = 0x0102_0304;
 const MOST: usize = 265;
 
 /// An element for each chain, all different.
-fn first_elements() -> [[u8; 32]; 265] {
+fn first_elements() -> [[u8; 32]; MOST] {
     let mut elements = [[0u8; 32]; MOST];
-    for i in 0..MOST {
-        elements[i] = element(i);
+    for (place, element) in elements.iter_mut().enumerate() {
+        *element = [(place % 251) as u8; 32];
+        element[0] = (place % 13) as u8;
     }
     elements
 }
 
-fn element(i: usize) -> [u8; 32] {
-    let mut element = [(i % 251) as u8; 32];
-    element[0] = (i % 13) as u8;
-    element
-}
-
 /// Whether both bodies make the same of the first `count` chains.
-fn agree(from: &[u8; 265], to: &[u8; 265], count: usize) -> bool {
-    if count > MOST {
-        return false;
-    }
+fn agree(from: &[u8; MOST], to: &[u8; MOST], count: usize) -> bool {
+    let count = count.min(MOST);
     let mut four = first_elements();
     let mut one = first_elements();
     run_chains(&ID, LEAF, &from[..count], &to[..count], &mut four[..count]);
@@ -36,17 +29,22 @@ fn agree(from: &[u8; 265], to: &[u8; 265], count: usize) -> bool {
     four == one
 }
 
+/// The first steps of chains, or their last ones: pairs of steps from 0 to 15, each so far from the one before, from the `first` on.
+fn steps(first: usize, apart: usize, is_last: bool) -> [u8; MOST] {
+    let mut steps = [0u8; MOST];
+    for (place, step) in steps.iter_mut().enumerate() {
+        let pair = first.wrapping_add(apart.wrapping_mul(place)) % 256;
+        *step = (if is_last { pair % 16 } else { pair / 16 }) as u8;
+    }
+    steps
+}
+
 #[test]
 fn chains_between_all_steps_are_the_same_by_both_bodies(rt: HostRuntime) -> Result<(), Fail> {
-    for count in 0..10 {
-        for first in 0..256 {
-            let mut from = [0u8; MOST];
-            let mut to = [0u8; MOST];
-            for i in 0..count {
-                let pair = (first + 37 * i) % 256;
-                from[i] = (pair / 16) as u8;
-                to[i] = (pair % 16) as u8;
-            }
+    for count in 0..10usize {
+        for first in 0..256usize {
+            let from = steps(first, 37, false);
+            let to = steps(first, 37, true);
             assert!(rt;
                 agree(&from, &to, count),
                 "{count} chains from pair {first} on"
@@ -60,25 +58,27 @@ fn chains_between_all_steps_are_the_same_by_both_bodies(rt: HostRuntime) -> Resu
 fn the_longest_and_the_most_chains_are_the_same_by_both_bodies(
     rt: HostRuntime,
 ) -> Result<(), Fail> {
-    let mut from = [0u8; MOST];
-    let mut to = [255u8; MOST];
-    assert!(rt; agree(&from, &to, 34), "all from 0 to 255");
-    for i in 0..MOST {
-        from[i] = (i / 16 % 16) as u8;
-        to[i] = (i % 16) as u8;
-    }
+    assert!(rt; agree(&[0; MOST], &[255; MOST], 34), "all from 0 to 255");
+    let from = steps(0, 1, false);
+    let to = steps(0, 1, true);
     assert!(rt; agree(&from, &to, MOST), "each pair of steps from 0 to 15");
     Ok(())
+}
+
+/// Whether both bodies make the same of the private starts of so many chains.
+fn starts_agree(count: usize) -> bool {
+    let count = count.min(MOST);
+    let mut four = [[0u8; 32]; MOST];
+    let mut one = [[0u8; 32]; MOST];
+    private_starts(&ID, LEAF, &[0x55; 32], &mut four[..count]);
+    private_starts_one_by_one(&ID, LEAF, &[0x55; 32], &mut one[..count]);
+    four == one
 }
 
 #[test]
 fn private_starts_are_the_same_by_both_bodies(rt: HostRuntime) -> Result<(), Fail> {
     for count in 0..MOST + 1 {
-        let mut four = [[0u8; 32]; MOST];
-        let mut one = [[0u8; 32]; MOST];
-        private_starts(&ID, LEAF, &[0x55; 32], &mut four[..count]);
-        private_starts_one_by_one(&ID, LEAF, &[0x55; 32], &mut one[..count]);
-        assert!(rt; four == one, "{count} chains");
+        assert!(rt; starts_agree(count), "{count} chains");
     }
     Ok(())
 }

@@ -1,5 +1,5 @@
-//! Hashes, tags and one-time signatures held against values that others made: FIPS 180-4, RFC 4231, RFC 8554 and
-//! Bouncy Castle.
+//! Hashes, tags, one-time signatures and keys of one tree held against values that others made: FIPS 180-4, RFC 4231, RFC 8554 and
+//! Bouncy Castle 1.72.
 #![tactic(auto)]
 
 #[cfg(test)]
@@ -7,6 +7,12 @@ mod chains;
 #[cfg(test)]
 mod lanes;
 #[cfg(test)]
+mod no_signatures;
+#[cfg(test)]
 mod one_time;
 #[cfg(test)]
+mod rfc_8554;
+#[cfg(test)]
 mod tags;
+#[cfg(test)]
+mod trees;

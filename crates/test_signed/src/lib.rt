@@ -2,8 +2,8 @@
 #![tactic(auto)]
 
 #[cfg(test)]
-mod made_by_others;
+mod administrator;
 #[cfg(test)]
-mod signatures;
+mod keys;
 #[cfg(test)]
-mod signed_topologies;
+mod nodes;

@@ -1,4 +1,0 @@
-//! Values that others published, for the tests of several crates.
-#![tactic(auto)]
-
-pub mod rfc_8554;
