@@ -8,7 +8,7 @@ use Rattle.sp_base.specs.declared.memory.Memory.{Memory}
 use Rattle.sp_lines.specs.Rows.{after_spaces, line_text}
 use Rattle.sp_lines.proofs.WrittenLemmas.{after_append, line_written}
 use Rattle.sp_journal.specs.Words.{item_word, reply_words}
-use Rattle.sp_journal.specs.JournalText.{effect_lines, entry_text, reply_text, summary_of}
+use Rattle.sp_journal.specs.JournalText.{effect_lines, entry_text, summary_of}
 use Rattle.sp_journal.specs.declared.entry.Entry.{Entry}
 use Rattle.sp_journal.specs.declared.entry.ItemWord.{ItemWord}
 

@@ -1,1 +1,3 @@
 pub mod JournalLemmas
+pub mod EffectLemmas
+pub mod WordLists

@@ -6,7 +6,7 @@
 --     2 frame 1 76 DIGEST
 --     3 learned 1
 --     summary events 3 sent 1 delivered 0 priority 0 frames 1
-use Rattle.std.specs.Prelude.{ℕ, ◌+◌, ◌==◌, Bool, true, false, List, [], ◌∷◌, ◌++◌, length, map, filter, slice_index, codes}
+use Rattle.std.specs.Prelude.{ℕ, ◌+◌, ◌==◌, Bool, true, false, List, [], ◌∷◌, ◌++◌, length, filter, slice_index, codes}
 use Rattle.std.specs.List.{flat_map}
 use Rattle.std.specs.Fmt.{decimal}
 use Rattle.sp_text.specs.Spelling.{Word}

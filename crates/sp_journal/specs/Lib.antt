@@ -1,2 +1,4 @@
 pub mod Words
 pub mod JournalText
+pub mod EffectTable
+pub mod Laws

@@ -11,7 +11,7 @@
 --     + signed HEX                        + delivered rel SRC SEQ HEX
 --     + stored PLACE ID SRC SEQ PRIO      + delivered prio SRC SEQ HEX
 --     + gone PLACE ID WHY                 + weight ORIGIN EDGE SEQ WEIGHT
-use Rattle.std.specs.Prelude.{ℕ, List, [], ◌∷◌, ◌++◌, map, codes}
+use Rattle.std.specs.Prelude.{List, [], ◌∷◌, ◌++◌, map, codes}
 use Rattle.std.specs.Fmt.{decimal}
 use Rattle.sp_text.specs.Spelling.{Word, hex_word}
 use Rattle.sp_msg.specs.declared.effect.Effect.{Effect}

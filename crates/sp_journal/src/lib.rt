@@ -1,11 +1,15 @@
 //! Journals as text: what was answered to each event of a run and what it caused, the one text of that, and its summary.
 #![tactic(auto)]
 
+mod effect_line;
 mod effect_text;
 mod entry;
+mod laws;
 mod replies;
 mod whole_text;
 
+pub use effect_line::read_effect;
 pub use entry::{AnswerWord, Entry, ItemWord, LinkWord, Reply, SectionWord};
+pub use laws::effects_have_one_line;
 pub use replies::{entry_text, reply_text};
 pub use whole_text::{journal_lines, journal_text};

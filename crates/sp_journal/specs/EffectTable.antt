@@ -1,0 +1,122 @@
+-- The lines of effects after their plus, a row for each.
+--
+--     signed HEX                        delivered rel SRC SEQ HEX
+--     stored PLACE ID SRC SEQ PRIO      delivered prio SRC SEQ HEX
+--     gone PLACE ID WHY                 weight ORIGIN EDGE SEQ WEIGHT
+use Rattle.std.specs.Prelude.{ℕ, ◌+◌, ◌-◌, ◌^◌, List, [], ◌∷◌, Option, Some, None, Result, Ok, Err, codes}
+use Rattle.sp_base.specs.Refusals.{◌>>=◌}
+use Rattle.sp_base.specs.declared.limits.TheConstants.{MAX_EDGES, MAX_NODES, MAX_PAYLOAD_BYTES, MAX_PRIORITY, MAX_SEQ, MAX_WEIGHT}
+use Rattle.sp_base.specs.declared.id.NodeId.{NodeId}
+use Rattle.sp_text.specs.Spelling.{Word}
+use Rattle.sp_lines.specs.Cells.{Bytes, Cell, Name, Number}
+use Rattle.sp_lines.specs.Rows.{AreIn, Values, form_among, row_at}
+use Rattle.sp_lines.specs.declared.fault.Fault.{Fault}
+use Rattle.sp_lines.specs.declared.fault.Fault.TheVariants as faults
+use Rattle.sp_msg.specs.declared.effect.Effect.{Effect}
+use Rattle.sp_msg.specs.declared.effect.Effect.TheVariants as effects
+use Rattle.sp_msg.specs.declared.effect.Why.{Why}
+use Rattle.sp_msg.specs.declared.effect.Why.TheVariants as whys
+
+-- the forms of an effect's line
+pub data Form : Type 0 where
+  Signed : Form
+  Stored : Form
+  Gone : Why → Form
+  Delivered : Form
+  DeliveredPrio : Form
+  Weight : Form
+
+-- ---- places
+
+abbrev pub any_number : Cell
+any_number = Number 0 (2 ^ 64 - 1)
+
+-- a neighbour, or 0 for the inbox
+abbrev pub place : Cell
+place = Number 0 MAX_NODES
+
+abbrev pub node : Cell
+node = Number 1 MAX_NODES
+
+abbrev pub seq : Cell
+seq = Number 1 MAX_SEQ
+
+abbrev pub payload : Cell
+payload = Bytes 0 MAX_PAYLOAD_BYTES
+
+-- ---- rows
+
+-- the row of a form. The longest body is that of a priority message, of 38 bytes and its payload
+abbrev pub cells : Form → List Cell
+cells Signed = Name (codes "signed") ∷ Bytes 0 (38 + MAX_PAYLOAD_BYTES) ∷ []
+cells Stored = Name (codes "stored") ∷ place ∷ any_number ∷ node ∷ seq ∷ Number 1 MAX_PRIORITY ∷ []
+cells (Gone whys.Evicted) = Name (codes "gone") ∷ place ∷ any_number ∷ Name (codes "evicted") ∷ []
+cells (Gone whys.Expired) = Name (codes "gone") ∷ place ∷ any_number ∷ Name (codes "expired") ∷ []
+cells (Gone whys.Acked) = Name (codes "gone") ∷ place ∷ any_number ∷ Name (codes "acked") ∷ []
+cells (Gone whys.Taken) = Name (codes "gone") ∷ place ∷ any_number ∷ Name (codes "taken") ∷ []
+cells Delivered = Name (codes "delivered") ∷ Name (codes "rel") ∷ node ∷ seq ∷ payload ∷ []
+cells DeliveredPrio = Name (codes "delivered") ∷ Name (codes "prio") ∷ node ∷ seq ∷ payload ∷ []
+cells Weight = Name (codes "weight") ∷ node ∷ Number 0 (MAX_EDGES - 1) ∷ seq ∷ Number 1 MAX_WEIGHT ∷ []
+
+-- all forms
+abbrev pub forms : List Form
+forms = Signed ∷ Stored ∷ Gone whys.Evicted ∷ Gone whys.Expired ∷ Gone whys.Acked ∷ Gone whys.Taken ∷ Delivered ∷ DeliveredPrio ∷ Weight ∷ []
+
+-- ---- effects
+
+abbrev pub id : ℕ → NodeId
+id n = record { 0 = n }
+
+-- the effect of a row with these values
+abbrev pub effect_of : (form : Form) → Values (cells form) → Effect
+effect_of Signed x = effects.Signed x.0
+effect_of Stored x = effects.Stored x.0 x.1.0 (id x.1.1.0) x.1.1.1.0 x.1.1.1.1.0
+effect_of (Gone whys.Evicted) x = effects.Gone x.0 x.1.0 whys.Evicted
+effect_of (Gone whys.Expired) x = effects.Gone x.0 x.1.0 whys.Expired
+effect_of (Gone whys.Acked) x = effects.Gone x.0 x.1.0 whys.Acked
+effect_of (Gone whys.Taken) x = effects.Gone x.0 x.1.0 whys.Taken
+effect_of Delivered x = effects.Delivered (id x.0) x.1.0 x.1.1.0
+effect_of DeliveredPrio x = effects.DeliveredPrio (id x.0) x.1.0 x.1.1.0
+effect_of Weight x = effects.WeightHeld (id x.0) (record { 0 = x.1.0 }) x.1.1.0 x.1.1.1.0
+
+-- the row of an effect
+abbrev pub form_of : Effect → Form
+form_of (effects.Signed body) = Signed
+form_of (effects.Stored at key src number prio) = Stored
+form_of (effects.Gone at key why) = Gone why
+form_of (effects.Delivered src number bytes) = Delivered
+form_of (effects.DeliveredPrio src number bytes) = DeliveredPrio
+form_of (effects.WeightHeld origin edge number weight) = Weight
+
+-- its values in that row
+abbrev pub values_of : (e : Effect) → Values (cells (form_of e))
+values_of (effects.Signed body) = (body, tt)
+values_of (effects.Stored at key src number prio) = (at, (key, (src.0, (number, (prio, tt)))))
+values_of (effects.Gone at key whys.Evicted) = (at, (key, tt))
+values_of (effects.Gone at key whys.Expired) = (at, (key, tt))
+values_of (effects.Gone at key whys.Acked) = (at, (key, tt))
+values_of (effects.Gone at key whys.Taken) = (at, (key, tt))
+values_of (effects.Delivered src number bytes) = (src.0, (number, (bytes, tt)))
+values_of (effects.DeliveredPrio src number bytes) = (src.0, (number, (bytes, tt)))
+values_of (effects.WeightHeld origin edge number weight) = (origin.0, (edge.0, (number, (weight, tt))))
+
+-- an effect in its ranges
+abbrev pub IsInRange : Effect → Type 0
+IsInRange e = AreIn (cells (form_of e)) (values_of e)
+
+-- ---- reading
+
+abbrev pub form_for : List Word → Option Form
+form_for words = form_among cells forms words
+
+-- the effect of words that fit the row of a form
+unfoldable pub read_form : Form → List Word → Result Effect Fault
+read_form form words = row_at (cells form) words >>= λ xs. Ok (effect_of form xs)
+
+abbrev pub read_for : Option Form → List Word → Result Effect Fault
+read_for None words = Err faults.Form
+read_for (Some form) words = read_form form words
+
+-- the effect of the words after a plus
+abbrev pub read_effect : List Word → Result Effect Fault
+read_effect words = read_for (form_for words) words

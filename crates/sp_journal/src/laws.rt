@@ -1,0 +1,7 @@
+// A law of the lines of a journal.
+ghost use Rattle.sp_journal.specs.Laws.{EffectsHaveOneLine};
+
+/// A law: words are read as an effect exactly where they are the effect's words, and the effect is in its ranges.
+pub fn effects_have_one_line()
+    ensures { EffectsHaveOneLine }
+{}
