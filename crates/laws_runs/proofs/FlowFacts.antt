@@ -90,11 +90,11 @@ cases_flow a b = elim (cases_eq a.src.0 b.src.0) [
 ]
 
 -- one flow changed
-pub with_flow_is : (C : Type 0) (s d : NodeId) (S D S2 D2 : List Message) (c c2 : ℕ) (u : NodeId) (r : RelState) (flow : Flow) (g : FlowState) → ends g ≡ flow
+pub with_flow_is : (C : Type 0) (s d : NodeId) (S D Sa Da : List Message) (c c2 : ℕ) (u : NodeId) (r : RelState) (flow : Flow) (g : FlowState) → ends g ≡ flow
     → RelIs C s d S D c u r
-    → (flow ≡ flow_of s d → FlowAt C s d S2 D2 c2 u g) → ((flow ≡ flow_of s d → ⊥) → FlowAt C s d S2 D2 c2 u (flow_in r.flows (flow_of s d)))
-    → RelIs C s d S2 D2 c2 u (with_flow r flow g)
-with_flow_is C s d S D S2 D2 c c2 u r flow g same h mine others =
+    → (flow ≡ flow_of s d → FlowAt C s d Sa Da c2 u g) → ((flow ≡ flow_of s d → ⊥) → FlowAt C s d Sa Da c2 u (flow_in r.flows (flow_of s d)))
+    → RelIs C s d Sa Da c2 u (with_flow r flow g)
+with_flow_is C s d S D Sa Da c c2 u r flow g same h mine others =
     let fl = flow_of s d in
     record {
       me = h.me;
@@ -103,11 +103,11 @@ with_flow_is C s d S D S2 D2 c c2 u r flow g same h mine others =
         | inl e ↦
             let there : flow_in (put_flow r.flows flow g) fl ≡ g =
             ap (λ (x : Flow). flow_in (put_flow r.flows x g) fl) e ∙ first_replaced (is_flow fl) (no_flow fl) g r.flows (is_its g fl (same ∙ e)) h.row in
-            subst (FlowAt C s d S2 D2 c2 u) (sym there) (mine e)
+            subst (FlowAt C s d Sa Da c2 u) (sym there) (mine e)
         | inr never ↦
             let there : flow_in (put_flow r.flows flow g) fl ≡ flow_in r.flows fl =
             other_replaced (is_flow flow) (is_flow fl) (no_flow fl) g r.flows (λ f p. not_its f fl (λ e. never (sym (same_ends f flow p) ∙ e))) (not_its g fl (λ e. never (sym same ∙ e))) in
-            subst (FlowAt C s d S2 D2 c2 u) (sym there) (others never)
+            subst (FlowAt C s d Sa Da c2 u) (sym there) (others never)
       ];
     }
 
