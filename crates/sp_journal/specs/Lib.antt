@@ -1,4 +1,5 @@
 pub mod Words
 pub mod JournalText
 pub mod EffectTable
+pub mod ReplyTable
 pub mod Laws

@@ -4,12 +4,16 @@
 mod effect_line;
 mod effect_text;
 mod entry;
+mod item_words;
 mod laws;
 mod replies;
+mod reply_line;
+mod reply_rows;
 mod whole_text;
 
 pub use effect_line::read_effect;
-pub use entry::{AnswerWord, Entry, ItemWord, LinkWord, Reply, SectionWord};
+pub use entry::{AnswerWord, Entry, ItemWord, LinkWord, MAX_ITEMS, Reply, SectionWord};
 pub use laws::effects_have_one_line;
 pub use replies::{entry_text, reply_text};
+pub use reply_line::read_reply;
 pub use whole_text::{journal_lines, journal_text};
