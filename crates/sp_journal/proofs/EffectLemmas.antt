@@ -80,7 +80,7 @@ good_form forms.DeliveredPrio = refl
 good_form forms.Weight = refl
 
 -- the row that was found is fitted
-found_fits : {F : Type 0} (test : F → Bool) (all : List F) (found : F) → find test all ≡ Some found → test found ≡ true
+pub found_fits : {F : Type 0} (test : F → Bool) (all : List F) (found : F) → find test all ≡ Some found → test found ≡ true
 found_fits test [] found is = absurd cc
 found_fits test (x ∷ all) found is =
     elim (cases_Bool (test x)) [

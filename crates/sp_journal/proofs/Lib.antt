@@ -1,3 +1,4 @@
 pub mod JournalLemmas
 pub mod EffectLemmas
 pub mod WordLists
+pub mod ReplyLemmas

@@ -13,7 +13,7 @@ mod whole_text;
 
 pub use effect_line::read_effect;
 pub use entry::{AnswerWord, Entry, ItemWord, LinkWord, MAX_ITEMS, Reply, SectionWord};
-pub use laws::effects_have_one_line;
+pub use laws::{effects_have_one_line, replies_have_one_line};
 pub use replies::{entry_text, reply_text};
 pub use reply_line::read_reply;
 pub use whole_text::{journal_lines, journal_text};
