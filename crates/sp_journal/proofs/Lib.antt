@@ -2,3 +2,4 @@ pub mod JournalLemmas
 pub mod EffectLemmas
 pub mod WordLists
 pub mod ReplyLemmas
+pub mod ReadingLemmas

@@ -1,5 +1,5 @@
 -- Replies, their rows and their words.
-use Rattle.std.proofs.Common.{◌≡◌, ◌≤◌, true, List, [], ◌∷◌, length, map, Option, Some, None, Ok, inl, inr, refl, sym, ap, subst, ◌∙◌, arith}
+use Rattle.std.proofs.Common.{ℕ, ◌≡◌, ◌≤◌, true, List, [], ◌∷◌, length, map, Option, Some, None, Ok, inl, inr, refl, sym, ap, subst, ◌∙◌, arith}
 use Rattle.std.specs.Prelude.{All, codes, nat_le}
 use Rattle.std.proofs.lemmas.Bool.{cases_Bool}
 use Rattle.std.proofs.lemmas.Bool.Decides.{nat_tests}
@@ -10,10 +10,14 @@ use Rattle.sp_text.specs.Spelling.{Word}
 use Rattle.sp_lines.specs.Cells.{same}
 use Rattle.sp_lines.specs.Rows.{AreIn, Values, fits, row_at, spelled}
 use Rattle.sp_lines.specs.Widths.{is_good_row}
+use Rattle.std.specs.Fmt.{decimal}
+use Rattle.sp_lines.specs.Cells.{number_at}
+use Rattle.sp_lines.proofs.PlaceLemmas.{number_at_back, number_at_read}
+use Rattle.sp_journal.specs.ReplyTable.{MAX_ENTRIES, read_entry}
 use Rattle.sp_lines.proofs.RowLemmas.{fit_parts, row_back, row_read}
 use Rattle.sp_lines.proofs.WidthLemmas.{good_row_room}
 use Rattle.sp_lines.proofs.Words.{same_words}
-use Rattle.sp_journal.specs.Laws.{RepliesHaveOneLine}
+use Rattle.sp_journal.specs.Laws.{EntriesHaveOneLine, RepliesHaveOneLine}
 use Rattle.sp_journal.specs.ReplyTable as forms
 use Rattle.sp_journal.specs.ReplyTable.{Form, IsGoodReply, IsItem, Of_items, Of_row, all_items, cells, form_for, item_among, item_at, items_at, or_form, read_for, read_form, read_fresh, read_reply, reply_of}
 use Rattle.sp_journal.specs.Words.{item_word, reply_words}
@@ -200,3 +204,24 @@ reply_back reply (Of_items each are few is) = subst (λ (r : Reply). read_reply 
 
 pub replies_have_one_line : RepliesHaveOneLine
 replies_have_one_line words reply = (λ read. reply_read words reply read, λ is. rw is.1 (reply_back reply is.0))
+
+-- ---- with the number
+
+entry_read : (words : List Word) (number : ℕ) (reply : Reply) → read_entry words ≡ Ok (number, reply) → ((1 ≤ number) × (number ≤ MAX_ENTRIES) × IsGoodReply reply) × (words ≡ decimal number ∷ reply_words reply)
+entry_read [] number reply read = absurd cc
+entry_read (word ∷ words) number reply read =
+    let one = then_ok (number_at 1 MAX_ENTRIES word) (λ n. read_reply words >>= λ r. Ok (n, r)) (number, reply) read in
+    let two = then_ok (read_reply words) (λ r. Ok (one.0, r)) (number, reply) one.2 in
+    let first = number_at_read 1 MAX_ENTRIES one.0 word one.1 in
+    let more = reply_read words two.0 two.1 in
+    let pair : (one.0, two.0) ≡ (number, reply) = let same_ok : Ok (one.0, two.0) ≡ Ok (number, reply) = two.2 in cc in
+    subst (λ (p : ℕ × Reply). ((1 ≤ p.0) × (p.0 ≤ MAX_ENTRIES) × IsGoodReply p.1) × ((word ∷ words) ≡ decimal p.0 ∷ reply_words p.1)) pair
+    ((first.1, first.2, more.0), cons_words word (decimal one.0) words (reply_words two.0) first.0 more.1)
+
+pub entry_back : (number : ℕ) (reply : Reply) → 1 ≤ number → number ≤ MAX_ENTRIES → IsGoodReply reply → read_entry (decimal number ∷ reply_words reply) ≡ Ok (number, reply)
+entry_back number reply low high good =
+    rw (number_at_back 1 MAX_ENTRIES number (omega arith) low high) (rw (reply_back reply good) refl)
+
+pub entries_have_one_line : EntriesHaveOneLine
+entries_have_one_line words number reply =
+    (λ read. entry_read words number reply read, λ is. rw is.1 (entry_back number reply is.0.0 is.0.1 is.0.2))

@@ -2,4 +2,5 @@ pub mod Words
 pub mod JournalText
 pub mod EffectTable
 pub mod ReplyTable
+pub mod Reading
 pub mod Laws

@@ -10,10 +10,10 @@
 --
 --     weight:  new foreign low old badsig                  ack:  new badend old ahead badsig
 --     prio:    new badend expired seen badsig              rel:  new badend old ahead gap full inboxfull badsig
-use Rattle.std.specs.Prelude.{◌≡◌, ◌≤◌, ◌-◌, ◌^◌, nat_le, List, [], ◌∷◌, ◌++◌, All, find, length, map, Option, Some, None, Result, Ok, Err, codes, if◌then◌else◌}
+use Rattle.std.specs.Prelude.{ℕ, ◌≡◌, ◌≤◌, ◌-◌, ◌^◌, nat_le, List, [], ◌∷◌, ◌++◌, All, find, length, map, Option, Some, None, Result, Ok, Err, codes, if◌then◌else◌}
 use Rattle.sp_base.specs.Refusals.{◌>>=◌}
 use Rattle.sp_text.specs.Spelling.{Word}
-use Rattle.sp_lines.specs.Cells.{Bytes, Cell, Name, Number, same}
+use Rattle.sp_lines.specs.Cells.{Bytes, Cell, Name, Number, number_at, same}
 use Rattle.sp_lines.specs.Rows.{AreIn, Values, form_among, row_at}
 use Rattle.sp_lines.specs.declared.fault.Fault.{Fault}
 use Rattle.sp_lines.specs.declared.fault.Fault.TheVariants as faults
@@ -199,3 +199,14 @@ read_fresh words = if nat_le (length words) MAX_ITEMS then (items_at words >>= �
 abbrev pub read_reply : List Word → Result Reply Fault
 read_reply [] = Err faults.Form
 read_reply (name ∷ words) = if same name (codes "fresh") then read_fresh words else read_for (form_for (name ∷ words)) (name ∷ words)
+
+-- ---- with the number of the entry
+
+-- the greatest number of an entry
+abbrev pub MAX_ENTRIES : ℕ
+MAX_ENTRIES = 2 ^ 32 - 1
+
+-- the number of an entry and its reply: the number is judged first
+abbrev pub read_entry : List Word → Result (ℕ × Reply) Fault
+read_entry [] = Err faults.Form
+read_entry (number ∷ words) = number_at 1 MAX_ENTRIES number >>= λ n. read_reply words >>= λ reply. Ok (n, reply)

@@ -4,16 +4,22 @@
 mod effect_line;
 mod effect_text;
 mod entry;
+mod follow;
 mod item_words;
 mod laws;
+mod reader;
 mod replies;
 mod reply_line;
 mod reply_rows;
+mod stage;
+mod summary_line;
 mod whole_text;
 
 pub use effect_line::read_effect;
 pub use entry::{AnswerWord, Entry, ItemWord, LinkWord, MAX_ITEMS, Reply, SectionWord};
-pub use laws::{effects_have_one_line, replies_have_one_line};
+pub use laws::{effects_have_one_line, entries_have_one_line, replies_have_one_line};
+pub use reader::read;
 pub use replies::{entry_text, reply_text};
-pub use reply_line::read_reply;
+pub use reply_line::{read_entry, read_reply};
+pub use stage::{JournalRefused, Stage};
 pub use whole_text::{journal_lines, journal_text};

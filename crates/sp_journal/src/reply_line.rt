@@ -2,7 +2,7 @@
 ghost use Rattle.std.specs.Prelude.{◌≡◌, [], ◌∷◌, codes, map};
 ghost use Rattle.sp_lines.specs.Answers.{Reads};
 ghost use Rattle.sp_lines.specs.Cells.{same};
-ghost use Rattle.sp_journal.specs.ReplyTable.{form_for, read_for, read_form, read_fresh, read_reply};
+ghost use Rattle.sp_journal.specs.ReplyTable.{form_for, read_for, read_entry, read_form, read_fresh, read_reply};
 ghost use Rattle.sp_journal.specs.ReplyTable as forms;
 
 use crate::item_words::read_items;
@@ -11,7 +11,7 @@ use crate::reply_rows::{
     spent, stale, tick_not_reserved, tick_spent, topology,
 };
 use crate::{LinkWord, MAX_ITEMS, Reply, SectionWord};
-use sp_lines::{Fault, LineRefused, named};
+use sp_lines::{Fault, LineRefused, named, ranged};
 use std::alloc::Global;
 
 /// The reply of the words of a line after its number, or the first fault.
@@ -25,6 +25,18 @@ pub fn read_reply(alloc: Global, words: &[&[u8]]) -> Result<Reply, LineRefused>
         return fresh(alloc, fields);
     }
     row(alloc, name, fields)
+}
+
+/// The number of an entry and its reply, of the words of a line, or the first fault.
+pub fn read_entry(alloc: Global, words: &[&[u8]]) -> Result<(u32, Reply), LineRefused>
+    ensures { Reads result (read_entry (map (λ w. w.now) words.now)) }
+{
+    let [number, words @ ..] = words else {
+        return Err(LineRefused::Bad(Fault::Form));
+    };
+    let number = ranged(number, 1, u64::from(u32::MAX))? as u32;
+    let reply = read_reply(alloc, words)?;
+    Ok((number, reply))
 }
 
 /// What the words after `fresh` say.
