@@ -3,3 +3,5 @@ pub mod EffectLemmas
 pub mod WordLists
 pub mod ReplyLemmas
 pub mod ReadingLemmas
+pub mod StageLemmas
+pub mod TextLemmas

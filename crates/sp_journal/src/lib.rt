@@ -13,6 +13,7 @@ mod reply_line;
 mod reply_rows;
 mod stage;
 mod summary_line;
+mod text_laws;
 mod whole_text;
 
 pub use effect_line::read_effect;
@@ -22,4 +23,5 @@ pub use reader::read;
 pub use replies::{entry_text, reply_text};
 pub use reply_line::{read_entry, read_reply};
 pub use stage::{JournalRefused, Stage};
+pub use text_laws::a_journal_is_of_its_text;
 pub use whole_text::{journal_lines, journal_text};
