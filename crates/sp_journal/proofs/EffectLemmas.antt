@@ -29,7 +29,7 @@ effect_back (effects.DeliveredPrio src number bytes) = refl
 effect_back (effects.WeightHeld origin edge number weight) = refl
 
 -- its words are those of its row
-row_words : (e : Effect) → spelled (cells (form_of e)) (values_of e) ≡ effect_fields e
+pub row_words : (e : Effect) → spelled (cells (form_of e)) (values_of e) ≡ effect_fields e
 row_words (effects.Signed body) = refl
 row_words (effects.Stored at key src number prio) = refl
 row_words (effects.Gone at key whys.Evicted) = refl

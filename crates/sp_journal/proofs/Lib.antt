@@ -5,3 +5,5 @@ pub mod ReplyLemmas
 pub mod ReadingLemmas
 pub mod StageLemmas
 pub mod TextLemmas
+pub mod WalkLemmas
+pub mod LawLemmas

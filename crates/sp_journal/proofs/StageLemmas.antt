@@ -1,8 +1,8 @@
 -- The lines that lead to a stage: they are those of what was read.
-use Rattle.std.proofs.Common.{◌≡◌, ◌⊎◌, ◌≤◌, ◌<◌, ◌+◌, ◌^◌, ◌&&◌, ◌==◌, ℕ, Bool, true, false, List, [], ◌∷◌, ◌++◌, length, map, Option, Some, None, Result, Ok, Err, inl, inr, refl, sym, ap, ◌∙◌, subst, arith, append_assoc, append-nil, length-append, if◌then◌else◌}
+use Rattle.std.proofs.Common.{◌≡◌, ◌⊎◌, ◌≤◌, ◌+◌, ◌&&◌, ◌==◌, ℕ, Bool, true, false, List, [], ◌∷◌, ◌++◌, length, map, Option, Some, None, Ok, Err, inl, inr, refl, sym, ap, ◌∙◌, subst, arith, append_assoc, append-nil, length-append, if◌then◌else◌}
 use Rattle.std.specs.Prelude.{All, codes}
 use Rattle.std.specs.Fmt.{decimal}
-use Rattle.std.proofs.lemmas.Bool.{and_parts, cases_Bool}
+use Rattle.std.proofs.lemmas.Bool.{and_parts}
 use Rattle.std.proofs.lemmas.Bool.Decides.{nat_tests}
 use Rattle.std.proofs.lemmas.List.{map-append}
 use Rattle.std.proofs.lemmas.List.Elements.{All-append, All-cons, All-nil}
@@ -10,9 +10,8 @@ use Rattle.sp_base.specs.Refusals.{◌>>=◌}
 use Rattle.sp_base.proofs.RefusalLemmas.{then_ok}
 use Rattle.sp_text.specs.Spelling.{Word}
 use Rattle.sp_lines.specs.Cells.{same}
-use Rattle.sp_lines.specs.Rows.{AreIn, Values, line_of, spelled}
+use Rattle.sp_lines.specs.Rows.{Values, line_of, spelled}
 use Rattle.sp_lines.specs.Texts.{follow_all}
-use Rattle.sp_lines.specs.declared.fault.Fault.{Fault}
 use Rattle.sp_lines.specs.declared.fault.Fault.TheVariants as faults
 use Rattle.sp_lines.proofs.RowLemmas.{line_read}
 use Rattle.sp_lines.proofs.Words.{same_words}
@@ -101,16 +100,17 @@ effect_said done (Some entry) effect words next good range word is =
     one_entry done (with_effect entry effect) ∙ ap (λ (xs : List (List Word)). lines_from 1 done ++ xs) (one_effect (1 + length done) entry effect)
     ∙ sym (append_assoc (lines_from 1 done) (entry_lines (1 + length done) entry) (effect_words effect ∷ [])) ∙ ap (λ (xs : List (List Word)). xs ++ effect_words effect ∷ []) (sym (one_entry done entry))
     ∙ ap (λ (w : List Word). lines_from 1 (done ++ entry ∷ []) ++ w ∷ []) (sym word) in
-    subst (Leads_to (stages.Entries done (Some entry)) words) to
-    (record {
-      entries = good.entries;
-      newest = record {
-        reply = good.newest.reply;
-        effects = All-append IsInRange entry.effects (effect ∷ []) good.newest.effects (All-cons IsInRange effect [] range (All-nil IsInRange));
-      };
-      few = omega (arith, good.few, length-append done (entry ∷ []), length-append done (with_effect entry effect ∷ []));
-    },
-    ap (λ (xs : List (List Word)). version_words ∷ xs) lines)
+    subst (Leads_to (stages.Entries done (Some entry)) words) to (
+      record {
+        entries = good.entries;
+        newest = record {
+          reply = good.newest.reply;
+          effects = All-append IsInRange entry.effects (effect ∷ []) good.newest.effects (All-cons IsInRange effect [] range (All-nil IsInRange));
+        };
+        few = omega (arith, good.few, length-append done (entry ∷ []), length-append done (with_effect entry effect ∷ []));
+      },
+      ap (λ (xs : List (List Word)). version_words ∷ xs) lines,
+    )
 
 entry_said : (done : List Entry) (last : Option Entry) (pair : ℕ × Reply) (words : List Word) (next : Stage) → IsSoFar done last → pair.0 ≤ MAX_ENTRIES → IsGoodReply pair.1
     → words ≡ decimal pair.0 ∷ reply_words pair.1 → entry_more (closed done last) pair ≡ Ok next → Leads_to (stages.Entries done last) words next
@@ -123,14 +123,15 @@ entry_said done last pair words next good low reply word is =
           let to : stages.Entries all (Some entry) ≡ next = let same_ok : Ok (stages.Entries all (Some entry)) ≡ Ok next = fit.1 in cc in
           let lines : lines_from 1 (all ++ entry ∷ []) ≡ lines_from 1 all ++ words ∷ [] =
           one_entry all entry ∙ ap (λ (n : ℕ). lines_from 1 all ++ (decimal n ∷ reply_words pair.1) ∷ []) (sym number) ∙ ap (λ (w : List Word). lines_from 1 all ++ w ∷ []) (sym word) in
-          subst (Leads_to (stages.Entries done last) words) to
-          (record {
-            entries = good_closed done last good;
-            newest = record { reply = reply; effects = All-nil IsInRange };
-            few = omega (arith, length-append all (entry ∷ []), number, low);
-          },
-          ap (λ (xs : List (List Word)). version_words ∷ xs) lines)
-        )
+          subst (Leads_to (stages.Entries done last) words) to (
+            record {
+              entries = good_closed done last good;
+              newest = record { reply = reply; effects = All-nil IsInRange };
+              few = omega (arith, length-append all (entry ∷ []), number, low);
+            },
+            ap (λ (xs : List (List Word)). version_words ∷ xs) lines,
+          )
+          )
       | inr unfit ↦ absurd (let wrong = unfit.1 in cc)
     ]
 
@@ -169,15 +170,16 @@ summary_said done last words next good is =
           let to : stages.End journal ≡ next = let same_ok : Ok (stages.End journal) ≡ Ok next = fit.1 in cc in
           let spelled_so : words ≡ summary_words journal = row.1 ∙ same_summary counts.events counts.sent counts.delivered counts.priority counts.frames in
           let are = row.0 in
-          subst (Leads_to (stages.Entries done last) words) to
-          (record {
-            entries = good_closed done last good;
-            few = good.few;
-            delivered = omega (arith, counts.delivered, are.2.2.1);
-            priority = omega (arith, counts.priority, are.2.2.2.1);
-          },
-          ap (λ (w : List Word). version_words ∷ (lines_from 1 journal ++ w ∷ [])) (sym spelled_so))
-        )
+          subst (Leads_to (stages.Entries done last) words) to (
+            record {
+              entries = good_closed done last good;
+              few = good.few;
+              delivered = omega (arith, counts.delivered, are.2.2.1);
+              priority = omega (arith, counts.priority, are.2.2.2.1);
+            },
+            ap (λ (w : List Word). version_words ∷ (lines_from 1 journal ++ w ∷ [])) (sym spelled_so),
+          )
+          )
       | inr unfit ↦ absurd (let wrong = unfit.1 in cc)
     ]
 
@@ -196,18 +198,18 @@ says_more (stages.Entries done last) (name ∷ words) next good is =
           let step = then_ok (read_effect words) (effect_more done last) next plus.1 in
           let read = (effects_have_one_line words step.0).0 step.1 in
           effect_said done last step.0 (name ∷ words) next good read.0 (cons_words name (codes "+") words (effect_fields step.0) (same_words name (codes "+") plus.0) read.1) step.2
-        )
+          )
       | inr other ↦
           elim (if_cases (same name (codes "summary")) (summary_more (closed done last) (codes "summary" ∷ words)) (read_entry (name ∷ words) >>= entry_more (closed done last)) (Ok next) other.1) [
             | inl summary ↦ (
                 let named = same_words name (codes "summary") summary.0 in
                 subst (λ (w : Word). Leads_to (stages.Entries done last) (w ∷ words) next) (sym named) (summary_said done last (codes "summary" ∷ words) next good summary.1)
-              )
+                )
             | inr entry ↦ (
                 let step = then_ok (read_entry (name ∷ words)) (entry_more (closed done last)) next entry.1 in
                 let read = (entries_have_one_line (name ∷ words) step.0.0 step.0.1).0 step.1 in
                 entry_said done last step.0 (name ∷ words) next good read.0.1 read.0.2 read.1 step.2
-              )
+                )
           ]
     ]
   where

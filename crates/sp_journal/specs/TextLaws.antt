@@ -1,5 +1,5 @@
 -- A text that is read is the text of its journal, the text of a good journal is read, and a text has one reading.
-use Rattle.std.specs.Prelude.{ℕ, ◌≡◌, ◌≢◌, ◌++◌, List, Result, Ok, Err}
+use Rattle.std.specs.Prelude.{ℕ, ◌≡◌, ◌≢◌, ◌++◌, List, Result, Err}
 use Rattle.sp_journal.specs.JournalText.{journal_text}
 use Rattle.sp_journal.specs.Reading.{IsJournal, IsRead, IsWhole}
 use Rattle.sp_journal.specs.declared.entry.Entry.{Entry}

@@ -23,5 +23,8 @@ pub use reader::read;
 pub use replies::{entry_text, reply_text};
 pub use reply_line::{read_entry, read_reply};
 pub use stage::{JournalRefused, Stage};
-pub use text_laws::a_journal_is_of_its_text;
+pub use text_laws::{
+    a_good_journal_is_read, a_journal_is_of_its_text, a_journal_text_has_one_reading,
+    no_other_journal_begins_there,
+};
 pub use whole_text::{journal_lines, journal_text};
