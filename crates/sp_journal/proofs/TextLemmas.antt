@@ -1,5 +1,6 @@
 -- A journal's text is its lines.
-use Rattle.std.proofs.Common.{◌≡◌, ℕ, ◌+◌, List, [], ◌∷◌, ◌++◌, map, refl, sym, ap, ◌∙◌, append_assoc, append-nil}
+use Rattle.std.proofs.Common.{Result, Ok, Err, ◌≡◌, ℕ, ◌+◌, List, [], ◌∷◌, ◌++◌, map, refl, sym, ap, ◌∙◌, append_assoc, append-nil}
+use Rattle.std.specs.Prelude.{IfOk}
 use Rattle.std.specs.List.{flat_map}
 use Rattle.std.proofs.lemmas.Grind.{flat_map-append}
 use Rattle.sp_lines.specs.Rows.{line_text}
@@ -7,10 +8,11 @@ use Rattle.sp_lines.proofs.LeadLemmas.{whole_lines}
 use Rattle.std.specs.Fmt.{decimal}
 use Rattle.sp_msg.specs.declared.effect.Effect.{Effect}
 use Rattle.sp_journal.specs.JournalText.{effect_lines, entries_from, entry_text, journal_text, summary_words, version_words}
-use Rattle.sp_journal.specs.Reading.{says}
+use Rattle.sp_journal.specs.Reading.{IsJournal, IsRead, says}
 use Rattle.sp_journal.specs.TextLaws.{JournalsAreOfTheirText}
 use Rattle.sp_journal.specs.Words.{effect_words, reply_words}
 use Rattle.sp_journal.specs.declared.entry.Entry.{Entry}
+use Rattle.sp_journal.specs.declared.stage.JournalRefused.{JournalRefused}
 use Rattle.sp_journal.proofs.StageLemmas.{entry_lines, journal_of_lines, lines_from, lines_of_end}
 
 effects_text : (effects : List Effect) → flat_map line_text (map effect_words effects) ≡ effect_lines effects
@@ -42,3 +44,8 @@ journals_are_of_their_text text journal whole =
     let lines = whole_lines says whole.leads refl in
     let all = lines_of_end lines.lines journal lines.follows in
     (all.0, lines.spelled ∙ ap (flat_map line_text) all.1 ∙ journal_spelled journal)
+
+-- a journal that was read is good, or none was read
+pub good_answer : (text : List ℕ) (answer : Result (List Entry) JournalRefused) → IsRead text answer → IfOk answer IsJournal
+good_answer text (Ok journal) is = (journals_are_of_their_text text journal is).0
+good_answer text (Err refused) is = tt

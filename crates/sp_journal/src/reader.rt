@@ -1,6 +1,6 @@
 // The reading of a whole journal, line by line, up to the first bad one.
-ghost use Rattle.std.specs.Prelude.{◌≡◌, ◌<◌, ◌+◌, ◌^◌, length};
-ghost use Rattle.sp_journal.specs.Reading.{IsRead, ended, no_words};
+ghost use Rattle.std.specs.Prelude.{◌≡◌, ◌<◌, ◌+◌, ◌^◌, IfOk, length};
+ghost use Rattle.sp_journal.specs.Reading.{IsJournal, IsRead, ended, no_words};
 
 use crate::follow::follow;
 use crate::{Entry, JournalRefused, Stage};
@@ -11,6 +11,16 @@ use std::alloc::Global;
 
 /// Reads a journal. `Form` tells the first line that isn't good, or the one after the last where the text ends early.
 pub fn read(alloc: Global, text: &[u8]) -> Result<Listed<Entry>, JournalRefused>
+    requires { length text.now + 1 < 2 ^ 32 }
+    ensures read { IsRead text.now result }
+    ensures good { IfOk result IsJournal }
+{
+    let answer = read_lines(alloc, text);
+    answer
+}
+
+/// The same, line by line.
+fn read_lines(alloc: Global, text: &[u8]) -> Result<Listed<Entry>, JournalRefused>
     requires { length text.now + 1 < 2 ^ 32 }
     ensures { IsRead text.now result }
 {
