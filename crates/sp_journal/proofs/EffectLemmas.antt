@@ -29,7 +29,7 @@ effect_back (effects.DeliveredPrio src number bytes) = refl
 effect_back (effects.WeightHeld origin edge number weight) = refl
 
 -- its words are those of its row
-row_words : (e : Effect) → spelled (cells (form_of e)) (values_of e) ≡ effect_fields e
+pub row_words : (e : Effect) → spelled (cells (form_of e)) (values_of e) ≡ effect_fields e
 row_words (effects.Signed body) = refl
 row_words (effects.Stored at key src number prio) = refl
 row_words (effects.Gone at key whys.Evicted) = refl
@@ -80,7 +80,7 @@ good_form forms.DeliveredPrio = refl
 good_form forms.Weight = refl
 
 -- the row that was found is fitted
-found_fits : {F : Type 0} (test : F → Bool) (all : List F) (found : F) → find test all ≡ Some found → test found ≡ true
+pub found_fits : {F : Type 0} (test : F → Bool) (all : List F) (found : F) → find test all ≡ Some found → test found ≡ true
 found_fits test [] found is = absurd cc
 found_fits test (x ∷ all) found is =
     elim (cases_Bool (test x)) [

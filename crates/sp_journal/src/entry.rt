@@ -2,6 +2,9 @@
 use sp_base::{Bytes, Listed, NodeId};
 use sp_msg::Effect;
 
+/// The most objects of a frame that a journal tells of: each has more than 64 bytes.
+pub const MAX_ITEMS: usize = 1_024;
+
 /// The reply to an event, and the effects of the event in their order.
 #[derive(Debug, Drop)]
 pub struct Entry {

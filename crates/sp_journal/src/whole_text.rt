@@ -80,7 +80,7 @@ fn push_counted(out: &mut String, name: &str, n: u64) -> Result<(), Memory>
 }
 
 /// How many reliable messages were sent.
-fn sent(journal: &[Entry]) -> u64
+pub fn sent(journal: &[Entry]) -> u64
     ensures { result ≡ sent_count journal.now }
 {
     let mut count = 0u64;
@@ -122,7 +122,7 @@ fn is_rel_body(effect: &Effect) -> bool
 }
 
 /// How many frames were made.
-fn frames(journal: &[Entry]) -> u64
+pub fn frames(journal: &[Entry]) -> u64
     ensures { result ≡ frame_count journal.now }
 {
     let mut count = 0u64;
@@ -154,7 +154,7 @@ fn delivered(journal: &[Entry]) -> u64
     count
 }
 
-fn delivered_in(effects: &[Effect]) -> u64
+pub fn delivered_in(effects: &[Effect]) -> u64
     ensures { result ≡ length (filter is_delivered effects.now) }
 {
     effects
@@ -175,7 +175,7 @@ fn priority(journal: &[Entry]) -> u64
     count
 }
 
-fn priority_in(effects: &[Effect]) -> u64
+pub fn priority_in(effects: &[Effect]) -> u64
     ensures { result ≡ length (filter is_delivered_prio effects.now) }
 {
     effects
