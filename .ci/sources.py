@@ -71,6 +71,8 @@ def hands_on(lines, at):
     block = opens(lines, at, indent)
     if re.search(r"let (Ok|Some)\(.*else \{$", block):
         return bool(TAKES.search(block)) or "checked_add" in block
+    if re.search(r"if \w+\.(push|reserve|extend_from_slice)\(.*\)\.is_err\(\) \{$", block):
+        return True
     if "code: Status::Memory" in line:
         return "let Ok(words) = words else {" in " ".join(lines[max(0, at - 3):at])
     if re.search(r"^\s*(fn from|pub fn code)", block) or "fn from(" in block:
