@@ -1,4 +1,4 @@
-//! `schedule_check`: reads a schedule from standard input, or with the word `journal` a journal, and writes its text again, or the line that tells its first refusal.
+//! `schedule_check`: reads a schedule, or with the word `journal` a journal, and writes its text again, or the line that tells its first refusal.
 #![tactic(auto)]
 
 mod journals;
