@@ -1,14 +1,14 @@
-//! `schedule_check`: reads a schedule from standard input, and writes its text again, or the line that tells its first refusal.
+//! `schedule_check`: reads a schedule, or with the word `journal` a journal, and writes its text again, or the line that tells its first refusal.
 #![tactic(auto)]
 
-ghost use Rattle.std.specs.Prelude.{◌≤◌, length};
-ghost use Rattle.sp_base.specs.declared.limits.TheConstants.{MAX_INPUT_BYTES};
+mod journals;
+mod schedules;
 
-use sp_base::{MAX_INPUT_BYTES, Memory};
-use sp_schedule::{Ending, Stage, print, push_refused, read};
 use std::alloc::Global;
+use std::env;
 use std::io::{Read, Write};
 use std::process::ExitCode;
+use std::rt::Env;
 
 fn main(rt: HostRuntime) -> ExitCode {
     let alloc = rt.alloc();
@@ -16,7 +16,12 @@ fn main(rt: HostRuntime) -> ExitCode {
     if rt.stdin().read_to_end(&mut text).is_err() {
         return ExitCode::from(5);
     }
-    let Ok(answer) = checked(alloc, text.as_slice()) else {
+    let answer = if is_for_journals(&rt) {
+        journals::checked(alloc, text.as_slice())
+    } else {
+        schedules::checked(alloc, text.as_slice())
+    };
+    let Ok(answer) = answer else {
         return ExitCode::from(9);
     };
     match rt.stdout().write_all(answer.as_bytes()) {
@@ -25,27 +30,13 @@ fn main(rt: HostRuntime) -> ExitCode {
     }
 }
 
-/// The text of the schedule that was read, or the line of its refusal.
-fn checked(alloc: Global, text: &[u8]) -> Result<String, Memory> {
-    let kept = kept(text);
-    let reading = read(alloc, kept, kept.len() < text.len())?;
-    let mut line = String::new(alloc);
-    match (reading.ending, reading.stage) {
-        (Ending::Whole, Stage::End(scenario, events)) => {
-            let events = events.into_events();
-            print(alloc, &scenario, events.as_slice())
-        }
-        (Ending::Refused { line: number, kind }, _) => {
-            push_refused(&mut line, number, kind)?;
-            Ok(line)
-        }
-        _ => Ok(line),
+/// Whether the word after the program's name is `journal`.
+fn is_for_journals(rt: &(impl Env + AllocGlobal)) -> bool {
+    let Ok(mut args) = env::args(rt) else {
+        return false;
+    };
+    match args.nth(1) {
+        Some(word) => word.as_bytes() == b"journal".as_slice(),
+        None => false,
     }
-}
-
-/// As much of the text as may be read.
-fn kept(text: &[u8]) -> &[u8]
-    ensures { length result.now ≤ MAX_INPUT_BYTES }
-{
-    &text[..text.len().min(MAX_INPUT_BYTES)]
 }

@@ -1,5 +1,5 @@
 // One line of a journal at its stage: where it leads, or what is wrong with it.
-ghost use Rattle.std.specs.Prelude.{◌≡◌, IfOk, map};
+ghost use Rattle.std.specs.Prelude.{◌≡◌, ◌++◌, ◌∷◌, [], IfOk, map};
 ghost use Rattle.sp_lines.specs.Answers.{Reads};
 ghost use Rattle.sp_journal.specs.Reading.{closed, effect_more, entry_more, says};
 
@@ -68,12 +68,16 @@ fn with_effect(
     let Some(Entry { reply, effects }) = last else {
         return Err(LineRefused::Bad(Fault::Form));
     };
-    let mut effects = effects.into_vec();
-    if effects.push(effect).is_err() {
-        return Err(LineRefused::Memory);
-    }
-    let effects = Listed::from_vec(effects);
+    let effects = one_more(effects, effect)?;
     Ok(Stage::Entries(done, Some(Entry { reply, effects })))
+}
+
+fn one_more(effects: Listed<Effect>, effect: Effect) -> Result<Listed<Effect>, Memory>
+    ensures { IfOk result (λ more. more ≡ effects ++ effect ∷ []) }
+{
+    let mut effects = effects.into_vec();
+    effects.push(effect)?;
+    Ok(Listed::from_vec(effects))
 }
 
 /// All entries.

@@ -1,11 +1,11 @@
 // The words of objects, read.
-ghost use Rattle.std.specs.Prelude.{◌≡◌, map};
+ghost use Rattle.std.specs.Prelude.{◌≡◌, ◌++◌, ◌∷◌, [], OnOk, map};
 ghost use Rattle.sp_base.specs.Refusals.{Gives};
 ghost use Rattle.sp_lines.specs.Answers.{Reads};
 ghost use Rattle.sp_journal.specs.ReplyTable.{ack_answers, all_items, item_among, item_at, items_at, prio_answers, rel_answers, weight_answers};
 
 use crate::{AnswerWord, ItemWord};
-use sp_base::Listed;
+use sp_base::{Listed, Memory};
 use sp_lines::{Fault, LineRefused, named};
 use std::alloc::Global;
 
@@ -16,11 +16,16 @@ pub fn read_items(alloc: Global, words: &[&[u8]]) -> Result<Listed<ItemWord>, Li
     let mut items = Vec::new(alloc);
     'words: for word in words {
         let item = item(word)?;
-        if items.push(item).is_err() {
-            return Err(LineRefused::Memory);
-        }
+        push(&mut items, item)?;
     }
     Ok(Listed::from_vec(items))
+}
+
+fn push(items: &mut Vec<ItemWord>, item: ItemWord) -> Result<(), Memory>
+    ensures { OnOk result (items.new.items ≡ items.old.items ++ item ∷ []) }
+{
+    items.push(item)?;
+    Ok(())
 }
 
 #[tactic(auto, unfolding(crate::specs::ReplyTable::item_at))]
