@@ -17,8 +17,8 @@ use Rattle.laws_node.specs.Updates.{UpdateHolds}
 use Rattle.laws_node.proofs.Tables.{all_weaker}
 use Rattle.sp_runs.specs.Bounds.{FlowIsBounded, IsBounded, PeerIsBounded, neighbour_ids}
 use Rattle.sp_runs.specs.Settings.{Setting, fixed_of}
-use Rattle.laws_runs.specs.Laws.{BuffersStayBounded}
-use Rattle.laws_runs.proofs.Facts.{Good, NodeIs, sizes_at}
+use Rattle.laws_runs.specs.Laws.{BoundsFollow, BuffersStayBounded}
+use Rattle.laws_runs.specs.Signs.{Good, NodeIs, sizes_at}
 use Rattle.laws_runs.proofs.Signed.{signs}
 
 at_most_one : {X : Type 0} (o : Option X) → length (as_list o) ≤ 1
@@ -75,3 +75,6 @@ is_bounded x P u n is =
 
 pub buffers_stay_bounded : BuffersStayBounded
 buffers_stay_bounded arts x es js w fits reads run u n at = is_bounded x (Good arts x es js) u n ((signs arts x es js w fits reads run).nodes u n at)
+
+pub bounds_follow : BoundsFollow
+bounds_follow arts x es js w signs u n at = is_bounded x (Good arts x es js) u n (signs.nodes u n at)

@@ -27,7 +27,7 @@ use Rattle.sp_schedule_events.specs.declared.event.Event.{Event}
 use Rattle.sp_schedule_events.specs.declared.event.Event.TheVariants as events
 use Rattle.laws_runs.specs.Premises.{Carries}
 use Rattle.laws_runs.specs.States.{RunsAreDetermined}
-use Rattle.laws_runs.proofs.Facts.{Good, sizes_at}
+use Rattle.laws_runs.specs.Signs.{Good, sizes_at}
 use Rattle.laws_runs.proofs.Kept.{read_off}
 use Rattle.laws_runs.proofs.Signed.{reached, signs}
 

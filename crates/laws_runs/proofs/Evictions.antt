@@ -1,5 +1,6 @@
 -- Which entry of a full place goes, and what share its source keeps.
-use Rattle.std.proofs.Common.{◌≡◌, ◌<◌, ◌≤◌, ℕ, zero, suc, ◌+◌, ◌-◌, ◌/◌, ◌==◌, Bool, true, false, cond, List, [], ◌∷◌, ◌++◌, length, get_or, map, filter, Option, Some, None, refl, sym, ap, subst, ◌∙◌, inl, inr, arith, nat_lt}
+use Rattle.laws_runs.specs.Places.{Rising, all_held, as_held, less_held}
+use Rattle.std.proofs.Common.{◌≡◌, ◌<◌, ◌≤◌, ℕ, zero, suc, ◌+◌, ◌-◌, ◌/◌, ◌==◌, Bool, true, false, cond, List, [], ◌∷◌, ◌++◌, length, get_or, filter, Option, Some, None, refl, sym, ap, subst, ◌∙◌, inl, inr, arith, nat_lt}
 use Rattle.std.specs.Prelude.{◌||◌, ◌≢◌, AllPairs, Contains, drop}
 use Rattle.std.specs.List.{All, list_any, range_with_len}
 use Rattle.std.specs.Option.{option_and_then}
@@ -11,30 +12,14 @@ use Rattle.std.proofs.lemmas.List.Kept.{AllPairs-cons}
 use Rattle.sp_rules.proofs.ChoiceLemmas.{first_is_there}
 use Rattle.std.proofs.lemmas.List.Sums.{sum_by-cons}
 use Rattle.sp_rules.specs.Choices.{first_by, less_first, sooner}
-use Rattle.sp_rules.specs.Store.{Store, count_of, fullest, has_entries, has_id, ids, is_of, lowest, oldest, priority, said, source, sources, victim}
+use Rattle.sp_rules.specs.Store.{count_of, fullest, has_entries, has_id, ids, is_of, lowest, oldest, priority, source, sources, victim}
 use Rattle.sp_rules.specs.declared.store.Entry.{Entry}
 use Rattle.sp_rules.specs.declared.store.TheConstants.{IDS}
 use Rattle.laws_node.proofs.Tables.{all_weaker, cond_either}
 use Rattle.laws_node.proofs.StoreShares.{fair}
 use Rattle.sp_runs.specs.Held.{Held, IsShare, count_held, sources_held}
-use Rattle.laws_runs.proofs.Played.{Shelf, less_held}
 
 -- ---- entries as effects tell them
-
-abbrev pub as_held : Entry → Held
-as_held e = record { id = e.id; src = source e; seq = said (λ p. p.seq) e.kept.body; prio = priority e }
-
-abbrev pub all_held : List Entry → List Held
-all_held es = map as_held es
-
--- a store as its effects tell it
-abbrev pub shelf : Store → Shelf
-shelf s = record { top = s.last; held = all_held s.entries }
-
--- each id is above the one before
-abbrev pub Rising : ℕ → List Entry → Type 0
-Rising b [] = Unit {0}
-Rising b (e ∷ es) = (b < e.id) × Rising e.id es
 
 rising_low : (b c : ℕ) (es : List Entry) → b ≤ c → Rising c es → Rising b es
 rising_low b c [] le h = tt

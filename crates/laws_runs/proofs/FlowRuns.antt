@@ -1,5 +1,5 @@
 -- The part on flows over a whole run.
-use Rattle.std.proofs.Common.{◌≡◌, ◌≤◌, ℕ, ◌+◌, max, Bool, true, false, cond, List, [], ◌∷◌, ◌++◌, length, map, filter, Some, refl, sym, ap, subst, ◌∙◌, inl, inr, arith}
+use Rattle.std.proofs.Common.{◌≡◌, ◌≤◌, ℕ, ◌+◌, max, Bool, true, false, cond, List, [], ◌∷◌, ◌++◌, length, map, filter, None, Some, refl, sym, ap, subst, ◌∙◌, inl, inr, arith}
 use Rattle.std.specs.Prelude.{◌&&◌, ◌||◌, ◌==◌, not, IsTrue}
 use Rattle.std.specs.List.{flat_map, list_any, zip}
 use Rattle.std.proofs.lemmas.Bool.{cases_Bool, cases_eq, eqb-true, ne_eqb}
@@ -14,7 +14,7 @@ use Rattle.sp_msg.specs.declared.body.Body.TheVariants as bodies
 use Rattle.sp_msg.specs.declared.effect.Effect.{Effect}
 use Rattle.sp_msg.specs.declared.kept.Kept.{Kept}
 use Rattle.sp_rules.specs.Arts.{Arts}
-use Rattle.sp_rules.specs.Flow.{FlowState, is_flow, no_flow}
+use Rattle.sp_rules.specs.Flow.{FlowState, is_flow, no_flow, ends}
 use Rattle.sp_rules.specs.Node.{NodeState}
 use Rattle.sp_rules.specs.Parts.{Fixed, nodes_of}
 use Rattle.sp_rules.specs.Rel.{flow_in, flows_from, pairs_of}
@@ -23,7 +23,7 @@ use Rattle.laws_runs.proofs.Lives.{step_stays}
 use Rattle.laws_node.proofs.Tables.{cond_either}
 use Rattle.sp_runs.specs.Forgery.{forged_object, has_forged_tag, is_among}
 use Rattle.sp_runs.specs.Inputs.{acting}
-use Rattle.sp_runs.specs.Runs.{Clean, Starts, Turned, Moves, Stays, Move, Spends, IsCraftOf, next_frame}
+use Rattle.sp_runs.specs.Runs.{Clean, InRange, Starts, Turned, Turn, Moves, Stays, Move, Spends, IsCraftOf, forged_in, next_frame}
 use Rattle.sp_runs.specs.Settings.{Setting, SettingFits, is_correct, is_node, is_one_of}
 use Rattle.sp_runs.specs.Told.{Message, accepted_in, delivered, delivered_by, sent, signed, signed_by, told_at}
 use Rattle.sp_runs.specs.Worlds.{World, at_start, node_in}
@@ -31,7 +31,8 @@ use Rattle.sp_journal.specs.declared.entry.Entry.{Entry}
 use Rattle.sp_schedule_events.specs.declared.event.Event.{Event}
 use Rattle.sp_schedule_events.specs.declared.event.Event.TheVariants as events
 use Rattle.laws_runs.specs.Acknowledged.{acknowledged, acks_in}
-use Rattle.laws_runs.specs.Flows.{IsIn, AreNumbered, FlowsAreKept}
+use Rattle.laws_runs.specs.Signs.{Signs}
+use Rattle.laws_runs.specs.Flows.{IsIn, AreNumbered, FlowClaims, FlowsAreKept, TurnsKeepFlows}
 use Rattle.laws_runs.specs.Premises.{Carries}
 use Rattle.laws_runs.proofs.FlowFacts.{RelIs, flow_grown, flow_of, in_more}
 use Rattle.laws_runs.proofs.FlowPieces.{told_here}
@@ -39,8 +40,10 @@ use Rattle.laws_runs.proofs.FlowSteps.{Stepped, acked_away, acked_here}
 use Rattle.laws_runs.proofs.Flows.{FlowsHold, acks_both, stepped}
 use Rattle.laws_runs.proofs.Lists.{among_or, told_more}
 use Rattle.laws_runs.proofs.SentLists.{lists_sent}
+use Rattle.laws_runs.proofs.VouchedAcks.{vouched}
 use Rattle.laws_runs.proofs.Goods.{new_known, started, unforged_tag}
-use Rattle.laws_runs.proofs.Signed.{even, signs, reached}
+use Rattle.laws_runs.proofs.Reaches.{input_fits}
+use Rattle.laws_runs.proofs.Signed.{signs, turns_keep_signs}
 use Rattle.laws_runs.proofs.Tables.{node_put, same_node}
 
 -- ---- the start: there is a row for each two nodes, and nothing came
@@ -86,6 +89,25 @@ has_row nodes s d different from to =
       | inl same ↦ absurd (different (same_node s d (sym (eqb-true src.0 s.0 one) ∙ sym same ∙ eqb-true dst.0 d.0 two)))
       | inr other ↦ let e : (dst.0 == src.0) ≡ false = ne_eqb dst.0 src.0 other in rw e refl
     ]
+
+row_of_keys : (nodes : List NodeId) (s d : NodeId) (fs : List FlowState) → (s ≡ d → ⊥) → is_one_of nodes s ≡ true → is_one_of nodes d ≡ true → map ends fs ≡ pairs_of nodes
+    → list_any (is_flow (flow_of s d)) fs ≡ true
+row_of_keys nodes s d fs different from to keys =
+    by_ends fs (map no_flow (pairs_of nodes)) (keys ∙ sym (new_ends (pairs_of nodes))) ∙ has_row nodes s d different from to
+  where
+    new_ends : (flows : List Flow) → map ends (map no_flow flows) ≡ flows
+    new_ends [] = refl
+    new_ends (f ∷ flows) = ap (λ (gs : List Flow). f ∷ gs) (new_ends flows)
+
+    by_ends : (fs gs : List FlowState) → map ends fs ≡ map ends gs → list_any (is_flow (flow_of s d)) fs ≡ list_any (is_flow (flow_of s d)) gs
+    by_ends [] [] same = refl
+    by_ends [] (g ∷ gs) same = absurd cc
+    by_ends (f ∷ fs) [] same = absurd cc
+    by_ends (f ∷ fs) (g ∷ gs) same =
+        let first : ends f ≡ ends g = cc in
+        let rest : map ends fs ≡ map ends gs = cc in
+        ap (λ (z : Flow). ((z.src.0 == s.0) && (z.dst.0 == d.0)) || list_any (is_flow (flow_of s d)) fs) first
+        ∙ ap (λ t. is_flow (flow_of s d) g || t) (by_ends fs gs rest)
 
 starts : (x : Setting) (s d : NodeId) → (s ≡ d → ⊥) → is_node x s ≡ true → is_node x d ≡ true → FlowsHold x s d [] [] (at_start x)
 starts x s d different from to = record {
@@ -230,6 +252,18 @@ stayed_on x s d es js w new e j same m h =
 
 -- ---- a whole run
 
+flows_on : (arts : Arts) (x : Setting) (es : List Event) (js : List Entry) (old : World) (e : Event) (j : Entry) (new : World) → SettingFits arts x → Carries arts
+    → Signs arts x es js old → InRange x es e → (turn : Turn arts x es old e j new) → forged_in arts x es js old e j new turn ≡ None
+    → (s d : NodeId) → IsTrue (is_correct x d) → (s ≡ d → ⊥) → FlowsHold x s d es js old → FlowsHold x s d (es ++ e ∷ []) (js ++ j ∷ []) new
+flows_on arts x es js old e j new fits reads signs range (Moves m) unforged s d to different h =
+    let is = signs.nodes (acting e) m.node m.is_there in
+    let nothing = unforged_tag (has_forged_tag arts x old m.node m.input) (forged_object x es js m.output.answered) unforged in
+    let me : m.after.fixed.me ≡ acting e = ap (λ (f : Fixed). f.me) ((step_stays arts m.node m.input m.output m.after m.step).fixed ∙ is.fixed) in
+    moved_on arts x s d es js old new e j m signs.entries me h
+    (stepped arts x s d different fits to es js old new j e m.node (next_frame old e) m.input m.output m.after m.reaches (input_fits arts x es old m.node e m.input reads signs.bytes range m.reaches)
+    m.step m.journal is (new_known x es js m.output.answered nothing.1) h (h.nodes (acting e) m.node m.is_there))
+flows_on arts x es js old e j new fits reads signs range (Stays m) unforged s d to different h = stayed_on x s d es js old new e j signs.entries m h
+
 pub flows_hold : (arts : Arts) (x : Setting) (es : List Event) (js : List Entry) (w : World) → SettingFits arts x → Carries arts → Clean arts x es js w
     → (s d : NodeId) → is_node x s ≡ true → IsTrue (is_correct x d) → (s ≡ d → ⊥) → FlowsHold x s d es js w
 flows_hold arts x es js w fits reads Starts s d from to different = starts x s d different from (first _ _ to)
@@ -237,34 +271,60 @@ flows_hold arts x es js w fits reads Starts s d from to different = starts x s d
     first : (a b : Bool) → (a && b) ≡ true → a ≡ true
     first true b e = refl
     first false b e = absurd (let f : false ≡ true = e in cc)
-flows_hold arts x es js w fits reads (Turned {es = es'} {js = js'} {old = old} {e = e} {j = j} run range (Moves m) unforged) s d from to different =
-    let h = flows_hold arts x es' js' old fits reads run s d from to different in
-    let is = (signs arts x es' js' old fits reads run).nodes (acting e) m.node m.is_there in
-    let nothing = unforged_tag (has_forged_tag arts x old m.node m.input) (forged_object x es' js' m.output.answered) unforged in
-    let me : m.after.fixed.me ≡ acting e = ap (λ (f : Fixed). f.me) ((step_stays arts m.node m.input m.output m.after m.step).fixed ∙ is.fixed) in
-    moved_on arts x s d es' js' old w e j m (even arts x es' js' old run) me h
-    (stepped arts x s d different fits to es' js' old w j e m.node (next_frame old e) m.input m.output m.after m.reaches (reached arts x es' js' old w e j fits reads run range m) m.step m.journal is
-    (new_known x es' js' m.output.answered nothing.1) h (h.nodes (acting e) m.node m.is_there))
-flows_hold arts x es js w fits reads (Turned {es = es'} {js = js'} {old = old} {e = e} {j = j} run range (Stays m) unforged) s d from to different =
-    stayed_on x s d es' js' old w e j (even arts x es' js' old run) m (flows_hold arts x es' js' old fits reads run s d from to different)
+flows_hold arts x es js w fits reads (Turned {es = es'} {js = js'} {old = old} {e = e} {j = j} run range turn unforged) s d from to different =
+    flows_on arts x es' js' old e j w fits reads (signs arts x es' js' old fits reads run) range turn unforged s d to different
+    (flows_hold arts x es' js' old fits reads run s d from to different)
 
 first_true : (a b : Bool) → (a && b) ≡ true → a ≡ true
 first_true true b e = refl
 first_true false b e = absurd (let f : false ≡ true = e in cc)
 
+-- the claims, and what they come from
+claims_of : (arts : Arts) (x : Setting) (es : List Event) (js : List Entry) (w : World) → SettingFits arts x → Signs arts x es js w
+    → (s d : NodeId) → IsTrue (is_node x s) → IsTrue (is_correct x d) → FlowsHold x s d es js w → FlowClaims x s d es js w
+claims_of arts x es js w fits signs s d from to h = record {
+  base = λ u n at. (h.nodes u n at).flow.base;
+  base_at_end = λ n at. (h.nodes d n at).flow.base_end refl;
+  acknowledged = h.low;
+  vouched = λ u n at. vouched arts x s d es js fits from (first_true (is_node x d) _ to) to u n (signs.nodes u n at) (signs.nodes u n at).acks;
+  have_at_end = λ n at. (h.nodes d n at).flow.have_end refl;
+  have = λ k u n at. (h.nodes u n at).flow.have k;
+  have_at_source = λ k n at. (h.nodes s n at).flow.have_source k refl;
+  lists = λ k u n at. lists_sent arts x s d es js w fits h k from (first_true (is_node x d) _ to) u n (signs.nodes u n at);
+  messages = h.messages;
+  prefix = h.prefix;
+  numbered = λ k. let p = h.prefix k in numbered_front 0 (delivered es js s d) p.0 (subst (AreNumbered 0) p.1 (h.numbers k));
+  sent_numbered = h.numbers;
+}
+
+of_claims : (arts : Arts) (x : Setting) (es : List Event) (js : List Entry) (w : World) → Signs arts x es js w
+    → (s d : NodeId) → IsTrue (is_node x s) → IsTrue (is_correct x d) → (s ≡ d → ⊥) → FlowClaims x s d es js w → FlowsHold x s d es js w
+of_claims arts x es js w signs s d from to different c = record {
+  nodes = λ u n at.
+      let is = signs.nodes u n at in
+      let rel = is.holds.parts.rel in
+      record {
+        me = rel.me;
+        row = row_of_keys (nodes_of x.topology) s d n.parts.rel.flows different from (first_true (is_node x d) _ to) rel.keys;
+        flow = record {
+          base = c.base u n at;
+          base_end = λ same. c.base_at_end n (subst (λ (v : NodeId). node_in w.nodes v ≡ Some n) same at);
+          have_end = λ same. c.have_at_end n (subst (λ (v : NodeId). node_in w.nodes v ≡ Some n) same at);
+          have = λ k. c.have k u n at;
+          have_source = λ k same. c.have_at_source k n (subst (λ (v : NodeId). node_in w.nodes v ≡ Some n) same at);
+        };
+      };
+  prefix = c.prefix;
+  low = c.acknowledged;
+  numbers = c.sent_numbered;
+  messages = c.messages;
+}
+
+pub turns_keep_flows : TurnsKeepFlows
+turns_keep_flows arts x es js old e j new fits reads signs range turn unforged s d from to different c =
+    claims_of arts x (es ++ e ∷ []) (js ++ j ∷ []) new fits (turns_keep_signs arts x es js old e j new fits reads signs range turn unforged) s d from to
+    (flows_on arts x es js old e j new fits reads signs range turn unforged s d to different (of_claims arts x es js old signs s d from to different c))
+
 pub flows_are_kept : FlowsAreKept
 flows_are_kept arts x es js w fits reads run s d from to different =
-    let h = flows_hold arts x es js w fits reads run s d from to different in
-    record {
-      base = λ u n at. (h.nodes u n at).flow.base;
-      base_at_end = λ n at. (h.nodes d n at).flow.base_end refl;
-      acknowledged = h.low;
-      have_at_end = λ n at. (h.nodes d n at).flow.have_end refl;
-      have = λ k u n at. (h.nodes u n at).flow.have k;
-      have_at_source = λ k n at. (h.nodes s n at).flow.have_source k refl;
-      lists = λ k u n at.
-          lists_sent arts x s d es js w fits h k from (first_true (is_node x d) _ to) u n ((signs arts x es js w fits reads run).nodes u n at);
-      messages = h.messages;
-      prefix = h.prefix;
-      numbered = λ k. let p = h.prefix k in numbered_front 0 (delivered es js s d) p.0 (subst (AreNumbered 0) p.1 (h.numbers k));
-    }
+    claims_of arts x es js w fits (signs arts x es js w fits reads run) s d from to (flows_hold arts x es js w fits reads run s d from to different)

@@ -56,7 +56,7 @@ use Rattle.sp_schedule_events.specs.declared.event.Event.{Event}
 use Rattle.sp_schedule_events.specs.declared.event.Event.TheVariants as events
 use Rattle.laws_runs.specs.Acknowledged.{ack_in, acknowledged, acks_in}
 use Rattle.laws_runs.specs.Flows.{IsIn, AreNumbered}
-use Rattle.laws_runs.proofs.Facts.{Good, Known, NodeIs, sizes_at}
+use Rattle.laws_runs.specs.Signs.{Good, Known, NodeIs, sizes_at}
 use Rattle.laws_runs.proofs.FlowFacts.{RelIs, flow_of}
 use Rattle.laws_runs.proofs.FlowPieces.{Handles, Vouched, all_handled, quiet_append, quiet_expired, quiet_gone, quiet_none, quiet_prio, quiet_weight, told_here}
 use Rattle.laws_runs.proofs.FlowSteps.{Stepped, acked_here, acked_none, sent_step, served_step, settled_step, signed_other, silent, took_step}

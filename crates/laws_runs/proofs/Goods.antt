@@ -36,33 +36,35 @@ use Rattle.sp_runs.specs.Worlds.{World, at_start, node_in}
 use Rattle.sp_journal.specs.declared.entry.Entry.{Entry}
 use Rattle.sp_schedule_events.specs.declared.event.Event.{Event}
 use Rattle.sp_runs.specs.declared.what.What.TheVariants as whats
-use Rattle.laws_runs.proofs.Facts.{Good, Known, NodeIs}
+use Rattle.laws_runs.specs.Signs.{Good, Known, NodeIs}
 use Rattle.laws_runs.specs.Premises.{IsOfBytes}
+use Rattle.sp_rules.specs.Rel.{pairs_of}
+use Rattle.laws_runs.proofs.Acks.{all_none}
 use Rattle.laws_runs.proofs.Lists.{among_left, among_right, both, first_among, told_more}
 use Rattle.laws_runs.proofs.Tables.{same_node}
 
 -- ---- pieces, and their objects
 
-pub all_of : (pieces : List Piece) → AllKeep IsOfBytes pieces → All IsOfBytes (objects_in pieces)
-all_of [] h = All-nil IsOfBytes
-all_of (piece ∷ pieces) h = All-append IsOfBytes (objects_of piece) (objects_in pieces) (one piece h.0) (all_of pieces h.1)
+pub all_of : (P : Kept → Type 0) (pieces : List Piece) → AllKeep P pieces → All P (objects_in pieces)
+all_of P [] h = All-nil P
+all_of P (piece ∷ pieces) h = All-append P (objects_of piece) (objects_in pieces) (one piece h.0) (all_of P pieces h.1)
   where
-    one : (p : Piece) → PieceKeeps IsOfBytes p → All IsOfBytes (objects_of p)
-    one (WeightPiece o) h = All-cons IsOfBytes o [] h (All-nil IsOfBytes)
-    one (PrioAckPiece number) h = All-nil IsOfBytes
-    one (PrioPiece number o) h = All-cons IsOfBytes o [] h (All-nil IsOfBytes)
-    one (ReportPiece flow base have) h = All-nil IsOfBytes
-    one (AckPiece flow o) h = All-cons IsOfBytes o [] h (All-nil IsOfBytes)
-    one (RelPiece flow o) h = All-cons IsOfBytes o [] h (All-nil IsOfBytes)
+    one : (p : Piece) → PieceKeeps P p → All P (objects_of p)
+    one (WeightPiece o) h = All-cons P o [] h (All-nil P)
+    one (PrioAckPiece number) h = All-nil P
+    one (PrioPiece number o) h = All-cons P o [] h (All-nil P)
+    one (ReportPiece flow base have) h = All-nil P
+    one (AckPiece flow o) h = All-cons P o [] h (All-nil P)
+    one (RelPiece flow o) h = All-cons P o [] h (All-nil P)
 
-pub of_all : (pieces : List Piece) → All IsOfBytes (objects_in pieces) → AllKeep IsOfBytes pieces
-of_all [] h = tt
-of_all (WeightPiece o ∷ pieces) h = (All-head IsOfBytes o (objects_in pieces) h, of_all pieces (All-tail IsOfBytes o (objects_in pieces) h))
-of_all (PrioAckPiece number ∷ pieces) h = (tt, of_all pieces h)
-of_all (PrioPiece number o ∷ pieces) h = (All-head IsOfBytes o (objects_in pieces) h, of_all pieces (All-tail IsOfBytes o (objects_in pieces) h))
-of_all (ReportPiece flow base have ∷ pieces) h = (tt, of_all pieces h)
-of_all (AckPiece flow o ∷ pieces) h = (All-head IsOfBytes o (objects_in pieces) h, of_all pieces (All-tail IsOfBytes o (objects_in pieces) h))
-of_all (RelPiece flow o ∷ pieces) h = (All-head IsOfBytes o (objects_in pieces) h, of_all pieces (All-tail IsOfBytes o (objects_in pieces) h))
+pub of_all : (P : Kept → Type 0) (pieces : List Piece) → All P (objects_in pieces) → AllKeep P pieces
+of_all P [] h = tt
+of_all P (WeightPiece o ∷ pieces) h = (All-head P o (objects_in pieces) h, of_all P pieces (All-tail P o (objects_in pieces) h))
+of_all P (PrioAckPiece number ∷ pieces) h = (tt, of_all P pieces h)
+of_all P (PrioPiece number o ∷ pieces) h = (All-head P o (objects_in pieces) h, of_all P pieces (All-tail P o (objects_in pieces) h))
+of_all P (ReportPiece flow base have ∷ pieces) h = (tt, of_all P pieces h)
+of_all P (AckPiece flow o ∷ pieces) h = (All-head P o (objects_in pieces) h, of_all P pieces (All-tail P o (objects_in pieces) h))
+of_all P (RelPiece flow o ∷ pieces) h = (All-head P o (objects_in pieces) h, of_all P pieces (All-tail P o (objects_in pieces) h))
 
 pub where_keep : (P : Kept → Type 0) (reply : LinkReply) (pieces : List Piece) → AllKeep P pieces → AllKeep P (pieces_where reply pieces)
 where_keep P links.Fresh pieces h = h
@@ -192,4 +194,5 @@ starts arts x P fits u n e =
         short = fits.short;
         signer = record { index = omega arith; bound = omega arith; total = fits.total };
       });
+      acks = all_none (pairs_of (nodes_of x.topology));
     })

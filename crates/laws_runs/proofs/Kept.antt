@@ -1,8 +1,6 @@
 -- What correct nodes keep and send was signed, as tests say it.
-use Rattle.std.proofs.Common.{◌≡◌, Bool, true, false, List, [], ◌∷◌, refl, sym, subst}
+use Rattle.std.proofs.Common.{◌≡◌, Bool, true, false, List, refl, sym, subst}
 use Rattle.std.specs.Prelude.{◌&&◌, ◌||◌, not, IsTrue}
-use Rattle.std.specs.List.{All}
-use Rattle.std.proofs.lemmas.List.Elements.{All-append, All-cons, All-nil}
 use Rattle.sp_base.specs.declared.id.NodeId.{NodeId}
 use Rattle.sp_msg.specs.Bodies.{encoded}
 use Rattle.sp_msg.specs.Views.{signer_of}
@@ -10,11 +8,10 @@ use Rattle.sp_msg.specs.declared.kept.Kept.{Kept}
 use Rattle.sp_rules.specs.Arts.{Arts}
 use Rattle.sp_rules.specs.Node.{NodeState}
 use Rattle.sp_rules.specs.Parts.{nodes_of}
-use Rattle.sp_rules.specs.Pieces.{Piece, WeightPiece, PrioAckPiece, PrioPiece, ReportPiece, AckPiece, RelPiece, pieces_of}
+use Rattle.sp_rules.specs.Pieces.{Piece, pieces_of}
 use Rattle.laws_node.specs.Nodes.{NodeHolds, sizes_of}
-use Rattle.laws_node.specs.Objects.{objects_in, objects_of}
 use Rattle.laws_node.specs.Sizes.{Sizes}
-use Rattle.laws_node.proofs.Carried.{AllKeep, PieceKeeps, all_less}
+use Rattle.laws_node.proofs.Carried.{AllKeep, all_less}
 use Rattle.laws_node.proofs.Weaker.{node_weaker}
 use Rattle.sp_runs.specs.Forgery.{is_among}
 use Rattle.sp_runs.specs.Settings.{Setting, is_correct}
@@ -22,7 +19,8 @@ use Rattle.sp_runs.specs.Told.{signed}
 use Rattle.sp_journal.specs.declared.entry.Entry.{Entry}
 use Rattle.sp_schedule_events.specs.declared.event.Event.{Event}
 use Rattle.laws_runs.specs.States.{WhatIsKeptWasSigned, is_good_in, is_known_in, is_valid_in}
-use Rattle.laws_runs.proofs.Facts.{Good, sizes_at}
+use Rattle.laws_runs.specs.Signs.{Good, sizes_at}
+use Rattle.laws_runs.proofs.Goods.{all_of, of_all}
 use Rattle.laws_runs.proofs.Signed.{signs}
 
 both : (a b : Bool) → a ≡ true → b ≡ true → (a && b) ≡ true
@@ -46,18 +44,6 @@ read_off x P u n h =
         → n.parts.rel.bound ≡ x.buffer → n.parts.prio.inbox.capacity ≡ x.store → sizes_at x P u ≡ sizes_of P n
     same a b c d e f = sym (rw (a, b, c, d, e, f) refl)
 
-objects_all : (P : Kept → Type 0) (pieces : List Piece) → AllKeep P pieces → All P (objects_in pieces)
-objects_all P [] h = All-nil P
-objects_all P (piece ∷ pieces) h = All-append P (objects_of piece) (objects_in pieces) (one piece h.0) (objects_all P pieces h.1)
-  where
-    one : (p : Piece) → PieceKeeps P p → All P (objects_of p)
-    one (WeightPiece o) h = All-cons P o [] h (All-nil P)
-    one (PrioAckPiece number) h = All-nil P
-    one (PrioPiece number o) h = All-cons P o [] h (All-nil P)
-    one (ReportPiece flow base have) h = All-nil P
-    one (AckPiece flow o) h = All-cons P o [] h (All-nil P)
-    one (RelPiece flow o) h = All-cons P o [] h (All-nil P)
-
 all_good : (arts : Arts) (x : Setting) (es : List Event) (js : List Entry) (pieces : List Piece) → AllKeep (Good arts x es js) pieces
     → AllKeep (λ o. IsTrue (is_good_in arts x es js o)) pieces
 all_good arts x es js pieces h = all_less (Good arts x es js) (λ o. IsTrue (is_good_in arts x es js o)) (good arts x es js) pieces h
@@ -70,5 +56,5 @@ what_is_kept_was_signed arts x es js w fits reads run =
       kept = λ u n at.
           let is = h.nodes u n at in
           read_off x Q u n (node_weaker (sizes_at x (Good arts x es js) u) Q (good arts x es js) n is.holds);
-      sent = λ u v k bytes s at read. objects_all Q (pieces_of s) (all_good arts x es js (pieces_of s) (h.frames u v k bytes s at read));
+      sent = λ u v k bytes s at read. all_of Q (pieces_of s) (all_good arts x es js (pieces_of s) (of_all (Good arts x es js) (pieces_of s) (h.frames u v k bytes s at read)));
     }

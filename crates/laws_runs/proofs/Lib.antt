@@ -1,9 +1,9 @@
 pub mod Lists
 pub mod Tables
 pub mod Lives
-pub mod Facts
 pub mod Reaches
 pub mod Goods
+pub mod Acks
 pub mod Signed
 pub mod Passes
 pub mod Bounds
@@ -11,6 +11,7 @@ pub mod FlowFacts
 pub mod FlowPieces
 pub mod FlowSteps
 pub mod Flows
+pub mod VouchedAcks
 pub mod FlowRuns
 pub mod PrioFacts
 pub mod PrioSteps
@@ -28,3 +29,11 @@ pub mod PlaceSteps
 pub mod PlaceRuns
 pub mod Determined
 pub mod SentLists
+pub mod Neighbours
+pub mod Counts
+pub mod Words
+pub mod Frames
+pub mod Turns
+pub mod Crafts
+pub mod Plays
+pub mod Stories

@@ -17,6 +17,7 @@ use Rattle.sp_rules.specs.declared.answers.Item.{Item}
 use Rattle.sp_rules.specs.declared.node.NodeRefused.{NodeRefused}
 use Rattle.laws_node.specs.Asked.{NewKeep}
 use Rattle.laws_node.proofs.Carried.{AllKeep, pieces_new}
+use Rattle.sp_rules.specs.Pieces.{pieces_of}
 use Rattle.sp_runs.specs.Forgery.{forged, forged_object, has_forged_tag, is_among, is_forged, is_tagged}
 use Rattle.sp_runs.specs.Inputs.{input_of}
 use Rattle.sp_runs.specs.Runs.{Clean, Move, Moves, Stays, Turn, forged_in}
@@ -29,10 +30,10 @@ use Rattle.sp_runs.specs.declared.what.What.{What}
 use Rattle.sp_runs.specs.declared.what.What.TheVariants as whats
 use Rattle.laws_runs.specs.Laws.{IsHostile, OnlyTheAdversaryForges}
 use Rattle.laws_runs.specs.Premises.{Carries}
-use Rattle.laws_runs.proofs.Facts.{Good}
+use Rattle.laws_runs.specs.Signs.{Good}
 use Rattle.laws_runs.proofs.Lists.{among_get}
 use Rattle.laws_runs.proofs.Reaches.{came}
-use Rattle.laws_runs.proofs.Goods.{where_keep}
+use Rattle.laws_runs.proofs.Goods.{of_all, where_keep}
 use Rattle.laws_runs.proofs.Signed.{signs}
 
 -- ---- nothing is forged where all that is new is known
@@ -50,16 +51,16 @@ nothing_new arts x es js (a ∷ others) h =
     let fine : is_forged x es js a ≡ false = all_three _ _ _ (λ new correct. (h.0 new).known correct) in
     rw fine (nothing_new arts x es js others h.1)
 
-neither : (t : Bool) (o : Option (List ℕ)) → t ≡ false → o ≡ None → cond t (Some whats.Tag) (option_map whats.Object o) ≡ None
+pub neither : (t : Bool) (o : Option (List ℕ)) → t ≡ false → o ≡ None → cond t (Some whats.Tag) (option_map whats.Object o) ≡ None
 neither t o e f = rw (e, f) refl
 
 -- ---- what was made and passed is good
 
-in_good : (P : Kept → Type 0) (r : Result Contents SectionRefused) → ((s : Contents) → r ≡ Ok s → AllKeep P (pieces_in (Ok s))) → AllKeep P (pieces_in r)
+pub in_good : (P : Kept → Type 0) (r : Result Contents SectionRefused) → ((s : Contents) → r ≡ Ok s → AllKeep P (pieces_in (Ok s))) → AllKeep P (pieces_in r)
 in_good P (Ok s) h = h s refl
 in_good P (Err refused) h = tt
 
-called_good : (P : Kept → Type 0) (o : Output) (r : Option NodeRefused) → NewKeep P o.answered → NewKeep P (refused_call r o).answered
+pub called_good : (P : Kept → Type 0) (o : Output) (r : Option NodeRefused) → NewKeep P o.answered → NewKeep P (refused_call r o).answered
 called_good P o None h = h
 called_good P o (Some refused) h = tt
 
@@ -73,7 +74,7 @@ pass_unforged arts x es js w new u v number j fits reads run m =
     let me : m.node.fixed.me ≡ v = ap (λ (f : Fixed). f.me) is.fixed in
     let moves : NodeStep arts m.node (steps.Datagram u it.bytes) m.output m.after = subst (λ i. NodeStep arts m.node i m.output m.after) it.is m.step in
     let pieces = in_good P (sections_in arts m.node.fixed it.bytes)
-    (λ s read. h.frames u v it.place it.bytes s it.there (ap (λ (f : Fixed). arts.sections f.signature_len it.bytes) (sym is.fixed) ∙ read)) in
+    (λ s read. of_all P (pieces_of s) (h.frames u v it.place it.bytes s it.there (ap (λ (f : Fixed). arts.sections f.signature_len it.bytes) (sym is.fixed) ∙ read))) in
     let news : NewKeep P m.output.answered =
     subst (λ (o : Output). NewKeep P o.answered) (sym moves.0) (called_good P (arrived arts m.node u it.bytes) (call_refusal m.node u)
     (pieces_new P arts (arrival_at m.node u) m.node.parts (pieces_where (reply_at arts m.node u it.bytes) (pieces_in (sections_in arts m.node.fixed it.bytes)))

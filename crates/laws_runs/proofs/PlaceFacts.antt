@@ -1,4 +1,5 @@
 -- What each change of the priority part tells of each place of the node.
+use Rattle.laws_runs.specs.Places.{PlacesAre, RisingRows, StoreIs, row_store, shelf, store_at}
 use Rattle.std.proofs.Common.{◌≡◌, ◌<◌, ◌≤◌, ℕ, zero, suc, ◌==◌, true, false, List, [], ◌∷◌, ◌++◌, map, Option, refl, sym, ap, subst, ◌∙◌, inl, inr, arith}
 use Rattle.std.specs.List.{All, flat_map, list_any}
 use Rattle.std.proofs.lemmas.Bool.{cases_Bool, eq-eqb, eqb-true, ne_eqb}
@@ -16,28 +17,9 @@ use Rattle.sp_rules.specs.PrioPeer.{PrioPeer}
 use Rattle.sp_rules.specs.Store.{Store, put, said}
 use Rattle.sp_rules.specs.declared.store.TheConstants.{IDS}
 use Rattle.laws_node.specs.Stores.{IsPrio}
-use Rattle.laws_runs.proofs.Evictions.{shelf}
-use Rattle.laws_runs.proofs.StoreFacts.{AreAway, Leads, StoreIs, Tells_prio, away_both, leads_away, leads_nowhere, leads_on, put_away, put_here}
+use Rattle.laws_runs.proofs.StoreFacts.{AreAway, Leads, Tells_prio, away_both, leads_away, leads_nowhere, leads_on, put_away, put_here}
 
 -- ---- places
-
--- each row is of a node above the one before
-abbrev pub RisingRows : ℕ → List PrioPeer → Type 0
-RisingRows b [] = Unit {0}
-RisingRows b (q ∷ qs) = (b < q.peer) × RisingRows q.peer qs
-
-pub record PlacesAre (capacity : ℕ) (p : PrioState) : Type 0 where
-  pub inbox : StoreIs capacity p.inbox
-  pub peers : All (λ q. StoreIs capacity q.store) p.peers
-  pub rows : RisingRows 0 p.peers
-
-abbrev pub row_store : List PrioPeer → ℕ → Store
-row_store peers place = (first_where (is_peer place) no_peer peers).store
-
--- what a place holds
-abbrev pub store_at : PrioState → ℕ → Store
-store_at p zero = p.inbox
-store_at p (suc v) = row_store p.peers (suc v)
 
 -- effects lead each place on, and the places stay as they are
 pub record Turns (capacity : ℕ) (old : PrioState) (es : List Effect) (new : PrioState) : Type 0 where

@@ -1,5 +1,6 @@
 -- What each place holds, and that each eviction leaves a share, over a whole run.
-use Rattle.std.proofs.Common.{◌≡◌, ℕ, zero, suc, ◌==◌, true, false, cond, List, [], ◌∷◌, ◌++◌, length, map, Some, refl, sym, ap, subst, ◌∙◌, inl, inr, arith}
+use Rattle.laws_runs.specs.Places.{PlacesAre, RisingRows, SharePart, Steps, StoreIs, TurnsKeepShares, no_shelf, played, row_store, shelf, shelf_by, store_at}
+use Rattle.std.proofs.Common.{◌≡◌, ℕ, zero, suc, ◌==◌, true, false, cond, List, [], ◌∷◌, ◌++◌, length, map, None, Some, refl, sym, ap, subst, ◌∙◌, inl, inr, arith}
 use Rattle.std.specs.List.{All}
 use Rattle.std.proofs.lemmas.Bool.{cases_Bool, eq-eqb, eqb-true, ne_eqb}
 use Rattle.std.proofs.Math.ListN.{drop_of_length-le}
@@ -17,9 +18,9 @@ use Rattle.sp_topology.proofs.NeighbourLemmas.{found_ascend}
 use Rattle.sp_topology.specs.Neighbours.{Ascend, neighbours_from}
 use Rattle.sp_topology.specs.declared.topology.Edge.{Edge}
 use Rattle.laws_runs.proofs.Lives.{step_stays}
-use Rattle.laws_runs.proofs.Played.{Shelf, Steps, shares_from_start, shelf_by}
+use Rattle.laws_runs.proofs.Played.{shares_from_start}
 use Rattle.sp_runs.specs.Inputs.{acting}
-use Rattle.sp_runs.specs.Runs.{Clean, Starts, Turned, Moves, Stays, Move, Spends}
+use Rattle.sp_runs.specs.Runs.{Clean, Starts, Turned, Moves, Stays, Move, Spends, InRange, Turn, forged_in}
 use Rattle.sp_runs.specs.Settings.{Setting, SettingFits, fixed_of, node_at_boot}
 use Rattle.sp_runs.specs.Told.{effects_at, told_at}
 use Rattle.sp_runs.specs.Worlds.{World, at_start, node_in}
@@ -27,33 +28,21 @@ use Rattle.sp_journal.specs.declared.entry.Entry.{Entry as JournalEntry}
 use Rattle.sp_schedule_events.specs.declared.event.Event.{Event}
 use Rattle.laws_runs.specs.Premises.{Carries}
 use Rattle.laws_runs.specs.Shares.{EvictionsLeaveShares}
-use Rattle.laws_runs.proofs.Facts.{Good}
+use Rattle.laws_runs.specs.Signs.{Good, Signs}
 use Rattle.laws_runs.proofs.FlowRuns.{here_is, none_either}
 use Rattle.laws_runs.proofs.Lists.{as_they_are, told_more}
-use Rattle.laws_runs.proofs.PlaceFacts.{PlacesAre, RisingRows, Turns, row_store, store_at, row_here, row_there}
+use Rattle.laws_runs.proofs.PlaceFacts.{Turns, row_here, row_there}
 use Rattle.laws_runs.proofs.Goods.{started}
-use Rattle.laws_runs.proofs.Signed.{even, signs, reached}
-use Rattle.laws_runs.proofs.Evictions.{shelf}
-use Rattle.laws_runs.proofs.StoreFacts.{StoreIs, shares_both, held_both, store_empty}
+use Rattle.laws_runs.proofs.Reaches.{input_fits}
+use Rattle.laws_runs.proofs.Signed.{signs}
+use Rattle.laws_runs.proofs.StoreFacts.{shares_both, held_both, store_empty}
 use Rattle.laws_runs.proofs.Tables.{node_put, same_node}
 use Rattle.laws_runs.proofs.PlaceSteps.{turned}
 
 -- ---- a whole run
 
-abbrev no_shelf : Shelf
-no_shelf = record { top = 0; held = [] }
-
--- where the effects of a node lead a place
-abbrev played : List Event → List JournalEntry → NodeId → ℕ → Shelf
-played es js u place = shelf_by place no_shelf (effects_at es js u)
-
-pub record HeldRight (x : Setting) (es : List Event) (js : List JournalEntry) (w : World) : Type 0 where
-  pub nodes : (u : NodeId) (n : NodeState) → node_in w.nodes u ≡ Some n → PlacesAre x.store n.parts.prio
-  pub held_is : (u : NodeId) (n : NodeState) (place : ℕ) → node_in w.nodes u ≡ Some n → played es js u place ≡ shelf (store_at n.parts.prio place)
-  pub shares : (u : NodeId) (place : ℕ) → Steps x.store place no_shelf (effects_at es js u)
-
 moved_on : (arts : Arts) (x : Setting) (es : List Event) (js : List JournalEntry) (w new : World) (e : Event) (j : JournalEntry) (m : Move arts x es w e j new) → length es ≡ length js
-    → m.after.fixed.me ≡ acting e → HeldRight x es js w → Turns x.store m.node.parts.prio m.output.effects m.after.parts.prio → HeldRight x (es ++ e ∷ []) (js ++ j ∷ []) new
+    → m.after.fixed.me ≡ acting e → SharePart x es js w → Turns x.store m.node.parts.prio m.output.effects m.after.parts.prio → SharePart x (es ++ e ∷ []) (js ++ j ∷ []) new
 moved_on arts x es js w new e j m same me h turns =
     let es2 = es ++ e ∷ [] in
     let js2 = js ++ j ∷ [] in
@@ -83,7 +72,7 @@ moved_on arts x es js w new e j m same me h turns =
       ];
     }
 
-stayed_on : (x : Setting) (es : List Event) (js : List JournalEntry) (w new : World) (e : Event) (j : JournalEntry) → length es ≡ length js → Spends x es w e j new → HeldRight x es js w → HeldRight x (es ++ e ∷ []) (js ++ j ∷ []) new
+stayed_on : (x : Setting) (es : List Event) (js : List JournalEntry) (w new : World) (e : Event) (j : JournalEntry) → length es ≡ length js → Spends x es w e j new → SharePart x es js w → SharePart x (es ++ e ∷ []) (js ++ j ∷ []) new
 stayed_on x es js w new e j same m h =
     let es2 = es ++ e ∷ [] in
     let js2 = js ++ j ∷ [] in
@@ -112,7 +101,7 @@ no_rows capacity place (n ∷ ns) = elim (cases_Bool (n.id.0 == place)) [
   | inr t ↦ ap shelf (row_there place (rows.new_peer capacity n) (map (rows.new_peer capacity) ns) t) ∙ no_rows capacity place ns
 ]
 
-starts : (arts : Arts) (x : Setting) → SettingFits arts x → HeldRight x [] [] (at_start x)
+starts : (arts : Arts) (x : Setting) → SettingFits arts x → SharePart x [] [] (at_start x)
 starts arts x fits = record {
   nodes = λ u n at.
       let is = started x (nodes_of x.topology) u n at in
@@ -138,16 +127,27 @@ starts arts x fits = record {
     empty u zero = refl
     empty u (suc v) = sym (no_rows x.store (suc v) (map as_neighbour (neighbours_of (fixed_of x u))))
 
-held_right : (arts : Arts) (x : Setting) (es : List Event) (js : List JournalEntry) (w : World) → SettingFits arts x → Carries arts → Clean arts x es js w → HeldRight x es js w
-held_right arts x es js w fits reads Starts = starts arts x fits
-held_right arts x es js w fits reads (Turned {es = es'} {js = js'} {old = old} {e = e} {j = j} run range (Moves m) unforged) =
-    let h = held_right arts x es' js' old fits reads run in
-    let is = (signs arts x es' js' old fits reads run).nodes (acting e) m.node m.is_there in
+shares_on : (arts : Arts) (x : Setting) (es : List Event) (js : List JournalEntry) (old : World) (e : Event) (j : JournalEntry) (new : World) → SettingFits arts x → Carries arts
+    → Signs arts x es js old → InRange x es e → (turn : Turn arts x es old e j new) → forged_in arts x es js old e j new turn ≡ None
+    → SharePart x es js old → SharePart x (es ++ e ∷ []) (js ++ j ∷ []) new
+shares_on arts x es js old e j new fits reads signs range (Moves m) unforged h =
+    let is = signs.nodes (acting e) m.node m.is_there in
     let me : m.after.fixed.me ≡ acting e = ap (λ (f : Fixed). f.me) ((step_stays arts m.node m.input m.output m.after m.step).fixed ∙ is.fixed) in
-    moved_on arts x es' js' old w e j m (even arts x es' js' old run) me h
-    (turned x arts fits (Good arts x es' js') (acting e) m.node m.input m.output m.after m.step (reached arts x es' js' old w e j fits reads run range m) is (h.nodes (acting e) m.node m.is_there))
-held_right arts x es js w fits reads (Turned {es = es'} {js = js'} {old = old} {e = e} {j = j} run range (Stays m) unforged) =
-    stayed_on x es' js' old w e j (even arts x es' js' old run) m (held_right arts x es' js' old fits reads run)
+    moved_on arts x es js old new e j m signs.entries me h
+    (turned x arts fits (Good arts x es js) (acting e) m.node m.input m.output m.after m.step (input_fits arts x es old m.node e m.input reads signs.bytes range m.reaches) is
+    (h.nodes (acting e) m.node m.is_there))
+shares_on arts x es js old e j new fits reads signs range (Stays m) unforged h = stayed_on x es js old new e j signs.entries m h
+
+held_right : (arts : Arts) (x : Setting) (es : List Event) (js : List JournalEntry) (w : World) → SettingFits arts x → Carries arts → Clean arts x es js w → SharePart x es js w
+held_right arts x es js w fits reads Starts = starts arts x fits
+held_right arts x es js w fits reads (Turned {es = es'} {js = js'} {old = old} {e = e} {j = j} run range turn unforged) =
+    shares_on arts x es' js' old e j w fits reads (signs arts x es' js' old fits reads run) range turn unforged (held_right arts x es' js' old fits reads run)
+
+pub turns_keep_shares : TurnsKeepShares
+turns_keep_shares = record {
+  turn = shares_on;
+  claims = λ x es js w part u place. shares_from_start x.store place (effects_at es js u) (part.shares u place);
+}
 
 pub evictions_leave_shares : EvictionsLeaveShares
 evictions_leave_shares arts x es js w fits reads run = λ u place. shares_from_start x.store place (effects_at es js u) ((held_right arts x es js w fits reads run).shares u place)

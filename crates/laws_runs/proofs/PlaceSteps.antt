@@ -1,4 +1,5 @@
 -- What each step tells of each place of the node.
+use Rattle.laws_runs.specs.Places.{PlacesAre, StoreIs, shelf}
 use Rattle.std.proofs.Common.{◌≡◌, ◌<◌, ℕ, Bool, true, false, cond, List, [], ◌∷◌, ◌++◌, Option, Some, None, refl, sym, ap, subst, inl, inr, arith}
 use Rattle.std.specs.List.{flat_map}
 use Rattle.std.specs.Option.{option_and_then}
@@ -50,11 +51,10 @@ use Rattle.laws_node.proofs.Handles as judged
 use Rattle.laws_node.proofs.Own.{either, prio_sent_fits}
 use Rattle.laws_node.proofs.Arrived.{step_fields}
 use Rattle.sp_runs.specs.Settings.{Setting, SettingFits}
-use Rattle.laws_runs.proofs.Facts.{NodeIs, sizes_at}
-use Rattle.laws_runs.proofs.PlaceFacts.{AllAway, PlacesAre, Turns, admitted_turns, all_turn, inbox_turns, row_turns, turns_on, turns_same}
+use Rattle.laws_runs.specs.Signs.{NodeIs, sizes_at}
+use Rattle.laws_runs.proofs.PlaceFacts.{AllAway, Turns, admitted_turns, all_turn, inbox_turns, row_turns, turns_on, turns_same}
 use Rattle.laws_runs.proofs.Goods.{arts_fit}
-use Rattle.laws_runs.proofs.Evictions.{shelf}
-use Rattle.laws_runs.proofs.StoreFacts.{Leads, Signs_it, StoreIs, Tells_rel, Tells_weight, expired_away, expired_is, expired_leads, gone_away, leads_nowhere, oldest_is, oldest_leads, removed_is, removed_leads}
+use Rattle.laws_runs.proofs.StoreFacts.{Leads, Signs_it, Tells_rel, Tells_weight, expired_away, expired_is, expired_leads, gone_away, leads_nowhere, oldest_is, oldest_leads, removed_is, removed_leads}
 
 -- ---- effects of no place
 

@@ -1,5 +1,6 @@
 -- What a place holds as its effects are played one after the other, and that it is what the stored entries without the gone ones are.
-use Rattle.std.proofs.Common.{◌≡◌, ◌<◌, ◌≤◌, ℕ, ◌==◌, ◌&&◌, ◌||◌, Bool, true, false, cond, not, List, [], ◌∷◌, ◌++◌, filter, flat_map, refl, sym, ap, subst, ◌∙◌, inl, inr, arith}
+use Rattle.laws_runs.specs.Places.{FreshIf, Shelf, Steps, less_held, shelf_after}
+use Rattle.std.proofs.Common.{◌≡◌, ◌<◌, ◌≤◌, ℕ, ◌==◌, ◌&&◌, ◌||◌, Bool, true, false, not, List, [], ◌∷◌, ◌++◌, filter, flat_map, refl, sym, ap, subst, ◌∙◌, inl, inr, arith}
 use Rattle.std.specs.List.{list_any}
 use Rattle.std.proofs.lemmas.Bool.{cases_Bool, eq-eqb, eqb-true, ne_eqb}
 use Rattle.std.proofs.lemmas.List.{append-nil}
@@ -10,35 +11,6 @@ use Rattle.sp_msg.specs.declared.effect.Effect.TheVariants as effects
 use Rattle.sp_runs.specs.Held.{AreShares, Held, ShareIf, goes_from, held_in, stored_in}
 
 -- ---- a place, step by step
-
--- the greatest id that it gave, and what it holds
-pub record Shelf : Type 0 where
-  pub top : ℕ
-  pub held : List Held
-
-abbrev pub less_held : ℕ → List Held → List Held
-less_held id hs = filter (λ h. not (h.id == id)) hs
-
-abbrev pub shelf_after : ℕ → Shelf → Effect → Shelf
-shelf_after p st (effects.Stored place id src seq prio) =
-    cond (place == p) (record { top = id; held = st.held ++ (record { id = id; src = src.0; seq = seq; prio = prio }) ∷ [] }) st
-shelf_after p st (effects.Gone place id why) = cond (place == p) (record { top = st.top; held = less_held id st.held }) st
-shelf_after p st _ = st
-
-abbrev pub shelf_by : ℕ → Shelf → List Effect → Shelf
-shelf_by p st [] = st
-shelf_by p st (e ∷ es) = shelf_by p (shelf_after p st e) es
-
--- a stored id is above all that were given, and one that goes was given
-abbrev pub FreshIf : ℕ → ℕ → Effect → Type 0
-FreshIf p top (effects.Stored place id src seq prio) = place ≡ p → top < id
-FreshIf p top (effects.Gone place id why) = place ≡ p → id ≤ top
-FreshIf p top _ = Unit {0}
-
--- each effect is fresh, and each eviction leaves a share
-abbrev pub Steps : (capacity p : ℕ) → Shelf → List Effect → Type 0
-Steps capacity p st [] = Unit {0}
-Steps capacity p st (e ∷ es) = (FreshIf p st.top e × ShareIf capacity p st.held e) × Steps capacity p (shelf_after p st e) es
 
 -- ---- the same without steps
 

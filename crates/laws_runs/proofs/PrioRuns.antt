@@ -27,23 +27,25 @@ use Rattle.laws_runs.proofs.Lives.{step_stays}
 use Rattle.sp_runs.specs.Forgery.{forged_object, has_forged_tag, is_among}
 use Rattle.sp_runs.specs.Inputs.{acting, crafted_frame, flipped, input_of, slot_alone}
 use Rattle.sp_runs.specs.Journals.{Says}
-use Rattle.sp_runs.specs.Runs.{Clean, Starts, Turned, Moves, Stays, Move, Spends, IsCraftOf, next_frame}
+use Rattle.sp_runs.specs.Runs.{Clean, InRange, Starts, Turned, Turn, Moves, Stays, Move, Spends, IsCraftOf, forged_in, next_frame}
 use Rattle.sp_runs.specs.Settings.{Setting, SettingFits, is_correct}
 use Rattle.sp_runs.specs.Told.{Message, prio_accepted_in, prio_by, prio_delivered, prio_sent, signed, signed_by, told_at}
 use Rattle.sp_runs.specs.Worlds.{World, at_start, node_in}
 use Rattle.sp_journal.specs.declared.entry.Entry.{Entry}
 use Rattle.sp_schedule_events.specs.declared.event.Event.{Event}
 use Rattle.sp_schedule_events.specs.declared.event.Event.TheVariants as events
+use Rattle.laws_node.specs.Shapes.{Shape}
 use Rattle.laws_runs.specs.Premises.{Carries}
-use Rattle.laws_runs.specs.Priority.{AreAmong, AreOnce, IsOneOf, PriorityIsKept}
-use Rattle.laws_runs.proofs.Facts.{Good, Known, NodeIs, sizes_at}
+use Rattle.laws_runs.specs.Priority.{AreAmong, AreOnce, IsOneOf, PrioPart, PriorityIsKept, TurnsKeepPriority}
+use Rattle.laws_runs.specs.Signs.{Good, Known, NodeIs, Signs, sizes_at}
 use Rattle.laws_runs.proofs.FlowFacts.{flow_of}
 use Rattle.laws_runs.proofs.FlowRuns.{here_is, nothing_told}
 use Rattle.laws_runs.proofs.Flows.{came_bytes, crafted_bytes, new_both}
 use Rattle.laws_runs.proofs.Lists.{among_or, told_more}
 use Rattle.laws_runs.proofs.PrioFacts.{PrioIs, VouchedPrio}
 use Rattle.laws_runs.proofs.Goods.{arts_fit, new_known, started, unforged_tag}
-use Rattle.laws_runs.proofs.Signed.{even, signs, reached}
+use Rattle.laws_runs.proofs.Signed.{signs}
+use Rattle.laws_runs.proofs.Reaches.{input_fits}
 use Rattle.laws_runs.proofs.Tables.{node_put, same_node}
 use Rattle.laws_runs.proofs.PrioSteps.{Acted, accepted_is, datagram_done, poll_done, tick_done, send_done, weight_done, prio_done, take_done, takep_done}
 
@@ -233,20 +235,47 @@ starts x s d = record {
   messages = λ k b good src dst among. absurd (let f : false ≡ true = among in cc);
 }
 
+prio_on : (arts : Arts) (x : Setting) (es : List Event) (js : List Entry) (old : World) (e : Event) (j : Entry) (new : World) → SettingFits arts x → Carries arts
+    → Signs arts x es js old → InRange x es e → (turn : Turn arts x es old e j new) → forged_in arts x es js old e j new turn ≡ None
+    → (s d : NodeId) → PrioHold x s d es js old → PrioHold x s d (es ++ e ∷ []) (js ++ j ∷ []) new
+prio_on arts x es js old e j new fits reads signs range (Moves m) unforged s d h =
+    let is = signs.nodes (acting e) m.node m.is_there in
+    let nothing = unforged_tag (has_forged_tag arts x old m.node m.input) (forged_object x es js m.output.answered) unforged in
+    let me : m.after.fixed.me ≡ acting e = ap (λ (f : Fixed). f.me) ((step_stays arts m.node m.input m.output m.after m.step).fixed ∙ is.fixed) in
+    moved_on arts x s d es js old new e j m signs.entries me h
+    (acted arts x s d fits es js old j e m.node (next_frame old e) m.input m.output m.after m.reaches (input_fits arts x es old m.node e m.input reads signs.bytes range m.reaches)
+    m.step m.journal is (new_known x es js m.output.answered nothing.1) h
+    (λ z. h.node m.node (subst (λ v. node_in old.nodes v ≡ Some m.node) z m.is_there)))
+prio_on arts x es js old e j new fits reads signs range (Stays m) unforged s d h = stayed_on x s d es js old new e j signs.entries m h
+
 prio_hold : (arts : Arts) (x : Setting) (es : List Event) (js : List Entry) (w : World) → SettingFits arts x → Carries arts → Clean arts x es js w → (s d : NodeId) → PrioHold x s d es js w
 prio_hold arts x es js w fits reads Starts s d = starts x s d
-prio_hold arts x es js w fits reads (Turned {es = es'} {js = js'} {old = old} {e = e} {j = j} run range (Moves m) unforged) s d =
-    let h = prio_hold arts x es' js' old fits reads run s d in
-    let is = (signs arts x es' js' old fits reads run).nodes (acting e) m.node m.is_there in
-    let nothing = unforged_tag (has_forged_tag arts x old m.node m.input) (forged_object x es' js' m.output.answered) unforged in
-    let me : m.after.fixed.me ≡ acting e = ap (λ (f : Fixed). f.me) ((step_stays arts m.node m.input m.output m.after m.step).fixed ∙ is.fixed) in
-    moved_on arts x s d es' js' old w e j m (even arts x es' js' old run) me h
-    (acted arts x s d fits es' js' old j e m.node (next_frame old e) m.input m.output m.after m.reaches (reached arts x es' js' old w e j fits reads run range m) m.step m.journal is (new_known x es' js' m.output.answered nothing.1) h
-    (λ z. h.node m.node (subst (λ v. node_in old.nodes v ≡ Some m.node) z m.is_there)))
-prio_hold arts x es js w fits reads (Turned {es = es'} {js = js'} {old = old} {e = e} {j = j} run range (Stays m) unforged) s d =
-    stayed_on x s d es' js' old w e j (even arts x es' js' old run) m (prio_hold arts x es' js' old fits reads run s d)
+prio_hold arts x es js w fits reads (Turned {es = es'} {js = js'} {old = old} {e = e} {j = j} run range turn unforged) s d =
+    prio_on arts x es' js' old e j w fits reads (signs arts x es' js' old fits reads run) range turn unforged s d (prio_hold arts x es' js' old fits reads run s d)
+
+-- the part, and what it comes from
+part_of : (x : Setting) (s d : NodeId) (es : List Event) (js : List Entry) (w : World) → PrioHold x s d es js w → PrioPart x s d es js w
+part_of x s d es js w h = record { claims = record { once = h.once; authentic = h.authentic }; seen = λ n at. (h.node n at).seen; messages = h.messages }
+
+of_part : (arts : Arts) (x : Setting) (s d : NodeId) (es : List Event) (js : List Entry) (w : World) → Signs arts x es js w → PrioPart x s d es js w → PrioHold x s d es js w
+of_part arts x s d es js w signs c = record {
+  node = λ n at.
+      let shape = (signs.nodes d n at).shape in
+      record {
+        me = ap (λ (s : Shape). s.prio.me) shape;
+        len = ap (λ (s : Shape). s.prio.windows) shape ∙ ap (λ (ns : List NodeId). length ns) (sym (ap (λ (s : Shape). s.prio.nodes) shape));
+        seen = c.seen n at;
+        once = c.claims.once;
+      };
+  once = c.claims.once;
+  authentic = c.claims.authentic;
+  messages = c.messages;
+}
+
+pub turns_keep_priority : TurnsKeepPriority
+turns_keep_priority arts x es js old e j new fits reads signs range turn unforged s d c =
+    part_of x s d (es ++ e ∷ []) (js ++ j ∷ []) new
+    (prio_on arts x es js old e j new fits reads signs range turn unforged s d (of_part arts x s d es js old signs c))
 
 pub priority_is_kept : PriorityIsKept
-priority_is_kept arts x es js w fits reads run s d correct =
-    let h = prio_hold arts x es js w fits reads run s d in
-    record { once = h.once; authentic = h.authentic }
+priority_is_kept arts x es js w fits reads run s d correct = (part_of x s d es js w (prio_hold arts x es js w fits reads run s d)).claims

@@ -52,7 +52,7 @@ use Rattle.sp_journal.specs.declared.entry.Reply.{Reply}
 use Rattle.sp_journal.specs.declared.entry.Reply.TheVariants as replies
 use Rattle.sp_schedule_events.specs.declared.event.Event.TheVariants as events
 use Rattle.laws_runs.specs.Priority.{AreAmong, IsOneOf}
-use Rattle.laws_runs.proofs.Facts.{NodeIs, sizes_at}
+use Rattle.laws_runs.specs.Signs.{NodeIs, sizes_at}
 use Rattle.laws_runs.proofs.FlowPieces.{quiet_acked, quiet_expired, quiet_gone, quiet_prio, quiet_weight}
 use Rattle.laws_runs.proofs.Lists.{among_cons}
 use Rattle.laws_runs.proofs.PrioFacts.{Mute, PrioIs, VouchedPrio, all_handled, marks, mute_append, mute_expired, mute_gone, mute_none, mute_own, mute_signed, mute_weight, muted, prio_numbers, same_windows, spread_same}

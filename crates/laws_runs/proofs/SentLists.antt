@@ -25,7 +25,7 @@ use Rattle.sp_runs.specs.Worlds.{World}
 use Rattle.sp_journal.specs.declared.entry.Entry.{Entry}
 use Rattle.sp_schedule_events.specs.declared.event.Event.{Event}
 use Rattle.laws_runs.specs.Flows.{AreSent, IsIn, flow_at}
-use Rattle.laws_runs.proofs.Facts.{Good, NodeIs, sizes_at}
+use Rattle.laws_runs.specs.Signs.{Good, NodeIs, sizes_at}
 use Rattle.laws_runs.proofs.FlowFacts.{flow_of}
 use Rattle.laws_runs.proofs.Flows.{FlowsHold}
 

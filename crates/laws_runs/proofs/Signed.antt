@@ -38,8 +38,9 @@ use Rattle.sp_runs.specs.Worlds.{Direction, World, frames_in}
 use Rattle.sp_journal.specs.declared.entry.Entry.{Entry}
 use Rattle.sp_schedule_events.specs.declared.event.Event.{Event}
 use Rattle.sp_schedule_events.specs.declared.event.Event.TheVariants as events
-use Rattle.laws_runs.proofs.Facts.{Good, NodeIs, Signs, sizes_at}
+use Rattle.laws_runs.specs.Signs.{Good, NodeIs, Signs, SignsBegin, TurnsKeepSigns, sizes_at}
 use Rattle.laws_runs.specs.Premises.{Carries, IsOfBytes}
+use Rattle.laws_runs.proofs.Acks.{step_ack}
 use Rattle.laws_runs.proofs.Reaches.{input_fits, payload_fits}
 use Rattle.laws_runs.proofs.Tables.{frame_put, node_put}
 use Rattle.laws_runs.proofs.Goods.{all_of, of_all, where_keep, unforged_tag, new_known, good_new, new_less, good_more, own_known, arts_fit, starts}
@@ -54,7 +55,7 @@ even arts x es js w (Turned {es = es'} {js = js'} {old = old} {e = e} {j = j} ru
 -- what came in a datagram of bytes is of bytes
 sections_bytes : (arts : Arts) (f : Fixed) (bytes : List ℕ) (o : Result Contents SectionRefused) → Carries arts → AreBytes bytes → sections_in arts f bytes ≡ o
     → AllKeep IsOfBytes (pieces_in o)
-sections_bytes arts f bytes (Ok s) carries are is = of_all (pieces_of s) (carries.reads f.signature_len bytes s are is)
+sections_bytes arts f bytes (Ok s) carries are is = of_all IsOfBytes (pieces_of s) (carries.reads f.signature_len bytes s are is)
 sections_bytes arts f bytes (Err refused) carries are is = tt
 
 new_bytes : (arts : Arts) (n : NodeState) (input : Input) (output : Output) (after : NodeState) → Carries arts → InputFits input → NodeStep arts n input output after
@@ -107,6 +108,7 @@ acted arts x es js w new e j m fits carries reach asked same unforged is =
       total = stays.total ∙ is.total;
       shape = shapes_stay arts m.node m.input m.output m.after m.step ∙ is.shape;
       holds = step_holds (sizes_at x Q (acting e)) arts m.node m.input m.output m.after fit reach news owns m.step (node_weaker (sizes_at x P (acting e)) Q more m.node is.holds);
+      acks = step_ack arts m.node m.input m.output m.after m.step is.acks;
     }
 
 -- a frame that a poll gave carries what the node keeps
@@ -126,12 +128,13 @@ polled_frame arts x P n u v output bytes s reads is out reply read =
     gives (Some refused) e = absurd cc
 
 -- what holds of all frames that were made, and of a new one, holds of all
-frames_after : (F : List ℕ → Type 0) (ds : List Direction) (e : Event) (r : steps.Reply)
-    → ((a b : NodeId) (made : List ℕ) → e ≡ events.Poll a b → r ≡ steps.Frame made → F made)
-    → ((u v : NodeId) (k : ℕ) (bytes : List ℕ) → slice_get (frames_in ds u v) k ≡ Some bytes → F bytes)
-    → (u v : NodeId) (k : ℕ) (bytes : List ℕ) → slice_get (frames_in (directions_after ds e r) u v) k ≡ Some bytes → F bytes
+pub frames_after : (F : NodeId → NodeId → List ℕ → Type 0) (ds : List Direction) (e : Event) (r : steps.Reply)
+    → ((a b : NodeId) (made : List ℕ) → e ≡ events.Poll a b → r ≡ steps.Frame made → F a b made)
+    → ((u v : NodeId) (k : ℕ) (bytes : List ℕ) → slice_get (frames_in ds u v) k ≡ Some bytes → F u v bytes)
+    → (u v : NodeId) (k : ℕ) (bytes : List ℕ) → slice_get (frames_in (directions_after ds e r) u v) k ≡ Some bytes → F u v bytes
 frames_after F ds (events.Poll a b) (steps.Frame made) new old u v k bytes at = elim (frame_put u v a b ds made k bytes at) [
-  | inl last ↦ subst F (sym last.2) (new a b made refl refl)
+  | inl last ↦
+      subst (F u v) (sym last.2) (subst (λ (m : NodeId). F u m made) (sym last.1) (subst (λ (m : NodeId). F m b made) (sym last.0) (new a b made refl refl)))
   | inr was ↦ old u v k bytes was
 ]
 frames_after F ds (events.Poll a b) (steps.Arrived link items) new old u v k bytes at = old u v k bytes at
@@ -154,7 +157,7 @@ frames_after F ds (events.Craft a b c d) r new old u v k bytes at = old u v k by
 frames_after F ds (events.CraftStatus a b c d f g) r new old u v k bytes at = old u v k bytes at
 
 -- a frame that a poll gave is the node's
-polled : (arts : Arts) (x : Setting) (es : List Event) (w : World) (n : NodeState) (a b : NodeId) (input : Input) (output : Output) (after : NodeState) (made : List ℕ)
+pub polled : (arts : Arts) (x : Setting) (es : List Event) (w : World) (n : NodeState) (a b : NodeId) (input : Input) (output : Output) (after : NodeState) (made : List ℕ)
     → input_of arts x es w n (events.Poll a b) ≡ Some input → NodeStep arts n input output after → output.reply ≡ steps.Frame made
     → output ≡ poll_output arts n b
 polled arts x es w n a b input output after made reaches step reply =
@@ -170,7 +173,7 @@ made_bytes arts n v output made carries of out reply =
     let c = contents_to n.fixed n.parts v in
     let is : frame_to arts n v ≡ made = gives (call_refusal n v) (ap (λ (o : Output). o.reply) (sym out) ∙ reply) in
     subst AreBytes is (All-append (λ (b : ℕ). b < 256) (arts.frame h c) (arts.tag (link_in n v).key (arts.frame h c))
-    (carries.frames h c (all_of (pieces_of c) of)) (carries.tags (link_in n v).key (arts.frame h c)))
+    (carries.frames h c (all_of IsOfBytes (pieces_of c) of)) (carries.tags (link_in n v).key (arts.frame h c)))
   where
     gives : (r : Option NodeRefused) → (refused_call r (replied (steps.Frame (frame_to arts n v)))).reply ≡ steps.Frame made → frame_to arts n v ≡ made
     gives None e = cc
@@ -189,52 +192,61 @@ node_more x P Q u n less is = record {
   total = is.total;
   shape = is.shape;
   holds = node_weaker (sizes_at x P u) Q less n is.holds;
+  acks = is.acks;
 }
 
-pub signs : (arts : Arts) (x : Setting) (es : List Event) (js : List Entry) (w : World) → SettingFits arts x → Carries arts → Clean arts x es js w → Signs arts x es js w
-signs arts x es js w fits reads Starts = record {
+pub signs_begin : SignsBegin
+signs_begin arts x fits = record {
+  entries = refl;
   nodes = starts arts x (Good arts x [] []) fits;
   frames = λ u v k bytes s at read. absurd (no_frames u v k bytes at);
   bytes = λ u v k bytes at. absurd (no_frames u v k bytes at);
 }
-signs arts x es js w fits reads (Turned {es = es'} {js = js'} {old = old} {e = e} {j = j} run range (Moves m) unforged) =
-    let h = signs arts x es' js' old fits reads run in
+
+pub turns_keep_signs : TurnsKeepSigns
+turns_keep_signs arts x es' js' old e j new fits reads h range (Moves m) unforged =
     let reach = input_fits arts x es' old m.node e m.input reads h.bytes range m.reaches in
-    let same = even arts x es' js' old run in
+    let same = h.entries in
     let P = Good arts x es' js' in
     let Q = Good arts x (es' ++ e ∷ []) (js' ++ j ∷ []) in
     let more = good_more arts x es' js' e j same in
     let nothing = unforged_tag (has_forged_tag arts x old m.node m.input) (forged_object x es' js' m.output.answered) unforged in
     let is = h.nodes (acting e) m.node m.is_there in
     let asked = payload_fits arts x es' old m.node e m.input range m.reaches in
-    let done = acted arts x es' js' old w e j m fits reads reach asked same nothing.1 is in
+    let done = acted arts x es' js' old new e j m fits reads reach asked same nothing.1 is in
     subst (Signs arts x (es' ++ e ∷ []) (js' ++ j ∷ [])) (sym m.world) (record {
+      entries = omega (arith, same, length_push es' e, length_push js' j);
       nodes = λ u n at. elim (node_put u (acting e) m.after n old.nodes (ap (λ (f : Fixed). f.me) done.fixed) at) [
         | inl here ↦ subst (NodeIs x Q u) (sym here.1) (subst (λ (v : NodeId). NodeIs x Q v m.after) (sym here.0) done)
         | inr other ↦ node_more x P Q u n more (h.nodes u n other.1)
       ];
-      frames = λ u v k bytes s at read. frames_after (λ (bs : List ℕ). (s : Contents) → arts.sections x.signature_len bs ≡ Ok s → AllKeep Q (pieces_of s)) old.directions e m.output.reply
+      frames = λ u v k bytes s at read. all_of Q (pieces_of s) (frames_after (λ (u v : NodeId) (bs : List ℕ). (s : Contents) → arts.sections x.signature_len bs ≡ Ok s → AllKeep Q (pieces_of s)) old.directions e m.output.reply
           (λ a b made poll reply s read. all_less P Q more (pieces_of s)
           (polled_frame arts x P m.node (acting e) b m.output made s reads is
           (polled arts x es' old m.node a b m.input m.output m.after made (subst (λ (y : Event). input_of arts x es' old m.node y ≡ Some m.input) poll m.reaches) m.step reply) reply read))
-          (λ u v k bs at s read. all_less P Q more (pieces_of s) (h.frames u v k bs s at read)) u v k bytes at s read;
-      bytes = frames_after AreBytes old.directions e m.output.reply
+          (λ u v k bs at s read. all_less P Q more (pieces_of s) (of_all P (pieces_of s) (h.frames u v k bs s at read))) u v k bytes at s read);
+      bytes = frames_after (λ (u v : NodeId) (bs : List ℕ). AreBytes bs) old.directions e m.output.reply
           (λ a b made poll reply. made_bytes arts m.node b m.output made reads
           (all_less P IsOfBytes (λ o good. good.bytes) (pieces_of (contents_to m.node.fixed m.node.parts b)) (contents_kept (sizes_at x P (acting e)) m.node b is.holds))
           (polled arts x es' old m.node a b m.input m.output m.after made (subst (λ (y : Event). input_of arts x es' old m.node y ≡ Some m.input) poll m.reaches) m.step reply) reply)
           h.bytes;
     })
-signs arts x es js w fits reads (Turned {es = es'} {js = js'} {old = old} {e = e} {j = j} run range (Stays s) unforged) =
-    let h = signs arts x es' js' old fits reads run in
-    let same = even arts x es' js' old run in
+turns_keep_signs arts x es' js' old e j new fits reads h range (Stays s) unforged =
+    let same = h.entries in
     let P = Good arts x es' js' in
     let Q = Good arts x (es' ++ e ∷ []) (js' ++ j ∷ []) in
     let more = good_more arts x es' js' e j same in
     subst (Signs arts x (es' ++ e ∷ []) (js' ++ j ∷ [])) (sym s.world) (record {
+      entries = omega (arith, same, length_push es' e, length_push js' j);
       nodes = λ u n at. node_more x P Q u n more (h.nodes u n at);
-      frames = λ u v k bytes c at read. all_less P Q more (pieces_of c) (h.frames u v k bytes c at read);
+      frames = λ u v k bytes c at read. all_of Q (pieces_of c) (all_less P Q more (pieces_of c) (of_all P (pieces_of c) (h.frames u v k bytes c at read)));
       bytes = h.bytes;
     })
+
+pub signs : (arts : Arts) (x : Setting) (es : List Event) (js : List Entry) (w : World) → SettingFits arts x → Carries arts → Clean arts x es js w → Signs arts x es js w
+signs arts x es js w fits reads Starts = signs_begin arts x fits
+signs arts x es js w fits reads (Turned {es = es'} {js = js'} {old = old} {e = e} {j = j} run range turn unforged) =
+    turns_keep_signs arts x es' js' old e j w fits reads (signs arts x es' js' old fits reads run) range turn unforged
 
 -- what reaches a node after a run without forgery is in its ranges
 pub reached : (arts : Arts) (x : Setting) (es : List Event) (js : List Entry) (w new : World) (e : Event) (j : Entry) → SettingFits arts x → Carries arts

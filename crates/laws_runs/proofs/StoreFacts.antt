@@ -1,4 +1,5 @@
 -- What a store's effects say that it holds, and that each eviction leaves the fullest source its share.
+use Rattle.laws_runs.specs.Places.{FreshIf, Rising, Shelf, Steps, StoreIs, all_held, as_held, less_held, shelf, shelf_after, shelf_by}
 use Rattle.std.proofs.Common.{◌≡◌, ◌<◌, ◌≤◌, ℕ, ◌+◌, ◌==◌, Bool, true, false, cond, List, [], ◌∷◌, ◌++◌, length, map, filter, Option, Some, None, refl, sym, ap, subst, ◌∙◌, inl, inr, arith, not, nat_lt}
 use Rattle.std.specs.Prelude.{drop, find, slice_get}
 use Rattle.std.specs.List.{All, list_any}
@@ -24,8 +25,7 @@ use Rattle.laws_node.specs.Stores.{IsPrio}
 use Rattle.laws_node.proofs.Lost.{all_filter, all_less_first, filter_shorter, less_first_shorter, less_one, one_goes}
 use Rattle.laws_node.proofs.Tables.{all_drop_first, all_push, all_weaker, cond_where}
 use Rattle.sp_runs.specs.Held.{Held, IsShare, ShareIf}
-use Rattle.laws_runs.proofs.Played.{FreshIf, Shelf, Steps, less_held, shelf_after, shelf_by}
-use Rattle.laws_runs.proofs.Evictions.{as_held, all_held, shelf, Rising, rising_push, rising_less, rising_filter, rising_drop, keeps_all, less_one_held, above_all, is_share}
+use Rattle.laws_runs.proofs.Evictions.{rising_push, rising_less, rising_filter, rising_drop, keeps_all, less_one_held, above_all, is_share}
 
 -- ---- what effects make of a place
 
@@ -95,13 +95,6 @@ leads_away capacity p st (e ∷ es) away =
     }
 
 -- ---- what each change of a store tells of its place
-
-pub record StoreIs (capacity : ℕ) (s : Store) : Type 0 where
-  pub capacity_is : s.capacity ≡ capacity
-  pub rising : Rising 0 s.entries
-  pub last : All (λ e. e.id ≤ s.last) s.entries
-  pub few : length s.entries ≤ s.capacity
-  pub small : All (λ e. source e < IDS) s.entries
 
 pub store_empty : (capacity : ℕ) → StoreIs capacity (record { capacity = capacity; last = 0; entries = [] })
 store_empty capacity = record {

@@ -21,19 +21,22 @@ use Rattle.laws_node.proofs.LastWeights.{At, HasRows, said as row_said}
 use Rattle.laws_node.proofs.UpdateRows.{ends_differ, nothing_held}
 use Rattle.sp_runs.specs.Forgery.{forged_object, has_forged_tag, is_among}
 use Rattle.sp_runs.specs.Inputs.{acting}
-use Rattle.sp_runs.specs.Runs.{Clean, Starts, Turned, Moves, Stays, Move, Spends}
+use Rattle.sp_runs.specs.Runs.{Clean, Starts, Turned, Moves, Stays, Move, Spends, InRange, Turn, forged_in}
 use Rattle.sp_runs.specs.Settings.{Setting, SettingFits, is_correct}
 use Rattle.sp_runs.specs.Told.{effects_at, signed, signed_by, told_at}
 use Rattle.sp_runs.specs.Worlds.{World, at_start, node_in}
 use Rattle.sp_journal.specs.declared.entry.Entry.{Entry as JournalEntry}
 use Rattle.sp_schedule_events.specs.declared.event.Event.{Event}
+use Rattle.laws_node.specs.Shapes.{Shape}
+use Rattle.sp_topology.specs.declared.topology.Edge.{Edge}
 use Rattle.laws_runs.specs.Premises.{Carries}
-use Rattle.laws_runs.specs.Weights.{EachHeld, IsSaid, WeightsAreKept}
-use Rattle.laws_runs.proofs.Facts.{Good, Known}
+use Rattle.laws_runs.specs.Weights.{EachHeld, IsSaid, WeightsAreKept, TurnsKeepWeights, WeightClaims, WeightPart}
+use Rattle.laws_runs.specs.Signs.{Good, Known, Signs}
 use Rattle.laws_runs.proofs.FlowRuns.{here_is, none_either}
 use Rattle.laws_runs.proofs.Lists.{among_left, as_they_are, told_more}
 use Rattle.laws_runs.proofs.Goods.{new_known, own_known, started, unforged_tag}
-use Rattle.laws_runs.proofs.Signed.{even, signs, reached}
+use Rattle.laws_runs.proofs.Reaches.{input_fits}
+use Rattle.laws_runs.proofs.Signed.{signs}
 use Rattle.laws_runs.proofs.Tables.{node_put, same_node}
 use Rattle.laws_runs.proofs.WeightSteps.{last_weight, last_both, each_both, each_less, WTurns, at_later, turned}
 
@@ -121,39 +124,71 @@ starts x = record {
   said = λ u. tt;
 }
 
-weights_hold : (arts : Arts) (x : Setting) (es : List Event) (js : List JournalEntry) (w : World) → SettingFits arts x → Carries arts → Clean arts x es js w → WeightsHold x es js w
-weights_hold arts x es js w fits reads Starts = starts x
-weights_hold arts x es js w fits reads (Turned {es = es'} {js = js'} {old = old} {e = e} {j = j} run range (Moves m) unforged) =
-    let h = weights_hold arts x es' js' old fits reads run in
-    let same = even arts x es' js' old run in
-    let is = (signs arts x es' js' old fits reads run).nodes (acting e) m.node m.is_there in
-    let nothing = unforged_tag (has_forged_tag arts x old m.node m.input) (forged_object x es' js' m.output.answered) unforged in
+weights_on : (arts : Arts) (x : Setting) (es : List Event) (js : List JournalEntry) (old : World) (e : Event) (j : JournalEntry) (new : World) → SettingFits arts x → Carries arts
+    → Signs arts x es js old → InRange x es e → (turn : Turn arts x es old e j new) → forged_in arts x es js old e j new turn ≡ None
+    → WeightsHold x es js old → WeightsHold x (es ++ e ∷ []) (js ++ j ∷ []) new
+weights_on arts x es js old e j new fits reads signs range (Moves m) unforged h =
+    let same = signs.entries in
+    let is = signs.nodes (acting e) m.node m.is_there in
+    let nothing = unforged_tag (has_forged_tag arts x old m.node m.input) (forged_object x es js m.output.answered) unforged in
     let before : m.node.fixed.me ≡ acting e = ap (λ (f : Fixed). f.me) is.fixed in
     let me : m.after.fixed.me ≡ acting e = ap (λ (f : Fixed). f.me) ((step_stays arts m.node m.input m.output m.after m.step).fixed ∙ is.fixed) in
-    let Q = IsSaid x (es' ++ e ∷ []) (js' ++ j ∷ []) in
-    moved_on arts x es' js' old w e j m same me h
-    (turned x arts (Good arts x es' js') Q (acting e) m.node m.input m.output m.after m.step (reached arts x es' js' old w e j fits reads run range m) is
-    (known_weights x es' js' Q (said_more x es' js' e j same) m.output.answered (new_known x es' js' m.output.answered nothing.1))
-    (λ u own correct. own_known arts x es' js' old w e j m same before (bodies.Weight u) own) (h.rows (acting e) m.node m.is_there))
-weights_hold arts x es js w fits reads (Turned {es = es'} {js = js'} {old = old} {e = e} {j = j} run range (Stays m) unforged) =
-    stayed_on x es' js' old w e j (even arts x es' js' old run) m (weights_hold arts x es' js' old fits reads run)
+    let Q = IsSaid x (es ++ e ∷ []) (js ++ j ∷ []) in
+    moved_on arts x es js old new e j m same me h
+    (turned x arts (Good arts x es js) Q (acting e) m.node m.input m.output m.after m.step (input_fits arts x es old m.node e m.input reads signs.bytes range m.reaches) is
+    (known_weights x es js Q (said_more x es js e j same) m.output.answered (new_known x es js m.output.answered nothing.1))
+    (λ u own correct. own_known arts x es js old new e j m same before (bodies.Weight u) own) (h.rows (acting e) m.node m.is_there))
+weights_on arts x es js old e j new fits reads signs range (Stays m) unforged h = stayed_on x es js old new e j signs.entries m h
+
+weights_hold : (arts : Arts) (x : Setting) (es : List Event) (js : List JournalEntry) (w : World) → SettingFits arts x → Carries arts → Clean arts x es js w → WeightsHold x es js w
+weights_hold arts x es js w fits reads Starts = starts x
+weights_hold arts x es js w fits reads (Turned {es = es'} {js = js'} {old = old} {e = e} {j = j} run range turn unforged) =
+    weights_on arts x es' js' old e j w fits reads (signs arts x es' js' old fits reads run) range turn unforged (weights_hold arts x es' js' old fits reads run)
+
+-- the part, and what it comes from
+part_of : (x : Setting) (es : List Event) (js : List JournalEntry) (w : World) → WeightsHold x es js w → WeightPart x es js w
+part_of x es js w h = record {
+  last = λ u n edge e end row at there placed.
+      h.last u n edge end row at (record { joined = e; there = ap (λ (es : List Edge). slice_get es edge) (h.edges u n at) ∙ there; placed = placed });
+  said = h.said;
+}
+
+of_part : (arts : Arts) (x : Setting) (es : List Event) (js : List JournalEntry) (w : World) → Signs arts x es js w → WeightPart x es js w → WeightsHold x es js w
+of_part arts x es js w signs c = record {
+  rows = λ u n at. let shape = (signs.nodes u n at).shape in record {
+    rows = ap (λ (s : Shape). s.weights.rows) shape ∙ ap (λ (es : List Edge). 2 * length es) (sym (ap (λ (s : Shape). s.weights.edges) shape));
+  };
+  edges = λ u n at. ap (λ (s : Shape). s.weights.edges) (signs.nodes u n at).shape;
+  last = λ u n edge end row at here.
+      c.last u n edge here.joined end row at
+      (ap (λ (es : List Edge). slice_get es edge) (sym (ap (λ (s : Shape). s.weights.edges) (signs.nodes u n at).shape)) ∙ here.there) here.placed;
+  said = c.said;
+}
+
+claims_of : (arts : Arts) (x : Setting) (es : List Event) (js : List JournalEntry) (w : World) → SettingFits arts x → WeightsHold x es js w → WeightClaims x es js w
+claims_of arts x es js w fits h = record {
+  effective_is = λ u n edge e at there.
+      let s = n.parts.weights in
+      let edges = h.edges u n at in
+      let here : slice_get s.edges edge ≡ Some e = ap (λ es. slice_get es edge) edges ∙ there in
+      let differ = ends_differ _ (0, 0) x.topology.edges edge e fits.topology.graph.are_edges there in
+      let low_is : row_of edge e e.low.0 ≡ Some (2 * edge) = let t : (e.low.0 == e.low.0) ≡ true = eq-eqb e.low.0 e.low.0 refl in rw t refl in
+      let high_is : row_of edge e e.high.0 ≡ Some (2 * edge + 1) =
+      let f : (e.low.0 == e.high.0) ≡ false = ne_eqb e.low.0 e.high.0 (λ same. omega (arith, same, differ)) in let t : (e.high.0 == e.high.0) ≡ true = eq-eqb e.high.0 e.high.0 refl in rw (f, t) refl in
+      let low = h.last u n edge e.low (2 * edge) at (record { joined = e; there = here; placed = low_is }) in
+      let high = h.last u n edge e.high (2 * edge + 1) at (record { joined = e; there = here; placed = high_is }) in
+      let least : minimum s edge ≡ e.weight = ap minimum_of here in
+      ap (λ a. max a (max (row_said s (2 * edge)) (row_said s (2 * edge + 1)))) least
+      ∙ ap (λ b. max e.weight (max b (row_said s (2 * edge + 1)))) low ∙ ap (λ c. max e.weight (max (last_weight edge e.low 0 (effects_at es js u)) c)) high;
+  said = h.said;
+}
+
+pub turns_keep_weights : TurnsKeepWeights
+turns_keep_weights = record {
+  turn = λ arts x es js old e j new fits reads signs range turn unforged c.
+      part_of x (es ++ e ∷ []) (js ++ j ∷ []) new (weights_on arts x es js old e j new fits reads signs range turn unforged (of_part arts x es js old signs c));
+  claims = λ arts x es js w fits signs c. claims_of arts x es js w fits (of_part arts x es js w signs c);
+}
 
 pub weights_are_kept : WeightsAreKept
-weights_are_kept arts x es js w fits reads run =
-    let h = weights_hold arts x es js w fits reads run in
-    record {
-      effective_is = λ u n edge e at there.
-          let s = n.parts.weights in
-          let edges = h.edges u n at in
-          let here : slice_get s.edges edge ≡ Some e = ap (λ es. slice_get es edge) edges ∙ there in
-          let differ = ends_differ _ (0, 0) x.topology.edges edge e fits.topology.graph.are_edges there in
-          let low_is : row_of edge e e.low.0 ≡ Some (2 * edge) = let t : (e.low.0 == e.low.0) ≡ true = eq-eqb e.low.0 e.low.0 refl in rw t refl in
-          let high_is : row_of edge e e.high.0 ≡ Some (2 * edge + 1) =
-          let f : (e.low.0 == e.high.0) ≡ false = ne_eqb e.low.0 e.high.0 (λ same. omega (arith, same, differ)) in let t : (e.high.0 == e.high.0) ≡ true = eq-eqb e.high.0 e.high.0 refl in rw (f, t) refl in
-          let low = h.last u n edge e.low (2 * edge) at (record { joined = e; there = here; placed = low_is }) in
-          let high = h.last u n edge e.high (2 * edge + 1) at (record { joined = e; there = here; placed = high_is }) in
-          let least : minimum s edge ≡ e.weight = ap minimum_of here in
-          ap (λ a. max a (max (row_said s (2 * edge)) (row_said s (2 * edge + 1)))) least
-          ∙ ap (λ b. max e.weight (max b (row_said s (2 * edge + 1)))) low ∙ ap (λ c. max e.weight (max (last_weight edge e.low 0 (effects_at es js u)) c)) high;
-      said = h.said;
-    }
+weights_are_kept arts x es js w fits reads run = claims_of arts x es js w fits (weights_hold arts x es js w fits reads run)

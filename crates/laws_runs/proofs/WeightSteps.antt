@@ -54,7 +54,7 @@ use Rattle.laws_node.proofs.LastWeights.{At, HasRows, IsUpdateAt, held_said, len
 use Rattle.laws_node.specs.Lives.{last_told, weight_told}
 use Rattle.sp_runs.specs.Settings.{Setting}
 use Rattle.laws_runs.specs.Weights.{EachHeld}
-use Rattle.laws_runs.proofs.Facts.{NodeIs, sizes_at}
+use Rattle.laws_runs.specs.Signs.{NodeIs, sizes_at}
 
 -- the last weight that is told of an end of an edge
 abbrev pub last_weight : (edge : ℕ) → NodeId → ℕ → List Effect → ℕ

@@ -1,5 +1,5 @@
 -- Reliable messages over a run: what stands at each node of the flow from any node to a correct one.
-use Rattle.std.specs.Prelude.{ℕ, ◌≡◌, ◌+◌, ◌-◌, ◌≤◌, true, IsTrue, List, [], ◌∷◌, length, Some, slice_get}
+use Rattle.std.specs.Prelude.{ℕ, ◌≡◌, ◌+◌, ◌-◌, ◌≤◌, true, IsTrue, List, [], ◌∷◌, ◌++◌, length, None, Some, slice_get}
 use Rattle.sp_base.specs.Lists.{IsPrefix}
 use Rattle.sp_base.specs.declared.id.NodeId.{NodeId}
 use Rattle.sp_msg.specs.Bodies.{HasGoodFields, encoded, payload_of}
@@ -11,7 +11,7 @@ use Rattle.sp_rules.specs.Flow.{FlowState}
 use Rattle.sp_rules.specs.Node.{NodeState}
 use Rattle.sp_rules.specs.Rel.{flow_in}
 use Rattle.sp_runs.specs.Forgery.{is_among}
-use Rattle.sp_runs.specs.Runs.{Clean}
+use Rattle.sp_runs.specs.Runs.{Clean, InRange, Turn, forged_in}
 use Rattle.sp_runs.specs.Settings.{Setting, SettingFits, is_correct, is_node}
 use Rattle.sp_runs.specs.Told.{Message, delivered, sent, signed}
 use Rattle.sp_runs.specs.Worlds.{World, node_in}
@@ -19,6 +19,7 @@ use Rattle.sp_journal.specs.declared.entry.Entry.{Entry}
 use Rattle.sp_schedule_events.specs.declared.event.Event.{Event}
 use Rattle.laws_runs.specs.Acknowledged.{acknowledged}
 use Rattle.laws_runs.specs.Premises.{Carries}
+use Rattle.laws_runs.specs.Signs.{Signs}
 
 -- the messages have the numbers after this one, in order
 abbrev pub AreNumbered : ℕ → List Message → Type 0
@@ -39,12 +40,21 @@ AreSent S after (o ∷ os) = IsIn S (after + 1) (payload_of o.body) × AreSent S
 abbrev pub flow_at : NodeState → NodeId → NodeId → FlowState
 flow_at n s d = flow_in n.parts.rel.flows (record { src = s; dst = d })
 
+-- the acknowledgement that is kept of the flow from s to d has the number up to which messages count as acknowledged, and d signed it
+pub record IsVouchedFor (s d : NodeId) (es : List Event) (js : List Entry) (f : FlowState) : Type 0 where
+  pub ack : Kept
+  pub kept : f.ack ≡ Some ack
+  pub body : ack.body ≡ bodies.Ack (record { src = s; dst = d; seq = f.at.base })
+  pub signed : is_among (encoded ack.body) (signed es js d) ≡ true
+
 -- d is correct
 pub record FlowClaims (x : Setting) (s d : NodeId) (es : List Event) (js : List Entry) (w : World) : Type 0 where
   -- at each correct node, what counts as acknowledged was acknowledged by d, and d acknowledged only what it delivered
   pub base : (u : NodeId) (n : NodeState) → node_in w.nodes u ≡ Some n → (flow_at n s d).at.base ≤ acknowledged es js s d
   pub base_at_end : (n : NodeState) → node_in w.nodes d ≡ Some n → (flow_at n s d).at.base ≡ acknowledged es js s d
   pub acknowledged : acknowledged es js s d ≤ length (delivered es js s d)
+  -- and each node that counts something as acknowledged has d's word for it
+  pub vouched : (u : NodeId) (n : NodeState) → node_in w.nodes u ≡ Some n → 1 ≤ (flow_at n s d).at.base → IsVouchedFor s d es js (flow_at n s d)
   -- what came to d was delivered
   pub have_at_end : (n : NodeState) → node_in w.nodes d ≡ Some n → (flow_at n s d).at.have ≡ length (delivered es js s d)
   -- where s is correct, what came anywhere was sent, and so are the messages of each list. What was delivered is a prefix of what was sent,
@@ -58,8 +68,17 @@ pub record FlowClaims (x : Setting) (s d : NodeId) (es : List Event) (js : List 
       → is_among (encoded (bodies.Rel m)) (signed es js s) ≡ true → IsIn (sent es js s d) m.seq m.payload
   pub prefix : IsTrue (is_correct x s) → IsPrefix (delivered es js s d) (sent es js s d)
   pub numbered : IsTrue (is_correct x s) → AreNumbered 0 (delivered es js s d)
+  pub sent_numbered : IsTrue (is_correct x s) → AreNumbered 0 (sent es js s d)
 
 -- of any node s and a correct other one d
 abbrev pub FlowsAreKept : Type 0
 FlowsAreKept = (arts : Arts) (x : Setting) (es : List Event) (js : List Entry) (w : World) → SettingFits arts x → Carries arts → Clean arts x es js w
     → (s d : NodeId) → IsTrue (is_node x s) → IsTrue (is_correct x d) → (s ≡ d → ⊥) → FlowClaims x s d es js w
+
+-- each turn of which nothing is forged keeps them, where signed objects are as they are in a run
+abbrev pub TurnsKeepFlows : Type 0
+TurnsKeepFlows = (arts : Arts) (x : Setting) (es : List Event) (js : List Entry) (old : World) (e : Event) (j : Entry) (new : World)
+    → SettingFits arts x → Carries arts
+    → Signs arts x es js old → InRange x es e → (turn : Turn arts x es old e j new) → forged_in arts x es js old e j new turn ≡ None
+    → (s d : NodeId) → IsTrue (is_node x s) → IsTrue (is_correct x d) → (s ≡ d → ⊥) → FlowClaims x s d es js old
+    → FlowClaims x s d (es ++ e ∷ []) (js ++ j ∷ []) new

@@ -12,6 +12,7 @@ use Rattle.sp_schedule_events.specs.declared.event.Event.{Event}
 use Rattle.sp_schedule_events.specs.declared.event.Event.TheVariants as events
 use Rattle.sp_runs.specs.declared.what.What.{What}
 use Rattle.laws_runs.specs.Premises.{Carries}
+use Rattle.laws_runs.specs.Signs.{Signs}
 
 -- ---- forgery
 
@@ -33,4 +34,9 @@ OnlyTheAdversaryForges = (arts : Arts) (x : Setting) (es : List Event) (js : Lis
 -- of each correct node
 abbrev pub BuffersStayBounded : Type 0
 BuffersStayBounded = (arts : Arts) (x : Setting) (es : List Event) (js : List Entry) (w : World) → SettingFits arts x → Carries arts → Clean arts x es js w
+    → (u : NodeId) (n : NodeState) → node_in w.nodes u ≡ Some n → IsBounded x u n
+
+-- they follow from what each turn keeps of nodes, so they have no part of their own
+abbrev pub BoundsFollow : Type 0
+BoundsFollow = (arts : Arts) (x : Setting) (es : List Event) (js : List Entry) (w : World) → Signs arts x es js w
     → (u : NodeId) (n : NodeState) → node_in w.nodes u ≡ Some n → IsBounded x u n

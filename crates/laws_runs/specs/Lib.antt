@@ -1,4 +1,5 @@
 pub mod Premises
+pub mod Signs
 pub mod Laws
 pub mod Acknowledged
 pub mod Flows
@@ -6,3 +7,8 @@ pub mod Priority
 pub mod Weights
 pub mod States
 pub mod Shares
+pub mod Places
+pub mod Calls
+pub mod Turns
+pub mod Crafts
+pub mod Story

@@ -1,13 +1,14 @@
--- What laws of runs ask of arts beside that they fit the nodes: what is written is read back, and is bytes.
-use Rattle.std.specs.Prelude.{ℕ, ◌≡◌, List, ◌++◌, Ok}
+-- What laws of runs ask of arts beside that they fit the nodes: what is written is read back, and is bytes; and of those that count, that it comes through.
+use Rattle.std.specs.Prelude.{ℕ, ◌≡◌, true, List, ◌++◌, Ok}
 use Rattle.std.specs.List.{All}
 use Rattle.sp_base.specs.Spelling.{AreBytes}
-use Rattle.sp_frame.specs.Ranges.{IsContents}
+use Rattle.sp_frame.specs.Frames.{opened}
+use Rattle.sp_frame.specs.Ranges.{IsContents, IsHead}
 use Rattle.sp_frame.specs.Sections.{Contents}
 use Rattle.sp_frame.specs.declared.head.Head.{Head}
 use Rattle.sp_msg.specs.Bodies.{payload_of}
 use Rattle.sp_msg.specs.declared.kept.Kept.{Kept}
-use Rattle.sp_rules.specs.Arts.{Arts}
+use Rattle.sp_rules.specs.Arts.{Arts, is_right}
 use Rattle.sp_rules.specs.Pieces.{pieces_of}
 use Rattle.sp_topology.specs.declared.topology.LmsHeight.{LmsHeight}
 use Rattle.laws_node.specs.Objects.{objects_in}
@@ -20,11 +21,23 @@ IsOfBytes o = AreBytes (payload_of o.body) × AreBytes o.signature
 abbrev pub AreOfBytes : Contents → Type 0
 AreOfBytes s = All IsOfBytes (objects_in (pieces_of s))
 
+-- a head and sections as a frame under its tag
+abbrev pub written : Arts → Head → Contents → (key : List ℕ) → List ℕ
+written arts h s key = arts.frame h s ++ arts.tag key (arts.frame h s)
+
 pub record Carries (arts : Arts) : Type 0 where
   -- under any head and tag
-  pub back : (len : ℕ) (h : Head) (s : Contents) (key : List ℕ) → IsContents len s
-      → arts.sections len (arts.frame h s ++ arts.tag key (arts.frame h s)) ≡ Ok s
+  pub back : (len : ℕ) (h : Head) (s : Contents) (key : List ℕ) → IsContents len s → arts.sections len (written arts h s key) ≡ Ok s
   pub frames : (h : Head) (s : Contents) → AreOfBytes s → AreBytes (arts.frame h s)
   pub tags : (key bytes : List ℕ) → AreBytes (arts.tag key bytes)
   pub signatures : (height : LmsHeight) (seed : List ℕ) (index : ℕ) (message : List ℕ) → AreBytes (arts.sign height seed index message)
   pub reads : (len : ℕ) (bytes : List ℕ) (s : Contents) → AreBytes bytes → arts.sections len bytes ≡ Ok s → AreOfBytes s
+
+-- and where signatures have this length, a frame that is written passes each test of its bytes at the other end of its edge
+pub record ComesThrough (arts : Arts) (len : ℕ) : Type 0 where
+  pub carries : Carries arts
+  -- its length, its name and its version are right
+  pub opens : (h : Head) (s : Contents) (key : List ℕ) → IsHead h → IsContents len s → opened (written arts h s key) ≡ Ok (written arts h s key)
+  -- its head is read back, its tag is right under the key, and its sections are read back by `back`
+  pub heads : (h : Head) (s : Contents) (key : List ℕ) → IsHead h → arts.head (written arts h s key) ≡ h
+  pub tags_are_right : (h : Head) (s : Contents) (key : List ℕ) → is_right arts key (written arts h s key) ≡ true

@@ -1,12 +1,18 @@
 //! The laws of every run without forgery, over any arts that fit the nodes.
 #![tactic(auto)]
 
-ghost use Rattle.laws_runs.specs.Flows.{FlowsAreKept};
-ghost use Rattle.laws_runs.specs.Laws.{BuffersStayBounded, OnlyTheAdversaryForges};
-ghost use Rattle.laws_runs.specs.Priority.{PriorityIsKept};
+ghost use Rattle.laws_runs.specs.Calls.{EachReplyHasWords, FramesAreCounted, FramesAreMade, LinksHaveTheirKeys, NeighboursAreAnswered};
+ghost use Rattle.laws_runs.specs.Flows.{FlowsAreKept, TurnsKeepFlows};
+ghost use Rattle.laws_runs.specs.Laws.{BoundsFollow, BuffersStayBounded, OnlyTheAdversaryForges};
+ghost use Rattle.laws_runs.specs.Priority.{PriorityIsKept, TurnsKeepPriority};
+ghost use Rattle.laws_runs.specs.Places.{TurnsKeepShares};
 ghost use Rattle.laws_runs.specs.Shares.{EvictionsLeaveShares};
+ghost use Rattle.laws_runs.specs.Signs.{SignsBegin, TurnsKeepSigns};
 ghost use Rattle.laws_runs.specs.States.{BeginningsAreClean, CorrectNodesAreThere, RunsAreDetermined, WhatIsKeptWasSigned};
-ghost use Rattle.laws_runs.specs.Weights.{WeightsAreKept};
+ghost use Rattle.laws_runs.specs.Weights.{TurnsKeepWeights, WeightsAreKept};
+ghost use Rattle.laws_runs.specs.Crafts.{OwnCraftsForgeNothing};
+ghost use Rattle.laws_runs.specs.Story.{StoriesArePlayed};
+ghost use Rattle.laws_runs.specs.Turns.{EachEventHasATurn};
 
 /// A law: only bytes that the adversary brings are ever forged. A frame that is passed as it was made never is.
 pub fn only_the_adversary_forges()
@@ -61,4 +67,81 @@ pub fn evictions_leave_shares()
 /// A law: the events of a run and their journal lead to one world: to one state of each node, and to the same frames.
 pub fn events_and_journal_determine_a_run()
     ensures { RunsAreDetermined }
+{}
+
+/// A law: a correct node answers polls and datagrams of each of its neighbours, after fewer events than a node answers calls.
+pub fn neighbours_are_answered()
+    ensures { NeighboursAreAnswered }
+{}
+
+/// A law: each answer to an event in its range has words. So no event calls a node with wrong ends, wants indexes that aren't reserved, or
+/// wears a node out.
+pub fn each_reply_has_words()
+    ensures { EachReplyHasWords }
+{}
+
+/// A law: both ends of an edge have its key for their tags, after each event.
+pub fn links_have_their_keys()
+    ensures { LinksHaveTheirKeys }
+{}
+
+/// A law: a direction has as many frames as polls, and a journal as many entries as events.
+pub fn frames_are_counted()
+    ensures { FramesAreCounted }
+{}
+
+/// A law: each frame of a direction was made by its node for its neighbour, in a state within its bounds.
+pub fn frames_are_made()
+    ensures { FramesAreMade }
+{}
+
+/// A law: after a run without forgery of fewer events than a node answers calls, each event in its range has a turn, where messages have a choice of paths.
+/// So no event of a schedule is left without one.
+pub fn each_event_has_a_turn()
+    ensures { EachEventHasATurn }
+{}
+
+/// A law: what a compromised node crafts in the names of compromised nodes is never forged. So a schedule whose crafts are all such names no
+/// forgery by them.
+pub fn own_crafts_forge_nothing()
+    ensures { OwnCraftsForgeNothing }
+{}
+
+/// The part on signed objects, and what nodes are: it holds at the start, and each turn of which nothing is forged keeps it.
+pub fn turns_keep_what_is_signed()
+    ensures begin { SignsBegin }
+    ensures turn { TurnsKeepSigns }
+{}
+
+/// The part on flows: each turn of which nothing is forged keeps it, where signed objects are as the part on them says.
+pub fn turns_keep_flows()
+    ensures { TurnsKeepFlows }
+{}
+
+/// The part on priority messages: each turn of which nothing is forged keeps it, where signed objects are as the part on them says.
+pub fn turns_keep_priority()
+    ensures { TurnsKeepPriority }
+{}
+
+/// The part on weights: each turn of which nothing is forged keeps it, where signed objects are as the part on them says, and the claims follow
+/// from both.
+pub fn turns_keep_weights()
+    ensures { TurnsKeepWeights }
+{}
+
+/// The part on places: each turn of which nothing is forged keeps it, where signed objects are as the part on them says, and each eviction leaves
+/// a share.
+pub fn turns_keep_shares()
+    ensures { TurnsKeepShares }
+{}
+
+/// The bounds follow from what each turn keeps of nodes.
+pub fn bounds_follow()
+    ensures { BoundsFollow }
+{}
+
+/// A law: three worked stories over toy arts are computed: the first message and its acknowledgement, an object that is forged, and the same one
+/// where its signer signed it before.
+pub fn stories_are_played()
+    ensures { StoriesArePlayed }
 {}

@@ -114,7 +114,7 @@ unfolding rels_bytes
 rels_out rs are = counted_out IsOfBytes object_bytes object_out rs are
 
 -- the objects of a slot
-abbrev slot_objects : Option Report → List Kept
+abbrev pub slot_objects : Option Report → List Kept
 slot_objects None = []
 slot_objects (Some r) = as_list r.ack ++ r.rels
 
@@ -150,7 +150,7 @@ slot_out (Some r) are = report_out r (right (big_bytes 1 1) (report_bytes r) are
 
 -- ---- all objects, in their order
 
-abbrev prio_objects : List (ℕ × Kept) → List Kept
+abbrev pub prio_objects : List (ℕ × Kept) → List Kept
 prio_objects ms = map (λ m. m.1) ms
 
 objects_both : (xs ys : List Piece) → objects_in (xs ++ ys) ≡ objects_in xs ++ objects_in ys
@@ -172,7 +172,7 @@ slot_ones (Some r) =
     ∙ ap (λ (xs : List Kept). xs ++ objects_in (map (RelPiece r.flow) r.rels)) (each_one (AckPiece r.flow) (λ o. refl) (as_list r.ack))
     ∙ ap (λ (xs : List Kept). as_list r.ack ++ xs) (each_one (RelPiece r.flow) (λ o. refl) r.rels)
 
-objects_are : (s : Contents) → objects_in (pieces_of s) ≡ s.weights ++ (prio_objects s.prios ++ slot_objects s.slot)
+pub objects_are : (s : Contents) → objects_in (pieces_of s) ≡ s.weights ++ (prio_objects s.prios ++ slot_objects s.slot)
 objects_are s =
     objects_both (map WeightPiece s.weights) (PrioAckPiece s.prio_ack ∷ (map prio_piece s.prios ++ slot_pieces s.slot))
     ∙ ap (λ (xs : List Kept). xs ++ objects_in (map prio_piece s.prios ++ slot_pieces s.slot)) (each_one WeightPiece (λ o. refl) s.weights)

@@ -15,7 +15,7 @@ use Rattle.laws_node.specs.Sizes.{most_indexes}
 use Rattle.laws_runs.proofs.Lists.{both}
 use Rattle.sp_runs.specs.Scenarios.{node_key, node_seed, setting_of, topology_of}
 use Rattle.sp_runs.specs.Settings.{first_signer, fixed_of, is_one_of}
-use Rattle.laws_runs_format.specs.Headers.{HeadersFit}
+use Rattle.laws_runs_format.specs.Headers.{HeadersFit, SignaturesAreLong}
 use Rattle.laws_runs_format.proofs.Topologies.{topologies_fit}
 
 short : (h : LmsHeight) → signature_len (param_of h) < 65536
@@ -47,3 +47,10 @@ headers_fit s good = record {
         keys_are s.height s.seed u (range_with_len 1 s.graph.nodes) there.0;
   });
 }
+
+pub signatures_are_long : SignaturesAreLong
+signatures_are_long s key there = (format_fits (fixed_of (setting_of s) key) (first_signer (setting_of s) key) (record {
+  signature_len = refl;
+  total = refl;
+  is_mine = keys_are s.height s.seed key (range_with_len 1 s.graph.nodes) there;
+})).long

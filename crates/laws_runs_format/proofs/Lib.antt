@@ -4,3 +4,10 @@ pub mod FrameBytes
 pub mod ReadBack
 pub mod Topologies
 pub mod Headers
+pub mod Headline
+pub mod EffectCounts
+pub mod Deliveries
+pub mod FrameLengths
+pub mod Schedules
+pub mod Lengths
+pub mod Opens

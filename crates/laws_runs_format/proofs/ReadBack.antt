@@ -15,7 +15,7 @@ use Rattle.laws_runs_format.proofs.Bytes.{joined, of_tag}
 use Rattle.laws_runs_format.proofs.FrameBytes.{head_are, sections_in, sections_out}
 use Rattle.laws_runs_format.proofs.Signatures.{signature_are}
 
-head_long : (h : Head) → length (head_bytes h) ≡ 33
+pub head_long : (h : Head) → length (head_bytes h) ≡ 33
 unfolding head_bytes ends_bytes numbers_bytes
 head_long h = omega arith
 
@@ -26,7 +26,7 @@ between h s tag long =
     ap (λ n. drop 33 (take n (body ++ tag))) all ∙ ap (drop 33) (take-append_seam body tag)
     ∙ ap (λ n. drop n body) (sym (head_long h)) ∙ drop-append_seam (head_bytes h) (sections_bytes s)
 
-part_are : (bytes : List ℕ) → AreBytes bytes → AreBytes (sections_part bytes)
+pub part_are : (bytes : List ℕ) → AreBytes bytes → AreBytes (sections_part bytes)
 part_are bytes are = All-drop (λ (b : ℕ). b < 256) 33 (signed_part bytes) (All-take (λ (b : ℕ). b < 256) (length bytes - 32) bytes are)
 
 pub format_carries : FormatCarries

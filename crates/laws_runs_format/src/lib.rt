@@ -1,16 +1,58 @@
-//! What the laws of runs ask of arts and of settings, proved of this format and of what a schedule's header makes.
+//! What the laws of runs ask of arts and of settings, proved of this format and of what a schedule's header makes; and so counted delivery for every schedule.
 #![tactic(auto)]
 
+ghost use Rattle.laws_runs_format.specs.ComesThrough.{FormatComesThrough};
+ghost use Rattle.laws_runs_format.specs.Delivery.{SchedulesDeliver, SchedulesReturn};
 ghost use Rattle.laws_runs_format.specs.FormatCarries.{FormatCarries};
-ghost use Rattle.laws_runs_format.specs.Headers.{HeadersFit, TopologiesFit};
+ghost use Rattle.laws_runs_format.specs.Headline.{EveryRun};
+ghost use Rattle.laws_runs_format.specs.Headers.{HeadersFit, SignaturesAreLong, TopologiesFit};
+ghost use Rattle.laws_runs_format.specs.Journals.{JournalsAreCountable};
+ghost use Rattle.laws_runs_format.specs.Frames.{FramesHaveTheirLength};
+ghost use Rattle.laws_runs_format.specs.Schedules.{ScheduledEventsAreInRange};
 
 /// A law: what this format writes is read back, and all of it is bytes: frames, tags and signatures, and what is read of bytes.
 pub fn this_format_carries_bytes()
     ensures { FormatCarries }
 {}
 
-/// A law: where a header's graph is in its ranges, so is the topology that it makes, and the setting fits this format.
+/// A law: a frame that this format writes, with signatures of either height, passes each test at the other end of its edge.
+pub fn this_format_comes_through()
+    ensures { FormatComesThrough }
+{}
+
+/// A law: where a header's graph is in its ranges, so is the topology that it makes, and the setting fits this format. Signatures of every node
+/// have one length.
 pub fn headers_fit()
     ensures topology { TopologiesFit }
     ensures setting { HeadersFit }
+    ensures signatures { SignaturesAreLong }
+{}
+
+/// The headline: of every run of a schedule without forgery, after each of its events, deliveries are a prefix of what was sent, priority messages are
+/// authentic and come once, buffers are bounded, evictions leave fair shares, weights
+/// are what their ends said, and what was accepted is delivered after a counted number of rounds of a correct path.
+pub fn every_run()
+    ensures { EveryRun }
+{}
+
+/// A law: a run's journal has an entry for each event, which tells no more deliveries than a frame has bytes.
+pub fn journals_are_countable()
+    ensures { JournalsAreCountable }
+{}
+
+/// A law: each frame that a correct node made has at least 76 bytes, and fits a datagram.
+pub fn frames_have_their_length()
+    ensures { FramesHaveTheirLength }
+{}
+
+/// A law: each event of a good schedule may come where it stands, in a run of its header's setting.
+pub fn scheduled_events_are_in_range()
+    ensures { ScheduledEventsAreInRange }
+{}
+
+/// A law: in the setting of every header in its ranges, what a source accepted is delivered, and what a destination acknowledged has returned, after so many
+/// complete rounds of a path.
+pub fn schedules_deliver_in_rounds()
+    ensures delivered { SchedulesDeliver }
+    ensures returned { SchedulesReturn }
 {}

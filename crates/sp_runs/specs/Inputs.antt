@@ -68,11 +68,15 @@ object_alone (bodies.Rel r) o = slot_alone (flow_said (bodies.Rel r)) 0 0 None (
 object_alone (bodies.Ack a) o = slot_alone (flow_said (bodies.Ack a)) 0 0 (Some o) []
 object_alone (bodies.Weight w) o = record { weights = o ∷ []; prio_ack = 0; prios = []; slot = None }
 
+-- a frame of this head with these sections, under the tag of this key
+abbrev pub sealed_frame : Arts → Head → (key : List ℕ) → Contents → List ℕ
+sealed_frame arts head key contents =
+    let untagged = arts.frame head contents in
+    untagged ++ arts.tag key untagged
+
 -- a frame of c for this node with these sections, under the tag of their edge
 abbrev pub crafted_frame : Arts → NodeState → NodeId → Contents → List ℕ
-crafted_frame arts n c contents =
-    let untagged = arts.frame (crafted_head n c) contents in
-    untagged ++ arts.tag (link_in n c).key untagged
+crafted_frame arts n c contents = sealed_frame arts (crafted_head n c) (link_in n c).key contents
 
 -- the event crafts an object with this key
 abbrev pub is_craft_of : NodeId → Event → Bool

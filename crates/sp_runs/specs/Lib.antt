@@ -10,3 +10,5 @@ pub mod Runs
 pub mod Held
 pub mod Bounds
 pub mod Weights
+pub mod Paths
+pub mod Rounds

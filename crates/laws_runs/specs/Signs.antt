@@ -1,5 +1,5 @@
--- What holds in every state of a run without forgery, in parts.
-use Rattle.std.specs.Prelude.{ℕ, ◌≡◌, true, IsTrue, List, Ok, Some, slice_get}
+-- The part on signed objects: what correct nodes keep and send bears valid signatures, and a correct signer made it in this run.
+use Rattle.std.specs.Prelude.{ℕ, ◌≡◌, ◌≤◌, true, IsTrue, List, [], ◌∷◌, ◌++◌, length, None, Ok, Some, slice_get}
 use Rattle.sp_base.specs.Spelling.{AreBytes}
 use Rattle.sp_base.specs.declared.id.NodeId.{NodeId}
 use Rattle.sp_frame.specs.Sections.{Contents}
@@ -13,15 +13,18 @@ use Rattle.sp_rules.specs.Parts.{is_signed_by, nodes_of}
 use Rattle.laws_node.specs.Nodes.{NodeHolds}
 use Rattle.laws_node.specs.Shapes.{shape_at_start, shape_of}
 use Rattle.laws_node.specs.Sizes.{Sizes}
-use Rattle.laws_node.proofs.Carried.{AllKeep}
 use Rattle.sp_rules.specs.Pieces.{pieces_of}
 use Rattle.sp_runs.specs.Forgery.{is_among}
-use Rattle.sp_runs.specs.Settings.{Setting, first_signer, fixed_of, is_correct, link_keys}
+use Rattle.sp_runs.specs.Settings.{Setting, SettingFits, first_signer, fixed_of, is_correct, link_keys}
 use Rattle.sp_runs.specs.Told.{signed}
-use Rattle.sp_runs.specs.Worlds.{World, frames_in, node_in}
+use Rattle.sp_runs.specs.Worlds.{World, at_start, frames_in, node_in}
 use Rattle.sp_journal.specs.declared.entry.Entry.{Entry}
 use Rattle.sp_schedule_events.specs.declared.event.Event.{Event}
-use Rattle.laws_runs.specs.Premises.{IsOfBytes}
+use Rattle.laws_runs.specs.Premises.{Carries, IsOfBytes}
+use Rattle.std.specs.List.{All}
+use Rattle.laws_node.specs.Objects.{objects_in}
+use Rattle.sp_rules.specs.Flow.{FlowState, number_said}
+use Rattle.sp_runs.specs.Runs.{InRange, Turn, forged_in}
 
 -- ---- signed objects
 
@@ -47,6 +50,19 @@ sizes_at x P u = record {
   keeps = P;
 }
 
+-- the flow's kept acknowledgement has this number
+pub record Numbered (f : FlowState) : Type 0 where
+  pub ack : Kept
+  pub kept : f.ack ≡ Some ack
+  pub number : number_said ack.body ≡ f.at.base
+
+-- where something counts as acknowledged, the acknowledgement of exactly that number is kept
+pub record FlowAck (f : FlowState) : Type 0 where
+  pub sound : f.at.base ≤ f.at.have
+  pub ack : 1 ≤ f.at.base → Numbered f
+  -- no more waits for clients than came
+  pub inbox : length f.inbox ≤ f.at.have
+
 -- a node of this setting, within its bounds, which keeps messages that are asked this alone
 pub record NodeIs (x : Setting) (P : Kept → Type 0) (u : NodeId) (n : NodeState) : Type 0 where
   pub correct : IsTrue (is_correct x u)
@@ -56,10 +72,23 @@ pub record NodeIs (x : Setting) (P : Kept → Type 0) (u : NodeId) (n : NodeStat
   -- with its rows and bounds as at its start
   pub shape : shape_of n ≡ shape_at_start (fixed_of x u) (first_signer x u) (link_keys x u) x.buffer x.store
   pub holds : NodeHolds (sizes_at x P u) n
+  pub acks : All FlowAck n.parts.rel.flows
 
 -- all that nodes keep, and all that their frames carry, is good, and their frames are bytes
 pub record Signs (arts : Arts) (x : Setting) (es : List Event) (js : List Entry) (w : World) : Type 0 where
+  pub entries : length es ≡ length js
   pub nodes : (u : NodeId) (n : NodeState) → node_in w.nodes u ≡ Some n → NodeIs x (Good arts x es js) u n
   pub frames : (u v : NodeId) (k : ℕ) (bytes : List ℕ) (s : Contents) → slice_get (frames_in w.directions u v) k ≡ Some bytes
-      → arts.sections x.signature_len bytes ≡ Ok s → AllKeep (Good arts x es js) (pieces_of s)
+      → arts.sections x.signature_len bytes ≡ Ok s → All (Good arts x es js) (objects_in (pieces_of s))
   pub bytes : (u v : NodeId) (k : ℕ) (bytes : List ℕ) → slice_get (frames_in w.directions u v) k ≡ Some bytes → AreBytes bytes
+
+-- ---- the laws: it holds at the start, and each turn of which nothing is forged keeps it
+
+abbrev pub SignsBegin : Type 0
+SignsBegin = (arts : Arts) (x : Setting) → SettingFits arts x → Signs arts x [] [] (at_start x)
+
+abbrev pub TurnsKeepSigns : Type 0
+TurnsKeepSigns = (arts : Arts) (x : Setting) (es : List Event) (js : List Entry) (old : World) (e : Event) (j : Entry) (new : World)
+    → SettingFits arts x → Carries arts
+    → Signs arts x es js old → InRange x es e → (turn : Turn arts x es old e j new) → forged_in arts x es js old e j new turn ≡ None
+    → Signs arts x (es ++ e ∷ []) (js ++ j ∷ []) new

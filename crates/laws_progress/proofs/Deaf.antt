@@ -1,0 +1,119 @@
+-- The view of a neighbour stays where nothing comes from it.
+use Rattle.std.proofs.Common.{◌≡◌, ℕ, true, List, [], ◌∷◌, Option, Some, None, refl, sym, ap, subst, ◌∙◌, inl, inr}
+use Rattle.sp_base.specs.declared.id.Flow.{Flow}
+use Rattle.sp_base.specs.declared.id.NodeId.{NodeId}
+use Rattle.sp_msg.specs.declared.body.Ack.{Ack}
+use Rattle.sp_msg.specs.declared.body.Body.TheVariants as bodies
+use Rattle.sp_msg.specs.declared.kept.Kept.{Kept}
+use Rattle.sp_msg.specs.declared.refused.SendRefused.{SendRefused}
+use Rattle.sp_rules.specs.Answers.{ack_answer, is_new, prio_answer, rel_answer, weight_answer}
+use Rattle.sp_rules.specs.Arts.{Arts}
+use Rattle.sp_rules.specs.Arrivals.{arrival_at, pieces_in, pieces_where, reply_at, sections_in}
+use Rattle.sp_rules.specs.Handle.{Arrival, handle, handle_all, offer_to, prio_handled}
+use Rattle.sp_rules.specs.Node.{NodeState, call_refusal, kept_or, signed_now}
+use Rattle.sp_rules.specs.Parts.{Parts, is_signed}
+use Rattle.sp_rules.specs.Pieces.{Piece, AckPiece, PrioAckPiece, PrioPiece, RelPiece, ReportPiece, WeightPiece}
+use Rattle.sp_rules.specs.Rel.{RelState, admit_ack, admit_rel, due, due_place, flow_in, judge_ack_of, judge_rel_of, next_place, peer_in, reported, served, served_at, settled, settled_at, told, with_peer}
+use Rattle.sp_rules.specs.Sends.{rel_refusal, send_prio_refusal, signer_refusal, weight_refusal}
+use Rattle.sp_rules.specs.Steps.{Input, NodeStep, Output, Poll, Datagram, Tick, SendRel, SendPrio, SetWeight, TakeRel, TakePrio}
+use Rattle.sp_rules.specs.Ticks.{at_time, settled_by}
+use Rattle.sp_rules.specs.Prio.{judge_prio}
+use Rattle.sp_rules.specs.Weights.{held}
+use Rattle.sp_rules.specs.declared.answers.Item.TheVariants as items
+use Rattle.sp_rules.specs.declared.answers.PrioAnswer.{PrioAnswer}
+use Rattle.sp_rules.specs.declared.answers.PrioAnswer.TheVariants as prios
+use Rattle.laws_node.proofs.Tables.{cond_either}
+use Rattle.sp_base.specs.Rows.{replace_where}
+use Rattle.sp_rules.specs.Rel.{RelPeer, View, view_in, is_peer, new_peer}
+use Rattle.std.specs.List.{list_any}
+use Rattle.std.proofs.lemmas.Bool.{cases_eq, eqb-true, eq-eqb, ne_eqb}
+use Rattle.laws_runs.proofs.FlowFacts.{first_replaced, other_replaced}
+use Rattle.laws_runs.proofs.Tables.{same_node}
+use Rattle.laws_progress.proofs.Keys.{peer_is}
+use Rattle.laws_progress.proofs.SlotHeeds.{view_of}
+
+abbrev pub ViewIs : NodeId → Flow → View → RelState → Type 0
+ViewIs u flow w0 r = view_of r u flow ≡ w0
+
+abbrev pub NoHear : NodeId → Input → Type 0
+NoHear u (Datagram from bytes) = from ≡ u → ⊥
+NoHear u _ = Unit {0}
+
+other_peer : (u v : NodeId) (q : RelPeer) (ps : List RelPeer) → q.peer ≡ v → (v ≡ u → ⊥) → peer_in (replace_where (is_peer v) q ps) u ≡ peer_in ps u
+other_peer u v q ps is away =
+    other_replaced (is_peer v) (is_peer u) (new_peer [] u) q ps
+    (λ p t. ne_eqb _ _ (λ z. away (sym (same_node _ _ (eqb-true _ _ t)) ∙ same_node _ _ z)))
+    (ne_eqb _ _ (λ z. away (sym is ∙ same_node _ _ z)))
+
+reported_view : (u : NodeId) (flow : Flow) (w0 : View) (r : RelState) (v : NodeId) (fl : Flow) (base have : ℕ) → (v ≡ u → ⊥) → ViewIs u flow w0 r → ViewIs u flow w0 (reported r v fl base have)
+reported_view u flow w0 r v fl base have away h =
+    cond_either (ViewIs u flow w0) (flow_in r.flows fl).active (with_peer r v (told (peer_in r.peers v) fl base have)) r
+    (ap (λ (p : RelPeer). view_in p.views flow) (other_peer u v (told (peer_in r.peers v) fl base have) r.peers (peer_is r v) away) ∙ h) h
+
+served_view : (u : NodeId) (flow : Flow) (w0 : View) (r : RelState) (v : NodeId) → list_any (is_peer u) r.peers ≡ true → ViewIs u flow w0 r → ViewIs u flow w0 (served r v)
+served_view u flow w0 r v there h = go (next_place r v)
+  where
+    put : (place : ℕ) → ViewIs u flow w0 (served_at r v (Some place))
+    put place = elim (cases_eq v.0 u.0) [
+      | inl z ↦
+          let same : v ≡ u = same_node v u z in
+          let q : RelPeer = record (peer_in r.peers u) { last = Some place } in
+          ap (λ y. view_of (with_peer r y (record (peer_in r.peers y) { last = Some place })) u flow) same
+          ∙ ap (λ (p : RelPeer). view_in p.views flow) (first_replaced (is_peer u) (new_peer [] u) q r.peers (eq-eqb _ _ (ap (λ (n : NodeId). n.0) (peer_is r u))) there) ∙ h
+      | inr z ↦ ap (λ (p : RelPeer). view_in p.views flow) (other_peer u v (record (peer_in r.peers v) { last = Some place }) r.peers (peer_is r v) (λ e. z (ap (λ (n : NodeId). n.0) e))) ∙ h
+    ]
+
+    go : (place : Option ℕ) → ViewIs u flow w0 (served_at r v place)
+    go None = h
+    go (Some place) = put place
+
+settled_view : (u : NodeId) (flow : Flow) (w0 : View) (r : RelState) (o : Kept) → ViewIs u flow w0 r → ViewIs u flow w0 (settled r o)
+settled_view u flow w0 r o h = go (due_place r)
+  where
+    go : (place : Option ℕ) → ViewIs u flow w0 (settled_at r o place)
+    go None = h
+    go (Some place) = h
+
+-- ---- pieces and steps
+
+piece_view : (u : NodeId) (flow : Flow) (w0 : View) (arts : Arts) (at : Arrival) (p : Parts) (piece : Piece) → (at.from ≡ u → ⊥) → ViewIs u flow w0 p.rel → ViewIs u flow w0 (handle arts at p piece).parts.rel
+piece_view u flow w0 arts at p (WeightPiece o) away h = cond_either (λ (q : Parts). ViewIs u flow w0 q.rel) (is_new (items.Weight (weight_answer (is_signed arts at.fixed o) (offer_to at.fixed.me p.weights o.body)))) (record p { weights = held p.weights o }) p h h
+piece_view u flow w0 arts at p (PrioAckPiece number) away h = h
+piece_view u flow w0 arts at p (PrioPiece number o) away h = go (prio_answer (is_signed arts at.fixed o) (judge_prio p.prio o.body at.now))
+  where
+    go : (answer : PrioAnswer) → ViewIs u flow w0 (prio_handled at.from answer number o p).parts.rel
+    go prios.New = h
+    go prios.Seen = h
+    go prios.BadEnd = h
+    go prios.Expired = h
+    go prios.BadSig = h
+piece_view u flow w0 arts at p (ReportPiece fl base have) away h = reported_view u flow w0 p.rel at.from fl base have away h
+piece_view u flow w0 arts at p (AckPiece fl o) away h = cond_either (λ (q : Parts). ViewIs u flow w0 q.rel) (is_new (items.Ack (ack_answer (is_signed arts at.fixed o) (judge_ack_of p.rel fl o.body)))) (record p { rel = admit_ack p.rel o }) p h h
+piece_view u flow w0 arts at p (RelPiece fl o) away h = cond_either (λ (q : Parts). ViewIs u flow w0 q.rel) (is_new (items.Rel (rel_answer (is_signed arts at.fixed o) (judge_rel_of p.rel fl o.body)))) (record p { rel = admit_rel p.rel o }) p h h
+
+pub pieces_view : (u : NodeId) (flow : Flow) (w0 : View) (arts : Arts) (at : Arrival) (p : Parts) (pieces : List Piece) → (at.from ≡ u → ⊥) → ViewIs u flow w0 p.rel → ViewIs u flow w0 (handle_all arts at p pieces).parts.rel
+pieces_view u flow w0 arts at p [] away h = h
+pieces_view u flow w0 arts at p (piece ∷ pieces) away h = pieces_view u flow w0 arts at (handle arts at p piece).parts pieces away (piece_view u flow w0 arts at p piece away h)
+
+-- ---- steps
+
+kept_view : {X : Type 0} (u : NodeId) (flow : Flow) (w0 : View) (r : Option X) (n m : NodeState) → ViewIs u flow w0 n.parts.rel → ViewIs u flow w0 m.parts.rel → ViewIs u flow w0 (kept_or r n m).parts.rel
+kept_view u flow w0 None n m old new = new
+kept_view u flow w0 (Some x) n m old new = old
+
+pub step_view : (u : NodeId) (flow : Flow) (w0 : View) (arts : Arts) (n : NodeState) (input : Input) (output : Output) (new : NodeState) → NodeStep arts n input output new → list_any (is_peer u) n.parts.rel.peers ≡ true → NoHear u input → ViewIs u flow w0 n.parts.rel → ViewIs u flow w0 new.parts.rel
+step_view u flow w0 arts n (Poll v) output new s there quiet h = subst (λ (m : NodeState). ViewIs u flow w0 m.parts.rel) (sym s.1) (kept_view u flow w0 (call_refusal n v) n _ h (served_view u flow w0 n.parts.rel v there h))
+step_view u flow w0 arts n (Datagram v bytes) output new s there quiet h =
+    subst (λ (m : NodeState). ViewIs u flow w0 m.parts.rel) (sym s.1) (kept_view u flow w0 (call_refusal n v) n _ h
+    (pieces_view u flow w0 arts (arrival_at n v) n.parts (pieces_where (reply_at arts n v bytes) (pieces_in (sections_in arts n.fixed bytes))) quiet h))
+step_view u flow w0 arts n (Tick now) output new s there quiet h = subst (λ (m : NodeState). ViewIs u flow w0 m.parts.rel) (sym s.1) (go (due n.parts.rel) refl (signer_refusal n.signer))
+  where
+    go : (o : Option Ack) → due n.parts.rel ≡ o → (r : Option SendRefused) → ViewIs u flow w0 (settled_by arts (at_time n now) o r).parts.rel
+    go None e r = h
+    go (Some ack) e (Some refusal) = h
+    go (Some ack) e None = settled_view u flow w0 n.parts.rel (signed_now arts (at_time n now) (bodies.Ack ack)) h
+step_view u flow w0 arts n (SendRel dst payload) output new s there quiet h = subst (λ (m : NodeState). ViewIs u flow w0 m.parts.rel) (sym s.1) (kept_view u flow w0 (rel_refusal n dst) n _ h h)
+step_view u flow w0 arts n (SendPrio m) output new s there quiet h = subst (λ (m : NodeState). ViewIs u flow w0 m.parts.rel) (sym s.new_is) (kept_view u flow w0 (send_prio_refusal n m s.choice) n _ h h)
+step_view u flow w0 arts n (SetWeight v weight) output new s there quiet h = subst (λ (m : NodeState). ViewIs u flow w0 m.parts.rel) (sym s.1) (kept_view u flow w0 (weight_refusal n v weight) n _ h h)
+step_view u flow w0 arts n (TakeRel src) output new s there quiet h = subst (λ (m : NodeState). ViewIs u flow w0 m.parts.rel) (sym s.1) h
+step_view u flow w0 arts n TakePrio output new s there quiet h = subst (λ (m : NodeState). ViewIs u flow w0 m.parts.rel) (sym s.1) h

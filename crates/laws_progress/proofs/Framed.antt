@@ -1,0 +1,123 @@
+-- A frame that a correct node made for a correct neighbour passes each test there: its length, its ends, its tag, its topology and its sections.
+use Rattle.std.proofs.Common.{◌≡◌, ℕ, ◌+◌, ◌==◌, Bool, true, false, List, max, Some, Ok, refl, sym, ap, subst, ◌∙◌, inl, inr}
+use Rattle.std.proofs.lemmas.Bool.{cases_Bool, eq-eqb}
+use Rattle.sp_base.specs.declared.id.NodeId.{NodeId}
+use Rattle.sp_frame.specs.Frames.{opened}
+use Rattle.sp_frame.specs.Ranges.{IsContents}
+use Rattle.sp_frame.specs.declared.head.Head.{Head}
+use Rattle.sp_rules.specs.Arts.{Arts, is_right}
+use Rattle.sp_rules.specs.Arrivals.{link_after, link_with, of_fresh, of_frame, of_link, reply_at, sections_in}
+use Rattle.sp_rules.specs.Link.{Link, after_answer, is_above, link_answer, next_head, pair_of}
+use Rattle.sp_rules.specs.Node.{NodeState, link_in}
+use Rattle.sp_rules.specs.Parts.{Fixed}
+use Rattle.sp_rules.specs.Polls.{contents_to, frame_to}
+use Rattle.sp_rules.specs.declared.link.LinkAnswer.TheVariants as answers
+use Rattle.sp_rules.specs.declared.node.LinkReply.TheVariants as replies
+use Rattle.laws_node.proofs.Frames.{contents_fit}
+use Rattle.laws_runs.specs.Signs.{Good, sizes_at}
+use Rattle.laws_runs.proofs.Signed.{signs}
+use Rattle.sp_runs.specs.Runs.{Clean, is_hop, polls}
+use Rattle.sp_runs.specs.Settings.{Setting, SettingFits}
+use Rattle.sp_runs.specs.Worlds.{World, node_in}
+use Rattle.sp_journal.specs.declared.entry.Entry.{Entry}
+use Rattle.sp_schedule_events.specs.declared.event.Event.{Event}
+use Rattle.laws_runs.specs.Premises.{ComesThrough}
+use Rattle.laws_progress.proofs.States.{IsHop}
+use Rattle.laws_progress.proofs.Heads.{HeadIs, head_range, made_head}
+use Rattle.laws_progress.proofs.Keys.{link_is}
+use Rattle.laws_progress.proofs.LinkKeys.{first_edge, keys_are, same_edge}
+use Rattle.laws_progress.proofs.LinkRuns.{links_at}
+use Rattle.laws_progress.proofs.Origins.{Origin}
+use Rattle.laws_progress.proofs.Polls.{both_ways}
+use Rattle.laws_progress.proofs.Rows.{link_there, rows_are}
+
+-- what is read of a frame of u for v
+pub record Framed (arts : Arts) (x : Setting) (u v : NodeId) (number : ℕ) (node : NodeState) (bytes : List ℕ) : Type 0 where
+  pub head : HeadIs u v number (arts.head bytes)
+  pub topology : (arts.head bytes).topology ≡ x.topology.version
+  pub echo : (arts.head bytes).echo ≡ (link_in node v).peer_boot
+  pub sections : arts.sections x.signature_len bytes ≡ Ok (contents_to node.fixed node.parts v)
+  pub opens : opened bytes ≡ Ok bytes
+  pub right : is_right arts (x.link_key (first_edge u v 0 x.topology.edges)) bytes ≡ true
+
+pub frame_at : (arts : Arts) (x : Setting) (es : List Event) (js : List Entry) (w : World) → SettingFits arts x → ComesThrough arts x.signature_len → Clean arts x es js w
+    → (u v : NodeId) → is_hop x u v ≡ true → (n : NodeState) → node_in w.nodes u ≡ Some n → Framed arts x u v (polls es u v + 1) n (frame_to arts n v)
+frame_at arts x es js w fits reads run u v hop n at =
+    let is = (signs arts x es js w fits reads.carries run).nodes u n at in
+    let rows = rows_are arts x es js w fits reads.carries run u n at in
+    let range = head_range x (Good arts x es js) u n v is.holds (link_there x u v n rows hop) in
+    let link = links_at arts x es js w fits reads.carries run u v hop n at in
+    let l = link_in n v in
+    let version = n.fixed.topology.version in
+    let h = next_head l version in
+    let s = contents_to n.fixed n.parts v in
+    let len : n.fixed.signature_len ≡ x.signature_len = ap (λ (f : Fixed). f.signature_len) is.fixed in
+    let few : IsContents x.signature_len s = subst (λ k. IsContents k s) len (contents_fit (sizes_at x (Good arts x es js) u) n v is.holds) in
+    let read = reads.heads h s l.key range in
+    record {
+      head = made_head arts n u v es reads.heads range link;
+      topology = ap (λ (g : Head). g.topology) read ∙ ap (λ (f : Fixed). f.topology.version) is.fixed;
+      echo = ap (λ (g : Head). g.echo) read;
+      sections = reads.carries.back x.signature_len h s l.key few;
+      opens = reads.opens h s l.key range few;
+      right = subst (λ k. is_right arts k (frame_to arts n v) ≡ true) (keys_are arts x es js w fits reads.carries run u v hop n at) (reads.tags_are_right h s l.key);
+    }
+
+pub framed : (arts : Arts) (x : Setting) → SettingFits arts x → ComesThrough arts x.signature_len → (u v : NodeId) (number : ℕ) → is_hop x u v ≡ true → (bytes : List ℕ) → (o : Origin arts x u v number bytes) → Framed arts x u v number o.node bytes
+framed arts x fits reads u v number hop bytes o =
+    subst (λ k. Framed arts x u v k o.node bytes) o.number_is
+    (subst (Framed arts x u v (polls o.events u v + 1) o.node) (sym o.is) (frame_at arts x o.events o.journal o.world fits reads o.run u v hop o.node o.there))
+
+-- ---- what becomes of it at the link of v
+
+data Answers (l : Link) (h : Head) (right : Bool) (number : ℕ) : Type 0 where
+  Learn : (h.echo == 1) ≡ false → link_answer l h right ≡ answers.Learned (max l.peer_boot 1) → Answers l h right number
+  Late : (h.echo == 1) ≡ true → is_above (1, number) l.seen ≡ false → link_answer l h right ≡ answers.Stale l.seen.0 l.seen.1 → Answers l h right number
+  Take : (h.echo == 1) ≡ true → is_above (1, number) l.seen ≡ true → link_answer l h right ≡ answers.Fresh → Answers l h right number
+
+answers_for : (l : Link) (h : Head) (right : Bool) (u v : NodeId) (number : ℕ) → HeadIs u v number h → l.peer ≡ u → l.me ≡ v → l.boot ≡ 1 → right ≡ true → Answers l h right number
+answers_for l h right u v number is peer me boot r =
+    let from : (h.from.0 == l.peer.0) ≡ true = eq-eqb _ _ (ap (λ (n : NodeId). n.0) (is.from ∙ sym peer)) in
+    let to : (h.to.0 == l.me.0) ≡ true = eq-eqb _ _ (ap (λ (n : NodeId). n.0) (is.to ∙ sym me)) in
+    let echo : (h.echo == l.boot) ≡ (h.echo == 1) = ap (λ b. h.echo == b) boot in
+    let pair : is_above (pair_of h) l.seen ≡ is_above (1, number) l.seen = ap (λ b. is_above (b, h.counter) l.seen) is.boot ∙ ap (λ c. is_above (1, c) l.seen) is.counter in
+    elim (cases_Bool (h.echo == 1)) [
+      | inr off ↦ let no : (h.echo == l.boot) ≡ false = echo ∙ off in Learn off (rw (from, to, r, no) (ap (λ b. answers.Learned (max l.peer_boot b)) is.boot))
+      | inl on ↦
+          let yes_ : (h.echo == l.boot) ≡ true = echo ∙ on in
+          elim (cases_Bool (is_above (1, number) l.seen)) [
+            | inl above ↦ let t : is_above (pair_of h) l.seen ≡ true = pair ∙ above in Take on above (rw (from, to, r, yes_, t) refl)
+            | inr below ↦ let t : is_above (pair_of h) l.seen ≡ false = pair ∙ below in Late on below (rw (from, to, r, yes_, t) refl)
+          ]
+    ]
+
+pub data Came (arts : Arts) (n : NodeState) (u : NodeId) (number : ℕ) (bytes : List ℕ) : Type 0 where
+  Learns : ((arts.head bytes).echo == 1) ≡ false → link_after arts n u bytes ≡ after_answer (link_in n u) (arts.head bytes) (answers.Learned (max (link_in n u).peer_boot 1))
+      → reply_at arts n u bytes ≡ replies.Learned (max (link_in n u).peer_boot 1) → Came arts n u number bytes
+  Too_late : ((arts.head bytes).echo == 1) ≡ true → is_above (1, number) (link_in n u).seen ≡ false → link_after arts n u bytes ≡ link_in n u
+      → reply_at arts n u bytes ≡ replies.Stale (link_in n u).seen.0 (link_in n u).seen.1 → Came arts n u number bytes
+  Taken : ((arts.head bytes).echo == 1) ≡ true → is_above (1, number) (link_in n u).seen ≡ true → link_after arts n u bytes ≡ after_answer (link_in n u) (arts.head bytes) answers.Fresh
+      → reply_at arts n u bytes ≡ replies.Fresh → Came arts n u number bytes
+
+pub came : (arts : Arts) (x : Setting) (es : List Event) (js : List Entry) (w : World) → SettingFits arts x → ComesThrough arts x.signature_len → Clean arts x es js w
+    → (u v : NodeId) (number : ℕ) → IsHop x u v → (n : NodeState) → node_in w.nodes v ≡ Some n → (node : NodeState) (bytes : List ℕ) → Framed arts x u v number node bytes → Came arts n u number bytes
+came arts x es js w fits reads run u v number hop n at node bytes f =
+    let is = (signs arts x es js w fits reads.carries run).nodes v n at in
+    let back = both_ways x u v hop in
+    let link = links_at arts x es js w fits reads.carries run v u back.joined n at in
+    let l = link_in n u in
+    let h = arts.head bytes in
+    let right = is_right arts l.key bytes in
+    let key : l.key ≡ x.link_key (first_edge u v 0 x.topology.edges) =
+    keys_are arts x es js w fits reads.carries run v u back.joined n at ∙ ap (λ e. x.link_key e) (same_edge v u 0 x.topology.edges) in
+    let r : right ≡ true = ap (λ k. is_right arts k bytes) key ∙ f.right in
+    let left : link_after arts n u bytes ≡ after_answer l h (link_answer l h right) = ap (link_with arts l bytes) f.opens in
+    let topology : (h.topology == n.fixed.topology.version) ≡ true = eq-eqb _ _ (f.topology ∙ ap (λ (g : Fixed). g.topology.version) (sym is.fixed)) in
+    let sections : sections_in arts n.fixed bytes ≡ Ok (contents_to node.fixed node.parts v) = ap (λ (g : Fixed). sections_in arts g bytes) is.fixed ∙ f.sections in
+    let fresh : of_fresh n.fixed.topology.version h.topology (sections_in arts n.fixed bytes) ≡ replies.Fresh = rw (topology, sections) refl in
+    let said : reply_at arts n u bytes ≡ of_link (link_answer l h right) (of_fresh n.fixed.topology.version h.topology (sections_in arts n.fixed bytes)) = ap (of_frame arts n.fixed l bytes) f.opens in
+    elim (answers_for l h right u v number f.head (link_is n u) link.me link.boot r) [
+      | Learn off a ↦ Learns off (left ∙ ap (after_answer l h) a) (said ∙ ap (λ z. of_link z (of_fresh n.fixed.topology.version h.topology (sections_in arts n.fixed bytes))) a)
+      | Late on below a ↦ Too_late on below (left ∙ ap (after_answer l h) a) (said ∙ ap (λ z. of_link z (of_fresh n.fixed.topology.version h.topology (sections_in arts n.fixed bytes))) a)
+      | Take on above a ↦ Taken on above (left ∙ ap (after_answer l h) a) (said ∙ ap (λ z. of_link z (of_fresh n.fixed.topology.version h.topology (sections_in arts n.fixed bytes))) a ∙ fresh)
+    ]

@@ -1,0 +1,144 @@
+-- The worked examples are computed.
+use Rattle.std.proofs.Common.{◌≡◌, ℕ, zero, suc, ◌*◌, true, List, [], ◌∷◌, ◌++◌, refl, ap, arith}
+use Rattle.std.specs.Prelude.{◌≢◌, IsTrue}
+use Rattle.std.specs.List.{AllPairs}
+use Rattle.std.proofs.lemmas.List.Elements.{All-cons, All-nil}
+use Rattle.sp_base.specs.declared.id.NodeId.{NodeId}
+use Rattle.std.proofs.lemmas.List.Folds.{Any-from_list_any}
+use Rattle.sp_graph.specs.Walks.{Joined}
+use Rattle.sp_topology.specs.Neighbours.{joins}
+use Rattle.sp_runs.specs.Paths.{IsCorrectPath, graph_in}
+use Rattle.sp_runs.specs.Rounds.{CompleteRounds, IsCompleteRound, IsHopServed, IsSweep, None_left, Round, are_passed}
+use Rattle.sp_runs.specs.Runs.{is_hop, polls}
+use Rattle.sp_runs.specs.Settings.{Setting, is_correct}
+use Rattle.sp_schedule_events.specs.declared.event.Event.{Event}
+use Rattle.laws_progress.specs.Worked.{FirstMessage, RoundsAreCounted, four_rounds, frames, line, line_path, line_round, node, send, square, square_path, square_round, take_it}
+
+-- ---- paths of three nodes
+
+three_pairs : (a b c : NodeId) → a ≢ b → a ≢ c → b ≢ c → AllPairs (λ u v. u ≢ v) (a ∷ b ∷ c ∷ [])
+three_pairs a b c ab ac bc zero zero d below within = absurd (omega (arith, below))
+three_pairs a b c ab ac bc zero (suc zero) d below within = ab
+three_pairs a b c ab ac bc zero (suc (suc zero)) d below within = ac
+three_pairs a b c ab ac bc zero (suc (suc (suc j))) d below within = absurd (omega (arith, within))
+three_pairs a b c ab ac bc (suc i) zero d below within = absurd (omega (arith, below))
+three_pairs a b c ab ac bc (suc zero) (suc zero) d below within = absurd (omega (arith, below))
+three_pairs a b c ab ac bc (suc zero) (suc (suc zero)) d below within = bc
+three_pairs a b c ab ac bc (suc (suc i)) (suc zero) d below within = absurd (omega (arith, below))
+three_pairs a b c ab ac bc (suc (suc i)) (suc (suc zero)) d below within = absurd (omega (arith, below))
+three_pairs a b c ab ac bc (suc i) (suc (suc (suc j))) d below within = absurd (omega (arith, within))
+
+differ : (a b : ℕ) → (a ≡ b → ⊥) → node a ≢ node b
+differ a b other = λ same. other (ap (λ (n : NodeId). n.0) same)
+
+three_path : (x : Setting) (a b c : ℕ) → (a ≡ b → ⊥) → (a ≡ c → ⊥) → (b ≡ c → ⊥) → is_correct x (node a) ≡ true → is_correct x (node b) ≡ true → is_correct x (node c) ≡ true
+    → is_hop x (node a) (node b) ≡ true → is_hop x (node b) (node c) ≡ true → IsCorrectPath x (node a) (node c) (node a ∷ node b ∷ node c ∷ [])
+three_path x a b c ab ac bc one two three first second =
+    let Correct = λ (u : NodeId). IsTrue (is_correct x u) in
+    let On = Joined (graph_in x) in
+    record {
+      walks = record {
+        ends = (node b ∷ [], refl);
+        joined = All-cons On (node a, node b) ((node b, node c) ∷ []) (Any-from_list_any (joins a b) x.topology.edges first)
+            (All-cons On (node b, node c) [] (Any-from_list_any (joins b c) x.topology.edges second) (All-nil On));
+        once = three_pairs (node a) (node b) (node c) (differ a b ab) (differ a c ac) (differ b c bc);
+      };
+      correct = All-cons Correct (node a) (node b ∷ node c ∷ []) one (All-cons Correct (node b) (node c ∷ []) two (All-cons Correct (node c) [] three (All-nil Correct)));
+    }
+
+-- ---- rounds of a path of three nodes
+
+sweep : (least : ℕ) (u v : NodeId) (before during : List Event) → polls during u v ≡ least → are_passed u v (polls before u v) during ≡ true → IsSweep least u v before during
+sweep least u v before during enough passed = record { enough = omega (arith, enough); passed = passed }
+
+two_hops : (least : ℕ) (s d a b c : NodeId) (before during : List Event) → IsHopServed least s d a b before during → IsHopServed least s d b c before during
+    → IsCompleteRound least s d (a ∷ b ∷ c ∷ []) before during
+two_hops least s d a b c before during one two =
+    let Served = λ (hop : NodeId × NodeId). IsHopServed least s d hop.0 hop.1 before during in
+    All-cons Served (a, b) ((b, c) ∷ []) one (All-cons Served (b, c) [] two (All-nil Served))
+
+line_is : IsCompleteRound 1 (node 1) (node 3) line_path send line_round
+line_is = two_hops 1 (node 1) (node 3) (node 1) (node 2) (node 3) send line_round
+    (record {
+      early = [];
+      back = frames 2 1 0 1;
+      between = [];
+      forth = frames 1 2 0 1;
+      late = frames 3 2 0 1 ++ (take_it ++ frames 2 3 0 1);
+      parts = refl;
+      is_back = sweep 1 (node 2) (node 1) send (frames 2 1 0 1) refl refl;
+      is_forth = sweep 1 (node 1) (node 2) (send ++ frames 2 1 0 1) (frames 1 2 0 1) refl refl;
+      take = λ same. absurd (differ 2 3 (λ e. omega (arith, e)) same);
+    })
+    (record {
+      early = frames 2 1 0 1 ++ frames 1 2 0 1;
+      back = frames 3 2 0 1;
+      between = take_it;
+      forth = frames 2 3 0 1;
+      late = [];
+      parts = refl;
+      is_back = sweep 1 (node 3) (node 2) (send ++ (frames 2 1 0 1 ++ frames 1 2 0 1)) (frames 3 2 0 1) refl refl;
+      is_forth = sweep 1 (node 2) (node 3) (send ++ (frames 2 1 0 1 ++ (frames 1 2 0 1 ++ (frames 3 2 0 1 ++ take_it)))) (frames 2 3 0 1) refl refl;
+      take = λ same. refl;
+    })
+
+first_message : FirstMessage
+first_message = record {
+  path = three_path line 1 2 3 (λ e. omega (arith, e)) (λ e. omega (arith, e)) (λ e. omega (arith, e)) refl refl refl refl refl;
+  two_hops = refl;
+  one_flow = refl;
+  rounds = Round [] line_round line_is None_left;
+  enough = refl;
+}
+
+-- a round after so many, where the counts before it are these
+square_is : (before : List Event) (k : ℕ)
+    → are_passed (node 4) (node 1) (polls (before ++ []) (node 4) (node 1)) (frames 4 1 (7 * k) 7) ≡ true
+    → are_passed (node 1) (node 4) (polls (before ++ frames 4 1 (7 * k) 7) (node 1) (node 4)) (frames 1 4 (7 * k) 7) ≡ true
+    → are_passed (node 3) (node 4) (polls (before ++ (frames 4 1 (7 * k) 7 ++ frames 1 4 (7 * k) 7)) (node 3) (node 4)) (frames 3 4 (7 * k) 7) ≡ true
+    → are_passed (node 4) (node 3) (polls (before ++ ((frames 4 1 (7 * k) 7 ++ frames 1 4 (7 * k) 7) ++ (frames 3 4 (7 * k) 7 ++ take_it))) (node 4) (node 3)) (frames 4 3 (7 * k) 7) ≡ true
+    → IsCompleteRound 7 (node 1) (node 3) square_path before (square_round k)
+square_is before k one two three four = two_hops 7 (node 1) (node 3) (node 1) (node 4) (node 3) before (square_round k)
+    (record {
+      early = [];
+      back = frames 4 1 (7 * k) 7;
+      between = [];
+      forth = frames 1 4 (7 * k) 7;
+      late = frames 3 4 (7 * k) 7 ++ (take_it ++ frames 4 3 (7 * k) 7);
+      parts = refl;
+      is_back = sweep 7 (node 4) (node 1) (before ++ []) (frames 4 1 (7 * k) 7) refl one;
+      is_forth = sweep 7 (node 1) (node 4) (before ++ frames 4 1 (7 * k) 7) (frames 1 4 (7 * k) 7) refl two;
+      take = λ same. absurd (differ 4 3 (λ e. omega (arith, e)) same);
+    })
+    (record {
+      early = frames 4 1 (7 * k) 7 ++ frames 1 4 (7 * k) 7;
+      back = frames 3 4 (7 * k) 7;
+      between = take_it;
+      forth = frames 4 3 (7 * k) 7;
+      late = [];
+      parts = refl;
+      is_back = sweep 7 (node 3) (node 4) (before ++ (frames 4 1 (7 * k) 7 ++ frames 1 4 (7 * k) 7)) (frames 3 4 (7 * k) 7) refl three;
+      is_forth = sweep 7 (node 4) (node 3) (before ++ ((frames 4 1 (7 * k) 7 ++ frames 1 4 (7 * k) 7) ++ (frames 3 4 (7 * k) 7 ++ take_it))) (frames 4 3 (7 * k) 7) refl four;
+      take = λ same. refl;
+    })
+
+four_are : CompleteRounds 7 (node 1) (node 3) square_path 4 send four_rounds
+four_are =
+    Round [] (square_round 0) (square_is (send ++ []) 0 refl refl refl refl)
+    (Round [] (square_round 1) (square_is _ 1 refl refl refl refl)
+    (Round [] (square_round 2) (square_is _ 2 refl refl refl refl)
+    (Round [] (square_round 3) (square_is _ 3 refl refl refl refl) None_left)))
+
+pub rounds_are_counted : RoundsAreCounted
+rounds_are_counted = record {
+  first_message = first_message;
+  compromised = record {
+    path = three_path square 1 4 3 (λ e. omega (arith, e)) (λ e. omega (arith, e)) (λ e. omega (arith, e)) refl refl refl refl refl;
+    two_hops = refl;
+    seven_flows = refl;
+    rounds = four_are;
+    enough = refl;
+    events = refl;
+    frames = refl;
+  };
+}

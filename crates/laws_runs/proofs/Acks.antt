@@ -1,0 +1,192 @@
+-- Where something is acknowledged, the node keeps the acknowledgement of exactly that number, and each step keeps it so.
+use Rattle.std.proofs.Common.{◌≡◌, ◌≤◌, ◌<◌, ℕ, Bool, true, false, cond, List, [], ◌∷◌, length, drop, map, Option, Some, None, refl, sym, subst, ◌∙◌, arith}
+use Rattle.std.specs.Prelude.{All, not, nat_le}
+use Rattle.std.specs.Option.{option_and_then, option_map}
+use Rattle.std.proofs.lemmas.List.Elements.{All-nil, All-cons}
+use Rattle.std.proofs.lemmas.Bool.{leb-false}
+use Rattle.std.proofs.lemmas.List.{length-append}
+use Rattle.sp_base.specs.declared.id.Flow.{Flow}
+use Rattle.sp_base.specs.declared.id.NodeId.{NodeId}
+use Rattle.sp_msg.specs.Bodies.{payload_of}
+use Rattle.sp_msg.specs.declared.body.Ack.{Ack}
+use Rattle.sp_msg.specs.declared.body.Body.{Body}
+use Rattle.sp_msg.specs.declared.body.Body.TheVariants as bodies
+use Rattle.sp_msg.specs.declared.kept.Kept.{Kept}
+use Rattle.sp_msg.specs.declared.refused.SendRefused.{SendRefused}
+use Rattle.sp_rules.proofs.FlowJudged.{new_ack, same_flow}
+use Rattle.sp_rules.specs.Answers.{ack_answer, is_new, prio_answer, rel_answer, weight_answer}
+use Rattle.sp_rules.specs.Arts.{Arts}
+use Rattle.sp_rules.specs.Arrivals.{arrival_at, pieces_in, pieces_where, reply_at, sections_in}
+use Rattle.sp_rules.specs.Flow.{FlowState, acknowledged_by, after_take, concluded, flow_said, is_flow, no_flow, number_said, pushed, received}
+use Rattle.sp_rules.specs.Handle.{Arrival, handle, handle_all, offer_to, prio_handled}
+use Rattle.sp_rules.specs.Node.{NodeState, call_refusal, kept_or, signed_now}
+use Rattle.sp_rules.specs.Parts.{Parts, is_signed}
+use Rattle.sp_rules.specs.Pieces.{Piece, AckPiece, PrioAckPiece, PrioPiece, RelPiece, ReportPiece, WeightPiece}
+use Rattle.sp_rules.specs.Rel.{RelState, admit_ack, admit_rel, ack_of, are_ends, due, due_place, flow_at, flow_in, flow_to_me, is_to, judge_ack_of, judge_rel_of, next_place, peer_in, pushed_in, reported, served, served_at, settled, settled_at, told, took, with_flow, with_peer}
+use Rattle.sp_rules.specs.Sends.{rel_body, rel_refusal, send_prio_refusal, signer_refusal, weight_refusal}
+use Rattle.sp_rules.specs.Steps.{Input, NodeStep, Output, Poll, Datagram, Tick, SendRel, SendPrio, SetWeight, TakeRel, TakePrio}
+use Rattle.sp_rules.specs.Ticks.{at_time, settled_by}
+use Rattle.sp_rules.specs.Prio.{judge_prio}
+use Rattle.sp_rules.specs.Weights.{held}
+use Rattle.sp_rules.specs.declared.answers.Item.TheVariants as items
+use Rattle.sp_rules.specs.declared.answers.PrioAnswer.{PrioAnswer}
+use Rattle.sp_rules.specs.declared.answers.PrioAnswer.TheVariants as prios
+use Rattle.sp_rules.specs.declared.rel.AckJudged.{AckJudged}
+use Rattle.sp_rules.specs.declared.rel.AckJudged.TheVariants as acks
+use Rattle.laws_runs.specs.Signs.{FlowAck}
+use Rattle.laws_node.proofs.Tables.{all_first, all_replace, cond_either, cond_where}
+
+abbrev pub RelAck : RelState → Type 0
+RelAck r = All FlowAck r.flows
+
+pub none_ack : (flow : Flow) → FlowAck (no_flow flow)
+none_ack flow = record { sound = omega arith; ack = λ some. absurd (omega (arith, some)); inbox = omega arith }
+
+pub flow_ack : (r : RelState) (flow : Flow) → RelAck r → FlowAck (flow_in r.flows flow)
+flow_ack r flow h = all_first FlowAck (is_flow flow) (no_flow flow) r.flows h (none_ack flow)
+
+-- ---- one flow
+
+same_ack : (f g : FlowState) → g.ack ≡ f.ack → g.at.base ≡ f.at.base → f.at.have ≤ g.at.have → (length f.inbox ≤ f.at.have → length g.inbox ≤ g.at.have) → FlowAck f → FlowAck g
+same_ack f g ack base have inbox h = record {
+  inbox = inbox h.inbox;
+  sound = let s = h.sound in omega (arith, s, base, have);
+  ack = λ some. let n = h.ack (omega (arith, some, base)) in record { ack = n.ack; kept = ack ∙ n.kept; number = n.number ∙ sym base };
+}
+
+acked_ack : (f : FlowState) (o : Kept) → f.at.base < number_said o.body → FlowAck f → FlowAck (acknowledged_by f o)
+acked_ack f o above h = record { sound = let s = h.sound in omega (arith, s); ack = λ some. record { ack = o; kept = refl; number = omega (arith, above) }; inbox = let i = h.inbox in omega (arith, i) }
+
+concluded_ack : (f : FlowState) (o : Kept) → number_said o.body ≡ f.at.have → FlowAck f → FlowAck (concluded f o)
+concluded_ack f o is h = record { sound = let s = h.sound in omega (arith, s); ack = λ some. record { ack = o; kept = refl; number = let s = h.sound in omega (arith, s, is) }; inbox = let i = h.inbox in omega (arith, i) }
+
+shorter : (xs : List (List ℕ)) → length (drop 1 xs) ≤ length xs
+shorter [] = omega arith
+shorter (y ∷ xs) = omega arith
+
+-- ---- the part
+
+with_ack : (r : RelState) (flow : Flow) (g : FlowState) → RelAck r → FlowAck g → RelAck (with_flow r flow g)
+with_ack r flow g h one = all_replace FlowAck (is_flow flow) g r.flows h one
+
+admit_rel_ack : (r : RelState) (o : Kept) → RelAck r → RelAck (admit_rel r o)
+admit_rel_ack r o h =
+    let flow = flow_said o.body in
+    let f = flow_in r.flows flow in
+    cond_either (λ (g : FlowState). RelAck (with_flow r flow g)) (is_to r flow) (received f (payload_of o.body)) (pushed f o)
+    (with_ack r flow (received f (payload_of o.body)) h (same_ack f (received f (payload_of o.body)) refl refl (omega arith) (λ i. omega (arith, i, length-append f.inbox (payload_of o.body ∷ []))) (flow_ack r flow h)))
+    (with_ack r flow (pushed f o) h (same_ack f (pushed f o) refl refl (omega arith) (λ i. omega (arith, i)) (flow_ack r flow h)))
+
+passes_old : (e t : Bool) (x : AckJudged) → e ≡ true → cond (not e) acks.BadEnd (cond t acks.Old x) ≡ acks.New → t ≡ false
+passes_old true false x is new = refl
+passes_old true true x is new = absurd (let f : acks.Old ≡ acks.New = new in cc)
+passes_old false t x is new = absurd (let f : false ≡ true = is in cc)
+
+-- what is said of a body that is a new acknowledgement
+above_new : (r : RelState) (flow : Flow) (body : Body) → judge_ack_of r flow body ≡ acks.New → (flow_in r.flows (flow_said body)).at.base < number_said body
+above_new r flow (bodies.Ack a) new =
+    let n = new_ack r flow a new in
+    let low = passes_old (are_ends r flow a.src a.dst) (nat_le a.seq (flow_in r.flows flow).at.base) _ n.ends new in
+    subst (λ (fl : Flow). (flow_in r.flows fl).at.base < a.seq) (same_flow r flow a.src a.dst n.ends) (leb-false a.seq (flow_in r.flows flow).at.base low)
+above_new r flow (bodies.Rel a) new = absurd (let e : acks.BadEnd ≡ acks.New = new in cc)
+above_new r flow (bodies.Prio a) new = absurd (let e : acks.BadEnd ≡ acks.New = new in cc)
+above_new r flow (bodies.Weight a) new = absurd (let e : acks.BadEnd ≡ acks.New = new in cc)
+
+was_new : (right : Bool) (j : AckJudged) → is_new (items.Ack (ack_answer right j)) ≡ true → j ≡ acks.New
+was_new right acks.New e = refl
+was_new right acks.BadEnd e = absurd (let f : false ≡ true = e in cc)
+was_new right acks.Old e = absurd (let f : false ≡ true = e in cc)
+was_new right acks.Ahead e = absurd (let f : false ≡ true = e in cc)
+
+pub ack_ack : (right : Bool) (r : RelState) (flow : Flow) (o : Kept) → RelAck r → RelAck (cond (is_new (items.Ack (ack_answer right (judge_ack_of r flow o.body)))) (admit_ack r o) r)
+ack_ack right r flow o h =
+    cond_where RelAck (is_new (items.Ack (ack_answer right (judge_ack_of r flow o.body)))) (admit_ack r o) r
+    (λ new.
+    let said = flow_said o.body in
+    let f = flow_in r.flows said in
+    with_ack r said (acknowledged_by f o) h (acked_ack f o (above_new r flow o.body (was_new right (judge_ack_of r flow o.body) new)) (flow_ack r said h)))
+    (λ old. h)
+
+pub reported_ack : (r : RelState) (v : NodeId) (flow : Flow) (base have : ℕ) → RelAck r → RelAck (reported r v flow base have)
+reported_ack r v flow base have h = cond_either RelAck (flow_in r.flows flow).active (with_peer r v (told (peer_in r.peers v) flow base have)) r h h
+
+served_ack : (r : RelState) (v : NodeId) → RelAck r → RelAck (served r v)
+served_ack r v h = go (next_place r v)
+  where
+    go : (place : Option ℕ) → RelAck (served_at r v place)
+    go None = h
+    go (Some place) = h
+
+settled_ack : (r : RelState) (o : Kept) → number_said o.body ≡ (flow_in r.flows (flow_said o.body)).at.have → RelAck r → RelAck (settled r o)
+settled_ack r o is h = go (due_place r)
+  where
+    go : (place : Option ℕ) → RelAck (settled_at r o place)
+    go None = h
+    go (Some place) = let flow = flow_said o.body in let f = flow_in r.flows flow in with_ack r flow (concluded f o) h (concluded_ack f o is (flow_ack r flow h))
+
+took_ack : (r : RelState) (src : NodeId) → RelAck r → RelAck (took r src)
+took_ack r src h = let flow = flow_to_me r src in let f = flow_in r.flows flow in with_ack r flow (after_take f) h (same_ack f (after_take f) refl refl (omega arith) (λ i. let less = shorter f.inbox in omega (arith, i, less)) (flow_ack r flow h))
+
+sent_ack : (r : RelState) (o : Kept) → RelAck r → RelAck (pushed_in r o)
+sent_ack r o h = let flow = flow_said o.body in let f = flow_in r.flows flow in with_ack r flow (pushed f o) h (same_ack f (pushed f o) refl refl (omega arith) (λ i. omega (arith, i)) (flow_ack r flow h))
+
+-- ---- pieces
+
+piece_ack : (arts : Arts) (at : Arrival) (p : Parts) (piece : Piece) → RelAck p.rel → RelAck (handle arts at p piece).parts.rel
+piece_ack arts at p (WeightPiece o) h = cond_either (λ (q : Parts). RelAck q.rel) (is_new (items.Weight (weight_answer (is_signed arts at.fixed o) (offer_to at.fixed.me p.weights o.body)))) (record p { weights = held p.weights o }) p h h
+piece_ack arts at p (PrioAckPiece number) h = h
+piece_ack arts at p (PrioPiece number o) h = go (prio_answer (is_signed arts at.fixed o) (judge_prio p.prio o.body at.now))
+  where
+    go : (answer : PrioAnswer) → RelAck (prio_handled at.from answer number o p).parts.rel
+    go prios.New = h
+    go prios.Seen = h
+    go prios.BadEnd = h
+    go prios.Expired = h
+    go prios.BadSig = h
+piece_ack arts at p (ReportPiece flow base have) h = reported_ack p.rel at.from flow base have h
+piece_ack arts at p (AckPiece flow o) h =
+    cond_where (λ (q : Parts). RelAck q.rel) (is_new (items.Ack (ack_answer (is_signed arts at.fixed o) (judge_ack_of p.rel flow o.body)))) (record p { rel = admit_ack p.rel o }) p
+    (λ new.
+    let said = flow_said o.body in
+    let f = flow_in p.rel.flows said in
+    with_ack p.rel said (acknowledged_by f o) h (acked_ack f o (above_new p.rel flow o.body (was_new (is_signed arts at.fixed o) (judge_ack_of p.rel flow o.body) new)) (flow_ack p.rel said h)))
+    (λ old. h)
+piece_ack arts at p (RelPiece flow o) h = cond_either (λ (q : Parts). RelAck q.rel) (is_new (items.Rel (rel_answer (is_signed arts at.fixed o) (judge_rel_of p.rel flow o.body)))) (record p { rel = admit_rel p.rel o }) p (admit_rel_ack p.rel o h) h
+
+pub pieces_ack : (arts : Arts) (at : Arrival) (p : Parts) (pieces : List Piece) → RelAck p.rel → RelAck (handle_all arts at p pieces).parts.rel
+pieces_ack arts at p [] h = h
+pieces_ack arts at p (piece ∷ pieces) h = pieces_ack arts at (handle arts at p piece).parts pieces (piece_ack arts at p piece h)
+
+-- ---- steps
+
+kept_ack : {X : Type 0} (r : Option X) (n m : NodeState) → RelAck n.parts.rel → RelAck m.parts.rel → RelAck (kept_or r n m).parts.rel
+kept_ack None n m old new = new
+kept_ack (Some x) n m old new = old
+
+-- the acknowledgement that is due is of all that came
+due_is : (r : RelState) (a : Ack) (o : Option Flow) → option_map (ack_of r) o ≡ Some a → a.seq ≡ (flow_in r.flows (record { src = a.src; dst = a.dst })).at.have
+due_is r a None e = absurd (let f : None ≡ Some a = e in cc)
+due_is r a (Some fl) e = let f : Some (ack_of r fl) ≡ Some a = e in let is : ack_of r fl ≡ a = cc in subst (λ (b : Ack). b.seq ≡ (flow_in r.flows (record { src = b.src; dst = b.dst })).at.have) is refl
+
+pub step_ack : (arts : Arts) (n : NodeState) (input : Input) (output : Output) (new : NodeState) → NodeStep arts n input output new → RelAck n.parts.rel → RelAck new.parts.rel
+step_ack arts n (Poll v) output new s h = subst (λ (m : NodeState). RelAck m.parts.rel) (sym s.1) (kept_ack (call_refusal n v) n _ h (served_ack n.parts.rel v h))
+step_ack arts n (Datagram v bytes) output new s h =
+    subst (λ (m : NodeState). RelAck m.parts.rel) (sym s.1) (kept_ack (call_refusal n v) n _ h
+    (pieces_ack arts (arrival_at n v) n.parts (pieces_where (reply_at arts n v bytes) (pieces_in (sections_in arts n.fixed bytes))) h))
+step_ack arts n (Tick now) output new s h = subst (λ (m : NodeState). RelAck m.parts.rel) (sym s.1) (go (due n.parts.rel) refl (signer_refusal n.signer))
+  where
+    go : (o : Option Ack) → due n.parts.rel ≡ o → (r : Option SendRefused) → RelAck (settled_by arts (at_time n now) o r).parts.rel
+    go None e r = h
+    go (Some ack) e (Some refusal) = h
+    go (Some ack) e None = settled_ack n.parts.rel (signed_now arts (at_time n now) (bodies.Ack ack)) (due_is n.parts.rel ack (option_and_then (flow_at n.parts.rel.flows) (due_place n.parts.rel)) e) h
+step_ack arts n (SendRel dst payload) output new s h = subst (λ (m : NodeState). RelAck m.parts.rel) (sym s.1) (kept_ack (rel_refusal n dst) n _ h (sent_ack n.parts.rel (signed_now arts n (rel_body n dst payload)) h))
+step_ack arts n (SendPrio m) output new s h = subst (λ (m : NodeState). RelAck m.parts.rel) (sym s.new_is) (kept_ack (send_prio_refusal n m s.choice) n _ h h)
+step_ack arts n (SetWeight v weight) output new s h = subst (λ (m : NodeState). RelAck m.parts.rel) (sym s.1) (kept_ack (weight_refusal n v weight) n _ h h)
+step_ack arts n (TakeRel src) output new s h = subst (λ (m : NodeState). RelAck m.parts.rel) (sym s.1) (took_ack n.parts.rel src h)
+step_ack arts n TakePrio output new s h = subst (λ (m : NodeState). RelAck m.parts.rel) (sym s.1) h
+
+-- ---- over a run
+
+pub all_none : (flows : List Flow) → All FlowAck (map no_flow flows)
+all_none [] = All-nil FlowAck
+all_none (f ∷ flows) = All-cons FlowAck (no_flow f) (map no_flow flows) (none_ack f) (all_none flows)

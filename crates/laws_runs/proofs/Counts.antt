@@ -1,0 +1,208 @@
+-- Counts over a run: the calls of a node, the frames of a direction.
+use Rattle.std.proofs.Common.{◌≡◌, ◌≤◌, ℕ, ◌+◌, ◌==◌, ◌&&◌, Bool, true, false, cond, eqb, List, [], ◌∷◌, ◌++◌, length, Option, Some, None, refl, sym, ap, subst, ◌∙◌, inl, inr, arith}
+use Rattle.std.proofs.lemmas.Bool.{eqb-true, eq-eqb}
+use Rattle.std.proofs.lemmas.List.{length_push}
+use Rattle.std.proofs.lemmas.List.Sums.{sum_by_push}
+use Rattle.sp_base.proofs.RowLemmas.{first_where-put, first_where-put_other}
+use Rattle.sp_base.specs.declared.id.NodeId.{NodeId}
+use Rattle.sp_msg.specs.declared.body.Ack.{Ack}
+use Rattle.sp_msg.specs.declared.refused.SendRefused.{SendRefused}
+use Rattle.sp_rules.specs.Arts.{Arts}
+use Rattle.sp_rules.specs.Node.{NodeState, call_refusal, kept_or}
+use Rattle.sp_rules.specs.Parts.{nodes_of}
+use Rattle.sp_rules.specs.Rel.{due}
+use Rattle.sp_rules.specs.Sends.{rel_refusal, send_prio_refusal, signer_refusal, weight_refusal}
+use Rattle.sp_rules.specs.Polls.{frame_to}
+use Rattle.sp_rules.specs.Steps as steps
+use Rattle.sp_rules.specs.Steps.{Input, NodeStep, Output}
+use Rattle.sp_rules.specs.Ticks.{at_time, settled_by}
+use Rattle.sp_rules.specs.declared.node.NodeRefused.{NodeRefused}
+use Rattle.sp_runs.specs.Inputs.{acting, input_of}
+use Rattle.sp_runs.specs.Journals.{reply_word}
+use Rattle.sp_runs.specs.Runs.{Clean, IsCraftOf, Starts, Turned, Moves, Stays, directions_after, is_poll, next_frame, polls}
+use Rattle.sp_runs.specs.Settings.{Setting, SettingFits}
+use Rattle.sp_runs.specs.Worlds.{Direction, World, frames_in, is_from_to, node_in, with_frame}
+use Rattle.sp_journal.specs.declared.entry.Entry.{Entry}
+use Rattle.sp_journal.specs.declared.entry.Reply.{Reply as Words}
+use Rattle.sp_schedule_events.specs.declared.event.Event.{Event}
+use Rattle.sp_schedule_events.specs.declared.event.Event.TheVariants as events
+use Rattle.laws_runs.specs.Calls.{FramesAreCounted}
+use Rattle.laws_runs.specs.Premises.{Carries}
+use Rattle.laws_runs.proofs.Goods.{started}
+use Rattle.laws_runs.proofs.Lists.{both}
+use Rattle.laws_runs.proofs.Lives.{step_stays}
+use Rattle.laws_runs.proofs.Signed.{even}
+use Rattle.laws_runs.proofs.Tables.{node_is, node_put, same_node}
+
+-- ---- calls
+
+-- a step that may be refused
+either_calls : {X : Type 0} (o : Option X) (n m : NodeState) → m.calls ≤ n.calls + 1 → (kept_or o n m).calls ≤ n.calls + 1
+either_calls None n m few = few
+either_calls (Some refusal) n m few = omega arith
+
+settled_calls : (arts : Arts) (n : NodeState) (o : Option Ack) (refusal : Option SendRefused) → (settled_by arts n o refusal).calls ≡ n.calls
+settled_calls arts n None refusal = refl
+settled_calls arts n (Some ack) (Some why) = refl
+settled_calls arts n (Some ack) None = refl
+
+-- a step is one call at most
+step_calls : (arts : Arts) (n : NodeState) (input : Input) (output : Output) (after : NodeState) → NodeStep arts n input output after → after.calls ≤ n.calls + 1
+step_calls arts n (steps.Poll v) output after s = subst (λ (m : NodeState). m.calls ≤ n.calls + 1) (sym s.1) (either_calls (call_refusal n v) n _ (omega arith))
+step_calls arts n (steps.Datagram v bytes) output after s =
+    subst (λ (m : NodeState). m.calls ≤ n.calls + 1) (sym s.1) (either_calls (call_refusal n v) n _ (omega arith))
+step_calls arts n (steps.Tick now) output after s =
+    let same = settled_calls arts (at_time n now) (due n.parts.rel) (signer_refusal n.signer) in
+    let is = ap (λ (m : NodeState). m.calls) s.1 in
+    omega (arith, same, is)
+step_calls arts n (steps.SendRel dst payload) output after s =
+    subst (λ (m : NodeState). m.calls ≤ n.calls + 1) (sym s.1) (either_calls (rel_refusal n dst) n _ (omega arith))
+step_calls arts n (steps.SendPrio m) output after s =
+    subst (λ (m : NodeState). m.calls ≤ n.calls + 1) (sym s.new_is) (either_calls (send_prio_refusal n m s.choice) n _ (omega arith))
+step_calls arts n (steps.SetWeight v weight) output after s =
+    subst (λ (m : NodeState). m.calls ≤ n.calls + 1) (sym s.1) (either_calls (weight_refusal n v weight) n _ (omega arith))
+step_calls arts n (steps.TakeRel src) output after s = let is = ap (λ (m : NodeState). m.calls) s.1 in omega (arith, is)
+step_calls arts n steps.TakePrio output after s = let is = ap (λ (m : NodeState). m.calls) s.1 in omega (arith, is)
+
+-- no node has answered more calls than there were events
+pub few_calls : (arts : Arts) (x : Setting) (es : List Event) (js : List Entry) (w : World) → SettingFits arts x → Carries arts → Clean arts x es js w
+    → (u : NodeId) (n : NodeState) → node_in w.nodes u ≡ Some n → n.calls ≤ length es
+few_calls arts x es js w fits carries Starts u n at =
+    let none = ap (λ (m : NodeState). m.calls) (started x (nodes_of x.topology) u n at).0 in
+    omega (arith, none)
+few_calls arts x es js w fits carries (Turned {es = es'} {js = js'} {old = old} {e = e} {j = j} run range (Moves m) unforged) u n at =
+    let more = length_push es' e in
+    let me : m.after.fixed.me ≡ acting e =
+    ap (λ f. f.me) (step_stays arts m.node m.input m.output m.after m.step).fixed ∙ node_is old.nodes (acting e) m.node m.is_there in
+    elim (node_put u (acting e) m.after n old.nodes me (subst (λ (y : World). node_in y.nodes u ≡ Some n) m.world at)) [
+      | inl here ↦
+          let before = few_calls arts x es' js' old fits carries run (acting e) m.node m.is_there in
+          let one = step_calls arts m.node m.input m.output m.after m.step in
+          let is = ap (λ (y : NodeState). y.calls) here.1 in
+          omega (arith, more, before, one, is)
+      | inr other ↦ let before = few_calls arts x es' js' old fits carries run u n other.1 in omega (arith, more, before)
+    ]
+few_calls arts x es js w fits carries (Turned {es = es'} {js = js'} {old = old} {e = e} {j = j} run range (Stays s) unforged) u n at =
+    let more = length_push es' e in
+    let before = few_calls arts x es' js' old fits carries run u n (subst (λ (y : World). node_in y.nodes u ≡ Some n) s.world at) in
+    omega (arith, more, before)
+
+-- ---- frames
+
+together : (m n : ℕ) → ((m == m) && (n == n)) ≡ true
+together m n = rw (eq-eqb m m refl, eq-eqb n n refl) refl
+
+from_to : (u v : NodeId) (d : Direction) → is_from_to u v d ≡ true → (d.from.0 ≡ u.0) × (d.to.0 ≡ v.0)
+from_to u v d t = let parts = both _ _ t in (eqb-true _ _ parts.0, eqb-true _ _ parts.1)
+
+-- a frame more of one direction
+one_frame : (ds : List Direction) (a b u v : NodeId) (bytes : List ℕ)
+    → length (frames_in (with_frame ds a b bytes) u v) ≡ length (frames_in ds u v) + cond ((a.0 == u.0) && (b.0 == v.0)) 1 0
+one_frame ds a b u v bytes = by ((a.0 == u.0) && (b.0 == v.0)) refl
+  where
+    row : Direction
+    row = record { from = a; to = b; frames = frames_in ds a b ++ bytes ∷ [] }
+
+    apart : (d : Direction) → (d.from.0 ≡ a.0) × (d.to.0 ≡ b.0) → (eqb a.0 u.0 && eqb b.0 v.0) ≡ false → is_from_to u v d ≡ false
+    apart d ends t = ap (λ n. eqb n u.0 && eqb d.to.0 v.0) ends.0 ∙ ap (λ n. eqb a.0 u.0 && eqb n v.0) ends.1 ∙ t
+
+    here : length (frames_in (with_frame ds a b bytes) a b) ≡ length (frames_in ds a b) + 1
+    here =
+        ap (λ (d : Direction). length d.frames) (first_where-put (is_from_to a b) (record { from = a; to = b; frames = [] }) row ds (together a.0 b.0))
+        ∙ length_push (frames_in ds a b) bytes
+
+    by : (t : Bool) → ((a.0 == u.0) && (b.0 == v.0)) ≡ t → length (frames_in (with_frame ds a b bytes) u v) ≡ length (frames_in ds u v) + cond t 1 0
+    by true is =
+        let parts = both (a.0 == u.0) (b.0 == v.0) is in
+        let ua : a ≡ u = same_node a u (eqb-true _ _ parts.0) in
+        let vb : b ≡ v = same_node b v (eqb-true _ _ parts.1) in
+        subst (λ (n : NodeId). length (frames_in (with_frame ds a b bytes) n v) ≡ length (frames_in ds n v) + 1) ua
+        (subst (λ (n : NodeId). length (frames_in (with_frame ds a b bytes) a n) ≡ length (frames_in ds a n) + 1) vb here)
+    by false is =
+        ap (λ (d : Direction). length d.frames) (first_where-put_other (is_from_to a b) (is_from_to u v) (record { from = u; to = v; frames = [] }) row ds
+        (λ d on. apart d (from_to a b d on) is) is)
+        ∙ omega arith
+
+-- a poll gave a frame
+abbrev MakesFrame : Event → steps.Reply → Type 0
+MakesFrame (events.Poll a b) r = (made : List ℕ) × (r ≡ steps.Frame made)
+MakesFrame _ r = Unit {0}
+
+none_more : (n : ℕ) → n ≡ n + 0
+none_more n = omega arith
+
+frame_more : (ds : List Direction) (e : Event) (r : steps.Reply) (u v : NodeId) → MakesFrame e r
+    → length (frames_in (directions_after ds e r) u v) ≡ length (frames_in ds u v) + cond (is_poll u v e) 1 0
+frame_more ds (events.Poll a b) r u v made =
+    subst (λ (q : steps.Reply). length (frames_in (directions_after ds (events.Poll a b) q) u v) ≡ length (frames_in ds u v) + cond (is_poll u v (events.Poll a b)) 1 0)
+    (sym made.1) (one_frame ds a b u v made.0)
+frame_more ds (events.Rel a b p) r u v made = none_more (length (frames_in ds u v))
+frame_more ds (events.Prio a b c d f p) r u v made = none_more (length (frames_in ds u v))
+frame_more ds (events.Take a b) r u v made = none_more (length (frames_in ds u v))
+frame_more ds (events.TakePrio a) r u v made = none_more (length (frames_in ds u v))
+frame_more ds (events.Tick a b) r u v made = none_more (length (frames_in ds u v))
+frame_more ds (events.Weight a b c) r u v made = none_more (length (frames_in ds u v))
+frame_more ds (events.Pass a b c) r u v made = none_more (length (frames_in ds u v))
+frame_more ds (events.Flip a b c d f) r u v made = none_more (length (frames_in ds u v))
+frame_more ds (events.Inject a b c) r u v made = none_more (length (frames_in ds u v))
+frame_more ds (events.Craft a b c d) r u v made = none_more (length (frames_in ds u v))
+frame_more ds (events.CraftStatus a b c d f g) r u v made = none_more (length (frames_in ds u v))
+
+makes_frame : (arts : Arts) (x : Setting) (es : List Event) (w : World) (n : NodeState) (e : Event) (input : Input) (output : Output) (after : NodeState) (number : ℕ) (words : Words)
+    → input_of arts x es w n e ≡ Some input → NodeStep arts n input output after → reply_word x number output.reply ≡ Some words → MakesFrame e output.reply
+makes_frame arts x es w n (events.Poll a b) input output after number words reaches step told =
+    let same : input ≡ steps.Poll b = cc in
+    let moves : NodeStep arts n (steps.Poll b) output after = subst (λ i. NodeStep arts n i output after) same step in
+    go (call_refusal n b) (ap (λ (o : Output). o.reply) moves.0)
+  where
+    go : (r : Option NodeRefused) → output.reply ≡ (steps.refused_call r (steps.replied (steps.Frame (frame_to arts n b)))).reply → MakesFrame (events.Poll a b) output.reply
+    go None is = (frame_to arts n b, is)
+    go (Some why) is = absurd (let none : None ≡ Some words = ap (λ (q : steps.Reply). reply_word x number q) (sym is) ∙ told in cc)
+makes_frame arts x es w n (events.Rel a b p) input output after number words reaches step told = tt
+makes_frame arts x es w n (events.Prio a b c d f p) input output after number words reaches step told = tt
+makes_frame arts x es w n (events.Take a b) input output after number words reaches step told = tt
+makes_frame arts x es w n (events.TakePrio a) input output after number words reaches step told = tt
+makes_frame arts x es w n (events.Tick a b) input output after number words reaches step told = tt
+makes_frame arts x es w n (events.Weight a b c) input output after number words reaches step told = tt
+makes_frame arts x es w n (events.Pass a b c) input output after number words reaches step told = tt
+makes_frame arts x es w n (events.Flip a b c d f) input output after number words reaches step told = tt
+makes_frame arts x es w n (events.Inject a b c) input output after number words reaches step told = tt
+makes_frame arts x es w n (events.Craft a b c d) input output after number words reaches step told = tt
+makes_frame arts x es w n (events.CraftStatus a b c d f g) input output after number words reaches step told = tt
+
+-- what is crafted is no poll
+craft_is_none : (key u v : NodeId) (e : Event) → IsCraftOf key e → is_poll u v e ≡ false
+craft_is_none key u v (events.Craft a b c d) is = refl
+craft_is_none key u v (events.Poll a b) is = absurd is
+craft_is_none key u v (events.Rel a b p) is = absurd is
+craft_is_none key u v (events.Prio a b c d f p) is = absurd is
+craft_is_none key u v (events.Take a b) is = absurd is
+craft_is_none key u v (events.TakePrio a) is = absurd is
+craft_is_none key u v (events.Tick a b) is = absurd is
+craft_is_none key u v (events.Weight a b c) is = absurd is
+craft_is_none key u v (events.Pass a b c) is = absurd is
+craft_is_none key u v (events.Flip a b c d f) is = absurd is
+craft_is_none key u v (events.Inject a b c) is = absurd is
+craft_is_none key u v (events.CraftStatus a b c d f g) is = absurd is
+
+pub poll_more : (es : List Event) (e : Event) (u v : NodeId) → polls (es ++ e ∷ []) u v ≡ polls es u v + cond (is_poll u v e) 1 0
+poll_more es e u v = sum_by_push (λ y. cond (is_poll u v y) 1 0) es e
+
+pub counted : (arts : Arts) (x : Setting) (es : List Event) (js : List Entry) (w : World) → Clean arts x es js w
+    → (u v : NodeId) → length (frames_in w.directions u v) ≡ polls es u v
+counted arts x es js w Starts u v = refl
+counted arts x es js w (Turned {es = es'} {js = js'} {old = old} {e = e} {j = j} run range (Moves m) unforged) u v =
+    let made = makes_frame arts x es' old m.node e m.input m.output m.after (next_frame old e) j.reply m.reaches m.step m.journal.reply in
+    ap (λ (y : World). length (frames_in y.directions u v)) m.world
+    ∙ frame_more old.directions e m.output.reply u v made
+    ∙ ap (λ n. n + cond (is_poll u v e) 1 0) (counted arts x es' js' old run u v)
+    ∙ sym (poll_more es' e u v)
+counted arts x es js w (Turned {es = es'} {js = js'} {old = old} {e = e} {j = j} run range (Stays s) unforged) u v =
+    ap (λ (y : World). length (frames_in y.directions u v)) s.world
+    ∙ counted arts x es' js' old run u v
+    ∙ none_more (polls es' u v)
+    ∙ ap (λ t. polls es' u v + cond t 1 0) (sym (craft_is_none s.key u v e s.is_craft))
+    ∙ sym (poll_more es' e u v)
+
+pub frames_are_counted : FramesAreCounted
+frames_are_counted arts x es js w run = record { frames = counted arts x es js w run; entries = even arts x es js w run }

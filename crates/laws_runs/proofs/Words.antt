@@ -1,0 +1,267 @@
+-- Each answer to an event in its range has words.
+use Rattle.std.proofs.Common.{◌≡◌, ◌≢◌, ◌<◌, ℕ, ◌==◌, ◌&&◌, Bool, true, false, cond, not, nat_lt, List, [], ◌∷◌, length, Option, Some, None, Result, Ok, Err, refl, sym, ap, subst, ◌∙◌, inl, inr, arith}
+use Rattle.std.specs.Prelude.{IsTrue, slice_get, position}
+use Rattle.std.specs.List.{All, list_any, position_or_len}
+use Rattle.std.proofs.lemmas.Bool.{cases_Bool, eq-eqb, ne_eqb}
+use Rattle.std.proofs.lemmas.Bool.Decides.{nat_tests}
+use Rattle.std.proofs.lemmas.List.Elements.{All-head}
+use Rattle.sp_base.specs.Cursor.{or_else}
+use Rattle.sp_base.specs.declared.id.NodeId.{NodeId}
+use Rattle.sp_msg.specs.declared.body.Body.{Body}
+use Rattle.sp_msg.specs.declared.body.Body.TheVariants as bodies
+use Rattle.sp_msg.specs.declared.effect.Effect.{Effect}
+use Rattle.sp_msg.specs.declared.kept.Kept.{Kept}
+use Rattle.sp_msg.specs.declared.refused.SendRefused.{SendRefused}
+use Rattle.sp_rules.specs.Arts.{Arts}
+use Rattle.sp_rules.specs.Flow.{is_full}
+use Rattle.sp_rules.specs.Node.{NodeState, Signer, call_refusal}
+use Rattle.sp_rules.specs.Parts.{edge_to, nodes_of}
+use Rattle.sp_rules.specs.Polls.{frame_to}
+use Rattle.sp_rules.specs.Prio as prio
+use Rattle.sp_rules.specs.Rel as rel
+use Rattle.sp_rules.specs.Rel.{RelState, flow_in, own_flow, room}
+use Rattle.sp_rules.specs.Sends.{PrioSend, no_paths, no_room, prio_refusal, rel_refusal, send_prio_refusal, signer_refusal, weight_refusal, weight_refusal_at}
+use Rattle.sp_rules.specs.Steps as steps
+use Rattle.sp_rules.specs.Steps.{Input, NodeStep, Output}
+use Rattle.sp_rules.specs.Weights.{minimum}
+use Rattle.sp_rules.specs.declared.node.TheConstants.{MAX_CALLS}
+use Rattle.sp_rules.specs.declared.store.Entry.{Entry as Stored}
+use Rattle.sp_topology.specs.Neighbours.{joins}
+use Rattle.laws_node.specs.Shapes.{Shape}
+use Rattle.laws_node.specs.Sizes.{Sizes}
+use Rattle.laws_node.specs.Stores.{EntryHolds, IsPrio}
+use Rattle.sp_runs.specs.Inputs.{acting, crafted_frame, crafted_object, crafts, flipped, input_of, object_alone, slot_alone}
+use Rattle.sp_runs.specs.Journals.{body_word, message_word, refused_word, reply_word}
+use Rattle.sp_runs.specs.Runs.{InRange, is_hop, is_other}
+use Rattle.sp_runs.specs.Settings.{Setting, is_correct, is_node, is_one_of}
+use Rattle.sp_runs.specs.Worlds.{node_in}
+use Rattle.sp_schedule_events.specs.declared.event.Event.{Event}
+use Rattle.sp_schedule_events.specs.declared.event.Event.TheVariants as events
+use Rattle.laws_runs.specs.Calls.{EachReplyHasWords, NeighboursAreAnswered}
+use Rattle.laws_runs.proofs.Counts.{few_calls}
+use Rattle.laws_runs.specs.Signs.{Good, NodeIs, sizes_at}
+use Rattle.laws_runs.proofs.Lists.{both}
+use Rattle.laws_runs.proofs.Neighbours.{hop_back, neighbour_there}
+use Rattle.laws_runs.proofs.Reaches.{came}
+use Rattle.laws_runs.proofs.Signed.{signs}
+
+-- ---- polls and datagrams
+
+pub neighbours_are_answered : NeighboursAreAnswered
+neighbours_are_answered arts x es js w fits carries run few u v n at hop =
+    let there = neighbour_there x (Good arts x es js) u v n ((signs arts x es js w fits carries run).nodes u n at) hop in
+    let calls = few_calls arts x es js w fits carries run u n at in
+    let fresh : (n.calls == MAX_CALLS) ≡ false = ne_eqb n.calls MAX_CALLS (λ is. absurd (omega (arith, is, calls, few))) in
+    rw (there, fresh) refl
+
+-- ---- refusals that a journal has words for
+
+abbrev HasWords : Option SendRefused → Type 0
+HasWords None = Unit {0}
+HasWords (Some r) = refused_word r ≢ None
+
+both_have : (a b : Option SendRefused) → HasWords a → HasWords b → HasWords (or_else a b)
+both_have None b first second = second
+both_have (Some r) b first second = first
+
+told : {X : Type 0} (y : X) → Some y ≡ None → ⊥
+told y e = cc
+
+-- all indexes are reserved
+signer_words : (s : Signer) → s.bound ≡ s.total → HasWords (signer_refusal s)
+signer_words s whole = elim (cases_Bool (s.index == s.total)) [
+  | inl t ↦ rw t (told _)
+  | inr t ↦ let same : (s.index == s.bound) ≡ false = ap (λ k. s.index == k) whole ∙ t in rw (t, same) tt
+]
+
+-- ---- who is there
+
+differs : (a b : Bool) → (a && not b) ≡ true → (a ≡ true) × (b ≡ false)
+differs true false e = (refl, refl)
+differs true true e = absurd cc
+differs false b e = absurd cc
+
+pub record IsAnother (x : Setting) (u v : NodeId) : Type 0 where
+  pub mine : is_node x u ≡ true
+  pub there : is_node x v ≡ true
+  pub other : (u.0 == v.0) ≡ false
+
+another : (x : Setting) (u v : NodeId) → is_node x u ≡ true → is_other x u v ≡ true → IsAnother x u v
+another x u v mine other = let parts = differs (is_node x v) (u.0 == v.0) other in record { mine = mine; there = parts.0; other = parts.1 }
+
+-- ---- a reliable message
+
+room_words : (r : RelState) (dst : NodeId) → rel.is_node r r.me ≡ true → rel.is_node r dst ≡ true → (r.me.0 == dst.0) ≡ false → HasWords (no_room (room r dst))
+room_words r dst me there other =
+    let f = flow_in r.flows (own_flow r dst) in
+    let mine : (r.me.0 == r.me.0) ≡ true = eq-eqb r.me.0 r.me.0 refl in
+    let its : (dst.0 == dst.0) ≡ true = eq-eqb dst.0 dst.0 refl in
+    elim (cases_Bool (is_full r.bound f)) [
+      | inl t ↦ rw (mine, its, me, there, other, t) (told _)
+      | inr t ↦ rw (mine, its, me, there, other, t) tt
+    ]
+
+sent_words : (x : Setting) (number k : ℕ) (effects : List Effect) (o : Option SendRefused) → HasWords o
+    → reply_word x number (steps.refused_send o (steps.accepted k effects)).reply ≢ None
+sent_words x number k effects None h = told _
+sent_words x number k effects (Some r) h = h
+
+-- ---- what the start of a node fixes
+
+all_reserved : (x : Setting) (P : Kept → Type 0) (u : NodeId) (n : NodeState) → NodeIs x P u n → n.signer.bound ≡ n.signer.total
+all_reserved x P u n is = ap (λ (s : Shape). s.bound) is.shape ∙ sym (ap (λ (s : Shape). s.total) is.shape)
+
+rel_words : (x : Setting) (P : Kept → Type 0) (u dst : NodeId) (n : NodeState) → NodeIs x P u n → IsAnother x u dst → HasWords (rel_refusal n dst)
+rel_words x P u dst n is ends =
+    let me : n.parts.rel.me ≡ u = ap (λ (s : Shape). s.rel.me) is.shape in
+    let nodes : n.parts.rel.nodes ≡ nodes_of x.topology = ap (λ (s : Shape). s.rel.nodes) is.shape in
+    let known : (v : NodeId) → is_node x v ≡ true → rel.is_node n.parts.rel v ≡ true =
+    λ v h. ap (λ (ns : List NodeId). list_any (λ m. m.0 == v.0) ns) nodes ∙ h in
+    both_have (no_room (room n.parts.rel dst)) (signer_refusal n.signer)
+    (room_words n.parts.rel dst (known n.parts.rel.me (ap (is_node x) me ∙ ends.mine)) (known dst ends.there) (ap (λ (v : NodeId). v.0 == dst.0) me ∙ ends.other))
+    (signer_words n.signer (all_reserved x P u n is))
+
+-- ---- a priority message
+
+paths_words : (r : Result ℕ ℕ) → HasWords (no_paths r)
+paths_words (Ok mask) = tt
+paths_words (Err found) = told _
+
+prio_words : (x : Setting) (P : Kept → Type 0) (u : NodeId) (n : NodeState) (m : PrioSend) (choice : Result ℕ ℕ) → NodeIs x P u n → IsAnother x u m.dst
+    → HasWords (send_prio_refusal n m choice)
+prio_words x P u n m choice is ends =
+    let me : n.fixed.me ≡ u = ap (λ f. f.me) is.fixed in
+    let nodes : n.parts.prio.nodes ≡ nodes_of x.topology = ap (λ (s : Shape). s.prio.nodes) is.shape in
+    let known : prio.is_node n.parts.prio.nodes m.dst.0 ≡ true = ap (λ (ns : List NodeId). prio.is_node ns m.dst.0) nodes ∙ ends.there in
+    let other : (m.dst.0 == n.fixed.me.0) ≡ false = ne_eqb m.dst.0 n.fixed.me.0 (λ same.
+    let wrong : (u.0 == m.dst.0) ≡ true = eq-eqb u.0 m.dst.0 (ap (λ (v : NodeId). v.0) (sym me) ∙ sym same) in
+    let e : true ≡ false = sym wrong ∙ ends.other in cc) in
+    both_have (prio_refusal n m) (no_paths choice)
+    (elim (cases_Bool (nat_lt m.expiry n.now)) [
+      | inl t ↦ rw (other, known, t) (told _)
+      | inr t ↦ rw (other, known, t) (signer_words n.signer (all_reserved x P u n is))
+    ])
+    (paths_words choice)
+
+-- ---- a weight
+
+some_place : {X : Type 0} (test : X → Bool) (xs : List X) → list_any test xs ≡ true → (place : ℕ) × (position test xs ≡ Some place)
+some_place {X = X} test xs some =
+    let within : nat_lt (position_or_len test xs) (length xs) ≡ true = let below = place_within xs some in grind (arith, nat_tests, below) in
+    (position_or_len test xs, rw within refl)
+  where
+    place_within : (ys : List X) → list_any test ys ≡ true → position_or_len test ys < length ys
+    place_within [] there = absurd (let e : false ≡ true = there in cc)
+    place_within (y ∷ ys) there = elim (cases_Bool (test y)) [
+      | inl t ↦ rw t (omega arith)
+      | inr t ↦ let rest = place_within ys (rw t at there) in rw t (omega (arith, rest))
+    ]
+
+weight_at_words : (n : NodeState) (edge weight : ℕ) → n.signer.bound ≡ n.signer.total → HasWords (weight_refusal_at n (Some edge) weight)
+weight_at_words n edge weight whole = elim (cases_Bool (nat_lt weight (minimum n.parts.weights edge))) [
+  | inl t ↦ rw t (told _)
+  | inr t ↦ rw t (signer_words n.signer whole)
+]
+
+weight_words : (x : Setting) (P : Kept → Type 0) (u v : NodeId) (n : NodeState) (weight : ℕ) → NodeIs x P u n → is_hop x u v ≡ true
+    → HasWords (weight_refusal n v weight)
+weight_words x P u v n weight is hop =
+    let there = some_place (joins u.0 v.0) x.topology.edges hop in
+    let edge : edge_to n.fixed v ≡ Some there.0 = ap (λ f. edge_to f v) is.fixed ∙ there.1 in
+    subst (λ (o : Option ℕ). HasWords (weight_refusal_at n o weight)) (sym edge) (weight_at_words n there.0 weight (all_reserved x P u n is))
+
+-- ---- what is taken
+
+inbox_words : (k : Sizes) (last : ℕ) (entries : List Stored) → All (EntryHolds k last) entries → message_word (slice_get entries 0) ≢ None
+inbox_words k last [] all = told _
+inbox_words k last (e ∷ entries) all = of_kind e.kept.body (All-head (EntryHolds k last) e entries all).kind
+  where
+    of_kind : (body : Body) → IsPrio body → body_word body ≢ None
+    of_kind (bodies.Prio p) is = told _
+    of_kind (bodies.Rel r) is = absurd is
+    of_kind (bodies.Ack a) is = absurd is
+    of_kind (bodies.Weight w) is = absurd is
+
+-- ---- a datagram of a neighbour
+
+arrived_words : (arts : Arts) (x : Setting) (n : NodeState) (v : NodeId) (bytes : List ℕ) (input : Input) (output : Output) (after : NodeState) (number : ℕ)
+    → input ≡ steps.Datagram v bytes → call_refusal n v ≡ None → NodeStep arts n input output after → reply_word x number output.reply ≢ None
+arrived_words arts x n v bytes input output after number same answers step =
+    let moves : NodeStep arts n (steps.Datagram v bytes) output after = subst (λ i. NodeStep arts n i output after) same step in
+    let is : output ≡ steps.arrived arts n v bytes = moves.0 ∙ ap (λ r. steps.refused_call r (steps.arrived arts n v bytes)) answers in
+    subst (λ (o : Output). reply_word x number o.reply ≢ None) (sym is) (told _)
+
+frame_words : (arts : Arts) (x : Setting) (n : NodeState) (v : NodeId) (output : Output) (number : ℕ) → call_refusal n v ≡ None → output ≡ steps.poll_output arts n v
+    → reply_word x number output.reply ≢ None
+frame_words arts x n v output number answers is =
+    let made : output ≡ steps.replied (steps.Frame (frame_to arts n v)) = is ∙ ap (λ r. steps.refused_call r (steps.replied (steps.Frame (frame_to arts n v)))) answers in
+    subst (λ (o : Output). reply_word x number o.reply ≢ None) (sym made) (told _)
+
+-- ---- all events
+
+stepped : (arts : Arts) (n : NodeState) (input same : Input) (output : Output) (after : NodeState) → Some same ≡ Some input → NodeStep arts n input output after
+    → NodeStep arts n same output after
+stepped arts n input same output after e step = let is : input ≡ same = cc in subst (λ i. NodeStep arts n i output after) is step
+
+one_input : (a b : Input) → Some a ≡ Some b → b ≡ a
+one_input a b e = cc
+
+node_of : (x : Setting) (u : NodeId) → IsTrue (is_correct x u) → is_node x u ≡ true
+node_of x u correct = (both (is_node x u) (not (is_one_of x.bad u)) correct).0
+
+pub each_reply_has_words : EachReplyHasWords
+each_reply_has_words arts x es js w fits carries run few e n after input output range at reaches step number = go e range at reaches
+  where
+    words : Output → Type 0
+    words o = reply_word x number o.reply ≢ None
+
+    is_at : (u : NodeId) → node_in w.nodes u ≡ Some n → NodeIs x (Good arts x es js) u n
+    is_at u there = (signs arts x es js w fits carries run).nodes u n there
+
+    answers : (u v : NodeId) → node_in w.nodes u ≡ Some n → is_hop x u v ≡ true → call_refusal n v ≡ None
+    answers u v there hop = neighbours_are_answered arts x es js w fits carries run few u v n there hop
+
+    back : (u v : NodeId) → node_in w.nodes v ≡ Some n → is_hop x u v ≡ true → call_refusal n u ≡ None
+    back u v there hop = answers v u there (hop_back x v u ∙ hop)
+
+    crafted : (c v key : NodeId) (body : Body) → node_in w.nodes v ≡ Some n → is_hop x c v ≡ true → (t : Bool) (bytes : List ℕ)
+        → cond t (Some (steps.Datagram c bytes)) None ≡ Some input → words output
+    crafted c v key body there hop true bytes is = arrived_words arts x n c bytes input output after number (one_input (steps.Datagram c bytes) input is) (back c v there hop) step
+    crafted c v key body there hop false bytes is = absurd cc
+
+    go : (f : Event) → InRange x es f → node_in w.nodes (acting f) ≡ Some n → input_of arts x es w n f ≡ Some input → words output
+    go (events.Rel s d payload) range there is =
+        let moves = stepped arts n input (steps.SendRel d payload) output after is step in
+        let ends = another x s d (node_of x s range.0) range.1 in
+        subst words (sym moves.0) (sent_words x number _ _ (rel_refusal n d) (rel_words x (Good arts x es js) s d n (is_at s there) ends))
+    go (events.Prio s d p expiry paths payload) range there is =
+        let m : PrioSend = record { dst = d; prio = p; expiry = expiry; paths = paths; payload = payload } in
+        let moves = stepped arts n input (steps.SendPrio m) output after is step in
+        let ends = another x s d (node_of x s range.0) range.1 in
+        subst words (sym moves.output_is)
+        (sent_words x number _ _ (send_prio_refusal n m moves.choice) (prio_words x (Good arts x es js) s n m moves.choice (is_at s there) ends))
+    go (events.Take d s) range there is = subst words (sym (stepped arts n input (steps.TakeRel s) output after is step).0) (told _)
+    go (events.TakePrio d) range there is =
+        let moves = stepped arts n input steps.TakePrio output after is step in
+        let inbox = (is_at d there).holds.parts.prio.inbox in
+        subst words (sym moves.0) (inbox_words (sizes_at x (Good arts x es js) d) n.parts.prio.inbox.last n.parts.prio.inbox.entries inbox.entries)
+    go (events.Tick u now) range there is = subst words (sym (stepped arts n input (steps.Tick now) output after is step).0) (told _)
+    go (events.Weight u v weight) range there is =
+        let moves = stepped arts n input (steps.SetWeight v weight) output after is step in
+        subst words (sym moves.0)
+        (sent_words x number _ _ (weight_refusal n v weight) (weight_words x (Good arts x es js) u v n weight (is_at u there) range.1))
+    go (events.Poll u v) range there is =
+        frame_words arts x n v output number (answers u v there range.1) (stepped arts n input (steps.Poll v) output after is step).0
+    go (events.Pass u v k) range there is =
+        let it = came w.directions u v k (steps.Datagram u) input is in
+        arrived_words arts x n u it.bytes input output after number it.is (back u v there range.2) step
+    go (events.Flip u v k far bit) range there is =
+        let it = came w.directions u v k (λ bytes. steps.Datagram u (flipped far bit bytes)) input is in
+        arrived_words arts x n u (flipped far bit it.bytes) input output after number it.is (back u v there range.2) step
+    go (events.Inject u v bytes) range there is =
+        arrived_words arts x n u bytes input output after number (one_input (steps.Datagram u bytes) input is) (back u v there range.1) step
+    go (events.Craft c v key body) range there is =
+        crafted c v key body there range.1 (nat_lt (crafts es key) x.total) (crafted_frame arts n c (object_alone body (crafted_object arts x es key body))) is
+    go (events.CraftStatus c v s d base have) range there is =
+        let bytes = crafted_frame arts n c (slot_alone (record { src = s; dst = d }) base have None []) in
+        arrived_words arts x n c bytes input output after number (one_input (steps.Datagram c bytes) input is) (back c v there range.1) step

@@ -1,0 +1,224 @@
+-- The journal of a run tells no more deliveries of an event than a frame has bytes.
+use Rattle.std.proofs.Common.{◌≡◌, ◌≤◌, ℕ, suc, ◌+◌, ◌-◌, ◌*◌, Bool, List, [], ◌∷◌, ◌++◌, length, length-append, map, filter, Option, Some, None, Result, Ok, Err, refl, sym, ap, inl, inr, arith, nat_lt}
+use Rattle.std.specs.List.{flat_map}
+use Rattle.std.proofs.lemmas.Bool.{cases_Bool}
+use Rattle.std.proofs.lemmas.Bool.Decides.{nat_tests}
+use Rattle.std.proofs.lemmas.List.{length-drop, length-take}
+use Rattle.std.proofs.lemmas.List.Concat.{flat_map-append}
+use Rattle.byteorder.specs.Endian.{big_bytes}
+use Rattle.laws_node.proofs.Objects.{objects_are_answered}
+use Rattle.laws_node.specs.Inputs.{InputFits}
+use Rattle.laws_node.specs.Objects.{objects_in}
+use Rattle.laws_runs.proofs.Signed.{even, reached}
+use Rattle.sp_base.specs.Spelling.{AreBytes}
+use Rattle.sp_base.specs.declared.id.NodeId.{NodeId}
+use Rattle.sp_frame.proofs.SectionLemmas.{read_is_spelled}
+use Rattle.sp_frame.specs.Frames.{opened, sections_part, signed_part}
+use Rattle.sp_frame.specs.Objects.{object_bytes}
+use Rattle.sp_frame.specs.Prioritized.{numbered_bytes, prios_bytes}
+use Rattle.sp_frame.specs.Reliable.{Report, ack_bytes, place_bytes, rels_bytes, report_bytes, slot_bytes}
+use Rattle.sp_frame.specs.Sections.{Contents, sections_bytes, sections_of}
+use Rattle.sp_frame.specs.Views.{as_list}
+use Rattle.sp_frame.specs.Weights.{weights_bytes}
+use Rattle.sp_frame.specs.declared.frame.TheConstants.{MAX_FRAME_BYTES}
+use Rattle.sp_frame.specs.declared.refused.FrameRefused.TheVariants as frames
+use Rattle.sp_frame.specs.declared.refused.SectionRefused.{SectionRefused}
+use Rattle.sp_journal.specs.JournalText.{is_delivered, is_delivered_prio}
+use Rattle.sp_journal.specs.declared.entry.Entry.{Entry}
+use Rattle.sp_msg.specs.declared.effect.Effect.{Effect}
+use Rattle.sp_msg.specs.declared.kept.Kept.{Kept}
+use Rattle.sp_node_core.specs.Format.{format}
+use Rattle.sp_rules.specs.Arrivals.{arrival_at, handled, of_frame, pieces_in, pieces_where, reply_at, sections_in}
+use Rattle.sp_rules.specs.Node.{NodeState, call_refusal, link_in}
+use Rattle.sp_rules.specs.Pieces.{Piece, pieces_of}
+use Rattle.sp_rules.specs.Sends.{send_prio_refusal}
+use Rattle.sp_rules.specs.Steps as steps
+use Rattle.sp_rules.specs.Steps.{Input, NodeStep, Output, accepted, refused_call, refused_send}
+use Rattle.sp_rules.specs.declared.answers.Item.{Item}
+use Rattle.sp_rules.specs.declared.node.LinkReply.{LinkReply}
+use Rattle.sp_rules.specs.declared.node.LinkReply.TheVariants as links
+use Rattle.sp_rules.specs.declared.node.NodeRefused.{NodeRefused}
+use Rattle.sp_msg.specs.declared.refused.SendRefused.{SendRefused}
+use Rattle.sp_runs.specs.Runs.{Clean, InRange, Moves, Stays, Starts, Turn, Turned}
+use Rattle.sp_runs.specs.Scenarios.{setting_of}
+use Rattle.sp_runs.specs.Settings.{Setting, SettingFits}
+use Rattle.sp_runs.specs.Worlds.{World}
+use Rattle.sp_schedule_events.specs.declared.event.Event.{Event}
+use Rattle.laws_runs_format.specs.Journals.{JournalsAreCountable}
+use Rattle.laws_runs_format.proofs.EffectCounts.{TellsDeliveries, step_most}
+use Rattle.laws_runs_format.proofs.FrameBytes.{objects_are, prio_objects, slot_objects}
+use Rattle.laws_runs_format.proofs.Headers.{headers_fit}
+use Rattle.laws_runs_format.proofs.ReadBack.{format_carries, part_are}
+
+-- ---- sections have at least a byte for each object
+
+a_byte : (o : Kept) → 1 ≤ length (object_bytes o)
+unfolding object_bytes
+a_byte o = omega arith
+
+a_byte_more : (m : ℕ × Kept) → 1 ≤ length (numbered_bytes m)
+unfolding numbered_bytes
+a_byte_more m = omega arith
+
+one_each : {X : Type 0} (spell : X → List ℕ) → ((x : X) → 1 ≤ length (spell x)) → (xs : List X) → length xs ≤ length (flat_map spell xs)
+one_each spell each [] = omega arith
+one_each spell each (x ∷ xs) = omega (arith, length-append (spell x) (flat_map spell xs), each x, one_each spell each xs)
+
+weights_long : (os : List Kept) → length os ≤ length (weights_bytes os)
+unfolding weights_bytes
+weights_long os = omega (arith, one_each object_bytes a_byte os)
+
+prios_long : (ms : List (ℕ × Kept)) → length ms ≤ length (prios_bytes ms)
+unfolding prios_bytes
+prios_long ms = omega (arith, one_each numbered_bytes a_byte_more ms)
+
+rels_long : (os : List Kept) → length os ≤ length (rels_bytes os)
+unfolding rels_bytes
+rels_long os = omega (arith, one_each object_bytes a_byte os)
+
+ack_long : (o : Option Kept) → length (as_list o) ≤ length (ack_bytes o)
+unfolding ack_bytes
+ack_long None = omega arith
+ack_long (Some o) = omega (arith, a_byte o)
+
+report_long : (r : Report) → length (ack_bytes r.ack) + length (rels_bytes r.rels) ≤ length (report_bytes r)
+unfolding report_bytes
+report_long r =
+    omega (arith, length-append (place_bytes r ++ ack_bytes r.ack) (rels_bytes r.rels), length-append (place_bytes r) (ack_bytes r.ack))
+
+slot_long : (o : Option Report) → length (slot_objects o) ≤ length (slot_bytes o)
+unfolding slot_bytes
+slot_long None = omega arith
+slot_long (Some r) = omega (arith, length-append (as_list r.ack) r.rels, ack_long r.ack, rels_long r.rels, report_long r)
+
+map_long : (ms : List (ℕ × Kept)) → length (prio_objects ms) ≡ length ms
+map_long [] = refl
+map_long (m ∷ ms) = ap suc (map_long ms)
+
+sections_long : (s : Contents) → length (objects_in (pieces_of s)) ≤ length (sections_bytes s)
+unfolding sections_bytes
+sections_long s =
+    let front = weights_bytes s.weights ++ big_bytes 8 s.prio_ack in
+    let whole = length-append (front ++ prios_bytes s.prios) (slot_bytes s.slot) in
+    let most = length-append front (prios_bytes s.prios) in
+    let first = length-append (weights_bytes s.weights) (big_bytes 8 s.prio_ack) in
+    let objects = length-append s.weights (prio_objects s.prios ++ slot_objects s.slot) in
+    let rest = length-append (prio_objects s.prios) (slot_objects s.slot) in
+    let are = ap length (objects_are s) in
+    omega (arith, whole, most, first, objects, rest, are, map_long s.prios, weights_long s.weights, prios_long s.prios, slot_long s.slot)
+
+-- ---- so a datagram has fewer objects than a frame may have bytes
+
+part_short : (bytes : List ℕ) → length (sections_part bytes) ≤ length bytes - 33
+part_short bytes = omega (arith, length-drop 33 (signed_part bytes), length-take (length bytes - 32) bytes)
+
+nothing_more : (l : LinkReply) (ps : List Piece) → length (objects_in (pieces_where l ps)) ≤ length (objects_in ps)
+nothing_more links.Fresh ps = omega arith
+nothing_more links.TooLong ps = omega arith
+nothing_more (links.Short short) ps = omega arith
+nothing_more links.Magic ps = omega arith
+nothing_more links.Version ps = omega arith
+nothing_more links.NotForMe ps = omega arith
+nothing_more links.BadTag ps = omega arith
+nothing_more (links.Learned boot) ps = omega arith
+nothing_more (links.Stale boot counter) ps = omega arith
+nothing_more (links.OtherTopology theirs) ps = omega arith
+nothing_more (links.Section refused) ps = omega arith
+
+read_few : (len : ℕ) (bytes : List ℕ) (r : Result Contents SectionRefused) → AreBytes bytes → sections_of len (sections_part bytes) ≡ r
+    → length (objects_in (pieces_in r)) ≤ length bytes - 33
+read_few len bytes (Ok s) are is =
+    let spelling = (read_is_spelled len (sections_part bytes) s (part_are bytes are) is).0 in
+    omega (arith, sections_long s, ap length spelling, part_short bytes)
+read_few len bytes (Err refused) are is = omega arith
+
+few_objects : (n : NodeState) (u : NodeId) (bytes : List ℕ) → AreBytes bytes
+    → length (objects_in (pieces_where (reply_at format n u bytes) (pieces_in (sections_in format n.fixed bytes)))) ≤ MAX_FRAME_BYTES - 33
+few_objects n u bytes are = elim (cases_Bool (nat_lt MAX_FRAME_BYTES (length bytes))) [
+  | inl long ↦
+      let is : opened bytes ≡ Err frames.TooLong = rw long refl in
+      let reply : reply_at format n u bytes ≡ links.TooLong = ap (of_frame format n.fixed (link_in n u) bytes) is in
+      rw reply (omega arith)
+  | inr short ↦
+      let within : length bytes ≤ MAX_FRAME_BYTES = grind (arith, nat_tests) in
+      omega (arith, within, nothing_more (reply_at format n u bytes) (pieces_in (sections_in format n.fixed bytes)), read_few n.fixed.signature_len bytes _ are refl)
+]
+
+answers_long : (xs : List (Kept × Item)) → length (map (λ (a : Kept × Item). a.0) xs) ≡ length xs
+answers_long [] = refl
+answers_long (x ∷ xs) = ap suc (answers_long xs)
+
+answered_few : (old new : NodeState) (input : Input) (output : Output) → InputFits input → NodeStep format old input output new → length output.answered ≤ MAX_FRAME_BYTES - 33
+answered_few old new (steps.Poll v) output fits step = rw step.0 (quiet (call_refusal old v) _ (omega arith))
+  where
+    quiet : (r : Option NodeRefused) (o : Output) → length o.answered ≤ MAX_FRAME_BYTES - 33 → length (refused_call r o).answered ≤ MAX_FRAME_BYTES - 33
+    quiet (Some r) o few = omega arith
+    quiet None o few = few
+answered_few old new (steps.Datagram u bytes) output fits step =
+    rw step.0 (heard (call_refusal old u))
+  where
+    heard : (r : Option NodeRefused) → length (refused_call r (steps.arrived format old u bytes)).answered ≤ MAX_FRAME_BYTES - 33
+    heard (Some r) = omega arith
+    heard None =
+        let pieces = pieces_where (reply_at format old u bytes) (pieces_in (sections_in format old.fixed bytes)) in
+        let objects = objects_are_answered format (arrival_at old u) old.parts pieces in
+        omega (arith, few_objects old u bytes fits, ap length objects, answers_long (handled format old u bytes).answered)
+answered_few old new (steps.Tick now) output fits step = rw step.0 (omega arith)
+answered_few old new (steps.SendRel d payload) output fits step = rw step.0 (silent _ _ _)
+  where
+    silent : (r : Option SendRefused) (seq : ℕ) (es : List Effect) → length (refused_send r (accepted seq es)).answered ≤ MAX_FRAME_BYTES - 33
+    silent (Some r) seq es = omega arith
+    silent None seq es = omega arith
+answered_few old new (steps.SendPrio m) output fits step = rw step.output_is (silent (send_prio_refusal old m step.choice) _ _)
+  where
+    silent : (r : Option SendRefused) (seq : ℕ) (es : List Effect) → length (refused_send r (accepted seq es)).answered ≤ MAX_FRAME_BYTES - 33
+    silent (Some r) seq es = omega arith
+    silent None seq es = omega arith
+answered_few old new (steps.SetWeight v weight) output fits step = rw step.0 (silent _ _ _)
+  where
+    silent : (r : Option SendRefused) (seq : ℕ) (es : List Effect) → length (refused_send r (accepted seq es)).answered ≤ MAX_FRAME_BYTES - 33
+    silent (Some r) seq es = omega arith
+    silent None seq es = omega arith
+answered_few old new (steps.TakeRel u) output fits step = rw step.0 (omega arith)
+answered_few old new steps.TakePrio output fits step = rw step.0 (omega arith)
+
+-- ---- a whole run
+
+module _ (p : Effect → Bool) (tells : TellsDeliveries p) where
+  found_in : Entry → List Effect
+  found_in j = filter p j.effects
+
+  one_turn : (x : Setting) (es : List Event) (js : List Entry) (old new : World) (e : Event) (j : Entry) → SettingFits format x → Clean format x es js old → InRange x es e
+      → Turn format x es old e j new → length (filter p j.effects) ≤ MAX_FRAME_BYTES
+  one_turn x es js old new e j fits run range (Moves m) =
+      let most = step_most p tells format m.node m.after m.input m.output m.step in
+      let few = answered_few m.node m.after m.input m.output (reached format x es js old new e j fits format_carries run range m) m.step in
+      rw m.journal.effects (omega (arith, most, few))
+  one_turn x es js old new e j fits run range (Stays s) = rw s.effects (omega arith)
+
+  pub all_few : (x : Setting) (es : List Event) (js : List Entry) (w : World) → SettingFits format x → Clean format x es js w
+      → length (flat_map (λ (j : Entry). filter p j.effects) js) ≤ MAX_FRAME_BYTES * length js
+  all_few x es js w fits Starts = omega arith
+  all_few x es js w fits (Turned {es = es'} {js = js'} {old = old} {new = new} {e = e} {j = j} run range turn unforged) =
+      let F : Entry → List Effect = λ j. filter p j.effects in
+      let here = one_turn x es' js' old new e j fits run range turn in
+      let before = all_few x es' js' old fits run in
+      omega (
+        arith,
+        ap length (flat_map-append F js' (j ∷ [])),
+        length-append (flat_map F js') (flat_map F (j ∷ [])),
+        length-append js' (j ∷ []),
+        length-append (F j) [],
+        here,
+        before,
+        arith,
+      )
+
+pub journals_are_countable : JournalsAreCountable
+journals_are_countable s es js w graph run =
+    let fits = headers_fit s graph in
+    record {
+      entries = sym (even format (setting_of s) es js w run);
+      deliveries = all_few is_delivered (record { signed = λ b. refl; stored = λ a b c d e. refl; gone = λ a b c. refl; held = λ a b c d. refl }) (setting_of s) es js w fits run;
+      priority = all_few is_delivered_prio (record { signed = λ b. refl; stored = λ a b c d e. refl; gone = λ a b c. refl; held = λ a b c d. refl }) (setting_of s) es js w fits run;
+    }

@@ -1,0 +1,109 @@
+-- Each frame of a run has a head, three sections and a tag, and fits a datagram.
+use Rattle.std.proofs.Common.{◌≡◌, ◌≤◌, ℕ, ◌+◌, Bool, true, false, cond, nat_lt, List, ◌++◌, length, length-append, Option, Some, None, Result, Ok, Err, refl, sym, ap, subst, arith}
+use Rattle.std.specs.Prelude.{flat_map}
+use Rattle.std.proofs.lemmas.Bool.Decides.{nat_tests}
+use Rattle.byteorder.specs.Endian.{big_bytes}
+use Rattle.sp_base.specs.declared.id.NodeId.{NodeId}
+use Rattle.sp_frame.specs.Frames.{ends_bytes, head_bytes, numbers_bytes, opened}
+use Rattle.sp_frame.specs.Grammar.{counted_bytes, flagged_bytes}
+use Rattle.sp_frame.specs.Objects.{object_bytes}
+use Rattle.sp_frame.specs.Prioritized.{numbered_bytes, prios_bytes}
+use Rattle.sp_frame.specs.Reliable.{report_bytes, slot_bytes}
+use Rattle.sp_frame.specs.Sections.{Contents, sections_bytes}
+use Rattle.sp_frame.specs.Weights.{weights_bytes}
+use Rattle.sp_frame.specs.declared.frame.TheConstants.{MAX_FRAME_BYTES}
+use Rattle.sp_frame.specs.declared.head.Head.{Head}
+use Rattle.sp_frame.specs.declared.refused.FrameRefused.{FrameRefused}
+use Rattle.sp_frame.specs.declared.refused.FrameRefused.TheVariants as refusals
+use Rattle.sp_hmac.proofs.Lengths.{length-hmac}
+use Rattle.sp_hmac.specs.Hmac.{hmac}
+use Rattle.sp_node_core.proofs.PolledFrames.{polled_is_read_back, signatures_are_short}
+use Rattle.sp_node_core.specs.Format.{format}
+use Rattle.sp_node_core.specs.PolledFrames.{most_signature}
+use Rattle.sp_rules.specs.Link.{next_head}
+use Rattle.sp_rules.specs.Node.{NodeState, link_in}
+use Rattle.sp_rules.specs.Parts.{Fixed}
+use Rattle.sp_rules.specs.Polls.{contents_to, frame_to}
+use Rattle.sp_runs.specs.Scenarios.{setting_of}
+use Rattle.laws_runs.proofs.Frames.{frames_are_made}
+use Rattle.laws_runs_format.specs.Frames.{FramesHaveTheirLength, HasLength, least_frame}
+use Rattle.laws_runs_format.proofs.Headers.{headers_fit}
+use Rattle.laws_runs_format.proofs.ReadBack.{format_carries}
+
+-- ---- at least
+
+one_byte : (n : ℕ) → length (big_bytes 1 n) ≡ 1
+one_byte n = omega arith
+
+eight_bytes : (n : ℕ) → length (big_bytes 8 n) ≡ 8
+eight_bytes n = omega arith
+
+counted_long : {X : Type 0} (spell : X → List ℕ) (xs : List X) → 1 ≤ length (counted_bytes spell xs)
+counted_long spell xs =
+    let count = one_byte (length xs) in
+    let all = length-append (big_bytes 1 (length xs)) (flat_map spell xs) in
+    omega (arith, count, all)
+
+flagged_long : {X : Type 0} (spell : X → List ℕ) (o : Option X) → 1 ≤ length (flagged_bytes spell o)
+flagged_long spell None = let flag = one_byte 0 in omega (arith, flag)
+flagged_long spell (Some x) =
+    let flag = one_byte 1 in
+    let all = length-append (big_bytes 1 1) (spell x) in
+    omega (arith, flag, all)
+
+four : (a b c d : List ℕ) → length (a ++ b ++ c ++ d) ≡ length a + length b + length c + length d
+four a b c d =
+    let one = length-append ((a ++ b) ++ c) d in
+    let two = length-append (a ++ b) c in
+    let three = length-append a b in
+    let right_one = length-append a (b ++ (c ++ d)) in
+    let right_two = length-append b (c ++ d) in
+    let right_three = length-append c d in
+    omega (arith, one, two, three, right_one, right_two, right_three)
+
+sections_long : (s : Contents) → 11 ≤ length (sections_bytes s)
+unfolding sections_bytes weights_bytes prios_bytes slot_bytes
+sections_long s =
+    let all = four (weights_bytes s.weights) (big_bytes 8 s.prio_ack) (prios_bytes s.prios) (slot_bytes s.slot) in
+    let weights = counted_long object_bytes s.weights in
+    let heard = eight_bytes s.prio_ack in
+    let prios = counted_long numbered_bytes s.prios in
+    let slot = flagged_long report_bytes s.slot in
+    omega (arith, all, weights, heard, prios, slot)
+
+head_long : (h : Head) → length (head_bytes h) ≡ 33
+unfolding head_bytes ends_bytes numbers_bytes
+head_long h = omega arith
+
+frame_long : (n : NodeState) (v : NodeId) → least_frame ≤ length (frame_to format n v)
+frame_long n v =
+    let h = next_head (link_in n v) n.fixed.topology.version in
+    let s = contents_to n.fixed n.parts v in
+    let inner = head_bytes h ++ sections_bytes s in
+    let tag = length-hmac (link_in n v).key inner in
+    let whole = length-append inner (hmac (link_in n v).key inner) in
+    let parts = length-append (head_bytes h) (sections_bytes s) in
+    omega (arith, tag, whole, parts, head_long h, sections_long s)
+
+-- ---- at most
+
+not_long : (bytes : List ℕ) → opened bytes ≡ Ok bytes → length bytes ≤ MAX_FRAME_BYTES
+not_long bytes opens = go (nat_lt MAX_FRAME_BYTES (length bytes)) refl _ opens
+  where
+    go : (t : Bool) → nat_lt MAX_FRAME_BYTES (length bytes) ≡ t → (after : Result (List ℕ) FrameRefused) → cond t (Err refusals.TooLong) after ≡ Ok bytes
+        → length bytes ≤ MAX_FRAME_BYTES
+    go true is after e = absurd cc
+    go false is after e = grind (arith, nat_tests, is)
+
+-- ---- each frame
+
+pub frames_have_their_length : FramesHaveTheirLength
+frames_have_their_length s es js w good run u v place bytes at =
+    let made = frames_are_made format (setting_of s) es js w (headers_fit s good) format_carries run u v place bytes at in
+    let long = ap (λ (f : Fixed). f.signature_len) made.fixed in
+    let short : made.node.fixed.signature_len ≤ most_signature = omega (arith, long, signatures_are_short s.height) in
+    let back = polled_is_read_back made.node v made.kept short made.neighbour in
+    subst HasLength (sym made.frame) (record {
+      least = frame_long made.node v;
+      most = not_long (frame_to format made.node v) back.0.opens;
+    })

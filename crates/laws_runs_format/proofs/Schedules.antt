@@ -1,0 +1,284 @@
+-- An event that its line allows after those before it is in its range in a run.
+use Rattle.std.proofs.Common.{◌≡◌, ◌<◌, ◌≤◌, ℕ, zero, suc, ◌+◌, ◌==◌, Bool, true, false, cond, nat_le, List, [], ◌∷◌, ◌++◌, length, length-append, map, refl, sym, ap, ap₂, subst, ◌∙◌, inl, inr, arith, append_assoc}
+use Rattle.std.specs.Prelude.{◌⊎◌, count_by}
+use Rattle.std.specs.List.{list_any, range_with_len}
+use Rattle.std.proofs.lemmas.Bool.{cases_Bool, eqb-true, eq-eqb}
+use Rattle.std.proofs.lemmas.Bool.Decides.{nat_tests}
+use Rattle.std.proofs.lemmas.List.{same_from_push}
+use Rattle.std.proofs.lemmas.List.Elements.{All-nil}
+use Rattle.std.proofs.lemmas.List.Sums.{length-filter, sum_by-cons}
+use Rattle.sp_base.specs.declared.id.NodeId.{NodeId}
+use Rattle.sp_msg.specs.declared.body.Body.{Body}
+use Rattle.sp_msg.specs.declared.body.Body.TheVariants as bodies
+use Rattle.sp_topology.specs.declared.topology.LmsHeight.{LmsHeight}
+use Rattle.sp_topology.specs.declared.topology.NodeKey.{NodeKey}
+use Rattle.sp_schedule.specs.Scenarios.{AreInRange, None_yet, One_more}
+use Rattle.sp_schedule_events.specs.EventLines as lines
+use Rattle.sp_schedule_events.specs.Events as lined
+use Rattle.sp_schedule_events.specs.Scenarios as scenarios
+use Rattle.sp_schedule_events.specs.Scenarios.{are_joined, differ}
+use Rattle.sp_schedule_events.specs.declared.event.Event.{Event}
+use Rattle.sp_schedule_events.specs.declared.event.Event.TheVariants as events
+use Rattle.sp_schedule_events.specs.declared.scenario.Scenario.{Scenario}
+use Rattle.sp_runs.specs.Runs.{InRange, IsMade, is_other, is_poll, polls}
+use Rattle.sp_runs.specs.Scenarios.{node_key, setting_of}
+use Rattle.sp_runs.specs.Settings.{is_correct, is_node}
+use Rattle.laws_runs.proofs.Counts.{poll_more}
+use Rattle.laws_runs.proofs.Lists.{both}
+use Rattle.laws_runs_format.specs.Schedules.{ScheduledEventsAreInRange}
+
+-- ---- nodes
+
+there : (h : LmsHeight) (seed : List ℕ) (first count u : ℕ) → first ≤ u → u < first + count
+    → list_any (λ (n : NodeId). n.0 == u) (map (λ (n : NodeKey). n.id) (map (node_key h seed) (range_with_len first count))) ≡ true
+there h seed first zero u least most = absurd (omega (arith, least, most))
+there h seed first (suc count) u least most = elim (cases_Bool (first == u)) [
+  | inl t ↦ rw t refl
+  | inr t ↦
+      let other : first ≡ u → ⊥ = λ same. absurd (let wrong : true ≡ false = sym (eq-eqb first u same) ∙ t in cc) in
+      rw t (there h seed (first + 1) count u (above first u least other) (omega (arith, most)))
+]
+  where
+    above : (a b : ℕ) → a ≤ b → (a ≡ b → ⊥) → a + 1 ≤ b
+    above a b least other = omega (arith, least, other)
+
+node_is : (s : Scenario) (u : NodeId) → 1 ≤ u.0 → u.0 ≤ s.graph.nodes → is_node (setting_of s) u ≡ true
+node_is s u least most = there s.height s.seed 1 s.graph.nodes u.0 least (omega (arith, most))
+
+correct_is : (s : Scenario) (u : NodeId) → 1 ≤ u.0 → u.0 ≤ s.graph.nodes → scenarios.is_correct s u.0 ≡ true → is_correct (setting_of s) u ≡ true
+correct_is s u least most good = rw (node_is s u least most, good) refl
+
+other_is : (s : Scenario) (u v : NodeId) → 1 ≤ v.0 → v.0 ≤ s.graph.nodes → differ u.0 v.0 ≡ true → is_other (setting_of s) u v ≡ true
+other_is s u v least most apart = rw (node_is s v least most, apart) refl
+
+-- ---- polls
+
+same_poll : (a b : NodeId) (e : Event) → lined.is_poll a.0 b.0 e ≡ is_poll a b e
+same_poll a b (events.Rel u v p) = refl
+same_poll a b (events.Prio u v c d f p) = refl
+same_poll a b (events.Take u v) = refl
+same_poll a b (events.TakePrio u) = refl
+same_poll a b (events.Tick u n) = refl
+same_poll a b (events.Weight u v n) = refl
+same_poll a b (events.Poll u v) = refl
+same_poll a b (events.Pass u v n) = refl
+same_poll a b (events.Flip u v n c d) = refl
+same_poll a b (events.Inject u v p) = refl
+same_poll a b (events.Craft u v k o) = refl
+same_poll a b (events.CraftStatus u v c d f g) = refl
+
+same_count : (a b : NodeId) (es : List Event) → count_by (lined.is_poll a.0 b.0) es ≡ polls es a b
+same_count a b [] = refl
+same_count a b (e ∷ es) =
+    sum_by-cons (λ y. cond (lined.is_poll a.0 b.0 y) 1 0) e es
+    ∙ ap₂ (λ (t : Bool) (n : ℕ). cond t 1 0 + n) (same_poll a b e) (same_count a b es)
+    ∙ sym (sum_by-cons (λ y. cond (is_poll a b y) 1 0) e es)
+
+same_polls : (a b : NodeId) (es : List Event) → lined.polls es a.0 b.0 ≡ polls es a b
+same_polls a b es = length-filter (lined.is_poll a.0 b.0) es ∙ same_count a b es
+
+made : (es : List Event) (u v : NodeId) (number : ℕ) → lined.is_polled es u.0 v.0 number ≡ true → IsMade es u v number
+made es u v number is =
+    let parts = both (nat_le 1 number) (nat_le number (lined.polls es u.0 v.0)) is in
+    let low = parts.0 in
+    let high = parts.1 in
+    (grind (arith, nat_tests, low), subst (λ n. number ≤ n) (same_polls u v es) (grind (arith, nat_tests, high)))
+
+poll_joins : (s : Scenario) (es : List Event) (a b : NodeId) (e : Event) → lines.InRange s es e → is_poll a b e ≡ true → are_joined s a.0 b.0 ≡ true
+poll_joins s es a b (events.Poll u v) is t =
+    let parts = both (u.0 == a.0) (v.0 == b.0) t in
+    subst (λ n. are_joined s n b.0 ≡ true) (eqb-true u.0 a.0 parts.0) (subst (λ n. are_joined s u.0 n ≡ true) (eqb-true v.0 b.0 parts.1) is.joined)
+poll_joins s es a b (events.Rel u v p) is t = absurd cc
+poll_joins s es a b (events.Prio u v c d f p) is t = absurd cc
+poll_joins s es a b (events.Take u v) is t = absurd cc
+poll_joins s es a b (events.TakePrio u) is t = absurd cc
+poll_joins s es a b (events.Tick u n) is t = absurd cc
+poll_joins s es a b (events.Weight u v n) is t = absurd cc
+poll_joins s es a b (events.Pass u v n) is t = absurd cc
+poll_joins s es a b (events.Flip u v n c d) is t = absurd cc
+poll_joins s es a b (events.Inject u v p) is t = absurd cc
+poll_joins s es a b (events.Craft u v k o) is t = absurd cc
+poll_joins s es a b (events.CraftStatus u v c d f g) is t = absurd cc
+
+-- a frame was made between neighbours alone
+polled_joins : (s : Scenario) (es : List Event) → AreInRange s es → (a b : NodeId) → 1 ≤ polls es a b → are_joined s a.0 b.0 ≡ true
+polled_joins s es None_yet a b some = absurd (omega (arith, some))
+polled_joins s es (One_more {before = before} e are is) a b some = elim (cases_Bool (is_poll a b e)) [
+  | inl t ↦ poll_joins s before a b e is t
+  | inr t ↦
+      let more : polls (before ++ e ∷ []) a b ≡ polls before a b + 0 = poll_more before e a b ∙ ap (λ y. polls before a b + cond y 1 0) t in
+      polled_joins s before are a b (omega (arith, some, more))
+]
+
+-- ---- one event
+
+abbrev Lined : Scenario → List Event → Event → Type 0
+Lined s es e = lines.InRange s es e
+
+crafted : (s : Scenario) (es : List Event) (c v key : NodeId) (body : Body) → Lined s es (events.Craft c v key body) → InRange (setting_of s) es (events.Craft c v key body)
+crafted s es c v key (bodies.Rel r) is =
+    let to = is.values.2 in
+    let by = to.3 in
+    let src = by.2 in
+    let dst = src.2 in
+    let seq = dst.2 in
+    let payload = seq.2.0 in (
+      correct_is s v to.0 to.1 to.2,
+      is.joined,
+      node_is s key by.0 by.1,
+      ((src.0, src.1), ((dst.0, dst.1), ((seq.0, seq.1), ((omega arith, payload.1), tt)))),
+      payload.2,
+    )
+crafted s es c v key (bodies.Ack a) is =
+    let to = is.values.2 in
+    let by = to.3 in
+    let src = by.2 in
+    let dst = src.2 in
+    let seq = dst.2 in (
+      correct_is s v to.0 to.1 to.2,
+      is.joined,
+      node_is s key by.0 by.1,
+      ((src.0, src.1), ((dst.0, dst.1), ((seq.0, seq.1), tt))),
+      All-nil (λ (b : ℕ). b < 256),
+    )
+crafted s es c v key (bodies.Prio p) is =
+    let to = is.values.2 in
+    let by = to.3 in
+    let src = by.2 in
+    let dst = src.2 in
+    let seq = dst.2 in
+    let prio = seq.2 in
+    let expiry = prio.2 in
+    let mask = expiry.2 in
+    let payload = mask.1.0 in (
+      correct_is s v to.0 to.1 to.2,
+      is.joined,
+      node_is s key by.0 by.1,
+      (
+        (src.0, src.1),
+        (
+          (dst.0, dst.1),
+          ((seq.0, seq.1), ((prio.0, prio.1), (omega (arith, expiry.1), ((omega arith, omega (arith, mask.0)), ((omega arith, payload.1), tt))))),
+        ),
+      ),
+      payload.2,
+    )
+crafted s es c v key (bodies.Weight w) is =
+    let to = is.values.2 in
+    let by = to.3 in
+    let origin = by.2 in
+    let edge = origin.2 in
+    let seq = edge.2 in
+    let weight = seq.2 in (
+      correct_is s v to.0 to.1 to.2,
+      is.joined,
+      node_is s key by.0 by.1,
+      ((origin.0, origin.1), ((edge.0, edge.1), ((seq.0, seq.1), ((weight.0, weight.1), tt)))),
+      All-nil (λ (b : ℕ). b < 256),
+    )
+
+pub in_range : (s : Scenario) (es : List Event) (e : Event) → AreInRange s es → Lined s es e → InRange (setting_of s) es e
+in_range s es (events.Rel a b payload) are is =
+    let from = is.values in
+    let to = from.3 in
+    let bytes = to.2.0 in
+    (correct_is s a from.0 from.1 from.2, other_is s a b to.0 to.1 is.joined, bytes.1, bytes.2)
+in_range s es (events.Prio a b prio expiry paths payload) are is =
+    let from = is.values in
+    let to = from.3 in
+    let level = to.2 in
+    let until = level.2 in
+    let over = until.2 in
+    let bytes = over.2.0 in (
+      correct_is s a from.0 from.1 from.2,
+      other_is s a b to.0 to.1 is.joined,
+      level.0,
+      level.1,
+      omega (arith, until.1),
+      over.1,
+      bytes.1,
+      bytes.2,
+    )
+in_range s es (events.Take a b) are is =
+    let at = is.values in
+    let from = at.3 in
+    (correct_is s a at.0 at.1 at.2, other_is s a b from.0 from.1 is.joined)
+in_range s es (events.TakePrio a) are is = correct_is s a is.values.0 is.values.1 is.values.2
+in_range s es (events.Tick a now) are is = let at = is.values in (correct_is s a at.0 at.1 at.2, omega (arith, at.3.1))
+in_range s es (events.Weight a b weight) are is =
+    let at = is.values in
+    let to = at.3 in
+    let number = to.2 in
+    (correct_is s a at.0 at.1 at.2, is.joined, number.0, number.1)
+in_range s es (events.Poll a b) are is = let at = is.values in (correct_is s a at.0 at.1 at.2, is.joined)
+in_range s es (events.Pass a b number) are is =
+    let from = is.values in
+    let to = from.3 in
+    let there = made es a b number is.joined in
+    (correct_is s a from.0 from.1 from.2, correct_is s b to.0 to.1 to.2, polled_joins s es are a b (omega (arith, there.0, there.1)), there)
+in_range s es (events.Flip a b number back bit) are is =
+    let from = is.values in
+    let to = from.3 in
+    let there = made es a b number is.joined in
+    let far = to.3.2 in
+    let changed = far.2 in (
+      correct_is s a from.0 from.1 from.2,
+      correct_is s b to.0 to.1 to.2,
+      polled_joins s es are a b (omega (arith, there.0, there.1)),
+      there,
+      far.0,
+      far.1,
+      changed.1,
+    )
+in_range s es (events.Inject a b bytes) are is =
+    let to = is.values.2 in
+    let came = to.3.0 in
+    (correct_is s b to.0 to.1 to.2, is.joined, came.1, came.2)
+in_range s es (events.CraftStatus c v a b base have) are is =
+    let to = is.values.2 in
+    let src = to.3 in
+    let dst = src.2 in
+    let low = dst.2 in
+    let high = low.2 in
+    let joined = both (are_joined s c.0 v.0) (differ a.0 b.0) is.joined in (
+      correct_is s v to.0 to.1 to.2,
+      joined.0,
+      node_is s a src.0 src.1,
+      other_is s a b dst.0 dst.1 joined.1,
+      omega (arith, low.1),
+      omega (arith, high.1),
+    )
+in_range s es (events.Craft c v key body) are is = crafted s es c v key body is
+
+-- ---- one event of many
+
+pub record Ends (X : Type 0) (xs : List X) : Type 0 where
+  pub front : List X
+  pub last : X
+  pub is : xs ≡ front ++ last ∷ []
+
+-- a list is empty, or has a last element
+ends : {X : Type 0} (xs : List X) → (xs ≡ []) ⊎ Ends X xs
+ends [] = inl refl
+ends {X = X} (x ∷ xs) = elim (ends xs) [
+  | inl none ↦ inr (record { front = []; last = x; is = ap (λ (ys : List X). x ∷ ys) none })
+  | inr some ↦ inr (record { front = x ∷ some.front; last = some.last; is = ap (λ (ys : List X). x ∷ ys) some.is })
+]
+
+part_in_range : (s : Scenario) (all es rest : List Event) (e : Event) → AreInRange s all → all ≡ es ++ e ∷ rest → AreInRange s es × Lined s es e
+part_in_range s all es rest e None_yet same = absurd (let long : length {A = Event} [] ≡ length (es ++ e ∷ rest) = ap (λ (xs : List Event). length xs) same in omega (arith, long, length-append es (e ∷ rest)))
+part_in_range s all es rest e (One_more {before = before} last are is) same = elim (ends rest) [
+  | inl none ↦
+      let parts = same_from_push before es last e (same ∙ ap (λ (xs : List Event). es ++ e ∷ xs) none) in
+      (subst (AreInRange s) parts.0 are, subst (λ (xs : List Event). Lined s xs e) parts.0 (subst (Lined s before) parts.1 is))
+  | inr some ↦
+      let again : before ++ last ∷ [] ≡ (es ++ e ∷ some.front) ++ some.last ∷ [] =
+      same ∙ ap (λ (xs : List Event). es ++ e ∷ xs) some.is ∙ sym (append_assoc es (e ∷ some.front) (some.last ∷ [])) in
+      let parts = same_from_push before (es ++ e ∷ some.front) last some.last again in
+      part_in_range s before es some.front e are parts.0
+]
+
+pub scheduled_events_are_in_range : ScheduledEventsAreInRange
+scheduled_events_are_in_range s all es rest e good same =
+    let part = part_in_range s all es rest e good.events same in
+    in_range s es e part.0 part.1
