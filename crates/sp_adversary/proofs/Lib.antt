@@ -1,0 +1,3 @@
+pub mod Seals
+pub mod CrafterLemmas
+pub mod Counting

@@ -1,0 +1,49 @@
+use Rattle.std.proofs.Common.{◌≡◌, set, ◌∙◌, [], ◌∷◌, ◌++◌, Ok, List, sym, ap, subst}
+use Rattle.std.specs.List.{position}
+use Rattle.sp_hss.specs.Signer.{Signer}
+use Rattle.sp_adversary.specs.Crafters.{Crafters}
+use Rattle.sp_adversary.specs.Crafting.{Crafts}
+use Rattle.sp_adversary.specs.Signers.{AreWhole, Signs, is_crafter}
+use Rattle.sp_adversary.specs.declared.crafters.Crafter.{Crafter}
+use Rattle.sp_adversary.proofs.CrafterLemmas.{crafted_at, crafted_first, seen, whole_first}
+use Rattle.sp_adversary.proofs.crafters.Crafters.craft.Goals as goal
+
+pub invariant_of-self-in-None : goal.invariant_of-self-in-None
+invariant_of-self-in-None c =
+    let key = c.args.key in
+    let body = c.args.body.now in
+    let crafted = c.in_ok-crafted-in-None.crafted in
+    let signs = subst (λ (s : Signer). Signs s body (Ok crafted) c.sign-in-None.new.signer) c.in_ok-signer-in-None.ensures c.in_ok-crafted-in-None.ensures.signed in
+    subst (AreWhole c.self.inside.height c.self.inside.seed) (sym c.push_in_room.ensures.items)
+    (subst (λ (items : List Crafter). AreWhole c.self.inside.height c.self.inside.seed (items ++ record { key = key; signer = c.sign-in-None.new.signer } ∷ []))
+    (sym c.in_ok-reserve-in-None.ensures.items)
+    (whole_first c.self.inside.height c.self.inside.seed c.self.inside.signers.items key body crafted c.sign-in-None.new.signer c.self.invariant signs))
+
+pub returns-in-Some-clause-crafted : goal.returns-in-Some-clause-crafted
+returns-in-Some-clause-crafted c =
+    let h = c.self.inside.height in
+    let seed = c.self.inside.seed in
+    let items = c.self.inside.signers.items in
+    let key = c.args.key in
+    let body = c.args.body.now in
+    let place = c.in-Some.place in
+    let row = c.index_mut-crafter.result.now in
+    let after = c.sign.new.signer in
+    let at = ap (position (is_crafter key)) (sym c.deref.ensures.value) ∙ sym c.in-Some.ensures.place in
+    subst (λ (s : Crafters). Crafts s key body c.sign.result (seen h seed (set items place (record { key = row.key; signer = after })))) c.self.view_is
+    (crafted_at h seed items place key row body c.sign.result after c.self.invariant at c.index_mut-crafter.ensures.value c.sign.ensures.signed)
+
+pub returns-in_ok-crafted-in-None-clause-crafted : goal.returns-in_ok-crafted-in-None-clause-crafted
+returns-in_ok-crafted-in-None-clause-crafted c =
+    let h = c.self.inside.height in
+    let seed = c.self.inside.seed in
+    let key = c.args.key in
+    let body = c.args.body.now in
+    let crafted = c.in_ok-crafted-in-None.crafted in
+    let after = c.sign-in-None.new.signer in
+    let signs = subst (λ (s : Signer). Signs s body (Ok crafted) after) c.in_ok-signer-in-None.ensures c.in_ok-crafted-in-None.ensures.signed in
+    let done = crafted_first h seed c.self.inside.signers.items key body crafted after (ap (position (is_crafter key)) (sym c.deref.ensures.value) ∙ sym c.in-None.ensures.place) signs in
+    let items : c.push_in_room.new.items.items ≡ c.self.inside.signers.items ++ record { key = key; signer = after } ∷ [] =
+    c.push_in_room.ensures.items ∙ ap (λ (xs : List Crafter). xs ++ record { key = key; signer = after } ∷ []) c.in_ok-reserve-in-None.ensures.items in
+    subst (λ (s : Crafters). Crafts s key body (Ok crafted) (seen h seed c.push_in_room.new.items.items)) c.self.view_is
+    (subst (λ (xs : List Crafter). Crafts (seen h seed c.self.inside.signers.items) key body (Ok crafted) (seen h seed xs)) (sym items) done)

@@ -1,0 +1,5 @@
+pub mod Keys
+pub mod Crafters
+pub mod Signers
+pub mod Crafting
+pub mod Laws

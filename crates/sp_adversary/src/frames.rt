@@ -1,0 +1,119 @@
+// Frames that a compromised node crafts: fresh to their receiver, and under the right tag.
+ghost use Rattle.std.specs.Prelude.{◌≡◌, ◌≤◌, ◌++◌, [], IfOk, None as Nothing, length, replicate};
+ghost use Rattle.sp_frame.specs.Frames.{frame_bytes, signed_part};
+ghost use Rattle.sp_frame.specs.Writing.{IsWritable};
+ghost use Rattle.sp_frame.specs.declared.frame.TheConstants.{TAG_BYTES};
+ghost use Rattle.sp_hmac.specs.Hmac.{hmac};
+ghost use Rattle.sp_node_core.specs.Format.{format};
+ghost use Rattle.sp_runs.specs.Inputs.{counter_after, object_alone, sealed_frame, slot_alone};
+
+use sp_base::{Bytes, Flow, Memory, NodeId};
+use sp_frame::{Head, OutSlot, TAG_BYTES, write};
+use sp_msg::{Body, Kept};
+use std::alloc::Global;
+
+/// The boot number of each compromised node.
+const BOOT: u64 = 1;
+
+/// The head of the next crafted frame of `from` for `to`. `to` has the boot number `echo`, runs under this version of the topology, and
+/// `seen` is the counter that it keeps of `from`. The frame has the next counter, as far as there is one.
+pub fn crafted_head(from: NodeId, to: NodeId, echo: u64, seen: u64, topology: u32) -> Head
+    ensures { result ≡ record { from = from; to = to; boot = 1; echo = echo; counter = counter_after seen; topology = topology } }
+{
+    Head {
+        from,
+        to,
+        boot: BOOT,
+        echo,
+        counter: seen.saturating_add(1),
+        topology,
+    }
+}
+
+/// A frame with one message in its section, under the tag of this key. Only want of memory refuses.
+#[tactic(auto, using(crate::proofs::Seals::sealed_is, crate::proofs::Seals::long_enough))]
+pub fn object_frame(
+    alloc: Global,
+    head: &Head,
+    key: &[u8; 32],
+    object: &Kept,
+) -> Result<Bytes, Memory>
+    requires { IsWritable object.now }
+    ensures { IfOk result (λ bytes. bytes ≡ sealed_frame format head.now key.now (object_alone object.now.body object.now)) }
+{
+    let mut frame = with_object(alloc, head, object)?;
+    seal(key, &mut frame);
+    Ok(frame)
+}
+
+/// A frame with a report on a flow and no message, under the tag of this key. Only want of memory refuses.
+#[tactic(auto, using(crate::proofs::Seals::sealed_is, crate::proofs::Seals::long_enough))]
+pub fn status_frame(
+    alloc: Global,
+    head: &Head,
+    key: &[u8; 32],
+    flow: Flow,
+    base: u64,
+    have: u64,
+) -> Result<Bytes, Memory>
+    ensures { IfOk result (λ bytes. bytes ≡ sealed_frame format head.now key.now (slot_alone flow base have Nothing [])) }
+{
+    let slot = OutSlot {
+        flow,
+        base,
+        have,
+        ack: None,
+        rel: None,
+    };
+    let mut frame = write(alloc, head, None, 0, None, Some(&slot))?;
+    seal(key, &mut frame);
+    Ok(frame)
+}
+
+/// The bytes of a frame with one message, with zeros in the place of its tag.
+fn with_object(alloc: Global, head: &Head, object: &Kept) -> Result<Bytes, Memory>
+    requires { IsWritable object.now }
+    ensures { IfOk result (λ bytes. bytes ≡ frame_bytes head.now (object_alone object.now.body object.now) (replicate 32 0)) }
+{
+    match &object.body {
+        Body::Prio(_) => write(alloc, head, None, 0, Some((1, object)), None),
+        Body::Weight(_) => write(alloc, head, Some(object), 0, None, None),
+        Body::Ack(ack) => {
+            let slot = OutSlot {
+                flow: Flow {
+                    src: ack.src,
+                    dst: ack.dst,
+                },
+                base: 0,
+                have: 0,
+                ack: Some(object),
+                rel: None,
+            };
+            write(alloc, head, None, 0, None, Some(&slot))
+        }
+        Body::Rel(rel) => {
+            let slot = OutSlot {
+                flow: Flow {
+                    src: rel.src,
+                    dst: rel.dst,
+                },
+                base: 0,
+                have: 0,
+                ack: None,
+                rel: Some(object),
+            };
+            write(alloc, head, None, 0, None, Some(&slot))
+        }
+    }
+}
+
+/// Writes the tag of all bytes before it into the last 32 bytes (RFC 2104, section 2).
+fn seal(key: &[u8; 32], frame: &mut Bytes)
+    requires { TAG_BYTES ≤ length frame.old }
+    ensures { frame.new ≡ signed_part frame.old ++ hmac key.now (signed_part frame.old) }
+{
+    let at = frame.as_slice().len() - TAG_BYTES;
+    let (signed, _) = frame.as_slice().split_at(at);
+    let tag = sp_hmac::tag(key, &[], signed);
+    frame.as_mut_slice()[at..].copy_from_slice(&tag);
+}

@@ -1,0 +1,78 @@
+-- What a walk over a datagram's objects finds is what of it is forged.
+use Rattle.std.proofs.Common.{◌≡◌, ◌≢◌, ℕ, List, [], map, None, Result, Ok, Err, refl, sym, ap, ◌∙◌}
+use Rattle.sp_base.specs.declared.id.NodeId.{NodeId}
+use Rattle.sp_frame.specs.Frames.{opened, sections_part}
+use Rattle.sp_frame.specs.Sections.{Contents, sections_of}
+use Rattle.sp_frame.specs.declared.refused.FrameRefused.{FrameRefused}
+use Rattle.sp_frame.specs.declared.refused.FrameRefused.TheVariants as frames
+use Rattle.sp_frame.specs.declared.refused.SectionRefused.{SectionRefused}
+use Rattle.sp_msg.specs.declared.kept.Kept.{Kept}
+use Rattle.sp_rules.specs.Arrivals.{arrival_at, handled, no_frame, of_frame, pieces_in, pieces_where, reply_at, sections_in}
+use Rattle.sp_rules.specs.Handle.{handle_all}
+use Rattle.sp_rules.specs.Node.{NodeState, link_in}
+use Rattle.sp_rules.specs.Pieces.{Piece}
+use Rattle.sp_rules.specs.declared.answers.Item.{Item}
+use Rattle.sp_rules.specs.declared.node.LinkReply.{LinkReply}
+use Rattle.sp_rules.specs.declared.node.LinkReply.TheVariants as links
+use Rattle.sp_runs.specs.Forgery.{forged_object}
+use Rattle.sp_runs.specs.Settings.{Setting}
+use Rattle.sp_journal.specs.declared.entry.Entry.{Entry}
+use Rattle.sp_schedule_events.specs.declared.event.Event.{Event}
+use Rattle.sp_node_core.specs.Format.{format}
+use Rattle.sp_forgery.specs.Found.{found_at}
+use Rattle.sp_forgery.specs.Turns.{forged_in_turn}
+use Rattle.laws_node.proofs.Objects.{objects_are_answered}
+use Rattle.laws_node.specs.Objects.{objects_in}
+use Rattle.sp_forgery.proofs.Turns.{in_turn, none_left}
+
+same_sections : (n : NodeState) (bytes : List ℕ) → sections_in format n.fixed bytes ≡ sections_of n.fixed.signature_len (sections_part bytes)
+same_sections n bytes = refl
+
+-- bytes that are no frame aren't fresh
+no_fresh : (refused : FrameRefused) → no_frame refused ≢ links.Fresh
+no_fresh frames.TooLong e = cc
+no_fresh (frames.Short short) e = cc
+no_fresh frames.Magic e = cc
+no_fresh frames.Version e = cc
+
+module _ (x : Setting) (es : List Event) (js : List Entry) where
+  found_there : (o : Result (List ℕ) FrameRefused) (r : Result Contents SectionRefused) (items : List Item) → ((refused : FrameRefused) → o ≢ Err refused)
+      → found_at x es js o r items ≡ forged_in_turn x es js (objects_in (pieces_in r)) items
+  found_there (Ok frame) (Ok contents) items good = refl
+  found_there (Ok frame) (Err refused) items good = sym (none_left x es js items)
+  found_there (Err refused) r items good = absurd (good refused refl)
+
+  pub fresh_is : (n : NodeState) (u : NodeId) (bytes : List ℕ) (len : ℕ) (items : List Item) → n.fixed.signature_len ≡ len → links.Fresh ≡ reply_at format n u bytes
+      → items ≡ map (λ a. a.1) (handled format n u bytes).answered
+      → found_at x es js (opened bytes) (sections_of len (sections_part bytes)) items ≡ forged_object x es js (handled format n u bytes).answered
+  fresh_is n u bytes len items long fresh are =
+      let good : (refused : FrameRefused) → opened bytes ≢ Err refused =
+      λ refused e. no_fresh refused (sym (fresh ∙ ap (of_frame format n.fixed (link_in n u) bytes) e)) in
+      let there : found_at x es js (opened bytes) (sections_of len (sections_part bytes)) items ≡ forged_in_turn x es js (objects_in (pieces_in (sections_of len (sections_part bytes)))) items =
+      found_there (opened bytes) (sections_of len (sections_part bytes)) items good in
+      let pieces : pieces_where (reply_at format n u bytes) (pieces_in (sections_in format n.fixed bytes)) ≡ pieces_in (sections_of len (sections_part bytes)) =
+      ap (λ (l : LinkReply). pieces_where l (pieces_in (sections_in format n.fixed bytes))) (sym fresh)
+      ∙ ap pieces_in (same_sections n bytes) ∙ ap (λ (k : ℕ). pieces_in (sections_of k (sections_part bytes))) long in
+      let objects : map (λ a. a.0) (handled format n u bytes).answered ≡ objects_in (pieces_in (sections_of len (sections_part bytes))) =
+      objects_are_answered format (arrival_at n u) n.parts (pieces_where (reply_at format n u bytes) (pieces_in (sections_in format n.fixed bytes))) ∙ ap objects_in pieces in
+      there
+      ∙ ap (λ (os : List Kept). forged_in_turn x es js os items) (sym objects)
+      ∙ ap (λ (is : List Item). forged_in_turn x es js (map (λ a. a.0) (handled format n u bytes).answered) is) are
+      ∙ in_turn x es js (handled format n u bytes).answered
+
+  -- nothing of another one is handled
+  pub stale_is : (n : NodeState) (u : NodeId) (bytes : List ℕ) → reply_at format n u bytes ≢ links.Fresh → forged_object x es js (handled format n u bytes).answered ≡ None
+  stale_is n u bytes other = ap (λ (ps : List Piece). forged_object x es js (handle_all format (arrival_at n u) n.parts ps).answered) (nothing (reply_at format n u bytes) other)
+    where
+      nothing : (l : LinkReply) → l ≢ links.Fresh → pieces_where l (pieces_in (sections_in format n.fixed bytes)) ≡ []
+      nothing links.TooLong apart = refl
+      nothing (links.Short short) apart = refl
+      nothing links.Magic apart = refl
+      nothing links.Version apart = refl
+      nothing links.NotForMe apart = refl
+      nothing links.BadTag apart = refl
+      nothing (links.Learned boot) apart = refl
+      nothing (links.Stale boot counter) apart = refl
+      nothing (links.OtherTopology theirs) apart = refl
+      nothing (links.Section refused) apart = refl
+      nothing links.Fresh apart = absurd (apart refl)

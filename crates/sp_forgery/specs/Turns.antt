@@ -1,0 +1,26 @@
+-- A walk over objects and their answers in turn, for the first that is forged.
+use Rattle.std.specs.Prelude.{ℕ, List, [], ◌∷◌, ◌++◌, option_map, Option, None, Some, if◌then◌else◌}
+use Rattle.sp_frame.specs.Views.{as_list, as_object}
+use Rattle.sp_frame.specs.declared.sections.Slot.{Slot}
+use Rattle.sp_journal.specs.declared.entry.Entry.{Entry}
+use Rattle.sp_msg.specs.Bodies.{encoded}
+use Rattle.sp_msg.specs.declared.kept.Kept.{Kept}
+use Rattle.sp_rules.specs.declared.answers.Item.{Item}
+use Rattle.sp_runs.specs.Forgery.{is_forged}
+use Rattle.sp_runs.specs.Settings.{Setting}
+use Rattle.sp_schedule_events.specs.declared.event.Event.{Event}
+
+abbrev pub or_later : {X : Type 0} → Option X → Option X → Option X
+or_later (Some x) later = Some x
+or_later None later = later
+
+-- the body of the first object that is forged, with the answers in turn
+abbrev pub forged_in_turn : Setting → List Event → List Entry → List Kept → List Item → Option (List ℕ)
+forged_in_turn x es js os [] = None
+forged_in_turn x es js [] (item ∷ items) = None
+forged_in_turn x es js (o ∷ os) (item ∷ items) = if is_forged x es js (o, item) then Some (encoded o.body) else forged_in_turn x es js os items
+
+-- the objects of a slot
+abbrev pub slot_objects : Option Slot → List Kept
+slot_objects None = []
+slot_objects (Some s) = as_list (option_map as_object s.ack) ++ (as_list (option_map as_object s.rel) ++ [])

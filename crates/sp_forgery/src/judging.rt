@@ -1,0 +1,81 @@
+// What of an arrival is forged: its tag, or else the first object in the order of handling.
+ghost use Rattle.std.specs.Prelude.{◌≡◌, IfOk, None as Nothing, length, map, option_map};
+ghost use Rattle.sp_frame.specs.Frames.{opened, sections_part};
+ghost use Rattle.sp_frame.specs.Sections.{sections_of};
+ghost use Rattle.sp_node_core.specs.Format.{format};
+ghost use Rattle.sp_rules.specs.Arrivals.{handled, reply_at};
+ghost use Rattle.sp_rules.specs.Node.{NodeState, call_refusal};
+ghost use Rattle.sp_base.specs.declared.id.NodeId.{NodeId};
+ghost use Rattle.sp_rules.specs.Steps.{Datagram};
+ghost use Rattle.sp_runs.specs.Forgery.{forged, forged_object};
+ghost use Rattle.sp_runs.specs.Scenarios.{setting_of};
+ghost use Rattle.sp_runs.specs.Worlds.{World};
+ghost use Rattle.sp_forgery.specs.Found.{Answered, answered, found_at};
+
+use crate::directions::Directions;
+use crate::objects::{Known, first_forged};
+use crate::tags::has_forged_tag;
+use sp_base::{Bytes, Memory, NodeId};
+use sp_frame::Frame;
+use sp_rules::{Item, LinkReply, Step, Taken};
+use sp_runs::What;
+use std::alloc::Global;
+
+/// What of an arrival at `v` from `u` is forged, by what the node answered. None exactly where nothing is.
+#[tactic(auto, using(crate::proofs::Outcomes::tag_is, crate::proofs::Outcomes::object_is, crate::proofs::Outcomes::link_is, crate::proofs::Outcomes::items_are))]
+pub fn judge(
+    alloc: Global,
+    known: &Known<'_>,
+    directions: &Directions,
+    u: NodeId,
+    v: NodeId,
+    bytes: &[u8],
+    step: &Step<Taken>,
+) -> Result<Option<What>, Memory>
+    requires { length known.now.events.now ≡ length known.now.journal.now }
+    ensures { (n new : NodeState) (w : World) → n.fixed.me ≡ v → n.fixed.signature_len ≡ known.now.signature_len → call_refusal n u ≡ Nothing → w.directions ≡ directions.now
+        → Answered n u bytes.now step.now new
+        → IfOk result (λ what. what ≡ forged format (setting_of known.now.scenario.now) known.now.events.now known.now.journal.now w n (Datagram u bytes.now) (answered n u bytes.now step.now)) }
+{
+    if has_forged_tag(known.scenario, directions, u, v, bytes, &step.reply.link) {
+        return Ok(Some(What::Tag));
+    }
+    match forged_in(known, &step.reply.link, bytes, step.reply.items.as_slice()) {
+        Some(body) => Ok(Some(What::Object(Bytes::copy(alloc, body)?))),
+        None => Ok(None),
+    }
+}
+
+/// The first object that is forged, of a datagram that was answered so.
+#[tactic(auto, using(crate::proofs::Finding::fresh_is, crate::proofs::Finding::stale_is))]
+fn forged_in<'a>(
+    known: &Known<'_>,
+    link: &LinkReply,
+    bytes: &'a [u8],
+    items: &[Item],
+) -> Option<&'a [u8]>
+    requires { length known.now.events.now ≡ length known.now.journal.now }
+    ensures { (n : NodeState) (u : NodeId) → n.fixed.signature_len ≡ known.now.signature_len → link.now ≡ reply_at format n u bytes.now
+        → items.now ≡ map (λ a. a.1) (handled format n u bytes.now).answered
+        → option_map (λ b. b.now) result ≡ forged_object (setting_of known.now.scenario.now) known.now.events.now known.now.journal.now (handled format n u bytes.now).answered }
+{
+    match link {
+        LinkReply::Fresh => found(known, bytes, items),
+        _ => None,
+    }
+}
+
+/// The first one of a datagram that is a frame with sections.
+fn found<'a>(known: &Known<'_>, bytes: &'a [u8], items: &[Item]) -> Option<&'a [u8]>
+    requires { length known.now.events.now ≡ length known.now.journal.now }
+    ensures { option_map (λ b. b.now) result
+        ≡ found_at (setting_of known.now.scenario.now) known.now.events.now known.now.journal.now (opened bytes.now) (sections_of known.now.signature_len (sections_part bytes.now)) items.now }
+{
+    let Ok(frame) = Frame::open(bytes) else {
+        return None;
+    };
+    let Ok(sections) = frame.sections(known.signature_len) else {
+        return None;
+    };
+    first_forged(known, &sections, items)
+}

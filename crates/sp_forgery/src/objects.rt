@@ -1,0 +1,175 @@
+// The objects of a frame that was handled, with their answers: which of them is the first that is forged.
+ghost use Rattle.std.specs.Prelude.{◌≡◌, ◌++◌, List, Ok, Some, None, length, option_map, if◌then◌else◌};
+ghost use Rattle.laws_node.specs.Objects.{objects_in};
+ghost use Rattle.sp_frame.specs.Views.{as_contents, as_list, as_object};
+ghost use Rattle.sp_msg.specs.Bodies.{encoded, read_body};
+ghost use Rattle.sp_msg.specs.Views.{as_body};
+ghost use Rattle.sp_msg.specs.declared.kept.Kept.{Kept};
+ghost use Rattle.sp_rules.specs.Answers.{is_new};
+ghost use Rattle.sp_rules.specs.Pieces.{pieces_of};
+ghost use Rattle.sp_runs.specs.Forgery.{is_forged};
+ghost use Rattle.sp_runs.specs.Scenarios.{setting_of};
+ghost use Rattle.sp_forgery.specs.Turns.{forged_in_turn, or_later, slot_objects};
+
+use crate::hints::Hints;
+use crate::nodes::is_correct;
+use crate::signed::was_signed;
+use sp_frame::{ObjectRef, Sections, Slot};
+use sp_journal::Entry;
+use sp_msg::{BodyRef, a_body_has_one_spelling, signer};
+use sp_rules::{AckAnswer, Item, PrioAnswer, RelAnswer, WeightAnswer};
+use sp_schedule_events::{Event, Scenario};
+
+/// What was done before an event.
+#[derive(Clone, Copy, Debug)]
+pub struct Known<'a> {
+    pub scenario: &'a Scenario,
+    /// How long each signature is.
+    pub signature_len: usize,
+    pub hints: &'a Hints,
+    /// The events before, and their entries.
+    pub events: &'a [Event],
+    pub journal: &'a [Entry],
+}
+
+/// What a look at an object found, and the answers to those after it.
+#[derive(Clone, Copy, Debug)]
+struct Looked<'a, 'b> {
+    found: Option<&'a [u8]>,
+    rest: &'b [Item],
+}
+
+/// The first object of a handled frame that is forged: its bytes. The answers are those to its objects, in the order of handling.
+#[tactic(auto, using(crate::proofs::Turns::objects_in_sections))]
+pub fn first_forged<'a>(
+    known: &Known<'_>,
+    sections: &Sections<'a>,
+    items: &[Item],
+) -> Option<&'a [u8]>
+    requires { length known.now.events.now ≡ length known.now.journal.now }
+    ensures { option_map (λ b. b.now) result
+        ≡ forged_in_turn (setting_of known.now.scenario.now) known.now.events.now known.now.journal.now (objects_in (pieces_of (as_contents sections.now))) items.now }
+{
+    let weight = look(known, &sections.weight, items);
+    if weight.found.is_some() {
+        return weight.found;
+    }
+    let prio = look(known, &object_of(&sections.prio), weight.rest);
+    if prio.found.is_some() {
+        return prio.found;
+    }
+    in_slot(known, &sections.slot, prio.rest)
+}
+
+/// The same of a slot.
+#[tactic(auto, using(crate::proofs::Turns::none_left))]
+fn in_slot<'a>(known: &Known<'_>, slot: &Option<Slot<'a>>, items: &[Item]) -> Option<&'a [u8]>
+    requires { length known.now.events.now ≡ length known.now.journal.now }
+    ensures { option_map (λ b. b.now) result
+        ≡ forged_in_turn (setting_of known.now.scenario.now) known.now.events.now known.now.journal.now (slot_objects slot.now) items.now }
+{
+    let Some(slot) = slot else {
+        return None;
+    };
+    let ack = look(known, &slot.ack, items);
+    if ack.found.is_some() {
+        return ack.found;
+    }
+    let rel = look(known, &slot.rel, ack.rest);
+    rel.found
+}
+
+/// Looks at an object, if there is one, with the first of the answers.
+fn look<'a, 'b>(
+    known: &Known<'_>,
+    object: &Option<ObjectRef<'a>>,
+    items: &'b [Item],
+) -> Looked<'a, 'b>
+    requires { length known.now.events.now ≡ length known.now.journal.now }
+    ensures { (os : List Kept) → forged_in_turn (setting_of known.now.scenario.now) known.now.events.now known.now.journal.now (as_list (option_map as_object object.now) ++ os) items.now
+        ≡ or_later (option_map (λ b. b.now) result.found) (forged_in_turn (setting_of known.now.scenario.now) known.now.events.now known.now.journal.now os result.rest.now) }
+{
+    let Some(object) = object else {
+        return Looked {
+            found: None,
+            rest: items,
+        };
+    };
+    match items.split_first() {
+        None => Looked {
+            found: None,
+            rest: items,
+        },
+        Some((item, rest)) => Looked {
+            found: found_in(known, object, *item),
+            rest,
+        },
+    }
+}
+
+/// The bytes of an object that is forged.
+fn found_in<'a>(known: &Known<'_>, object: &ObjectRef<'a>, item: Item) -> Option<&'a [u8]>
+    requires { length known.now.events.now ≡ length known.now.journal.now }
+    ensures { option_map (λ b. b.now) result ≡ (if is_forged (setting_of known.now.scenario.now) known.now.events.now known.now.journal.now (as_object object.now, item) then Some (encoded (as_object object.now).body) else None) }
+{
+    if is_forged(known, object, item) {
+        Some(message_of(object))
+    } else {
+        None
+    }
+}
+
+/// Whether the object is new, and its signer is correct and never signed it.
+fn is_forged(known: &Known<'_>, object: &ObjectRef<'_>, item: Item) -> bool
+    requires { length known.now.events.now ≡ length known.now.journal.now }
+    ensures { result ≡ is_forged (setting_of known.now.scenario.now) known.now.events.now known.now.journal.now (as_object object.now, item) }
+{
+    let by = signer(&object.body);
+    is_new(item)
+        && is_correct(known.scenario, by)
+        && !was_signed(
+            known.hints,
+            known.events,
+            known.journal,
+            by,
+            message_of(object),
+        )
+}
+
+fn is_new(item: Item) -> bool
+    ensures { result ≡ is_new item }
+{
+    matches!(
+        item,
+        Item::Weight(WeightAnswer::New)
+            | Item::Prio(PrioAnswer::New)
+            | Item::Ack(AckAnswer::New)
+            | Item::Rel(RelAnswer::New)
+    )
+}
+
+/// The object of a numbered message.
+fn object_of<'a>(message: &Option<(u64, ObjectRef<'a>)>) -> Option<ObjectRef<'a>>
+    ensures { option_map as_object result ≡ option_map (λ m. as_object m.1) message.now }
+{
+    match message {
+        Some((_, object)) => Some(*object),
+        None => None,
+    }
+}
+
+/// The bytes of an object's message.
+fn message_of<'a>(object: &ObjectRef<'a>) -> &'a [u8]
+    ensures { result.now ≡ encoded (as_object object.now).body }
+{
+    spells(object.bytes, &object.body);
+    object.bytes
+}
+
+/// Bytes that are read as a message are its bytes.
+fn spells(bytes: &[u8], body: &BodyRef<'_>)
+    requires { read_body bytes.now ≡ Ok (as_body body.now) }
+    ensures { bytes.now ≡ encoded (as_body body.now) }
+{
+    a_body_has_one_spelling();
+}
