@@ -19,11 +19,13 @@ import sys
 
 ROOT = os.path.dirname(os.path.dirname(os.path.abspath(__file__)))
 FOLDER = os.path.join(ROOT, "conformance")
-# schedules and journals of whole nodes, which `schedule_check` reads and no command runs yet
-WHOLE_RUNS = os.path.join(FOLDER, "schedules")
 PLAIN = {"schedule": [b"replay"], "graph": None, "toml": [b"topology"]}
 HEADER = b"schedule 1\nseed " + 64 * b"0" + b"\nheight 5\nbounds 2 4\nnodes 3\nedge 1 2 10\nedge 2 3 10\nbegin\n"
 PATHS = [b"paths", b"--from", b"1", b"--to", b"2", b"--paths", b"1"]
+# a frame in which each of these bits is changed, 31 times over: none of it is heard, and then the frame still is
+FLIPS = b"".join(b"flip 1 2 1 %d %d\n" % (back, bit) for back in range(1, 65) for bit in range(8))
+HEARD = b"".join(b"%d badtag\n" % number for number in range(2, 2 + 31 * 512))
+FIRST_FRAME = b"1 frame 1 76 449e95834d7aeecc94f2aa99fc95617b4a38c38a9f0781b1029faf9c2950b707\n"
 TAKES = b"".join(b"%d empty\n" % number for number in range(1, 16_385))
 
 # a name, the words, the pieces of the input with how often each stands there, the status, and the output
@@ -35,13 +37,15 @@ RECIPES = [
     ("a graph of 64 MiB", PATHS, [(b"\n", 67_108_864)], 3, b"refused 1 Word\n"),
     ("a graph of one byte more", PATHS, [(b"\n", 67_108_865)], 3, b"refused 0 TooBig\n"),
     ("a draft of more than 64 MiB", [b"topology"], [(b"\n", 67_108_865)], 3, b"refused 0 TooBig\n"),
-    ("an event of 131,201 bytes", [b"replay"], [(HEADER, 1), (b"0", 131_201)], 3, b"journal 1\nrefused 9 Unbuilt\n"),
-    ("such an event and an end", [b"replay"], [(HEADER, 1), (b"0", 131_201), (b"\nend\n", 1)], 3, b"journal 1\nrefused 9 Unbuilt\n"),
+    ("an event of 131,201 bytes", [b"replay"], [(HEADER, 1), (b"0", 131_201)], 3, b"journal 1\nrefused 9 LineLong\n"),
+    ("such an event and an end", [b"replay"], [(HEADER, 1), (b"0", 131_201), (b"\nend\n", 1)], 3, b"journal 1\nrefused 9 LineLong\n"),
     ("16,384 events", [b"replay"], [(HEADER, 1), (b"take 3 1\n", 16_384), (b"end\n", 1)], 0,
      b"journal 1\n" + TAKES + b"summary events 16384 sent 0 delivered 0 priority 0 frames 0\n"),
-    ("16,385 events", [b"replay"], [(HEADER, 1), (b"take 3 1\n", 16_385), (b"end\n", 1)], 3, b"journal 1\n" + TAKES + b"refused 16393 Unbuilt\n"),
-    ("an event without an end", [b"replay"], [(HEADER, 1), (b"0", 134_217_728)], 3, b"journal 1\nrefused 9 Unbuilt\n"),
-    ("bytes without an end after end", [b"replay"], [(HEADER + b"end\n", 1), (b"0", 134_217_728)], 3, b"journal 1\nrefused 10 AfterEnd\n"),
+    ("16,385 events", [b"replay"], [(HEADER, 1), (b"take 3 1\n", 16_385), (b"end\n", 1)], 3, b"journal 1\n" + TAKES + b"refused 16393 TooMany\n"),
+    ("15,872 frames with one bit changed", [b"replay"], [(HEADER + b"poll 1 2\n", 1), (FLIPS, 31), (b"pass 1 2 1\nend\n", 1)], 0,
+     b"journal 1\n" + FIRST_FRAME + HEARD + b"15874 learned 1\nsummary events 15874 sent 0 delivered 0 priority 0 frames 1\n"),
+    ("an event without an end", [b"replay"], [(HEADER, 1), (b"0", 134_217_728)], 3, b"journal 1\nrefused 9 LineLong\n"),
+    ("bytes without an end after end", [b"replay"], [(HEADER + b"end\n", 1), (b"0", 134_217_728)], 3, b"journal 1\nrefused 10 LineLong\n"),
 ]
 
 
@@ -121,8 +125,7 @@ def run_file(runs, path, kind):
 
 def run_files(runs):
     """Runs the cases of the folder."""
-    files = {os.path.join(folder, name) for folder, _, names in os.walk(FOLDER) for name in names if not folder.startswith(WHOLE_RUNS)}
-    files.discard(WHOLE_RUNS + ".py")
+    files = {os.path.join(folder, name) for folder, _, names in os.walk(FOLDER) for name in names}
     used = set()
     for kind in PLAIN:
         runs.passed[kind] = 0

@@ -30,7 +30,7 @@ def example(name):
 
 
 NO_EVENTS = b"journal 1\nsummary events 0 sent 0 delivered 0 priority 0 frames 0\n"
-TWO_EVENTS = b"journal 1\n1 accepted 1\n2 empty\nsummary events 2 sent 1 delivered 0 priority 0 frames 0\n"
+TWO_EVENTS = b"journal 1\n1 accepted 1\n+ signed 020103000000000000000100026869\n2 empty\nsummary events 2 sent 1 delivered 0 priority 0 frames 0\n"
 # more text than a pipe holds, so that the program has to wait for its reader
 LONG = text(*["take 3 1"] * 10_000, "end")
 LONG_JOURNAL = "".join(["journal 1\n", *(f"{n} empty\n" for n in range(1, 10_001)),
@@ -92,7 +92,7 @@ def main():
             runs.piped(f"the words {words}", words, text("end"), 2, b"usage\n")
         runs.piped("no end", ["replay"], text("take 3 1"), 3, b"journal 1\n1 empty\nrefused 10 NoEnd\n")
         runs.filed("a line after the end", text("end", "end"), 3, b"journal 1\nrefused 10 AfterEnd\n")
-        runs.piped("no text", ["replay"], b"", 3, b"refused 1 NoEnd\n")
+        runs.piped("no text", ["replay"], b"", 3, b"refused 1 Header\n")
         runs.piped("two paths", ["paths", "--from", "1", "--to", "4", "--paths", "2"], example("trap.graph"), 0, b"path 1 2 4\npath 1 3 4\ncost 10\n")
         runs.piped("three paths", ["paths", "--from", "1", "--to", "4", "--paths", "3"], example("trap.graph"), 12, b"fewer 2\ncut 1\n")
         runs.piped("a signed topology", ["topology"], example("two_nodes.toml"), 0, example("two_nodes.topology"))

@@ -2,18 +2,19 @@
 use Rattle.std.specs.Prelude.{ℕ, ◌≡◌, List, Option, None}
 use Rattle.std.specs.Io.KnownBytes.{Appends}
 use Rattle.sp_outside.specs.Streams.{AppendsFront}
-use Rattle.sp_first.specs.Laws.{RunClaims}
-use Rattle.sp_world.specs.Past.{Past, IsRun}
+use Rattle.laws_runs_format.specs.Headline.{RunClaims}
+use Rattle.sp_runs.specs.Scenarios.{setting_of}
+use Rattle.sp_world.specs.Past.{Past, IsPast}
 use Rattle.sp_top.specs.declared.ended.Status.{Status}
 use Rattle.sp_top.specs.declared.ended.Status.TheVariants as statuses
 use Rattle.sp_top.specs.Outputs.{IsOutput}
 
--- what holds of the world of an outcome, after every event and at the end
+-- what holds of the world of an outcome
 pub record WorldClaims (past : Past) : Type 0 where
-  -- it is a run: each event is a step of its acting node alone, and the journal tells these steps
-  pub run : IsRun past
-  -- deliveries are a prefix of what was sent, each once, buffers are bounded, and each client's answer has its cause
-  pub claims : RunClaims past.scenario past.events past.journal
+  -- its events are a run without forgery: each event is a step of its acting node alone, and the journal tells these steps
+  pub run : IsPast past
+  -- what is claimed of each such run, after each of its events
+  pub claims : RunClaims (setting_of past.scenario) past.events past.journal
 
 -- the sink got the whole output that goes with the status
 pub record IsWritten (words : List (List ℕ)) (left : Option (List ℕ)) (past : Option Past) (status : Status) (before after : Option (List ℕ)) : Type 0 where

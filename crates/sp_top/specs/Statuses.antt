@@ -9,6 +9,7 @@ abbrev pub code_of : Status → ℕ
 code_of statuses.Done = 0
 code_of statuses.Usage = 2
 code_of statuses.Refused = 3
+code_of statuses.Forged = 4
 code_of statuses.Source = 5
 code_of statuses.Sink = 6
 code_of statuses.Memory = 9

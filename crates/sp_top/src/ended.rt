@@ -13,6 +13,8 @@ pub enum Status {
     Usage,
     /// 3: the input is refused. The last line written names the first bad line, or 0, and why it is refused.
     Refused,
+    /// 4: something is forged that only a broken tag or signature could have made. The last line written names the event, and what of it is.
+    Forged,
     /// 5: the source failed in this run.
     Source,
     /// 6: the sink failed in this run.
@@ -32,6 +34,7 @@ impl Status {
             Status::Done => 0,
             Status::Usage => 2,
             Status::Refused => 3,
+            Status::Forged => 4,
             Status::Source => 5,
             Status::Sink => 6,
             Status::Memory => 9,
@@ -41,8 +44,17 @@ impl Status {
 }
 
 /// What a run leaves: how it ended, and the world that it made, if it came to that.
-#[derive(Debug, Drop)]
+#[derive(Drop)]
 pub struct Outcome {
     pub status: Status,
     pub world: Option<World>,
+}
+
+impl Outcome {
+    /// The number with which the program ends. The world is let go.
+    pub fn into_code(self) -> u8
+        ensures { result ≡ code_of self.status }
+    {
+        self.status.code()
+    }
 }

@@ -10,8 +10,6 @@ mod replay;
 mod top;
 
 pub use ended::{Outcome, Status};
-pub use sp_first::FrameValue;
-pub use sp_first_journal::{AnswerWord, Effect, Effects, Entry, ItemWord, LinkWord, Reply};
-pub use sp_first_schedule::{Event, Kind, Scenario};
-pub use sp_world::World;
+pub use sp_schedule::{Event, Kind, Scenario};
+pub use sp_world::{What, World, WorldRefused};
 pub use top::run;

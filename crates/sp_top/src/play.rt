@@ -1,21 +1,23 @@
 // The world of what was read of a schedule.
-ghost use Rattle.std.specs.Prelude.{◌≡◌, ◌≤◌, length, IfOk};
-ghost use Rattle.sp_base.specs.declared.limits.TheConstants.{MAX_EVENTS};
-ghost use Rattle.sp_first_schedule.specs.Ranges.{IsScenario, AreInRange};
-ghost use Rattle.sp_first_schedule.specs.Readings.{IsGoodStage};
-ghost use Rattle.sp_world.specs.Past.{IsShort};
-ghost use Rattle.sp_top.specs.Outputs.{IsWorldOf};
+ghost use Rattle.std.specs.Prelude.{IfOk, IfSome};
+ghost use Rattle.sp_schedule.specs.Readings.{IsGoodStage};
+ghost use Rattle.sp_schedule.specs.Scenarios.{IsSchedule};
+ghost use Rattle.sp_schedule.specs.declared.stage.Stage.TheVariants as stages;
+ghost use Rattle.sp_top.specs.Played.{AreRun, HasBuffers, IsPlayedBy, IsShort};
 
+use laws_runs_format::scheduled_events_are_in_range;
 use sp_base::Memory;
-use sp_first_schedule::{Scenario, Stage, Timeline};
-use sp_world::World;
+use sp_schedule::{Scenario, Stage, Timeline};
+use sp_world::{World, WorldRefused};
 use std::alloc::Global;
 
-/// The world of the events that were read, or none where the header wasn't read whole.
+/// The world of the events that were read, up to the first of which anything is forged. None where the header wasn't read whole.
+#[tactic(auto, using(crate::proofs::Timelines::without_end))]
 pub fn play(alloc: Global, stage: Stage) -> Result<Option<World>, Memory>
     requires { IsGoodStage stage }
-    ensures of_stage { IfOk result (IsWorldOf stage) }
-    ensures short { IfOk result IsShort }
+    ensures run { IfOk result (AreRun stage) }
+    ensures short { IfOk result (λ world. IfSome world IsShort) }
+    ensures buffers { IfOk result (λ world. IfSome world HasBuffers) }
 {
     match stage {
         Stage::Events(scenario, events) => Ok(Some(play_all(alloc, scenario, events)?)),
@@ -24,17 +26,22 @@ pub fn play(alloc: Global, stage: Stage) -> Result<Option<World>, Memory>
     }
 }
 
-/// The world after these events.
+/// The world after these events, or after those before the first of which anything is forged.
 fn play_all(alloc: Global, scenario: Scenario, events: Timeline) -> Result<World, Memory>
-    requires scenario { IsScenario scenario }
-    requires range { AreInRange scenario events }
-    requires count { length events ≤ MAX_EVENTS }
-    ensures scenario { IfOk result (λ world. world.scenario ≡ scenario) }
-    ensures events { IfOk result (λ world. world.events ≡ events) }
+    requires { IsSchedule scenario events }
+    ensures run { IfOk result (λ world. IsPlayedBy (stages.End scenario events) world world.stopped) }
+    ensures short { IfOk result IsShort }
+    ensures buffers { IfOk result HasBuffers }
 {
+    scheduled_events_are_in_range();
     let mut world = World::make(alloc, scenario)?;
     'events: for event in events.into_events() {
-        world.step(alloc, event)?;
+        world.is_run();
+        match world.step(alloc, event) {
+            Ok(()) => {}
+            Err(WorldRefused::Forged { .. }) => return Ok(world),
+            Err(WorldRefused::Memory) => return Err(Memory),
+        }
     }
     Ok(world)
 }

@@ -5,16 +5,18 @@ ghost use Rattle.sp_base.specs.declared.limits.TheConstants.{MAX_INPUT_BYTES};
 ghost use Rattle.sp_outside.specs.Causes.{Rose};
 ghost use Rattle.sp_top.specs.Played as played;
 ghost use Rattle.sp_top.specs.Outputs.{replay_words};
-ghost use Rattle.sp_top.specs.Played.{IsPlayed};
+ghost use Rattle.sp_top.specs.Played.{HasBuffers, IsPlayed};
 ghost use Rattle.sp_top.specs.Claims.{Wrote, WorldClaims};
 
 use crate::output::text_of;
 use crate::play::play;
 use crate::{Outcome, Status, World};
-use laws_reliable::every_run;
+use laws_runs_format::every_run;
 use sp_base::{MAX_INPUT_BYTES, Memory};
-use sp_first_schedule::{Ending, a_good_text_is_read_whole, a_whole_reading_reads, read};
 use sp_outside::{Input, ReadRefused, Sink, Source, read_up_to, write_all};
+use sp_schedule::{
+    Ending, a_good_text_is_read, a_reading_is_of_its_text, a_text_has_one_reading, read,
+};
 use std::alloc::Global;
 
 /// What was read and run, and the text to be written of it.
@@ -36,8 +38,9 @@ pub fn replay<S: Source, K: Sink>(alloc: Global, source: &mut S, sink: &mut K) -
     ensures write { result.status ≡ Status.Sink → Rose (K.faults sink.old) (K.faults sink.new) }
     ensures usage { result.status ≢ Status.Usage }
 {
-    a_whole_reading_reads();
-    a_good_text_is_read_whole();
+    a_reading_is_of_its_text();
+    a_good_text_is_read();
+    a_text_has_one_reading();
     let input = match read_up_to(alloc, source, MAX_INPUT_BYTES) {
         Ok(input) => input,
         Err(ReadRefused::Failed) => return ended(Status::Source),
@@ -67,30 +70,36 @@ fn read_and_run(alloc: Global, input: &Input) -> Result<Played, Memory>
     let ending = reading.ending;
     let world = play(alloc, reading.stage)?;
     let text = text_of(alloc, &world, ending)?;
+    let status = status_of(&world, ending);
     claim(&world);
     Ok(Played {
         world,
-        status: status_of(ending),
+        status,
         text,
     })
 }
 
 /// The laws of every run hold of a world.
 fn claim(world: &Option<World>)
+    requires { IfSome world.now HasBuffers }
     ensures { IfSome world.now WorldClaims }
 {
     every_run();
     if let Some(world) = world {
-        let _ = world.journal();
+        world.is_run();
     }
 }
 
-fn status_of(ending: Ending) -> Status
-    ensures { result ≡ played.status_of ending }
+/// How a run ends: by what is forged, or else as the reading of its schedule did.
+fn status_of(world: &Option<World>, ending: Ending) -> Status
+    ensures { result ≡ played.status_of world.now ending }
 {
-    match ending {
-        Ending::Whole => Status::Done,
-        Ending::Refused { .. } => Status::Refused,
+    match world {
+        Some(world) if world.stopped().is_some() => Status::Forged,
+        _ => match ending {
+            Ending::Whole => Status::Done,
+            Ending::Refused { .. } => Status::Refused,
+        },
     }
 }
 

@@ -1,6 +1,7 @@
-pub mod Acted
-pub mod Arrivals
-pub mod CanAct
-pub mod Frames
-pub mod Maps
+pub mod Standing
+pub mod Coming
+pub mod Crafting
+pub mod Arriving
+pub mod Moving
+pub mod Booting
 pub mod Pasts

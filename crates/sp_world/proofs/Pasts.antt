@@ -1,29 +1,97 @@
--- A world's past from its start on, event by event.
-use Rattle.std.proofs.Common.{◌≡◌, ℕ, ◌+◌, List, [], ◌∷◌, ◌++◌, map, sym, ap, ◌∙◌, arith, add-one}
-use Rattle.std.proofs.lemmas.List.{map-append}
-use Rattle.sp_first_schedule.specs.declared.scenario.Scenario.{Scenario}
-use Rattle.sp_first_schedule.specs.declared.event.Event.{Event}
-use Rattle.sp_first_schedule.specs.Ranges.{InRange}
-use Rattle.sp_first_journal.specs.declared.entry.Entry.{Entry}
-use Rattle.sp_first.specs.Node.{Node, booted}
-use Rattle.std.specs.List.{range_with_len}
-use Rattle.sp_first.specs.World.{Direction, Goes_on, StateStep, node_at_boot, neighbours}
-use Rattle.sp_first.proofs.RunLemmas.{range_with_len-more}
-use Rattle.sp_world.specs.Acts.{world}
-use Rattle.sp_world.specs.Past.{IsRun}
+-- What a world keeps, it keeps over one more event.
+use Rattle.std.proofs.Common.{◌≡◌, ℕ, List, [], ◌∷◌, ◌++◌, Option, None, Some, refl, sym, subst, ◌<◌, arith, length, map}
+use Rattle.sp_adversary.specs.Crafters.{Crafters}
+use Rattle.sp_adversary.specs.Crafting.{AreAfter, no_crafts}
+use Rattle.sp_base.specs.declared.limits.TheConstants.{MAX_EVENTS}
+use Rattle.sp_graph.specs.Edges.{IsGraph}
+use Rattle.sp_journal.specs.declared.entry.Entry.{Entry}
+use Rattle.sp_node_core.specs.Format.{format}
+use Rattle.sp_runs.specs.Runs as runs
+use Rattle.sp_runs.specs.Runs.{Clean, InRange, Turn}
+use Rattle.sp_runs.specs.Scenarios.{setting_of}
+use Rattle.sp_rules.specs.Node.{NodeState}
+use Rattle.sp_runs.specs.Settings.{correct_nodes, node_at_boot}
+use Rattle.sp_runs.specs.Worlds.{Direction, World, at_start}
+use Rattle.sp_schedule_events.specs.declared.event.Event.{Event}
+use Rattle.sp_schedule_events.specs.declared.scenario.Scenario.{Scenario}
+use Rattle.sp_world.specs.Kept.{IsKept}
+use Rattle.sp_world.specs.Past.{GoesOn, Past}
+use Rattle.sp_world.specs.Stands.{IsTold, Stands}
+use Rattle.sp_world.specs.declared.refused.WorldRefused.{WorldRefused}
 
--- one more node at its start
-pub one_more_node : (s : Scenario) (before : ℕ) (nodes : List Node) (node : Node) (found : List ℕ) → nodes ≡ map (node_at_boot s) (range_with_len 1 before) → found ≡ neighbours s.graph.edges (before + 1)
-    → node ≡ booted (before + 1) s.limits.buffer 1 s.graph.nodes found → nodes ++ node ∷ [] ≡ map (node_at_boot s) (range_with_len 1 (before + 1))
-one_more_node s before nodes node found so_far ends is =
-    let it : node ≡ node_at_boot s (before + 1) = is ∙ ap (booted (before + 1) s.limits.buffer 1 s.graph.nodes) ends in
-    let last : 1 + before ≡ before + 1 = omega arith in
-    ap (λ (ns : List Node). ns ++ node ∷ []) so_far ∙ ap (λ (n : Node). map (node_at_boot s) (range_with_len 1 before) ++ n ∷ []) (it ∙ ap (node_at_boot s) (sym last))
-    ∙ sym (ap (λ (k : ℕ). map (node_at_boot s) (range_with_len 1 k)) (add-one before) ∙ ap (map (node_at_boot s)) (range_with_len-more 1 before) ∙ map-append (node_at_boot s) (range_with_len 1 before) ((1 + before) ∷ []))
+-- a world that hasn't stopped
+abbrev pub going : Scenario → List Event → List Entry → World → Past
+going s es js w = record { scenario = s; events = es; journal = js; world = w; stopped = None }
 
--- one more event
-pub one_more_event : (s : Scenario) (es es' : List Event) (js js' : List Entry) (nodes nodes' : List Node) (directions directions' : List Direction) (e : Event) (j : Entry)
-    → IsRun (record { scenario = s; events = es; journal = js; state = world nodes directions }) → InRange s es e → StateStep (world nodes directions) e j (world nodes' directions') → es' ≡ es ++ e ∷ [] → js' ≡ js ++ j ∷ []
-    → IsRun (record { scenario = s; events = es'; journal = js'; state = world nodes' directions' })
-one_more_event s es es' js js' nodes nodes' directions directions' e j past range step events_are journal_is =
-    rw (events_are, journal_is) (record { in_range = past.in_range; run = Goes_on past.run range step })
+-- one that has
+abbrev pub stopped_by : Scenario → List Event → List Entry → World → WorldRefused → Past
+stopped_by s es js w refused = record { scenario = s; events = es; journal = js; world = w; stopped = Some refused }
+
+never : {X : Type 0} (x : X) → Some x ≡ None → ⊥
+never x is = cc
+
+pub stands : (s : Scenario) (es : List Event) (js : List Entry) (w : World) (e : Event) (len : ℕ) (c : Crafters) (t : Option WorldRefused)
+    → IsKept (record { scenario = s; events = es; journal = js; world = w; stopped = t }) len c → t ≡ None → InRange (setting_of s) es e → length es < MAX_EVENTS → Stands s es js w e
+stands s es js w e len c t kept is range few = record {
+  graph = kept.past.graph;
+  clean = subst (λ (v : World). Clean format (setting_of s) es js v) (sym (kept.past.now is)) kept.past.clean;
+  range = range;
+  few = few;
+}
+
+pub kept_on : (s : Scenario) (es es' : List Event) (js js' : List Entry) (w w' : World) (e : Event) (j : Entry) (len : ℕ) (c c' : Crafters) (t : Option WorldRefused)
+    → IsKept (record { scenario = s; events = es; journal = js; world = w; stopped = t }) len c → Stands s es js w e → IsTold (setting_of s) es js w e j w'
+    → AreAfter s (es ++ e ∷ []) c' → es' ≡ es ++ e ∷ [] → js' ≡ js ++ j ∷ []
+    → IsKept (going s es' js' w') len c'
+kept_on s es es' js js' w w' e j len c c' t kept st told crafted events_are journal_is = rw (events_are, journal_is) (record {
+  past = record {
+    graph = st.graph;
+    last = w';
+    clean = runs.Turned st.clean st.range told.turn told.unforged;
+    now = λ is. refl;
+  };
+  long = kept.long;
+  crafters = λ is. crafted;
+})
+
+-- a world that has stopped keeps what it has done
+pub kept_stopped : (s : Scenario) (es : List Event) (js : List Entry) (w w' : World) (len : ℕ) (c c' : Crafters) (t : Option WorldRefused) (refused : WorldRefused)
+    → IsKept (record { scenario = s; events = es; journal = js; world = w; stopped = t }) len c → IsKept (stopped_by s es js w' refused) len c'
+kept_stopped s es js w w' len c c' t refused kept = record {
+  past = record {
+    graph = kept.past.graph;
+    last = kept.past.last;
+    clean = kept.past.clean;
+    now = λ is. absurd (never refused is);
+  };
+  long = kept.long;
+  crafters = λ is. absurd (never refused is);
+}
+
+pub goes_on : (s : Scenario) (es es' : List Event) (js js' : List Entry) (w w' : World) (e : Event) (j : Entry) → IsTold (setting_of s) es js w e j w'
+    → es' ≡ es ++ e ∷ [] → js' ≡ js ++ j ∷ [] → GoesOn (going s es js w) e (going s es' js' w')
+goes_on s es es' js js' w w' e j told events_are journal_is = record {
+  was_going = refl;
+  entry = j;
+  scenario = refl;
+  events = events_are;
+  journal = journal_is;
+  going = refl;
+  turn = told.turn;
+  unforged = told.unforged;
+}
+
+-- before the first event
+pub kept_at_first : (s : Scenario) (nodes : List NodeState) (ds : List Direction) (len : ℕ) (c : Crafters) → IsGraph s.graph
+    → nodes ≡ map (node_at_boot (setting_of s)) (correct_nodes (setting_of s)) → ds ≡ [] → len ≡ (setting_of s).signature_len → c ≡ no_crafts s
+    → IsKept (going s [] [] (record { nodes = nodes; directions = ds })) len c
+kept_at_first s nodes ds len c graph booted none long fresh = rw (booted, none, fresh) (record {
+  past = record {
+    graph = graph;
+    last = at_start (setting_of s);
+    clean = runs.Starts;
+    now = λ is. refl;
+  };
+  long = long;
+  crafters = λ is. record { height = refl; seed = refl; counted = λ key. omega arith };
+})

@@ -1,6 +1,7 @@
 pub mod Past
 -- ---- what proofs and the parts of this crate use among themselves
-pub mod Acts
-pub mod Judged
+pub mod Stands
+pub mod Arrivals
+pub mod Polls
+pub mod Boots
 pub mod Kept
-pub mod Steps

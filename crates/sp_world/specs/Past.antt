@@ -1,36 +1,74 @@
--- What a world keeps: its scenario, the events done, their journal, and the state that they led to.
-use Rattle.std.specs.Prelude.{◌≡◌, ◌≤◌, List, [], ◌∷◌, ◌++◌, length, Option, Some, None}
-use Rattle.sp_base.specs.declared.limits.TheConstants.{MAX_EVENTS}
-use Rattle.sp_first_schedule.specs.declared.scenario.Scenario.{Scenario}
-use Rattle.sp_first_schedule.specs.declared.event.Event.{Event}
-use Rattle.sp_first_schedule.specs.Ranges.{IsScenario}
-use Rattle.sp_first_journal.specs.declared.entry.Entry.{Entry}
-use Rattle.sp_first.specs.World.{State, Run, StateStep, at_start}
+-- What a world keeps, and what an event makes of it.
+use Rattle.std.specs.Prelude.{ℕ, ◌≡◌, ◌⊎◌, ◌+◌, List, [], ◌∷◌, ◌++◌, length, Option, None, Some}
+use Rattle.sp_base.specs.declared.id.NodeId.{NodeId}
+use Rattle.sp_graph.specs.Edges.{IsGraph}
+use Rattle.sp_journal.specs.declared.entry.Entry.{Entry}
+use Rattle.sp_node_core.specs.Format.{format}
+use Rattle.sp_runs.specs.Inputs.{acting}
+use Rattle.sp_runs.specs.Runs.{Clean, IsForgedAt, Turn, forged_in}
+use Rattle.sp_runs.specs.Scenarios.{setting_of}
+use Rattle.sp_runs.specs.Worlds.{World, at_start}
+use Rattle.sp_runs.specs.declared.what.What.{What}
+use Rattle.sp_schedule_events.specs.declared.event.Event.{Event}
+use Rattle.sp_schedule_events.specs.declared.scenario.Scenario.{Scenario}
+use Rattle.sp_world.specs.declared.refused.WorldRefused.{WorldRefused}
+use Rattle.sp_world_steps.specs.Members.{without_node}
+use Rattle.sp_world.specs.declared.refused.WorldRefused.TheVariants as refusals
 
+-- the scenario, the events done with their entries, the nodes and frames to which they led, and why no more are done, if none are
 pub record Past : Type 0 where
   pub scenario : Scenario
   pub events : List Event
   pub journal : List Entry
-  pub state : State
+  pub world : World
+  pub stopped : Option WorldRefused
 
--- the past is a run of its scenario
-pub record IsRun (p : Past) : Type 0 where
-  pub in_range : IsScenario p.scenario
-  pub run : Run p.scenario p.events p.journal p.state
+-- before the first event
+abbrev pub at_first : Scenario → Past
+at_first s = record { scenario = s; events = []; journal = []; world = at_start (setting_of s); stopped = None }
 
--- nothing has happened yet
-abbrev pub before_all : Scenario → Past
-before_all s = record { scenario = s; events = []; journal = []; state = at_start s }
+-- The events are a run in which nothing is forged, and the entries are its journal. Until the world has stopped, its nodes and frames are those
+-- at the end of the run.
+pub record IsPast (p : Past) : Type 0 where
+  pub graph : IsGraph p.scenario.graph
+  pub last : World
+  pub clean : Clean format (setting_of p.scenario) p.events p.journal last
+  pub now : p.stopped ≡ None → p.world ≡ last
 
--- one more event was done
+-- ---- one event
+
+-- the world without a node
+abbrev pub without : World → NodeId → World
+without w u = record { nodes = without_node w.nodes u; directions = w.directions }
+
+-- It is done: its acting node makes its step, or its crafting signer is spent, and nothing of it is forged.
 pub record GoesOn (old : Past) (event : Event) (new : Past) : Type 0 where
+  pub was_going : old.stopped ≡ None
   pub entry : Entry
   pub scenario : new.scenario ≡ old.scenario
   pub events : new.events ≡ old.events ++ event ∷ []
   pub journal : new.journal ≡ old.journal ++ entry ∷ []
-  pub step : StateStep old.state event entry new.state
+  pub going : new.stopped ≡ None
+  pub turn : Turn format (setting_of old.scenario) old.events old.world event entry new.world
+  pub unforged : forged_in format (setting_of old.scenario) old.events old.journal old.world event entry new.world turn ≡ None
 
--- as long as a schedule may be
-abbrev pub IsShort : Option Past → Type 0
-IsShort None = Unit {0}
-IsShort (Some past) = length past.events ≤ MAX_EVENTS
+-- This of it is forged, and it has the number after those that were done. The node that acts is gone; the other nodes and all frames stay.
+pub record IsForged (old : Past) (event : Event) (number : ℕ) (what : What) (new : Past) : Type 0 where
+  pub counted : number ≡ length old.events + 1
+  pub forged : IsForgedAt format (setting_of old.scenario) old.events old.journal old.world event what
+  pub stopped : new.stopped ≡ Some (refusals.Forged number what)
+  pub world : new.world ≡ without old.world (acting event)
+
+-- why a world stops
+abbrev pub Stops : Past → Event → WorldRefused → Past → Type 0
+Stops old event (refusals.Forged number what) new = IsForged old event number what new
+Stops old event refusals.Memory new = new.stopped ≡ Some refusals.Memory
+
+-- It isn't done. The first time the world stops; later it answers the same again, and nothing changes.
+pub record IsRefused (old : Past) (event : Event) (refused : WorldRefused) (new : Past) : Type 0 where
+  pub scenario : new.scenario ≡ old.scenario
+  pub events : new.events ≡ old.events
+  pub journal : new.journal ≡ old.journal
+  pub frames : new.world.directions ≡ old.world.directions
+  pub first : old.stopped ≡ None → Stops old event refused new
+  pub later : (before : WorldRefused) → old.stopped ≡ Some before → ((refused ≡ before) ⊎ (refused ≡ refusals.Memory)) × (new ≡ old)

@@ -1,105 +1,103 @@
-// One event at its acting node, with the frames of all directions.
-ghost use Rattle.std.specs.Prelude.{◌≡◌, IfOk, OnErr};
-ghost use Rattle.sp_first.specs.World.{StateStep};
-ghost use Rattle.sp_world.specs.Acts.{world, IsThere, IsGiven, CanAct};
+// One event at the node that acts, by its kind.
+ghost use Rattle.std.specs.Prelude.{◌≡◌, ◌+◌, ◌<◌, ◌^◌, ◌∷◌, ◌++◌, [], IfOk, OnErr, OnOk, length};
+ghost use Rattle.sp_adversary.specs.Crafting.{AreAfter};
+ghost use Rattle.sp_runs.specs.Scenarios.{setting_of};
+ghost use Rattle.sp_runs.specs.Worlds.{frames_in};
+ghost use Rattle.sp_world.specs.Polls.{IsPolled};
+ghost use Rattle.sp_world.specs.Stands.{ComesTo, IsArrival, Stands, world_of};
+ghost use Rattle.sp_world_steps.specs.Members.{CanCall};
 
-use crate::directions::Directions;
-use crate::node::Node;
-use sp_base::{Bytes, Listed, Memory, NodeId};
-use sp_first_journal::{Entry, Reply};
-use sp_first_schedule::Event;
+use crate::arrivals::arrive;
+use crate::bytes::{Came, bring, sender};
+use sp_adversary::Crafters;
+use sp_base::{Memory, NodeId};
+use sp_forgery::{Directions, Known, acting};
+use sp_journal::Entry;
+use sp_runs::What;
+use sp_schedule_events::Event;
+use sp_world_steps::{Member, ask, frame, poll, spent};
 use std::alloc::Global;
 
-/// Does the event at its node. After an error nothing has changed.
+/// What an event came to.
+#[derive(Debug, Drop)]
+pub enum Done {
+    /// It is told by this entry.
+    Told(Entry),
+    /// This of it is forged.
+    Forged(What),
+}
+
+/// Does an event at its node.
+#[tactic(auto, using(crate::proofs::Moving::asked_is_told, crate::proofs::Moving::poll_comes_to, crate::proofs::Standing::can_ask, crate::proofs::Standing::can_poll, crate::proofs::Standing::few_frames, crate::proofs::Crafting::after_asked, crate::proofs::Crafting::after_poll))]
 pub fn act(
     alloc: Global,
-    nodes: &mut Vec<Node>,
+    known: &Known<'_>,
+    nodes: &mut Vec<Member>,
     directions: &mut Directions,
+    crafters: &mut Crafters,
     event: &Event,
-) -> Result<Entry, Memory>
-    requires { CanAct nodes.old.items directions.old event.now }
-    ensures ok { IfOk result (λ entry. StateStep (world nodes.old.items directions.old) event.now entry (world nodes.new.items directions.new)) }
-    ensures nodes { OnErr result (nodes.new.items ≡ nodes.old.items) }
-    ensures directions { OnErr result (directions.new ≡ directions.old) }
+) -> Result<Done, Memory>
+    requires stands { Stands known.now.scenario.now known.now.events.now known.now.journal.now (world_of nodes.old.items directions.old) event.now }
+    requires crafters { AreAfter known.now.scenario.now known.now.events.now crafters.old }
+    requires long { known.now.signature_len ≡ (setting_of known.now.scenario.now).signature_len }
+    ensures done { IfOk result (λ done. ComesTo (setting_of known.now.scenario.now) known.now.events.now known.now.journal.now (world_of nodes.old.items directions.old) event.now done (world_of nodes.new.items directions.new)) }
+    ensures crafters { OnOk result (AreAfter known.now.scenario.now (known.now.events.now ++ event.now ∷ []) crafters.new) }
+    ensures frames { OnErr result (directions.new ≡ directions.old) }
 {
     match event {
-        Event::Rel { s, d, payload } => send(alloc, nodes, directions, *s, *d, payload),
-        Event::Take { d, s } => Ok(take(alloc, nodes, directions, *d, *s)),
-        Event::Poll { u, v } => poll(alloc, nodes, directions, *u, *v),
-        Event::Pass { u, v, number } => pass(alloc, nodes, directions, *u, *v, *number),
+        Event::Poll { u, v } => Ok(Done::Told(polled(alloc, nodes, directions, *u, *v)?)),
+        Event::Pass { .. }
+        | Event::Flip { .. }
+        | Event::Inject { .. }
+        | Event::Craft { .. }
+        | Event::CraftStatus { .. } => arrival(alloc, known, nodes, directions, crafters, event),
+        _ => Ok(Done::Told(ask(alloc, nodes, acting(event), event)?)),
     }
 }
 
-fn send(
+/// The node `u` makes its next frame for `v`, and it is kept.
+#[tactic(auto, using(crate::proofs::Moving::is_polled))]
+fn polled(
     alloc: Global,
-    nodes: &mut Vec<Node>,
-    directions: &Directions,
-    s: NodeId,
-    d: NodeId,
-    payload: &Bytes,
-) -> Result<Entry, Memory>
-    requires { IsThere nodes.old.items s.0 }
-    ensures ok { IfOk result (λ entry. StateStep (world nodes.old.items directions.now) (Event.Rel s d payload.now) entry (world nodes.new.items directions.now)) }
-    ensures err { OnErr result (nodes.new.items ≡ nodes.old.items) }
-{
-    let node = &mut nodes[s.0 as usize - 1];
-    node.send(alloc, payload)
-}
-
-fn take(
-    alloc: Global,
-    nodes: &mut Vec<Node>,
-    directions: &Directions,
-    d: NodeId,
-    s: NodeId,
-) -> Entry
-    requires { IsThere nodes.old.items d.0 }
-    ensures { StateStep (world nodes.old.items directions.now) (Event.Take d s) result (world nodes.new.items directions.now) }
-{
-    let node = &mut nodes[d.0 as usize - 1];
-    node.take(alloc)
-}
-
-fn poll(
-    alloc: Global,
-    nodes: &mut Vec<Node>,
+    nodes: &mut Vec<Member>,
     directions: &mut Directions,
     u: NodeId,
     v: NodeId,
 ) -> Result<Entry, Memory>
-    requires there { IsThere nodes.old.items u.0 }
-    requires given { IsGiven directions.old (Event.Poll u v) }
-    ensures ok { IfOk result (λ entry. StateStep (world nodes.old.items directions.old) (Event.Poll u v) entry (world nodes.new.items directions.new)) }
-    ensures nodes { OnErr result (nodes.new.items ≡ nodes.old.items) }
-    ensures directions { OnErr result (directions.new ≡ directions.old) }
+    requires can { CanCall nodes.old.items u v }
+    requires few { length (frames_in directions.old u v) + 1 < 2 ^ 32 }
+    ensures ok { IfOk result (λ entry. IsPolled (world_of nodes.old.items directions.old) u v entry (world_of nodes.new.items directions.new)) }
+    ensures err { OnErr result (directions.new ≡ directions.old) }
 {
-    let node = &mut nodes[u.0 as usize - 1];
-    let frame = node.frame_to(alloc, v)?;
     let number = directions.frames(u, v).len() as u32 + 1;
-    directions.push(alloc, u, v, frame)?;
-    node.serve(v);
-    Ok(Entry {
-        reply: Reply::Frame { number },
-        effects: Listed::from_vec(Vec::new(alloc)),
-    })
+    let bytes = poll(alloc, nodes, u, v)?;
+    let entry = frame(alloc, number, bytes.as_slice());
+    directions.put(alloc, u, v, bytes)?;
+    Ok(entry)
 }
 
-fn pass(
+/// Bytes come to the node that acts.
+#[tactic(auto, using(crate::proofs::Moving::arrived_comes_to, crate::proofs::Moving::spent_is_told, crate::proofs::Standing::can_hear, crate::proofs::Standing::even))]
+fn arrival(
     alloc: Global,
-    nodes: &mut Vec<Node>,
+    known: &Known<'_>,
+    nodes: &mut Vec<Member>,
     directions: &Directions,
-    u: NodeId,
-    v: NodeId,
-    number: u32,
-) -> Result<Entry, Memory>
-    requires there { IsThere nodes.old.items v.0 }
-    requires given { IsGiven directions.now (Event.Pass u v number) }
-    ensures ok { IfOk result (λ entry. StateStep (world nodes.old.items directions.now) (Event.Pass u v number) entry (world nodes.new.items directions.now)) }
-    ensures err { OnErr result (nodes.new.items ≡ nodes.old.items) }
+    crafters: &mut Crafters,
+    event: &Event,
+) -> Result<Done, Memory>
+    requires arrival { IsArrival event.now }
+    requires stands { Stands known.now.scenario.now known.now.events.now known.now.journal.now (world_of nodes.old.items directions.now) event.now }
+    requires crafters { AreAfter known.now.scenario.now known.now.events.now crafters.old }
+    requires long { known.now.signature_len ≡ (setting_of known.now.scenario.now).signature_len }
+    ensures done { IfOk result (λ done. ComesTo (setting_of known.now.scenario.now) known.now.events.now known.now.journal.now (world_of nodes.old.items directions.now) event.now done (world_of nodes.new.items directions.now)) }
+    ensures crafters { OnOk result (AreAfter known.now.scenario.now (known.now.events.now ++ event.now ∷ []) crafters.new) }
 {
-    let node = &mut nodes[v.0 as usize - 1];
-    match directions.frame(u, v, number) {
-        Some(frame) => node.arrive(alloc, u, number, frame),
-        None => unreachable!(),
+    match bring(alloc, known, nodes, directions, crafters, event)? {
+        Came::Datagram(bytes) => {
+            let (u, v) = (sender(event), acting(event));
+            arrive(alloc, known, nodes, directions, u, v, bytes.as_slice())
+        }
+        Came::Spent { total } => Ok(Done::Told(spent(alloc, total))),
     }
 }

@@ -1,13 +1,17 @@
-//! A world of many nodes, and every step that it makes: its journal is that of a run by the rules of the overlay.
+//! A run of whole nodes with their adversary: each event is a step of its acting node alone, told in a journal, until something is forged.
+//!
+//! `World::make` starts the correct nodes of a scenario. `World::step` does an event, or says what of it is forged: a tag or a message that the adversary
+//! could only have made by breaking a tag or a signature. Then the run ends: no later event is done, and each is answered the same.
 #![tactic(auto)]
 
 mod acts;
-mod directions;
-mod links;
-mod neighbours;
-mod node;
-mod rel;
-mod rel_peers;
-mod worlds;
+mod arrivals;
+mod boots;
+mod bytes;
+mod crafts;
+mod refused;
+mod world;
 
-pub use worlds::World;
+pub use refused::WorldRefused;
+pub use sp_runs::What;
+pub use world::World;

@@ -13,7 +13,7 @@ use std::io::{Read, Write};
 /// What the program leaves: the number with which it ends, and the reader and the writer.
 #[derive(Drop)]
 pub struct Finished<R: Read, W: Write> {
-    /// 0 done, 2 usage, 3 refused, 5 source, 6 sink, 9 memory, 12 fewer paths.
+    /// 0 done, 2 usage, 3 refused, 4 forged, 5 source, 6 sink, 9 memory, 12 fewer paths.
     pub code: u8,
     pub reader: R,
     pub writer: W,
@@ -52,7 +52,7 @@ pub fn program<R: Read, W: Write>(
         &mut MemoryKeeper::new(),
     );
     Finished {
-        code: outcome.status.code(),
+        code: outcome.into_code(),
         reader: source.into_reader(),
         writer: sink.into_writer(),
     }

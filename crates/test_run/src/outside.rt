@@ -42,9 +42,9 @@ fn replayed(
     let writes = [write.1];
     let mut source = PlannedSource::new(SCHEDULE.as_bytes(), read.0, &reads);
     let mut sink = PlannedSink::new(alloc, write.0, &writes);
-    let outcome = run_over(alloc, "replay", &mut source, &mut sink)?;
+    let left = run_over(alloc, "replay", &mut source, &mut sink)?;
     let is_front = sink.bytes() == front(len);
-    Ok((outcome.status.code(), outcome.world.is_some(), is_front))
+    Ok((left.status, left.lengths.is_some(), is_front))
 }
 
 #[test]

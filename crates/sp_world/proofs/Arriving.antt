@@ -1,0 +1,77 @@
+-- A datagram that arrived at a node among all: it is told, or something of it is forged.
+use Rattle.std.proofs.Common.{◌≡◌, ℕ, true, List, map, Option, None, Some, refl, sym, ap, ◌∙◌, subst, eq-eqb}
+use Rattle.std.proofs.lemmas.Option.{same_Some}
+use Rattle.sp_base.specs.declared.id.NodeId.{NodeId}
+use Rattle.sp_forgery.specs.Found.{Answered, answered}
+use Rattle.sp_journal.specs.declared.entry.Entry.{Entry}
+use Rattle.sp_journal.specs.declared.entry.Reply.TheVariants as replies
+use Rattle.sp_node_core.specs.Format.{format}
+use Rattle.sp_rules.specs.Node.{NodeState, call_refusal}
+use Rattle.sp_rules.specs.Parts.{Fixed}
+use Rattle.sp_rules.specs.Steps.{Datagram}
+use Rattle.sp_rules.specs.declared.node.Step.{Step}
+use Rattle.sp_rules.specs.declared.node.Taken.{Taken}
+use Rattle.sp_runs.specs.Forgery.{forged}
+use Rattle.sp_runs.specs.Journals.{item_word, link_word}
+use Rattle.sp_runs.specs.Scenarios.{setting_of}
+use Rattle.sp_runs.specs.Worlds.{Direction, World, is_me}
+use Rattle.sp_runs.specs.declared.what.What.{What}
+use Rattle.sp_schedule_events.specs.declared.event.Event.{Event}
+use Rattle.sp_schedule_events.specs.declared.scenario.Scenario.{Scenario}
+use Rattle.sp_world.specs.Arrivals.{CanHear, IsFound, IsHeard}
+use Rattle.sp_world.specs.Stands.{world_of}
+use Rattle.sp_world_steps.proofs.Stepping.{fixed_stays}
+use Rattle.sp_world_steps.proofs.Without.{without_is_same}
+use Rattle.sp_world_steps.specs.Gave.{Tells, taken}
+use Rattle.sp_world_steps.specs.Members.{HeardAmong, without_node}
+
+module _ (s : Scenario) (es : List Event) (js : List Entry) (nodes after : List NodeState) (ds : List Direction) (u v : NodeId) (bytes : List ℕ) (step : Step Taken) (len : ℕ) where
+  -- what is judged of any state that took it so
+  abbrev pub IsJudged : Option What → Type 0
+  IsJudged what = (n new : NodeState) (w : World) → n.fixed.me ≡ v → n.fixed.signature_len ≡ len → call_refusal n u ≡ None → w.directions ≡ ds
+      → Answered n u bytes step new → what ≡ forged format (setting_of s) es js w n (Datagram u bytes) (answered n u bytes step)
+
+  same_old : (can : CanHear len nodes v u) → (h : HeardAmong nodes u v bytes step after) → can.call.node ≡ h.old
+  same_old can h = same_Some can.call.node h.old (sym can.call.is_there ∙ h.is_there)
+
+  judged_is : (what : Option What) → (can : CanHear len nodes v u) → (h : HeardAmong nodes u v bytes step after) → IsJudged what
+      → what ≡ forged format (setting_of s) es js (world_of nodes ds) h.old (Datagram u bytes) (taken h.old u bytes step)
+  judged_is what can h judged =
+      let same = same_old can h in
+      judged h.old h.new (world_of nodes ds)
+      (subst (λ (n : NodeState). n.fixed.me ≡ v) same can.me)
+      (subst (λ (n : NodeState). n.fixed.signature_len ≡ len) same can.long)
+      (subst (λ (n : NodeState). call_refusal n u ≡ None) same can.call.answers)
+      refl h.took
+
+  pub is_heard : (entry : Entry) → CanHear len nodes v u → HeardAmong nodes u v bytes step after → IsJudged None
+      → ((n : NodeState) (w : NodeId) (bs : List ℕ) → Tells 0 (taken n w bs step) entry)
+      → IsHeard s es js (world_of nodes ds) u v bytes entry after
+  is_heard entry can h judged tells = record {
+    old = h.old;
+    new = h.new;
+    output = taken h.old u bytes step;
+    is_there = h.is_there;
+    step = h.took;
+    says = tells h.old u bytes s;
+    unforged = sym (judged_is None can h judged);
+    nodes_are = h.nodes_are;
+  }
+
+  pub is_found : (what : What) → CanHear len nodes v u → HeardAmong nodes u v bytes step after → IsJudged (Some what)
+      → IsFound s es js (world_of nodes ds) u v bytes what (without_node after v)
+  is_found what can h judged =
+      let me : h.old.fixed.me ≡ v = subst (λ (n : NodeState). n.fixed.me ≡ v) (same_old can h) can.me in
+      let stays : h.new.fixed.me ≡ h.old.fixed.me = ap (λ (f : Fixed). f.me) (fixed_stays h.old (Datagram u bytes) (taken h.old u bytes step) h.new h.took) in
+      let is : is_me v h.new ≡ true = eq-eqb h.new.fixed.me.0 v.0 (ap (λ (id : NodeId). id.0) (stays ∙ me)) in
+      record {
+        old = h.old;
+        new = h.new;
+        output = taken h.old u bytes step;
+        entry = record { reply = replies.Arrived (link_word step.reply.link) (map item_word step.reply.items); effects = step.effects.list };
+        is_there = h.is_there;
+        step = h.took;
+        says = record { reply = refl; effects = refl };
+        found = sym (judged_is (Some what) can h judged);
+        nodes_are = ap (λ (ns : List NodeState). without_node ns v) h.nodes_are ∙ without_is_same nodes v h.new is;
+      }

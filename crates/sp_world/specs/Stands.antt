@@ -1,0 +1,99 @@
+-- A run, and one more event in its range.
+use Rattle.std.specs.Prelude.{ℕ, ◌≡◌, ◌≤◌, ◌<◌, List, None, Some, length, position}
+use Rattle.sp_base.specs.declared.id.NodeId.{NodeId}
+use Rattle.sp_base.specs.declared.limits.TheConstants.{MAX_EDGES, MAX_EVENTS}
+use Rattle.sp_graph.specs.Edges.{IsGraph}
+use Rattle.sp_journal.specs.declared.entry.Entry.{Entry}
+use Rattle.sp_node_core.specs.Format.{format}
+use Rattle.sp_rules.specs.Node.{NodeState, link_in}
+use Rattle.sp_rules.specs.Steps.{Datagram}
+use Rattle.sp_runs.specs.Inputs.{acting, crafts, input_of}
+use Rattle.sp_runs.specs.Runs.{Clean, InRange, IsCraftOf, IsForgedAt, Turn, forged_in}
+use Rattle.sp_runs.specs.Scenarios.{edge_key, setting_of}
+use Rattle.sp_runs.specs.Settings.{Setting}
+use Rattle.sp_runs.specs.Worlds.{Direction, World, node_in}
+use Rattle.sp_schedule_events.specs.declared.event.Event.{Event}
+use Rattle.sp_schedule_events.specs.declared.event.Event.TheVariants as events
+use Rattle.sp_schedule_events.specs.declared.scenario.Scenario.{Scenario}
+use Rattle.sp_topology.specs.Neighbours.{joins}
+use Rattle.sp_world.specs.Past.{without}
+use Rattle.sp_world.specs.declared.bytes.Came.{Came}
+use Rattle.sp_world.specs.declared.bytes.Came.TheVariants as cames
+use Rattle.sp_world.specs.declared.acts.Done.{Done}
+use Rattle.sp_world.specs.declared.acts.Done.TheVariants as dones
+
+-- nothing is forged in the events so far, they led to this world, and the next one is in its range
+pub record Stands (s : Scenario) (es : List Event) (js : List Entry) (w : World) (event : Event) : Type 0 where
+  pub graph : IsGraph s.graph
+  pub clean : Clean format (setting_of s) es js w
+  pub range : InRange (setting_of s) es event
+  pub few : length es < MAX_EVENTS
+
+-- the nodes and the frames
+abbrev pub world_of : List NodeState → List Direction → World
+world_of nodes directions = record { nodes = nodes; directions = directions }
+
+-- ---- bytes that come
+
+-- bytes come by this event
+abbrev pub IsArrival : Event → Type 0
+IsArrival (events.Pass u v number) = Unit {0}
+IsArrival (events.Flip u v number back bit) = Unit {0}
+IsArrival (events.Inject u v bytes) = Unit {0}
+IsArrival (events.Craft c v key body) = Unit {0}
+IsArrival (events.CraftStatus c v s d base have) = Unit {0}
+IsArrival _ = ⊥
+
+-- the neighbour from whose address they come
+abbrev pub sender : Event → NodeId
+sender (events.Pass u v number) = u
+sender (events.Flip u v number back bit) = u
+sender (events.Inject u v bytes) = u
+sender (events.Craft c v key body) = c
+sender (events.CraftStatus c v s d base have) = c
+sender e = acting e
+
+-- the node is there, in its first life and under the first version of the topology
+pub record IsAtFirst (nodes : List NodeState) (v : NodeId) : Type 0 where
+  pub node : NodeState
+  pub is_there : node_in nodes v ≡ Some node
+  pub me : node.fixed.me ≡ v
+  pub boot : node.fixed.boot ≡ 1
+  pub version : node.fixed.topology.version ≡ 1
+
+-- an edge of the graph joins the two
+pub record IsEdgeOf (s : Scenario) (c v : NodeId) : Type 0 where
+  pub few : length s.graph.edges ≤ MAX_EDGES
+  pub edge : ℕ
+  pub joined : position (joins c.0 v.0) s.graph.edges ≡ Some edge
+
+-- a frame of c for v may be crafted: v tags under the key of their edge
+pub record CanCraft (s : Scenario) (nodes : List NodeState) (c v : NodeId) : Type 0 where
+  pub first : IsAtFirst nodes v
+  pub edge : IsEdgeOf s c v
+  pub keyed : (link_in first.node c).key ≡ edge_key s.seed edge.edge
+
+-- a message was to be crafted, and the signer of its key is spent
+pub record IsSpent (x : Setting) (es : List Event) (event : Event) (total : ℕ) : Type 0 where
+  pub key : NodeId
+  pub is_craft : IsCraftOf key event
+  pub spent : x.total ≤ crafts es key
+  pub total_is : total ≡ x.total
+
+-- these bytes come to the node that acts, or none, as the signer is spent
+abbrev pub Comes : Setting → List Event → World → Event → Came → Type 0
+Comes x es w event (cames.Datagram bytes) =
+    (n : NodeState) → node_in w.nodes (acting event) ≡ Some n → input_of format x es w n event ≡ Some (Datagram (sender event) bytes)
+Comes x es w event (cames.Spent total) = IsSpent x es event total
+
+-- ---- what an event comes to
+
+-- a turn in which nothing is forged
+pub record IsTold (x : Setting) (es : List Event) (js : List Entry) (old : World) (event : Event) (entry : Entry) (new : World) : Type 0 where
+  pub turn : Turn format x es old event entry new
+  pub unforged : forged_in format x es js old event entry new turn ≡ None
+
+-- it is told by its entry, or this of it is forged, and the node that acts is gone
+abbrev pub ComesTo : Setting → List Event → List Entry → World → Event → Done → World → Type 0
+ComesTo x es js old event (dones.Told entry) new = IsTold x es js old event entry new
+ComesTo x es js old event (dones.Forged what) new = IsForgedAt format x es js old event what × (new ≡ without old (acting event))

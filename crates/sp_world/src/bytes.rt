@@ -1,0 +1,122 @@
+// The bytes that the network and the adversary bring.
+ghost use Rattle.std.specs.Prelude.{ℕ, ◌≡◌, ◌≤◌, ◌∷◌, ◌++◌, [], List, IfOk, None as Nothing, OnOk, Some as There, length, option_map};
+ghost use Rattle.sp_adversary.specs.Crafting.{AreAfter};
+ghost use Rattle.sp_runs.specs.Inputs.{flipped};
+ghost use Rattle.sp_runs.specs.Scenarios.{setting_of};
+ghost use Rattle.sp_runs.specs.Worlds.{frame_in};
+ghost use Rattle.sp_world.specs.Stands.{Comes, IsArrival, Stands, sender, world_of};
+
+use crate::crafts::{crafted, status};
+use sp_adversary::{Crafters, flipped};
+use sp_base::{Bytes, Flow, Memory, NodeId};
+use sp_forgery::{Directions, Known};
+use sp_schedule_events::Event;
+use sp_world_steps::Member;
+use std::alloc::Global;
+
+/// What comes to the node that acts.
+#[derive(Debug, Drop)]
+pub enum Came {
+    Datagram(Bytes),
+    /// Nothing: the crafting signer has made all its signatures, so many.
+    Spent { total: u64 },
+}
+
+/// The node from whose address the bytes come.
+pub fn sender(event: &Event) -> NodeId
+    requires { IsArrival event.now }
+    ensures { result ≡ sender event.now }
+{
+    match event {
+        Event::Pass { u, .. } | Event::Flip { u, .. } | Event::Inject { u, .. } => *u,
+        Event::Craft { c, .. } | Event::CraftStatus { c, .. } => *c,
+        _ => unreachable!(),
+    }
+}
+
+/// The bytes of an arrival. The crafting signers go on by its message, if it crafts one.
+#[tactic(auto, using(crate::proofs::Coming::pass_there, crate::proofs::Coming::flip_there, crate::proofs::Coming::flip_long, crate::proofs::Coming::craft_may, crate::proofs::Coming::status_may, crate::proofs::Coming::pass_comes, crate::proofs::Coming::flip_comes, crate::proofs::Crafting::after_other))]
+pub fn bring(
+    alloc: Global,
+    known: &Known<'_>,
+    nodes: &[Member],
+    directions: &Directions,
+    crafters: &mut Crafters,
+    event: &Event,
+) -> Result<Came, Memory>
+    requires arrival { IsArrival event.now }
+    requires stands { Stands known.now.scenario.now known.now.events.now known.now.journal.now (world_of nodes.now directions.now) event.now }
+    requires crafters { AreAfter known.now.scenario.now known.now.events.now crafters.old }
+    ensures comes { IfOk result (λ came. Comes (setting_of known.now.scenario.now) known.now.events.now (world_of nodes.now directions.now) event.now came) }
+    ensures crafters { OnOk result (AreAfter known.now.scenario.now (known.now.events.now ++ event.now ∷ []) crafters.new) }
+{
+    match event {
+        Event::Pass { u, v, number } => {
+            Ok(Came::Datagram(passed(alloc, directions, *u, *v, *number)?))
+        }
+        Event::Flip {
+            u,
+            v,
+            number,
+            back,
+            bit,
+        } => Ok(Came::Datagram(changed(alloc, directions, *u, *v, *number, *back, *bit)?)),
+        Event::Inject { bytes, .. } => { Ok(Came::Datagram(Bytes::copy(alloc, bytes.as_slice())?)) }
+        Event::Craft { c, v, key, body } => {
+            crafted(alloc, known.scenario, nodes, crafters, *c, *v, *key, body)
+        }
+        Event::CraftStatus {
+            c,
+            v,
+            s,
+            d,
+            base,
+            have,
+        } => {
+            let flow = Flow { src: *s, dst: *d };
+            let bytes = status(alloc, known.scenario, nodes, *c, *v, flow, *base, *have)?;
+            Ok(Came::Datagram(bytes))
+        }
+        _ => unreachable!(),
+    }
+}
+
+/// A frame as it was made.
+fn passed(
+    alloc: Global,
+    directions: &Directions,
+    u: NodeId,
+    v: NodeId,
+    number: u32,
+) -> Result<Bytes, Memory>
+    requires there { frame_in directions.now u v number ≡ Nothing → ⊥ }
+    ensures { IfOk result (λ bytes. frame_in directions.now u v number ≡ There bytes) }
+{
+    let Some(frame) = directions.frame(u, v, number) else {
+        unreachable!()
+    };
+    Bytes::copy(alloc, frame.as_slice())
+}
+
+/// A frame with one bit changed.
+fn changed(
+    alloc: Global,
+    directions: &Directions,
+    u: NodeId,
+    v: NodeId,
+    number: u32,
+    back: u8,
+    bit: u8,
+) -> Result<Bytes, Memory>
+    requires there { frame_in directions.now u v number ≡ Nothing → ⊥ }
+    requires long { (frame : List ℕ) → frame_in directions.now u v number ≡ There frame → 64 ≤ length frame }
+    requires some { 1 ≤ back }
+    requires near { back ≤ 64 }
+    requires bit { bit ≤ 7 }
+    ensures { IfOk result (λ bytes. option_map (flipped back bit) (frame_in directions.now u v number) ≡ There bytes) }
+{
+    let Some(frame) = directions.frame(u, v, number) else {
+        unreachable!()
+    };
+    flipped(alloc, frame.as_slice(), back, bit)
+}

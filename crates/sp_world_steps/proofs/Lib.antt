@@ -1,0 +1,4 @@
+pub mod Stepping
+pub mod Among
+pub mod Lengths
+pub mod Without

@@ -1,0 +1,61 @@
+-- One call of one node among all.
+use Rattle.std.specs.Prelude.{ℕ, ◌≡◌, ◌≤◌, List, [], ◌∷◌, None, Some, if◌then◌else◌}
+use Rattle.sp_base.specs.declared.id.NodeId.{NodeId}
+use Rattle.sp_journal.specs.declared.entry.Entry.{Entry}
+use Rattle.sp_node_core.specs.Format.{format}
+use Rattle.sp_node_core.specs.PolledFrames.{most_signature}
+use Rattle.sp_rules.specs.Node.{NodeState, call_refusal}
+use Rattle.sp_rules.specs.Steps.{Frame, NodeStep, Poll, replied}
+use Rattle.sp_rules.specs.declared.node.Step.{Step}
+use Rattle.sp_rules.specs.declared.node.Taken.{Taken}
+use Rattle.sp_runs.specs.Inputs.{acting}
+use Rattle.sp_runs.specs.Worlds.{is_me, node_in, with_node}
+use Rattle.sp_schedule_events.specs.declared.event.Event.{Event}
+use Rattle.sp_world_steps.specs.Asks.{GaveAnswer, MayAsk}
+use Rattle.sp_world_steps.specs.Gave.{GaveTaken}
+
+-- the nodes without this one
+abbrev pub without_node : List NodeState → NodeId → List NodeState
+without_node [] u = []
+without_node (n ∷ nodes) u = if is_me u n then nodes else n ∷ without_node nodes u
+
+-- ---- before
+
+-- the node that acts is there, and this may be asked of it
+pub record CanAsk (nodes : List NodeState) (event : Event) : Type 0 where
+  pub node : NodeState
+  pub is_there : node_in nodes (acting event) ≡ Some node
+  pub may : MayAsk node event
+
+-- the node is there, answers this neighbour, and its signatures are those of this format
+pub record CanCall (nodes : List NodeState) (u neighbour : NodeId) : Type 0 where
+  pub node : NodeState
+  pub is_there : node_in nodes u ≡ Some node
+  pub answers : call_refusal node neighbour ≡ None
+  pub short : node.fixed.signature_len ≤ most_signature
+
+-- ---- after. All other nodes stay as they are
+
+-- something was asked of the node that acts
+pub record AskedAmong (nodes : List NodeState) (event : Event) (entry : Entry) (after : List NodeState) : Type 0 where
+  pub old : NodeState
+  pub new : NodeState
+  pub is_there : node_in nodes (acting event) ≡ Some old
+  pub gave : GaveAnswer old event entry new
+  pub nodes_are : after ≡ with_node nodes (acting event) new
+
+-- u made its next frame for v
+pub record PolledAmong (nodes : List NodeState) (u v : NodeId) (bytes : List ℕ) (after : List NodeState) : Type 0 where
+  pub old : NodeState
+  pub new : NodeState
+  pub is_there : node_in nodes u ≡ Some old
+  pub step : NodeStep format old (Poll v) (replied (Frame bytes)) new
+  pub nodes_are : after ≡ with_node nodes u new
+
+-- v took what came from u
+pub record HeardAmong (nodes : List NodeState) (u v : NodeId) (bytes : List ℕ) (step : Step Taken) (after : List NodeState) : Type 0 where
+  pub old : NodeState
+  pub new : NodeState
+  pub is_there : node_in nodes v ≡ Some old
+  pub took : GaveTaken old u bytes step new
+  pub nodes_are : after ≡ with_node nodes v new

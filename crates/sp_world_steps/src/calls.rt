@@ -1,0 +1,185 @@
+// Each call of a node, with the entry that tells it.
+ghost use Rattle.std.specs.Prelude.{◌≡◌, ◌≢◌, ◌≤◌, IfErr, IfOk, None as Nothing, Option, Some as There, length};
+ghost use Rattle.sp_base.specs.declared.limits.TheConstants.{MAX_PAYLOAD_BYTES, MAX_PRIORITY, MAX_WEIGHT};
+ghost use Rattle.sp_msg.specs.declared.refused.SendRefused as sends;
+ghost use Rattle.sp_frame.specs.declared.frame.TheConstants.{MAX_FRAME_BYTES};
+ghost use Rattle.sp_node_core.specs.Format.{format};
+ghost use Rattle.sp_node_core.specs.PolledFrames.{most_signature};
+ghost use Rattle.sp_node_state.specs.Sends.{Sends};
+ghost use Rattle.sp_paths.specs.declared.limits.TheConstants.{MAX_PATHS};
+ghost use Rattle.sp_rules.specs.Node.{NodeState, call_refusal};
+ghost use Rattle.sp_rules.specs.Steps.{Frame, Input, NodeStep, Poll, SendPrio, SendRel, SetWeight, TakePrio, TakeRel, Tick, replied};
+ghost use Rattle.sp_runs.specs.Journals.{body_word, refused_word};
+ghost use Rattle.sp_world_steps.specs.Gave.{Gave, GaveTaken, HasWords};
+
+use crate::entries::{quiet, told};
+use crate::words::{refused_word, tick_word};
+use sp_base::{Bytes, Listed, Memory, NodeId, push_in_room};
+use sp_journal::{Entry, Reply};
+use sp_msg::{Body, Effect, Kept, Prio, SendRefused, Why};
+use sp_node::Node;
+use sp_rules::{Step, Taken};
+use std::alloc::Global;
+
+/// The entry of a send.
+#[tactic(auto, using(crate::proofs::Stepping::gave_by_send))]
+fn sent(alloc: Global, done: Result<Step<u64>, SendRefused>) -> Result<Entry, Memory>
+    requires words { IfErr done (λ refused. refused ≢ SendRefused.Memory → refused_word refused ≡ Nothing → ⊥) }
+    ensures { (input : Input) (refusal : Option sends.SendRefused) (old new : NodeState) → Sends input refusal old done new → IfOk result (λ entry. Gave old input entry new) }
+{
+    match done {
+        Ok(Step { reply, effects }) => Ok(told(Reply::Accepted { seq: reply }, effects)),
+        Err(SendRefused::Memory) => Err(Memory),
+        Err(refused) => Ok(quiet(alloc, refused_word(refused))),
+    }
+}
+
+/// A client sends a reliable message.
+#[tactic(auto, using(crate::proofs::Stepping::fixed_by_send, crate::proofs::Stepping::words_by_send))]
+pub fn rel(alloc: Global, node: &mut Node, d: NodeId, payload: &[u8]) -> Result<Entry, Memory>
+    requires short { length payload.now ≤ MAX_PAYLOAD_BYTES }
+    requires words { HasWords node.old.state (SendRel d payload.now) }
+    ensures gave { IfOk result (λ entry. Gave node.old.state (SendRel d payload.now) entry node.new.state) }
+    ensures fixed { node.new.state.fixed ≡ node.old.state.fixed }
+{
+    let done = node.send_rel(alloc, d, payload);
+    sent(alloc, done)
+}
+
+/// A client sends a priority message.
+#[tactic(auto, using(crate::proofs::Stepping::fixed_by_send, crate::proofs::Stepping::words_by_send))]
+pub fn prio(
+    alloc: Global,
+    node: &mut Node,
+    d: NodeId,
+    prio: u8,
+    expiry: u64,
+    paths: u8,
+    payload: &[u8],
+) -> Result<Entry, Memory>
+    requires prio { (1 ≤ prio) × (prio ≤ MAX_PRIORITY) }
+    requires few { paths ≤ MAX_PATHS }
+    requires short { length payload.now ≤ MAX_PAYLOAD_BYTES }
+    requires words { HasWords node.old.state (SendPrio (record { dst = d; prio = prio; expiry = expiry; paths = paths; payload = payload.now })) }
+    ensures gave { IfOk result (λ entry. Gave node.old.state (SendPrio (record { dst = d; prio = prio; expiry = expiry; paths = paths; payload = payload.now })) entry node.new.state) }
+    ensures fixed { node.new.state.fixed ≡ node.old.state.fixed }
+{
+    let done = node.send_prio(alloc, d, prio, expiry, paths, payload);
+    sent(alloc, done)
+}
+
+/// An administrator sets the weight of a link.
+#[tactic(auto, using(crate::proofs::Stepping::fixed_by_send, crate::proofs::Stepping::words_by_send))]
+pub fn weight(alloc: Global, node: &mut Node, v: NodeId, weight: u32) -> Result<Entry, Memory>
+    requires least { 1 ≤ weight }
+    requires most { weight ≤ MAX_WEIGHT }
+    requires words { HasWords node.old.state (SetWeight v weight) }
+    ensures gave { IfOk result (λ entry. Gave node.old.state (SetWeight v weight) entry node.new.state) }
+    ensures fixed { node.new.state.fixed ≡ node.old.state.fixed }
+{
+    let done = node.set_weight(alloc, v, weight);
+    sent(alloc, done)
+}
+
+/// A client takes the oldest message of the flow from `s`. It takes no memory.
+#[tactic(auto, using(crate::proofs::Stepping::fixed_by_take_rel))]
+pub fn take(alloc: Global, node: &mut Node, s: NodeId) -> Entry
+    ensures gave { Gave node.old.state (TakeRel s) result node.new.state }
+    ensures fixed { node.new.state.fixed ≡ node.old.state.fixed }
+{
+    match node.take_rel(s) {
+        Some(payload) => quiet(alloc, Reply::Payload(payload)),
+        None => quiet(alloc, Reply::Empty),
+    }
+}
+
+/// A client takes the oldest priority message. The room for its one effect is taken first.
+#[tactic(auto, using(crate::proofs::Stepping::fixed_by_take_prio, crate::proofs::Stepping::words_by_take_prio))]
+pub fn take_prio(alloc: Global, node: &mut Node) -> Result<Entry, Memory>
+    requires words { HasWords node.old.state TakePrio }
+    ensures gave { IfOk result (λ entry. Gave node.old.state TakePrio entry node.new.state) }
+    ensures fixed { node.new.state.fixed ≡ node.old.state.fixed }
+{
+    let mut effects = Vec::with_capacity(alloc, 1)?;
+    let Some(entry) = node.take_prio() else {
+        return Ok(quiet(alloc, Reply::Empty));
+    };
+    let sp_rules::Entry { id, kept } = entry;
+    push_in_room(
+        &mut effects,
+        Effect::Gone {
+            place: 0,
+            id,
+            why: Why::Taken,
+        },
+    );
+    Ok(Entry {
+        reply: payload_word(kept),
+        effects: Listed::from_vec(effects),
+    })
+}
+
+/// The words of a priority message that was taken.
+fn payload_word(kept: Kept) -> Reply
+    requires { body_word kept.body ≡ Nothing → ⊥ }
+    ensures { body_word kept.body ≡ There result }
+{
+    let Kept { body, .. } = kept;
+    match body {
+        Body::Prio(
+            Prio {
+                src,
+                seq,
+                payload,
+                ..
+            },
+        ) => Reply::PayloadPrio { src, seq, payload },
+        _ => unreachable!(),
+    }
+}
+
+/// The clock says so.
+#[tactic(auto, using(crate::proofs::Stepping::fixed_by_tick))]
+pub fn tick(alloc: Global, node: &mut Node, now: u64) -> Result<Entry, Memory>
+    ensures gave { IfOk result (λ entry. Gave node.old.state (Tick now) entry node.new.state) }
+    ensures fixed { node.new.state.fixed ≡ node.old.state.fixed }
+{
+    match node.tick(alloc, now) {
+        Ok(Step { reply, effects }) => Ok(told(tick_word(reply), effects)),
+        Err(_) => Err(Memory),
+    }
+}
+
+/// The next frame to a neighbour.
+#[tactic(auto, using(crate::proofs::Stepping::fixed_by_poll, crate::proofs::Lengths::polled_is_short))]
+pub fn poll(alloc: Global, node: &mut Node, v: NodeId) -> Result<Bytes, Memory>
+    requires answered { call_refusal node.old.state v ≡ Nothing }
+    requires short { node.old.state.fixed.signature_len ≤ most_signature }
+    ensures step { IfOk result (λ bytes. NodeStep format node.old.state (Poll v) (replied (Frame bytes)) node.new.state) }
+    ensures long { IfOk result (λ bytes. length bytes ≤ MAX_FRAME_BYTES) }
+    ensures fixed { node.new.state.fixed ≡ node.old.state.fixed }
+{
+    node.is_kept();
+    match node.poll(alloc, v) {
+        Ok(bytes) => Ok(bytes),
+        Err(_) => Err(Memory),
+    }
+}
+
+/// A datagram arrives.
+#[tactic(auto, using(crate::proofs::Stepping::fixed_by_datagram))]
+pub fn datagram(
+    alloc: Global,
+    node: &mut Node,
+    u: NodeId,
+    bytes: &[u8],
+) -> Result<Step<Taken>, Memory>
+    requires answered { call_refusal node.old.state u ≡ Nothing }
+    ensures step { IfOk result (λ step. GaveTaken node.old.state u bytes.now step node.new.state) }
+    ensures fixed { node.new.state.fixed ≡ node.old.state.fixed }
+{
+    match node.datagram(alloc, u, bytes) {
+        Ok(step) => Ok(step),
+        Err(_) => Err(Memory),
+    }
+}

@@ -1,0 +1,12 @@
+//! The correct nodes of a run among one another: each call of one of them, with the entry that tells it in a journal.
+#![tactic(auto)]
+
+mod calls;
+mod entries;
+mod member;
+mod members;
+mod words;
+
+pub use entries::{arrived, frame, spent};
+pub use member::Member;
+pub use members::{ask, forget, hear, member_of, poll};

@@ -1,0 +1,89 @@
+// One node among all, each by its place.
+ghost use Rattle.std.specs.Prelude.{◌≡◌, ◌≤◌, IfOk, length, option_map, position};
+ghost use Rattle.sp_frame.specs.declared.frame.TheConstants.{MAX_FRAME_BYTES};
+ghost use Rattle.sp_runs.specs.Inputs.{acting};
+ghost use Rattle.sp_runs.specs.Worlds.{is_me, node_in};
+ghost use Rattle.sp_world_steps.specs.Members.{AskedAmong, CanAsk, CanCall, HeardAmong, PolledAmong, without_node};
+
+use crate::Member;
+use sp_base::{Bytes, Memory, NodeId};
+use sp_journal::Entry;
+use sp_rules::{Step, Taken};
+use sp_schedule_events::Event;
+use std::alloc::Global;
+
+/// Where a node stands among these.
+pub fn place_of(nodes: &[Member], u: NodeId) -> Option<usize>
+    ensures { result ≡ position (is_me u) nodes.now }
+{
+    nodes.iter().position(|member| member.id().0 == u.0)
+}
+
+/// The node of this id among these.
+pub fn member_of(nodes: &[Member], u: NodeId) -> Option<&Member>
+    ensures { option_map (λ m. m.now) result ≡ node_in nodes.now u }
+{
+    nodes.iter().find(|member| member.id().0 == u.0)
+}
+
+/// A client or the clock asks something of the node `u`, which acts.
+#[tactic(auto, using(sp_base::proofs::RowLemmas::placed, crate::proofs::Among::asked_at, crate::proofs::Among::asked_has_place, crate::proofs::Among::may_ask_at))]
+pub fn ask(
+    alloc: Global,
+    nodes: &mut Vec<Member>,
+    u: NodeId,
+    event: &Event,
+) -> Result<Entry, Memory>
+    requires acts { u ≡ acting event.now }
+    requires can { CanAsk nodes.old.items event.now }
+    ensures { IfOk result (λ entry. AskedAmong nodes.old.items event.now entry nodes.new.items) }
+{
+    let Some(place) = place_of(nodes, u) else {
+        unreachable!()
+    };
+    let member = &mut nodes[place];
+    member.ask(alloc, event)
+}
+
+/// The node `u` makes its next frame for its neighbour `v`.
+#[tactic(auto, using(sp_base::proofs::RowLemmas::placed, crate::proofs::Among::polled_at, crate::proofs::Among::called_has_place, crate::proofs::Among::answers_at, crate::proofs::Among::short_at))]
+pub fn poll(alloc: Global, nodes: &mut Vec<Member>, u: NodeId, v: NodeId) -> Result<Bytes, Memory>
+    requires can { CanCall nodes.old.items u v }
+    ensures polled { IfOk result (λ bytes. PolledAmong nodes.old.items u v bytes nodes.new.items) }
+    ensures long { IfOk result (λ bytes. length bytes ≤ MAX_FRAME_BYTES) }
+{
+    let Some(place) = place_of(nodes, u) else {
+        unreachable!()
+    };
+    let member = &mut nodes[place];
+    member.poll(alloc, v)
+}
+
+/// The node `v` takes what came from its neighbour `u`.
+#[tactic(auto, using(sp_base::proofs::RowLemmas::placed, crate::proofs::Among::heard_at, crate::proofs::Among::called_has_place, crate::proofs::Among::answers_at))]
+pub fn hear(
+    alloc: Global,
+    nodes: &mut Vec<Member>,
+    u: NodeId,
+    v: NodeId,
+    bytes: &[u8],
+) -> Result<Step<Taken>, Memory>
+    requires can { CanCall nodes.old.items v u }
+    ensures { IfOk result (λ step. HeardAmong nodes.old.items u v bytes.now step nodes.new.items) }
+{
+    let Some(place) = place_of(nodes, v) else {
+        unreachable!()
+    };
+    let member = &mut nodes[place];
+    member.datagram(alloc, u, bytes)
+}
+
+/// The node is gone, and the others stay. It takes no memory.
+#[tactic(auto, using(crate::proofs::Without::removed_at, crate::proofs::Without::none_removed))]
+pub fn forget(nodes: &mut Vec<Member>, u: NodeId)
+    ensures { nodes.new.items ≡ without_node nodes.old.items u }
+{
+    if let Some(place) = place_of(nodes, u) {
+        drop(nodes.remove(place));
+    }
+}
