@@ -1,0 +1,10 @@
+pub mod Walks
+pub mod Nodes
+pub mod ShareLemmas
+pub mod Steps
+pub mod Judged
+pub mod SweepLemmas
+pub mod FlowLemmas
+pub mod PathLemmas
+pub mod Hops
+pub mod Greedy

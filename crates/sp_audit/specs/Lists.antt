@@ -1,0 +1,14 @@
+-- Lists of the effects of one node, as the auditor walks them.
+use Rattle.std.specs.Prelude.{ℕ, List, map}
+use Rattle.std.specs.List.{flat_map}
+use Rattle.sp_base.specs.declared.id.NodeId.{NodeId}
+use Rattle.sp_msg.specs.declared.effect.Effect.{Effect}
+use Rattle.sp_runs.specs.Told.{Message, delivered_by, prio_by}
+
+-- the deliveries of what came from s
+abbrev pub deliveries : NodeId → List Effect → List Message
+deliveries s effects = flat_map (delivered_by s) effects
+
+-- the numbers of the priority deliveries of what came from s
+abbrev pub numbers : NodeId → List Effect → List ℕ
+numbers s effects = map (λ m. m.0) (flat_map (prio_by s) effects)

@@ -1,0 +1,169 @@
+// Whether the effects of an event break no promise, by the lists that they change.
+ghost use Rattle.std.specs.Prelude.{◌≡◌, ◌<◌, ◌≤◌, ◌+◌, ◌↔◌, IfOk, IsTrue, drop, length, map, take};
+ghost use Rattle.std.specs.List.{flat_map};
+ghost use Rattle.laws_runs.specs.Priority.{AreOnce};
+ghost use Rattle.sp_audit.specs.Good.{IsGood};
+ghost use Rattle.sp_audit.specs.Holds.{EachHolds, EffectHolds};
+ghost use Rattle.sp_audit.specs.Lists.{numbers};
+ghost use Rattle.sp_base.specs.Lists.{IsPrefix};
+ghost use Rattle.sp_msg.specs.declared.effect.Effect.TheVariants as effects;
+ghost use Rattle.sp_runs.specs.Held.{ShareIf, held_in};
+ghost use Rattle.sp_runs.specs.Scenarios.{setting_of};
+ghost use Rattle.sp_runs.specs.Settings.{is_correct};
+ghost use Rattle.sp_runs.specs.Told.{delivered_by, sent};
+
+use crate::correct::is_correct;
+use crate::lists::{acting, effects_of, held_of, numbers_of};
+use crate::messages::{delivered_of, is_prefix, sent_of};
+use crate::once::are_once;
+use crate::share::is_share;
+use sp_base::{Memory, NodeId};
+use sp_journal::Entry;
+use sp_msg::{Effect, Why};
+use sp_schedule_events::{Event, Scenario};
+use std::alloc::Global;
+
+/// Whether the event at this place breaks no promise, where those before it broke none.
+pub fn event_holds(
+    alloc: Global,
+    scenario: &Scenario,
+    events: &[Event],
+    journal: &[Entry],
+    place: usize,
+) -> Result<bool, Memory>
+    requires even { length events.now ≡ length journal.now }
+    requires there { place < length events.now }
+    ensures { IfOk result (λ holds. IsGood (setting_of scenario.now) (take place events.now) (take place journal.now)
+        → (IsTrue holds ↔ IsGood (setting_of scenario.now) (take (place + 1) events.now) (take (place + 1) journal.now))) }
+{
+    let u = acting(&events[place]);
+    let caused = journal[place].effects.as_slice().len();
+    let (past, told) = (&events[..place + 1], &journal[..place + 1]);
+    let all = effects_of(alloc, past, told, u)?;
+    let from = all.len().saturating_sub(caused);
+    each_holds(alloc, scenario, past, told, u, all.as_slice(), from)
+}
+
+/// Whether each effect of `u` from this place on holds.
+fn each_holds(
+    alloc: Global,
+    scenario: &Scenario,
+    events: &[Event],
+    journal: &[Entry],
+    u: NodeId,
+    all: &[&Effect],
+    from: usize,
+) -> Result<bool, Memory>
+    requires even { length events.now ≡ length journal.now }
+    requires within { from ≤ length all.now }
+    ensures { IfOk result (λ holds. IsTrue holds ↔ EachHolds (setting_of scenario.now) events.now journal.now u (map (λ e. e.now) all.now)
+        (map (λ e. e.now) (take from all.now)) (map (λ e. e.now) (drop from all.now))) }
+{
+    'effects: for place in from..all.len() {
+        let (before, effect) = (&all[..place], all[place]);
+        if !effect_holds(alloc, scenario, events, journal, u, all, before, effect)? {
+            return Ok(false);
+        }
+    }
+    Ok(true)
+}
+
+/// Whether an effect of `u` holds, of which these are all effects, and those before it.
+fn effect_holds(
+    alloc: Global,
+    scenario: &Scenario,
+    events: &[Event],
+    journal: &[Entry],
+    u: NodeId,
+    all: &[&Effect],
+    before: &[&Effect],
+    effect: &Effect,
+) -> Result<bool, Memory>
+    requires { length events.now ≡ length journal.now }
+    ensures { IfOk result (λ holds. IsTrue holds ↔ EffectHolds (setting_of scenario.now) events.now journal.now u (map (λ e. e.now) all.now)
+        (map (λ e. e.now) before.now) effect.now) }
+{
+    match effect {
+        Effect::Delivered { src, .. } => {
+            keeps_order(alloc, scenario, events, journal, all, *src, u)
+        }
+        Effect::DeliveredPrio { src, .. } => comes_once(alloc, scenario, all, *src, u),
+        Effect::Stored { place, .. } => has_room(alloc, scenario, all, *place),
+        Effect::Gone { place, id, why } => {
+            goes_rightly(alloc, scenario, all, before, *place, *id, *why)
+        }
+        _ => Ok(true),
+    }
+}
+
+/// Whether what came from `s` to `u` is a prefix of what was sent, where both are correct.
+fn keeps_order(
+    alloc: Global,
+    scenario: &Scenario,
+    events: &[Event],
+    journal: &[Entry],
+    all: &[&Effect],
+    s: NodeId,
+    u: NodeId,
+) -> Result<bool, Memory>
+    requires { length events.now ≡ length journal.now }
+    ensures { IfOk result (λ holds. IsTrue holds ↔ (IsTrue (is_correct (setting_of scenario.now) s) → IsTrue (is_correct (setting_of scenario.now) u)
+        → IsPrefix (flat_map (delivered_by s) (map (λ e. e.now) all.now)) (sent events.now journal.now s u))) }
+{
+    if !is_correct(scenario, s) || !is_correct(scenario, u) {
+        return Ok(true);
+    }
+    let delivered = delivered_of(alloc, all, s)?;
+    let sent = sent_of(alloc, events, journal, s, u)?;
+    Ok(is_prefix(delivered.as_slice(), sent.as_slice()))
+}
+
+/// Whether no priority message from `s` came twice to `u`, where `u` is correct.
+fn comes_once(
+    alloc: Global,
+    scenario: &Scenario,
+    all: &[&Effect],
+    s: NodeId,
+    u: NodeId,
+) -> Result<bool, Memory>
+    ensures { IfOk result (λ holds. IsTrue holds ↔ (IsTrue (is_correct (setting_of scenario.now) u) → AreOnce (numbers s (map (λ e. e.now) all.now)))) }
+{
+    if !is_correct(scenario, u) {
+        return Ok(true);
+    }
+    let numbers = numbers_of(alloc, all, s)?;
+    Ok(are_once(numbers.as_slice()))
+}
+
+/// Whether the place holds no more than its capacity.
+fn has_room(alloc: Global, scenario: &Scenario, all: &[&Effect], place: u8) -> Result<bool, Memory>
+    ensures { IfOk result (λ holds. IsTrue holds ↔ (length (held_in place (map (λ e. e.now) all.now)) ≤ scenario.now.limits.store)) }
+{
+    let held = held_of(alloc, all, place)?;
+    Ok(held.len() <= usize::from(scenario.limits.store))
+}
+
+/// And whether an eviction leaves its share.
+fn goes_rightly(
+    alloc: Global,
+    scenario: &Scenario,
+    all: &[&Effect],
+    before: &[&Effect],
+    place: u8,
+    id: u64,
+    why: Why,
+) -> Result<bool, Memory>
+    ensures { IfOk result (λ holds. IsTrue holds ↔ ((length (held_in place (map (λ e. e.now) all.now)) ≤ scenario.now.limits.store)
+        × ShareIf scenario.now.limits.store place (held_in place (map (λ e. e.now) before.now)) (effects.Gone place id why))) }
+{
+    if !has_room(alloc, scenario, all, place)? {
+        return Ok(false);
+    }
+    match why {
+        Why::Evicted => {
+            let held = held_of(alloc, before, place)?;
+            Ok(is_share(scenario.limits.store, held.as_slice(), id))
+        }
+        _ => Ok(true),
+    }
+}

@@ -1,0 +1,20 @@
+//! An auditor for anybody's run: it judges events and their journal by the definitions alone.
+#![tactic(auto)]
+
+mod correct;
+mod counted;
+mod flows;
+mod holds;
+mod lists;
+mod messages;
+mod once;
+mod path;
+mod refused;
+mod share;
+mod sweeps;
+mod whole;
+
+pub use counted::rounds;
+pub use flows::flow_count;
+pub use refused::AuditRefused;
+pub use whole::audit;

@@ -1,0 +1,5 @@
+pub mod Turns
+pub mod Follows
+pub mod HeaderLemmas
+pub mod Open
+pub mod Schedules
