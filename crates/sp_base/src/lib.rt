@@ -6,6 +6,7 @@ mod id;
 mod limits;
 mod listed;
 mod memory;
+mod numbers;
 mod reader;
 mod room;
 
@@ -17,5 +18,6 @@ pub use limits::{
 };
 pub use listed::{Bytes, Listed};
 pub use memory::Memory;
+pub use numbers::{push_bytes, push_u8, push_u16, push_u32, push_u64, push_u128};
 pub use reader::{Reader, Short};
 pub use room::{push, push_in_room};

@@ -3,16 +3,14 @@ ghost use Rattle.std.specs.Prelude.{◌≡◌, ◌<◌, ◌≤◌, ◌∷◌, �
 
 use crate::Memory;
 
-/// Appends an item where the vector has room for one more. It takes no memory.
+/// Appends an item where the vector has room for one more. It takes no memory, and the vector's room stays what it is.
 pub fn push_in_room<T: Drop>(items: &mut Vec<T>, item: T)
     requires { vec_len items.old < vec_capacity items.old }
     ensures items { items.new.items ≡ items.old.items ++ item ∷ [] }
     ensures capacity { vec_capacity items.old ≤ vec_capacity items.new }
+    ensures exact { vec_capacity items.new ≡ vec_capacity items.old }
 {
-    match items.push(item) {
-        Ok(()) => {}
-        Err(_) => unreachable!(),
-    }
+    items.push_reserved(item);
 }
 
 /// Appends an item. It is refused for want of memory alone, and then nothing has changed.

@@ -8,6 +8,7 @@ use Rattle.sp_node_core.specs.Format.{format}
 use Rattle.sp_msg.specs.Caused.{Caused}
 use Rattle.sp_msg.specs.declared.refused.SendRefused.{SendRefused}
 use Rattle.sp_msg.specs.declared.refused.SendRefused.TheVariants as refusals
+use Rattle.sp_node.specs.Life.{IsIdle}
 use Rattle.sp_node_state.specs.Sends.{Sends}
 use Rattle.sp_rules.specs.Node.{NodeState}
 use Rattle.sp_rules.specs.Steps.{Input, NodeStep, Refused, accepted, replied}
@@ -16,10 +17,11 @@ use Rattle.sp_client_node.specs.Kept.{Keeps}
 use Rattle.sp_client_node.specs.Steps.{AnswersBy, IsSend, caused_in}
 use Rattle.sp_client_node.specs.declared.local.LocalNode.{LocalNode}
 
-same_local : (old new : LocalNode) → new.node.state ≡ old.node.state → new.node.checks ≡ old.node.checks → new.effects ≡ old.effects → new ≡ old
-same_local old new state checks effects =
-    ap (λ (n : NodeState). record new { node = record { state = n; checks = new.node.checks } }) state
-    ∙ ap (λ (k : ℕ). record new { node = record { state = old.node.state; checks = k } }) checks
+same_local : (old new : LocalNode) → new.node.state ≡ old.node.state → IsIdle old.node new.node → new.effects ≡ old.effects → new ≡ old
+same_local old new state idle effects =
+    ap (λ (n : NodeState). record new { node = record { state = n; checks = new.node.checks; tags = new.node.tags } }) state
+    ∙ ap (λ (k : ℕ). record new { node = record { state = old.node.state; checks = k; tags = new.node.tags } }) idle.checks
+    ∙ ap (λ (k : ℕ). record new { node = record { state = old.node.state; checks = old.node.checks; tags = k } }) idle.tags
     ∙ ap (λ (e : Option Caused). record old { effects = e }) effects
 
 refused_is : (old new : LocalNode) (input : Input) (command : Command) (answer : Result ℕ SendRefused) (e : SendRefused) (a : Answer)
@@ -31,7 +33,7 @@ refused_is old new input command answer e a hands step is told none =
 
 pub send_steps : (old new : LocalNode) (input : Input) (command : Command) (refusal : Option SendRefused) (call : Result (Step ℕ) SendRefused)
     (answer : Result ℕ SendRefused) → ((a : Answer) → IsSend old input a new → AnswersBy old command a new)
-    → Sends input refusal old.node.state call new.node.state → new.node.checks ≡ old.node.checks → Keeps old.effects call answer new.effects → StepsBy AnswersBy old command (sent answer) new
+    → Sends input refusal old.node.state call new.node.state → IsIdle old.node new.node → Keeps old.effects call answer new.effects → StepsBy AnswersBy old command (sent answer) new
 send_steps old new input command refusal (Ok step) answer hands is work keeps =
     subst (λ (r : Result ℕ SendRefused). StepsBy AnswersBy old command (sent r) new) (sym keeps.0)
     (hands (answers.Accepted step.reply) (record { output = accepted step.reply step.effects.list; step = is; told = refl; caused = ap caused_in keeps.1 }))

@@ -7,6 +7,7 @@ mod head;
 mod judging;
 mod kind;
 mod laws;
+mod lengths;
 mod object;
 mod refused;
 mod sections;

@@ -1,6 +1,5 @@
-// A frame, written into memory that is taken at once.
-ghost use Rattle.std.specs.Prelude.{◌≡◌, ◌≤◌, ◌∷◌, ◌++◌, length, IfOk, IfSome, OnOk, option_map, replicate};
-ghost use Rattle.byteorder.specs.Endian.{big_bytes};
+// A frame, written into memory that is taken at once: its whole room first, and then each part into room that is there.
+ghost use Rattle.std.specs.Prelude.{◌≡◌, ◌+◌, ◌≤◌, ◌++◌, length, IfOk, IfSome, option_map, replicate, vec_capacity, vec_len};
 ghost use Rattle.sp_frame.specs.Frames.{ends_bytes, frame_bytes, head_bytes, numbers_bytes};
 ghost use Rattle.sp_frame.specs.Objects.{object_bytes};
 ghost use Rattle.sp_frame.specs.Prioritized.{prios_bytes};
@@ -11,7 +10,8 @@ ghost use Rattle.sp_frame.specs.Writing.{IsWritable, IsWritableSlot, out_report}
 
 use crate::Head;
 use crate::frame::{HEAD_BYTES, NAME, TAG_BYTES, VERSION};
-use sp_base::{Bytes, Flow, Memory};
+use crate::lengths::{PRIO_ACK_BYTES, prio_len, slot_len, weight_len};
+use sp_base::{Bytes, Flow, Memory, push_bytes, push_u8, push_u16, push_u32, push_u64};
 use sp_msg::{Kept, encoded_len, push_body};
 use std::alloc::Global;
 
@@ -45,200 +45,174 @@ pub fn write(
       slot = option_map (λ s. out_report s.now) slot.entry;
     }) (replicate 32 0)) }
 {
-    let room = HEAD_BYTES + counted_len(weight) + 8 + prio_len(prio) + slot_len(slot) + TAG_BYTES;
-    let mut out = Vec::with_capacity(alloc, room)?;
-    push_head(&mut out, head)?;
-    push_weight(&mut out, weight)?;
-    push_u64(&mut out, prio_ack)?;
-    push_prio(&mut out, prio)?;
-    push_slot(&mut out, slot)?;
-    out.extend_from_slice(&[0u8; TAG_BYTES])?;
+    let parts = weight_len(weight) + PRIO_ACK_BYTES + prio_len(prio) + slot_len(slot);
+    let mut out = Vec::with_capacity(alloc, HEAD_BYTES + parts + TAG_BYTES)?;
+    push_head(&mut out, head);
+    push_weight(&mut out, weight);
+    push_u64(&mut out, prio_ack);
+    push_prio(&mut out, prio);
+    push_slot(&mut out, slot);
+    push_bytes(&mut out, &[0u8; TAG_BYTES]);
     Ok(Bytes::from_vec(out))
 }
 
 #[tactic(auto, unfolding(crate::specs::Frames::head_bytes))]
-fn push_head(out: &mut Vec<u8>, head: &Head) -> Result<(), Memory>
-    ensures { OnOk result (out.new.items ≡ out.old.items ++ head_bytes head.now) }
+fn push_head(out: &mut Vec<u8>, head: &Head)
+    requires { vec_len out.old + length (head_bytes head.now) ≤ vec_capacity out.old }
+    ensures bytes { out.new.items ≡ out.old.items ++ head_bytes head.now }
+    ensures len { vec_len out.new ≡ vec_len out.old + length (head_bytes head.now) }
+    ensures capacity { vec_capacity out.old ≤ vec_capacity out.new }
 {
-    push_ends(out, head)?;
-    push_numbers(out, head)
+    push_ends(out, head);
+    push_numbers(out, head);
 }
 
 #[tactic(auto, unfolding(crate::specs::Frames::ends_bytes))]
-fn push_ends(out: &mut Vec<u8>, head: &Head) -> Result<(), Memory>
-    ensures { OnOk result (out.new.items ≡ out.old.items ++ ends_bytes head.now) }
+fn push_ends(out: &mut Vec<u8>, head: &Head)
+    requires { vec_len out.old + length (ends_bytes head.now) ≤ vec_capacity out.old }
+    ensures bytes { out.new.items ≡ out.old.items ++ ends_bytes head.now }
+    ensures len { vec_len out.new ≡ vec_len out.old + length (ends_bytes head.now) }
+    ensures capacity { vec_capacity out.old ≤ vec_capacity out.new }
 {
-    push_u16(out, NAME)?;
-    push_u8(out, VERSION)?;
-    push_u8(out, head.from.0)?;
-    push_u8(out, head.to.0)
+    push_u16(out, NAME);
+    push_u8(out, VERSION);
+    push_u8(out, head.from.0);
+    push_u8(out, head.to.0);
 }
 
 #[tactic(auto, unfolding(crate::specs::Frames::numbers_bytes))]
-fn push_numbers(out: &mut Vec<u8>, head: &Head) -> Result<(), Memory>
-    ensures { OnOk result (out.new.items ≡ out.old.items ++ numbers_bytes head.now) }
+fn push_numbers(out: &mut Vec<u8>, head: &Head)
+    requires { vec_len out.old + length (numbers_bytes head.now) ≤ vec_capacity out.old }
+    ensures bytes { out.new.items ≡ out.old.items ++ numbers_bytes head.now }
+    ensures len { vec_len out.new ≡ vec_len out.old + length (numbers_bytes head.now) }
+    ensures capacity { vec_capacity out.old ≤ vec_capacity out.new }
 {
-    push_u64(out, head.boot)?;
-    push_u64(out, head.echo)?;
-    push_u64(out, head.counter)?;
-    push_u32(out, head.topology)
+    push_u64(out, head.boot);
+    push_u64(out, head.echo);
+    push_u64(out, head.counter);
+    push_u32(out, head.topology);
 }
 
 #[tactic(auto, unfolding(crate::specs::Weights::weights_bytes))]
-fn push_weight(out: &mut Vec<u8>, weight: Option<&Kept>) -> Result<(), Memory>
-    requires { IfSome weight (λ o. IsWritable o.now) }
-    ensures { OnOk result (out.new.items ≡ out.old.items ++ weights_bytes (as_list (option_map (λ o. o.now) weight.entry))) }
+fn push_weight(out: &mut Vec<u8>, weight: Option<&Kept>)
+    requires fits { IfSome weight (λ o. IsWritable o.now) }
+    requires room { vec_len out.old + length (weights_bytes (as_list (option_map (λ o. o.now) weight))) ≤ vec_capacity out.old }
+    ensures bytes { out.new.items ≡ out.old.items ++ weights_bytes (as_list (option_map (λ o. o.now) weight.entry)) }
+    ensures len { vec_len out.new ≡ vec_len out.old + length (weights_bytes (as_list (option_map (λ o. o.now) weight.entry))) }
+    ensures capacity { vec_capacity out.old ≤ vec_capacity out.new }
 {
     let Some(weight) = weight else {
-        return push_u8(out, 0);
+        push_u8(out, 0);
+        return;
     };
-    push_u8(out, 1)?;
-    push_object(out, weight)
+    push_u8(out, 1);
+    push_object(out, weight);
 }
 
 #[tactic(auto, unfolding(crate::specs::Prioritized::prios_bytes, crate::specs::Prioritized::numbered_bytes))]
-fn push_prio(out: &mut Vec<u8>, prio: Option<(u64, &Kept)>) -> Result<(), Memory>
-    requires { IfSome prio (λ p. IsWritable p.1.now) }
-    ensures { OnOk result (out.new.items ≡ out.old.items ++ prios_bytes (as_list (option_map (λ p. (p.0, p.1.now)) prio.entry))) }
+fn push_prio(out: &mut Vec<u8>, prio: Option<(u64, &Kept)>)
+    requires fits { IfSome prio (λ p. IsWritable p.1.now) }
+    requires room { vec_len out.old + length (prios_bytes (as_list (option_map (λ p. (p.0, p.1.now)) prio))) ≤ vec_capacity out.old }
+    ensures bytes { out.new.items ≡ out.old.items ++ prios_bytes (as_list (option_map (λ p. (p.0, p.1.now)) prio.entry)) }
+    ensures len { vec_len out.new ≡ vec_len out.old + length (prios_bytes (as_list (option_map (λ p. (p.0, p.1.now)) prio.entry))) }
+    ensures capacity { vec_capacity out.old ≤ vec_capacity out.new }
 {
     let Some((number, message)) = prio else {
-        return push_u8(out, 0);
+        push_u8(out, 0);
+        return;
     };
-    push_u8(out, 1)?;
-    push_u64(out, number)?;
-    push_object(out, message)
+    push_u8(out, 1);
+    push_u64(out, number);
+    push_object(out, message);
 }
 
 #[tactic(auto, unfolding(crate::specs::Reliable::slot_bytes))]
-fn push_slot(out: &mut Vec<u8>, slot: Option<&OutSlot<'_>>) -> Result<(), Memory>
-    requires { IfSome slot (λ s. IsWritableSlot s.now) }
-    ensures { OnOk result (out.new.items ≡ out.old.items ++ slot_bytes (option_map (λ s. out_report s.now) slot.entry)) }
+fn push_slot(out: &mut Vec<u8>, slot: Option<&OutSlot<'_>>)
+    requires fits { IfSome slot (λ s. IsWritableSlot s.now) }
+    requires room { vec_len out.old + length (slot_bytes (option_map (λ s. out_report s.now) slot)) ≤ vec_capacity out.old }
+    ensures bytes { out.new.items ≡ out.old.items ++ slot_bytes (option_map (λ s. out_report s.now) slot.entry) }
+    ensures len { vec_len out.new ≡ vec_len out.old + length (slot_bytes (option_map (λ s. out_report s.now) slot.entry)) }
+    ensures capacity { vec_capacity out.old ≤ vec_capacity out.new }
 {
     let Some(slot) = slot else {
-        return push_u8(out, 0);
+        push_u8(out, 0);
+        return;
     };
-    push_u8(out, 1)?;
-    push_report(out, slot)
+    push_u8(out, 1);
+    push_report(out, slot);
 }
 
 #[tactic(auto, unfolding(crate::specs::Reliable::report_bytes))]
-fn push_report(out: &mut Vec<u8>, slot: &OutSlot<'_>) -> Result<(), Memory>
-    requires { IsWritableSlot slot.now }
-    ensures { OnOk result (out.new.items ≡ out.old.items ++ report_bytes (out_report slot.now)) }
+fn push_report(out: &mut Vec<u8>, slot: &OutSlot<'_>)
+    requires fits { IsWritableSlot slot.now }
+    requires room { vec_len out.old + length (report_bytes (out_report slot.now)) ≤ vec_capacity out.old }
+    ensures bytes { out.new.items ≡ out.old.items ++ report_bytes (out_report slot.now) }
+    ensures len { vec_len out.new ≡ vec_len out.old + length (report_bytes (out_report slot.now)) }
+    ensures capacity { vec_capacity out.old ≤ vec_capacity out.new }
 {
-    push_place(out, slot)?;
-    push_ack(out, slot.ack)?;
-    push_rel(out, slot.rel)
+    push_place(out, slot);
+    push_ack(out, slot.ack);
+    push_rel(out, slot.rel);
 }
 
 #[tactic(auto, unfolding(crate::specs::Reliable::place_bytes))]
-fn push_place(out: &mut Vec<u8>, slot: &OutSlot<'_>) -> Result<(), Memory>
-    ensures { OnOk result (out.new.items ≡ out.old.items ++ place_bytes (out_report slot.now)) }
+fn push_place(out: &mut Vec<u8>, slot: &OutSlot<'_>)
+    requires { vec_len out.old + length (place_bytes (out_report slot.now)) ≤ vec_capacity out.old }
+    ensures bytes { out.new.items ≡ out.old.items ++ place_bytes (out_report slot.now) }
+    ensures len { vec_len out.new ≡ vec_len out.old + length (place_bytes (out_report slot.now)) }
+    ensures capacity { vec_capacity out.old ≤ vec_capacity out.new }
 {
-    push_u8(out, slot.flow.src.0)?;
-    push_u8(out, slot.flow.dst.0)?;
-    push_u64(out, slot.base)?;
-    push_u64(out, slot.have)
+    push_u8(out, slot.flow.src.0);
+    push_u8(out, slot.flow.dst.0);
+    push_u64(out, slot.base);
+    push_u64(out, slot.have);
 }
 
 #[tactic(auto, unfolding(crate::specs::Reliable::ack_bytes))]
-fn push_ack(out: &mut Vec<u8>, ack: Option<&Kept>) -> Result<(), Memory>
-    requires { IfSome ack (λ o. IsWritable o.now) }
-    ensures { OnOk result (out.new.items ≡ out.old.items ++ ack_bytes (option_map (λ o. o.now) ack.entry)) }
+fn push_ack(out: &mut Vec<u8>, ack: Option<&Kept>)
+    requires fits { IfSome ack (λ o. IsWritable o.now) }
+    requires room { vec_len out.old + length (ack_bytes (option_map (λ o. o.now) ack)) ≤ vec_capacity out.old }
+    ensures bytes { out.new.items ≡ out.old.items ++ ack_bytes (option_map (λ o. o.now) ack.entry) }
+    ensures len { vec_len out.new ≡ vec_len out.old + length (ack_bytes (option_map (λ o. o.now) ack.entry)) }
+    ensures capacity { vec_capacity out.old ≤ vec_capacity out.new }
 {
     let Some(ack) = ack else {
-        return push_u8(out, 0);
+        push_u8(out, 0);
+        return;
     };
-    push_u8(out, 1)?;
-    push_object(out, ack)
+    push_u8(out, 1);
+    push_object(out, ack);
 }
 
 #[tactic(auto, unfolding(crate::specs::Reliable::rels_bytes))]
-fn push_rel(out: &mut Vec<u8>, rel: Option<&Kept>) -> Result<(), Memory>
-    requires { IfSome rel (λ o. IsWritable o.now) }
-    ensures { OnOk result (out.new.items ≡ out.old.items ++ rels_bytes (as_list (option_map (λ o. o.now) rel.entry))) }
+fn push_rel(out: &mut Vec<u8>, rel: Option<&Kept>)
+    requires fits { IfSome rel (λ o. IsWritable o.now) }
+    requires room { vec_len out.old + length (rels_bytes (as_list (option_map (λ o. o.now) rel))) ≤ vec_capacity out.old }
+    ensures bytes { out.new.items ≡ out.old.items ++ rels_bytes (as_list (option_map (λ o. o.now) rel.entry)) }
+    ensures len { vec_len out.new ≡ vec_len out.old + length (rels_bytes (as_list (option_map (λ o. o.now) rel.entry))) }
+    ensures capacity { vec_capacity out.old ≤ vec_capacity out.new }
 {
     let Some(rel) = rel else {
-        return push_u8(out, 0);
+        push_u8(out, 0);
+        return;
     };
-    push_u8(out, 1)?;
-    push_object(out, rel)
+    push_u8(out, 1);
+    push_object(out, rel);
 }
 
 #[tactic(auto, unfolding(crate::specs::Objects::object_bytes), using(crate::proofs::LengthLemmas::encoded_fits))]
-fn push_object(out: &mut Vec<u8>, object: &Kept) -> Result<(), Memory>
-    requires { IsWritable object.now }
-    ensures { OnOk result (out.new.items ≡ out.old.items ++ object_bytes object.now) }
+fn push_object(out: &mut Vec<u8>, object: &Kept)
+    requires fits { IsWritable object.now }
+    requires room { vec_len out.old + length (object_bytes object.now) ≤ vec_capacity out.old }
+    ensures bytes { out.new.items ≡ out.old.items ++ object_bytes object.now }
+    ensures len { vec_len out.new ≡ vec_len out.old + length (object_bytes object.now) }
+    ensures capacity { vec_capacity out.old ≤ vec_capacity out.new }
 {
-    push_u16(out, encoded_len(&object.body) as u16)?;
-    push_body(out, &object.body)?;
+    push_u16(out, encoded_len(&object.body) as u16);
+    let Ok(()) = push_body(out, &object.body) else {
+        unreachable!()
+    };
     let signature = object.signature.as_slice();
-    push_u16(out, signature.len() as u16)?;
-    Ok(out.extend_from_slice(signature)?)
-}
-
-// ---- how many bytes a part has
-
-fn prio_len(prio: Option<(u64, &Kept)>) -> usize
-    requires { IfSome prio (λ p. IsWritable p.1.now) }
-    ensures { result ≤ 132_000 }
-{
-    match prio {
-        None => 1,
-        Some((_, message)) => 1 + 8 + object_len(message),
-    }
-}
-
-fn slot_len(slot: Option<&OutSlot<'_>>) -> usize
-    requires { IfSome slot (λ s. IsWritableSlot s.now) }
-    ensures { result ≤ 300_000 }
-{
-    match slot {
-        None => 1,
-        Some(slot) => 1 + 18 + counted_len(slot.ack) + counted_len(slot.rel),
-    }
-}
-
-fn counted_len(object: Option<&Kept>) -> usize
-    requires { IfSome object (λ o. IsWritable o.now) }
-    ensures { result ≤ 132_000 }
-{
-    match object {
-        None => 1,
-        Some(object) => 1 + object_len(object),
-    }
-}
-
-#[tactic(auto, using(crate::proofs::LengthLemmas::encoded_fits))]
-fn object_len(object: &Kept) -> usize
-    requires { IsWritable object.now }
-    ensures { result ≤ 131_074 }
-{
-    2 + encoded_len(&object.body) + 2 + object.signature.as_slice().len()
-}
-
-// ---- one number
-
-fn push_u8(out: &mut Vec<u8>, number: u8) -> Result<(), Memory>
-    ensures { OnOk result (out.new.items ≡ out.old.items ++ big_bytes 1 number) }
-{
-    Ok(out.extend_from_slice(&number.to_be_bytes())?)
-}
-
-fn push_u16(out: &mut Vec<u8>, number: u16) -> Result<(), Memory>
-    ensures { OnOk result (out.new.items ≡ out.old.items ++ big_bytes 2 number) }
-{
-    Ok(out.extend_from_slice(&number.to_be_bytes())?)
-}
-
-fn push_u32(out: &mut Vec<u8>, number: u32) -> Result<(), Memory>
-    ensures { OnOk result (out.new.items ≡ out.old.items ++ big_bytes 4 number) }
-{
-    Ok(out.extend_from_slice(&number.to_be_bytes())?)
-}
-
-fn push_u64(out: &mut Vec<u8>, number: u64) -> Result<(), Memory>
-    ensures { OnOk result (out.new.items ≡ out.old.items ++ big_bytes 8 number) }
-{
-    Ok(out.extend_from_slice(&number.to_be_bytes())?)
+    push_u16(out, signature.len() as u16);
+    push_bytes(out, signature);
 }

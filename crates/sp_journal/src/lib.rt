@@ -27,4 +27,4 @@ pub use text_laws::{
     a_good_journal_is_read, a_journal_is_of_its_text, a_journal_text_has_one_reading,
     no_other_journal_begins_there,
 };
-pub use whole_text::{journal_lines, journal_text};
+pub use whole_text::{journal_lines, journal_text, push_summary};

@@ -3,7 +3,7 @@ ghost use Rattle.std.specs.Prelude.{◌≡◌, ◌<◌, ◌^◌, ◌++◌, ◌�
 ghost use Rattle.std.specs.Fmt.{decimal};
 ghost use Rattle.std.specs.String.{string_bytes};
 ghost use Rattle.sp_lines.specs.Rows.{after_spaces, line_text};
-ghost use Rattle.sp_journal.specs.JournalText.{delivered_count, entries_from, frame_count, is_delivered, is_delivered_prio, is_frame, is_rel_body, is_sent, priority_count, sent_count, starts_rel, summary_of};
+ghost use Rattle.sp_journal.specs.JournalText.{delivered_count, entries_from, frame_count, is_delivered, is_delivered_prio, is_frame, is_rel_body, is_sent, priority_count, sent_count, starts_rel, summary_of, summary_words};
 ghost use Rattle.sp_journal.specs.JournalText as text;
 
 use crate::replies::push_entry;
@@ -31,15 +31,24 @@ pub fn journal_text(alloc: Global, journal: &[Entry]) -> Result<String, Memory>
     ensures { IfOk result (λ out. string_bytes out ≡ text.journal_text journal.now) }
 {
     let mut out = journal_lines(alloc, journal)?;
-    push_summary(
-        &mut out,
+    push_summary(&mut out, journal)?;
+    Ok(out)
+}
+
+/// Appends the line of the summary. After an error the text is unspecified.
+pub fn push_summary(out: &mut String, journal: &[Entry]) -> Result<(), Memory>
+    requires deliveries { delivered_count journal.now < 2 ^ 64 }
+    requires priority { priority_count journal.now < 2 ^ 64 }
+    ensures { OnOk result (string_bytes out.new ≡ string_bytes out.old ++ line_text (summary_words journal.now)) }
+{
+    push_counts(
+        out,
         journal.len() as u64,
         sent(journal),
         delivered(journal),
         priority(journal),
         frames(journal),
-    )?;
-    Ok(out)
+    )
 }
 
 fn push_entries(out: &mut String, journal: &[Entry]) -> Result<(), Memory>
@@ -52,7 +61,8 @@ fn push_entries(out: &mut String, journal: &[Entry]) -> Result<(), Memory>
     Ok(())
 }
 
-fn push_summary(
+/// Appends the summary of these counts.
+fn push_counts(
     out: &mut String,
     events: u64,
     sent: u64,

@@ -3,6 +3,7 @@ ghost use Rattle.std.specs.Prelude.{◌≡◌, ◌≤◌, ◌<◌, ◌^◌, leng
 ghost use Rattle.sp_frame.specs.Frames.{head_of};
 ghost use Rattle.sp_frame.specs.declared.frame.TheConstants.{TAG_BYTES};
 ghost use Rattle.sp_link.specs.Sealing.{is_right, sealed};
+ghost use Rattle.sp_link.specs.Work.{one_more, tags_after};
 ghost use Rattle.sp_rules.specs.Link.{advanced, after_frame, link_answer, new_link, next_head};
 
 use sp_base::{Bytes, NodeId};
@@ -68,15 +69,19 @@ impl Link {
 
     /// What the link says of a frame: the first test that fails, or that it is fresh. A fresh frame is kept as the last one, and where the
     /// neighbour's boot becomes known, its frames of lower boots are stale from then on.
-    pub fn accept(&mut self, frame: &Frame<'_>) -> LinkAnswer
+    ///
+    /// `tags` counts the tags that are checked: one where the frame names the ends of this link, and none else. It stands still at the end of its
+    /// type.
+    pub fn accept(&mut self, frame: &Frame<'_>, tags: &mut u64) -> LinkAnswer
         ensures answer { result ≡ link_answer self.old (head_of frame.now) (is_right self.old.key frame.now) }
         ensures link { self.new ≡ after_frame self.old (head_of frame.now) (is_right self.old.key frame.now) }
+        ensures work { tags.new ≡ tags_after tags.old result }
     {
         let head = frame.head();
         if head.from.0 != self.peer.0 || head.to.0 != self.me.0 {
             return LinkAnswer::NotForMe;
         }
-        if !is_right(&self.key, frame) {
+        if !is_right(&self.key, frame, tags) {
             return LinkAnswer::BadTag;
         }
         if head.echo != self.boot {
@@ -133,9 +138,11 @@ impl Link {
     }
 }
 
-/// Whether the tag of a frame is that of all bytes before it under this key.
-fn is_right(key: &[u8; 32], frame: &Frame<'_>) -> bool
-    ensures { result ≡ is_right key.now frame.now }
+/// Whether the tag of a frame is that of all bytes before it under this key. That is counted.
+fn is_right(key: &[u8; 32], frame: &Frame<'_>, tags: &mut u64) -> bool
+    ensures right { result ≡ is_right key.now frame.now }
+    ensures work { tags.new ≡ one_more tags.old }
 {
+    *tags = tags.saturating_add(1);
     sp_hmac::verify(key, &[], frame.signed_part(), frame.tag())
 }

@@ -6,7 +6,9 @@ ghost use Rattle.sp_msg.specs.declared.body.Body.TheVariants as bodies;
 
 use crate::body::{ACK, PRIO, REL, WEIGHT};
 use crate::{Ack, Body, MsgRefused, Prio, Rel, WeightBody};
-use sp_base::{Bytes, MAX_PAYLOAD_BYTES, Memory};
+use sp_base::{
+    Bytes, MAX_PAYLOAD_BYTES, Memory, push_bytes, push_u8, push_u16, push_u32, push_u64, push_u128,
+};
 use std::alloc::{AllocError, Global};
 
 /// How many bytes a message has before its payload, or in all where it has none.
@@ -113,53 +115,6 @@ fn push_weight(out: &mut Vec<u8>, weight: &WeightBody)
     push_u32(out, weight.weight);
 }
 
-// ---- one field, into room that is there
-
-fn push_u8(out: &mut Vec<u8>, number: u8)
-    requires { vec_len out.old + 1 ≤ vec_capacity out.old }
-    ensures bytes { out.new.items ≡ out.old.items ++ big_bytes 1 number }
-    ensures len { vec_len out.new ≡ vec_len out.old + 1 }
-    ensures capacity { vec_capacity out.old ≤ vec_capacity out.new }
-{
-    push_bytes(out, &number.to_be_bytes());
-}
-
-fn push_u16(out: &mut Vec<u8>, number: u16)
-    requires { vec_len out.old + 2 ≤ vec_capacity out.old }
-    ensures bytes { out.new.items ≡ out.old.items ++ big_bytes 2 number }
-    ensures len { vec_len out.new ≡ vec_len out.old + 2 }
-    ensures capacity { vec_capacity out.old ≤ vec_capacity out.new }
-{
-    push_bytes(out, &number.to_be_bytes());
-}
-
-fn push_u32(out: &mut Vec<u8>, number: u32)
-    requires { vec_len out.old + 4 ≤ vec_capacity out.old }
-    ensures bytes { out.new.items ≡ out.old.items ++ big_bytes 4 number }
-    ensures len { vec_len out.new ≡ vec_len out.old + 4 }
-    ensures capacity { vec_capacity out.old ≤ vec_capacity out.new }
-{
-    push_bytes(out, &number.to_be_bytes());
-}
-
-fn push_u64(out: &mut Vec<u8>, number: u64)
-    requires { vec_len out.old + 8 ≤ vec_capacity out.old }
-    ensures bytes { out.new.items ≡ out.old.items ++ big_bytes 8 number }
-    ensures len { vec_len out.new ≡ vec_len out.old + 8 }
-    ensures capacity { vec_capacity out.old ≤ vec_capacity out.new }
-{
-    push_bytes(out, &number.to_be_bytes());
-}
-
-fn push_u128(out: &mut Vec<u8>, number: u128)
-    requires { vec_len out.old + 16 ≤ vec_capacity out.old }
-    ensures bytes { out.new.items ≡ out.old.items ++ big_bytes 16 number }
-    ensures len { vec_len out.new ≡ vec_len out.old + 16 }
-    ensures capacity { vec_capacity out.old ≤ vec_capacity out.new }
-{
-    push_bytes(out, &number.to_be_bytes());
-}
-
 /// A payload after its length.
 fn push_payload(out: &mut Vec<u8>, payload: &[u8])
     requires short { length payload.now ≤ MAX_PAYLOAD_BYTES }
@@ -169,13 +124,4 @@ fn push_payload(out: &mut Vec<u8>, payload: &[u8])
 {
     push_u16(out, payload.len() as u16);
     push_bytes(out, payload);
-}
-
-fn push_bytes(out: &mut Vec<u8>, bytes: &[u8])
-    requires { vec_len out.old + length bytes.now ≤ vec_capacity out.old }
-    ensures bytes { out.new.items ≡ out.old.items ++ bytes.now }
-    ensures len { vec_len out.new ≡ vec_len out.old + length bytes.now }
-    ensures capacity { vec_capacity out.old ≤ vec_capacity out.new }
-{
-    out.extend_from_slice(bytes).unwrap();
 }

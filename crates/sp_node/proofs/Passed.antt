@@ -1,17 +1,23 @@
 -- What its link makes of a datagram is what the rules say.
-use Rattle.std.proofs.Common.{rules, ◌≡◌, ◌∙◌, ℕ, Bool, true, false, List, [], Ok, Err, refl, sym, ap, cond}
+use Rattle.std.proofs.Common.{rules, ◌≡◌, ◌≤◌, ◌+◌, ◌==◌, ◌∙◌, ℕ, Bool, true, false, not, List, [], Result, Ok, Err, refl, sym, ap, cond, arith}
 use Rattle.sp_base.specs.declared.id.NodeId.{NodeId}
 use Rattle.sp_node_core.specs.Format.{format}
 use Rattle.sp_frame.specs.Frames.{head_of, opened}
+use Rattle.sp_frame.specs.Sections.{Contents}
+use Rattle.sp_frame.specs.declared.refused.SectionRefused.{SectionRefused}
+use Rattle.sp_link.specs.Work.{tags_after}
+use Rattle.sp_node.specs.Life.{reply_tags}
 use Rattle.sp_frame.specs.declared.refused.FrameRefused.{FrameRefused}
 use Rattle.sp_frame.specs.declared.refused.FrameRefused.TheVariants as frames
-use Rattle.sp_rules.specs.Arrivals.{link_after, link_says, link_with, no_frame, of_frame, of_fresh, of_link, pieces_in, pieces_where, reply_at, sections_in}
+use Rattle.sp_rules.specs.Arrivals.{link_after, link_says, link_with, no_frame, of_frame, of_fresh, of_link, of_sections, pieces_in, pieces_where, reply_at, sections_in}
 use Rattle.sp_rules.specs.Link.{Link}
 use Rattle.sp_rules.specs.Node.{NodeState, link_in}
 use Rattle.sp_rules.specs.Parts.{Fixed}
 use Rattle.sp_rules.specs.Pieces.{Piece}
 use Rattle.sp_rules.specs.declared.link.LinkAnswer.{LinkAnswer}
+use Rattle.sp_rules.specs.declared.link.LinkAnswer.TheVariants as answers
 use Rattle.sp_rules.specs.declared.node.LinkReply.{LinkReply}
+use Rattle.sp_rules.specs.declared.node.LinkReply.TheVariants as replies
 
 -- four tests, of which none refuses
 none_refuses : (bytes frame : List ℕ) (a b c d : Bool) (e f g h : FrameRefused)
@@ -82,3 +88,19 @@ passed_pieces n v bytes frame f reply pieces is fixed replied gives =
     ∙ ap (λ (r : LinkReply). pieces_where r (pieces_in (sections_in format f frame))) replied
     ∙ ap (λ (g : Fixed). pieces_where (reply_at format n v bytes) (pieces_in (sections_in format g frame))) fixed
     ∙ ap (λ (b : List ℕ). pieces_where (reply_at format n v bytes) (pieces_in (sections_in format n.fixed b))) (opened_whole bytes frame is)
+
+-- ---- the tag of a frame
+
+of_fresh_once : (differs : Bool) (theirs : ℕ) (sections : Result Contents SectionRefused) → reply_tags (cond differs (replies.OtherTopology theirs) (of_sections sections)) ≡ 1
+of_fresh_once true theirs sections = refl
+of_fresh_once false theirs (Ok contents) = refl
+of_fresh_once false theirs (Err refused) = refl
+
+-- it is checked once, whatever the link answers but that the frame isn't for it
+pub tag_is_counted : (tags : ℕ) (answer : LinkAnswer) (mine theirs : ℕ) (sections : Result Contents SectionRefused)
+    → tags_after tags answer ≤ tags + reply_tags (of_link answer (of_fresh mine theirs sections))
+tag_is_counted tags answers.NotForMe mine theirs sections = omega arith
+tag_is_counted tags answers.BadTag mine theirs sections = omega arith
+tag_is_counted tags (answers.Learned boot) mine theirs sections = omega arith
+tag_is_counted tags (answers.Stale boot counter) mine theirs sections = omega arith
+tag_is_counted tags answers.Fresh mine theirs sections = omega (arith, of_fresh_once (not (theirs == mine)) theirs sections)

@@ -1,4 +1,4 @@
--- What a contract sees of a node: its state by the rules, and how many signatures it has checked in this life.
+-- What a contract sees of a node: its state by the rules, and how many signatures and tags it has checked in this life.
 use Rattle.std.specs.Prelude.{ℕ, ◌≡◌, false, List}
 use Rattle.laws_node.specs.Nodes.{IsKept}
 use Rattle.sp_base.specs.declared.id.NodeId.{NodeId}
@@ -6,12 +6,20 @@ use Rattle.sp_node_arrivals.specs.Work.{frame_checks}
 use Rattle.sp_node_core.specs.Format.{format}
 use Rattle.sp_rules.specs.Arrivals.{arrival_at, pieces_in, pieces_where, reply_at, sections_in}
 use Rattle.sp_rules.specs.Node.{NodeState}
+use Rattle.sp_rules.specs.declared.node.LinkReply.{LinkReply}
+use Rattle.sp_rules.specs.declared.node.LinkReply.TheVariants as replies
 use Rattle.sp_topology.specs.declared.topology.NodeKey.{NodeKey}
 
--- the state, and the number of signature checks, which stands still at the end of its type
+-- the state, the number of signature checks, and that of tag checks, which stand still at the end of their type
 pub record Life : Type 0 where
   pub state : NodeState
   pub checks : ℕ
+  pub tags : ℕ
+
+-- no signature and no tag was checked
+pub record IsIdle (old new : Life) : Type 0 where
+  pub checks : new.checks ≡ old.checks
+  pub tags : new.tags ≡ old.tags
 
 -- what always holds: the bounds, ranges and signatures of what is kept, and that signatures are checked under the keys of the topology
 pub record IsLife (n : NodeState) (keys : List NodeKey) : Type 0 where
@@ -22,3 +30,15 @@ pub record IsLife (n : NodeState) (keys : List NodeKey) : Type 0 where
 abbrev pub datagram_checks : NodeState → NodeId → List ℕ → ℕ
 datagram_checks n v bytes =
     frame_checks (arrival_at n v) n.parts (pieces_where (reply_at format n v bytes) (pieces_in (sections_in format n.fixed bytes)))
+
+-- how many tags are checked for a datagram, by what became of it at its link: one of a frame that names the link's ends, and none of any other
+abbrev pub reply_tags : LinkReply → ℕ
+reply_tags replies.TooLong = 0
+reply_tags (replies.Short short) = 0
+reply_tags replies.Magic = 0
+reply_tags replies.Version = 0
+reply_tags replies.NotForMe = 0
+reply_tags _ = 1
+
+abbrev pub datagram_tags : NodeState → NodeId → List ℕ → ℕ
+datagram_tags n v bytes = reply_tags (reply_at format n v bytes)

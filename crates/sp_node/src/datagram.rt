@@ -9,7 +9,7 @@ ghost use Rattle.sp_node_core.specs.Format.{format};
 ghost use Rattle.sp_frame.specs.Frames.{head_of, opened};
 ghost use Rattle.sp_node.specs.Arrived.{pieces_with};
 ghost use Rattle.sp_node.specs.Calls.{Datagrams};
-ghost use Rattle.sp_node.specs.Life.{datagram_checks};
+ghost use Rattle.sp_node.specs.Life.{datagram_checks, datagram_tags};
 ghost use Rattle.sp_node_arrivals.specs.Work.{frame_checks};
 ghost use Rattle.sp_node_state.specs.ReadyStates.{IsAnswered};
 ghost use Rattle.sp_rules.specs.Arrivals.{arrival_at, link_after, no_frame, of_fresh, of_link, pieces_in, pieces_where, reply_at, sections_in};
@@ -38,6 +38,7 @@ struct Passage<'a> {
 pub fn datagram(
     state: &mut State,
     checker: &mut Checker,
+    tags: &mut u64,
     alloc: Global,
     from: NodeId,
     bytes: &[u8],
@@ -48,9 +49,10 @@ pub fn datagram(
     ensures keys { checker.new.nodes ≡ checker.old.nodes }
     ensures work { checker.new.checks ≤ checker.old.checks + datagram_checks state.old from bytes.now }
     ensures few { checker.new.checks ≤ checker.old.checks + 4 }
+    ensures tags { tags.new ≤ tags.old + datagram_tags state.old from bytes.now }
 {
     let place = state.place_for(from)?;
-    let passage = passed(state, place, from, bytes);
+    let passage = passed(state, place, from, bytes, tags);
     let arrived = admit_sections(state, checker, alloc, from, &passage.sections)?;
     answered(state, place, from, passage.link);
     Ok(Step {
@@ -63,11 +65,18 @@ pub fn datagram(
 }
 
 /// What becomes of a datagram at the link in this place.
-fn passed<'a>(state: &State, place: usize, from: NodeId, bytes: &'a [u8]) -> Passage<'a>
+fn passed<'a>(
+    state: &State,
+    place: usize,
+    from: NodeId,
+    bytes: &'a [u8],
+    tags: &mut u64,
+) -> Passage<'a>
     requires { IsAnswered state.now from place }
     ensures reply { result.reply ≡ reply_at format state.entry.now from bytes.now }
     ensures link { result.link ≡ link_after format state.entry.now from bytes.now }
     ensures pieces { pieces_with result.sections ≡ pieces_where (reply_at format state.entry.now from bytes.now) (pieces_in (sections_in format state.entry.now.fixed bytes.now)) }
+    ensures work { tags.new ≤ tags.old + datagram_tags state.entry.now from bytes.now }
 {
     let mut link = state.link_at(place, from);
     let frame = match Frame::open(bytes) {
@@ -80,7 +89,7 @@ fn passed<'a>(state: &State, place: usize, from: NodeId, bytes: &'a [u8]) -> Pas
             };
         }
     };
-    let answer = link.accept(&frame);
+    let answer = link.accept(&frame, tags);
     let (reply, sections) = after_link(&state.fixed, answer, &frame);
     Passage {
         reply,

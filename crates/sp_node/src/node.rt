@@ -12,7 +12,7 @@ ghost use Rattle.sp_rules.specs.Steps.{SendPrio, SendRel, SetWeight};
 ghost use Rattle.sp_rules.specs.Ticks.{time_after};
 ghost use Rattle.sp_node_state.specs.Boots.{IsBootable, booted_of};
 ghost use Rattle.sp_node.specs.Calls.{Datagrams, Polls, TakesPrio, TakesRel, Ticks};
-ghost use Rattle.sp_node.specs.Life.{datagram_checks};
+ghost use Rattle.sp_node.specs.Life.{IsIdle, datagram_checks, datagram_tags};
 ghost use Rattle.sp_node_state.specs.Sends.{Sends};
 ghost use Rattle.sp_node_state.specs.States.{is_other};
 
@@ -36,6 +36,8 @@ use std::marker::Model;
 pub struct Node {
     state: State,
     checker: Checker,
+    /// How many tags were checked.
+    tags: u64,
 }
 
 impl Model for Node {
@@ -43,7 +45,7 @@ impl Model for Node {
 
     ghost Value = { Life };
 
-    ghost view = { λ n. record { state = n.state; checks = n.checker.checks } };
+    ghost view = { λ n. record { state = n.state; checks = n.checker.checks; tags = n.tags } };
 
     ghost invariant = { λ n. IsLife n.state n.checker.nodes };
 }
@@ -59,7 +61,7 @@ impl Node {
         boot: u64,
     ) -> Result<Node, NodeRefused>
         requires { IsBootable config signer boot }
-        ensures node { IfOk result (λ node. node ≡ record { state = booted_of config signer boot; checks = 0 }) }
+        ensures node { IfOk result (λ node. node ≡ record { state = booted_of config signer boot; checks = 0; tags = 0 }) }
         ensures memory { IfErr result (λ refused. refused ≡ NodeRefused.Memory) }
     {
         let state = State::boot(alloc, config, signer, boot)?;
@@ -67,7 +69,11 @@ impl Node {
             Ok(checker) => checker,
             Err(refused) => return Err(refused),
         };
-        Ok(Node { state, checker })
+        Ok(Node {
+            state,
+            checker,
+            tags: 0,
+        })
     }
 
     /// The next frame to a neighbour: what is next in turn of each part, sealed for that link.
@@ -77,7 +83,7 @@ impl Node {
     #[tactic(auto, using(crate::proofs::Steps::life_by_poll))]
     pub fn poll(&mut self, alloc: Global, v: NodeId) -> Result<Bytes, NodeRefused>
         ensures step { Polls self.old.state v result self.new.state }
-        ensures work { self.new.checks ≡ self.old.checks }
+        ensures work { IsIdle self.old self.new }
     {
         self.state.recall();
         poll(&mut self.state, alloc, v)
@@ -89,7 +95,8 @@ impl Node {
     /// datagrams. All memory is taken before anything changes.
     ///
     /// Its signatures are checked once for each object that may be new when its turn comes, and for no other: so none of a datagram that isn't
-    /// fresh, nor of an object that is old, seen, expired or of a bad end, and four at most.
+    /// fresh, nor of an object that is old, seen, expired or of a bad end, and four at most. One tag is checked where the datagram is a frame that
+    /// names the ends of its link, and none else.
     #[tactic(auto, using(crate::proofs::Steps::life_by_datagram))]
     pub fn datagram(
         &mut self,
@@ -100,9 +107,17 @@ impl Node {
         ensures step { Datagrams self.old.state from bytes.now result self.new.state }
         ensures work { self.new.checks ≤ self.old.checks + datagram_checks self.old.state from bytes.now }
         ensures few { self.new.checks ≤ self.old.checks + 4 }
+        ensures tags { self.new.tags ≤ self.old.tags + datagram_tags self.old.state from bytes.now }
     {
         self.state.recall();
-        datagram(&mut self.state, &mut self.checker, alloc, from, bytes)
+        datagram(
+            &mut self.state,
+            &mut self.checker,
+            &mut self.tags,
+            alloc,
+            from,
+            bytes,
+        )
     }
 
     /// The time goes on to the greater of the one held and this one, what expired before it leaves, and at most one acknowledgement is signed.
@@ -112,7 +127,7 @@ impl Node {
     pub fn tick(&mut self, alloc: Global, now: u64) -> Result<Step<TickReply>, NodeRefused>
         ensures step { Ticks self.old.state now result self.new.state }
         ensures quiet { due self.old.state.parts.rel ≡ Nothing → expiring self.old.state.parts.prio (time_after self.old.state now) ≡ 0 → IsOk result }
-        ensures work { self.new.checks ≡ self.old.checks }
+        ensures work { IsIdle self.old self.new }
     {
         self.state.recall();
         tick(&mut self.state, alloc, now)
@@ -130,7 +145,7 @@ impl Node {
     ) -> Result<Step<u64>, SendRefused>
         requires { length payload.now ≤ MAX_PAYLOAD_BYTES }
         ensures step { Sends (SendRel dst payload.now) (rel_refusal self.old.state dst) self.old.state result self.new.state }
-        ensures work { self.new.checks ≡ self.old.checks }
+        ensures work { IsIdle self.old self.new }
     {
         self.state.recall();
         send_rel(&mut self.state, alloc, dst, payload)
@@ -155,7 +170,7 @@ impl Node {
         requires few { paths ≤ MAX_PATHS }
         requires short { length payload.now ≤ MAX_PAYLOAD_BYTES }
         ensures step { let m : PrioSend = record { dst = dst; prio = prio; expiry = expiry; paths = paths; payload = payload.now } in Sends (SendPrio m) (prio_refusal self.old.state m) self.old.state result self.new.state }
-        ensures work { self.new.checks ≡ self.old.checks }
+        ensures work { IsIdle self.old self.new }
     {
         self.state.recall();
         let message = sp_node_state::PrioSend {
@@ -181,7 +196,7 @@ impl Node {
         requires least { 1 ≤ weight }
         requires most { weight ≤ MAX_WEIGHT }
         ensures step { Sends (SetWeight peer weight) (weight_refusal self.old.state peer weight) self.old.state result self.new.state }
-        ensures work { self.new.checks ≡ self.old.checks }
+        ensures work { IsIdle self.old self.new }
     {
         self.state.recall();
         set_weight(&mut self.state, alloc, peer, weight)
@@ -191,7 +206,7 @@ impl Node {
     #[tactic(auto, using(crate::proofs::Steps::life_by_take_rel))]
     pub fn take_rel(&mut self, src: NodeId) -> Option<Bytes>
         ensures step { TakesRel self.old.state src result self.new.state }
-        ensures work { self.new.checks ≡ self.old.checks }
+        ensures work { IsIdle self.old self.new }
     {
         self.state.recall();
         take_rel(&mut self.state, src)
@@ -201,7 +216,7 @@ impl Node {
     #[tactic(auto, using(crate::proofs::Steps::life_by_take_prio))]
     pub fn take_prio(&mut self) -> Option<Entry>
         ensures step { TakesPrio self.old.state result self.new.state }
-        ensures work { self.new.checks ≡ self.old.checks }
+        ensures work { IsIdle self.old self.new }
     {
         self.state.recall();
         take_prio(&mut self.state)
@@ -227,7 +242,7 @@ impl Node {
         requires forward { self.old.state.signer.bound ≤ upto }
         requires within { upto ≤ self.old.state.signer.total }
         ensures step { self.new.state ≡ extended self.old.state upto }
-        ensures work { self.new.checks ≡ self.old.checks }
+        ensures work { IsIdle self.old self.new }
     {
         self.state.signer.extend(upto);
     }

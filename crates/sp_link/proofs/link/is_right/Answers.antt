@@ -7,9 +7,9 @@ use Rattle.sp_link.proofs.TagLemmas.{same_answer}
 use Rattle.sp_link.specs.Sealing.{is_right}
 use Rattle.sp_link.proofs.link.is_right.Goals as goal
 
-pub returns : goal.returns
+pub returns-clause-right : goal.returns-clause-right
 unfolding is_right
-returns c =
+returns-clause-right c =
     same_answer c.verify.result c.tag.result.now (hmac c.args.key.now c.signed_part.result.now) c.verify.ensures
     ∙ ap (λ t. pointwise nat_eq t (hmac c.args.key.now c.signed_part.result.now)) c.tag.ensures
     ∙ ap (λ s. pointwise nat_eq (tag_part c.args.frame.now) (hmac c.args.key.now s)) c.signed_part.ensures

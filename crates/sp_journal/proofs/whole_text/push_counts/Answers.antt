@@ -1,5 +1,5 @@
 use Rattle.sp_journal.proofs.JournalLemmas.{summary_written}
-use Rattle.sp_journal.proofs.whole_text.push_summary.Goals as goal
+use Rattle.sp_journal.proofs.whole_text.push_counts.Goals as goal
 
 pub returns : goal.returns
 returns c =

@@ -1,0 +1,78 @@
+// How many bytes each part of a frame takes, before it is written.
+ghost use Rattle.std.specs.Prelude.{◌≡◌, ◌≤◌, length, IfSome, option_map};
+ghost use Rattle.sp_frame.specs.Objects.{object_bytes};
+ghost use Rattle.sp_frame.specs.Prioritized.{prios_bytes};
+ghost use Rattle.sp_frame.specs.Reliable.{ack_bytes, rels_bytes, slot_bytes};
+ghost use Rattle.sp_frame.specs.Views.{as_list};
+ghost use Rattle.sp_frame.specs.Weights.{weights_bytes};
+ghost use Rattle.sp_frame.specs.Writing.{IsWritable, IsWritableSlot, out_report};
+
+use crate::OutSlot;
+use sp_msg::{Kept, encoded_len};
+
+/// The bytes of a count or a flag.
+const COUNT_BYTES: usize = 1;
+
+/// The bytes of the length before a message, and of that before its signature.
+const LENGTH_BYTES: usize = 2;
+
+/// The bytes of a link number.
+pub const PRIO_ACK_BYTES: usize = 8;
+
+/// The bytes of a flow and of its two numbers.
+const PLACE_BYTES: usize = 18;
+
+#[tactic(auto, using(crate::proofs::LengthLemmas::weights_long))]
+pub fn weight_len(weight: Option<&Kept>) -> usize
+    requires { IfSome weight (λ o. IsWritable o.now) }
+    ensures exact { result ≡ length (weights_bytes (as_list (option_map (λ o. o.now) weight.entry))) }
+    ensures few { result ≤ 132_000 }
+{
+    counted_len(weight)
+}
+
+#[tactic(auto, using(crate::proofs::LengthLemmas::no_prios_long, crate::proofs::LengthLemmas::prios_long))]
+pub fn prio_len(prio: Option<(u64, &Kept)>) -> usize
+    requires { IfSome prio (λ p. IsWritable p.1.now) }
+    ensures exact { result ≡ length (prios_bytes (as_list (option_map (λ p. (p.0, p.1.now)) prio.entry))) }
+    ensures few { result ≤ 132_000 }
+{
+    match prio {
+        None => COUNT_BYTES,
+        Some((_, message)) => COUNT_BYTES + PRIO_ACK_BYTES + object_len(message),
+    }
+}
+
+#[tactic(auto, using(crate::proofs::LengthLemmas::no_slot_long, crate::proofs::LengthLemmas::slot_long, crate::proofs::LengthLemmas::acks_long))]
+pub fn slot_len(slot: Option<&OutSlot<'_>>) -> usize
+    requires { IfSome slot (λ s. IsWritableSlot s.now) }
+    ensures exact { result ≡ length (slot_bytes (option_map (λ s. out_report s.now) slot.entry)) }
+    ensures few { result ≤ 300_000 }
+{
+    match slot {
+        None => COUNT_BYTES,
+        Some(slot) => COUNT_BYTES + PLACE_BYTES + counted_len(slot.ack) + counted_len(slot.rel),
+    }
+}
+
+/// An object after its flag or count, or a flag alone.
+#[tactic(auto, using(crate::proofs::LengthLemmas::no_rels_long, crate::proofs::LengthLemmas::rels_long))]
+fn counted_len(object: Option<&Kept>) -> usize
+    requires { IfSome object (λ o. IsWritable o.now) }
+    ensures exact { result ≡ length (rels_bytes (as_list (option_map (λ o. o.now) object.entry))) }
+    ensures few { result ≤ 132_000 }
+{
+    match object {
+        None => COUNT_BYTES,
+        Some(object) => COUNT_BYTES + object_len(object),
+    }
+}
+
+#[tactic(auto, using(crate::proofs::LengthLemmas::encoded_fits, crate::proofs::LengthLemmas::object_long))]
+fn object_len(object: &Kept) -> usize
+    requires { IsWritable object.now }
+    ensures exact { result ≡ length (object_bytes object.now) }
+    ensures few { result ≤ 131_074 }
+{
+    LENGTH_BYTES + encoded_len(&object.body) + LENGTH_BYTES + object.signature.as_slice().len()
+}
