@@ -2,7 +2,8 @@
 
 A good schedule is written back to the byte. Of a bad one the line of its first refusal is told: it is the last line of its journal, which
 another program wrote. A journal that ends with a summary is written back to the byte. Any other is no whole journal: it is refused at its
-last line. A file that differs is named, and the status is then 1.
+last line. A whole journal is audited with its schedule, and no event of it breaks a promise; then with other schedules, which OTHERS has. A file that
+differs is named, and the status is then 1.
 """
 
 import pathlib
@@ -10,6 +11,13 @@ import subprocess
 import sys
 
 FOLDER = pathlib.Path(__file__).parents[1] / "conformance" / "schedules"
+# a schedule, a line of it, what stands there in another one, and what is told of the first one's journal under the other
+OTHERS = [
+    ("acknowledgement", b"rel 1 3 6869\n", b"take 3 1\n", b"broken 10\n"),  # the message of event 10 was never sent
+    ("acknowledgement", b"rel 1 3 6869\n", b"rel 1 3 6868\n", b"broken 10\n"),  # another one was
+    ("acknowledgement", b"rel 1 3 6869\n", b"rel 1 2 6869\n", b"broken 10\n"),  # it was sent to another node
+    ("acknowledgement", b"tick 3 5\n", b"", b"unread\n"),  # one entry more than events
+]
 
 
 def differs(words, file, text, wanted):
@@ -22,7 +30,7 @@ def differs(words, file, text, wanted):
 
 
 def main(program):
-    wrong = 0
+    wrong = audits = 0
     files = sorted(FOLDER.glob("*.schedule"))
     for file in files:
         text = file.read_bytes()
@@ -30,9 +38,16 @@ def main(program):
         told = journal.read_bytes()
         lines = told.splitlines(keepends=True)
         wrong += differs([program], file, text, lines[-1] if lines[-1].startswith(b"refused ") else text)
-        whole = told if lines[-1].startswith(b"summary ") else b"refused %d Form\n" % len(lines)
-        wrong += differs([program, "journal"], journal, told, whole)
-    print(f"{len(files)} schedules and their journals, {wrong} differ")
+        is_whole = lines[-1].startswith(b"summary ")
+        wrong += differs([program, "journal"], journal, told, told if is_whole else b"refused %d Form\n" % len(lines))
+        if is_whole:
+            wrong += differs([program, "audit"], journal, text + told, b"good\n")
+            audits += 1
+    for name, line, other, told in OTHERS:
+        file = FOLDER / f"{name}.schedule"
+        text = file.read_bytes().replace(line, other, 1) + file.with_suffix(".out").read_bytes()
+        wrong += differs([program, "audit"], file, text, told)
+    print(f"{len(files)} schedules and their journals, {audits} audits and {len(OTHERS)} of other schedules, {wrong} differ")
     return 1 if wrong else 0
 
 

@@ -1,4 +1,4 @@
--- What compromised nodes craft in their own names is never forged.
+-- What compromised nodes craft in their own names is never forged, and neither is what is no frame.
 use Rattle.std.proofs.Common.{◌≡◌, ◌<◌, ◌≤◌, ◌==◌, ◌^◌, ℕ, Bool, true, false, cond, List, [], ◌∷◌, length, Some, None, option_map, Ok, refl, sym, ap, subst, ◌∙◌, arith}
 use Rattle.std.specs.Prelude.{◌&&◌, not, nat_lt}
 use Rattle.std.proofs.lemmas.List.Elements.{All-cons, All-nil}
@@ -8,17 +8,19 @@ use Rattle.sp_frame.specs.Objects.{IsObject}
 use Rattle.sp_frame.specs.Ranges.{IsContents, IsNumbered}
 use Rattle.sp_frame.specs.Sections.{Contents}
 use Rattle.sp_frame.specs.declared.kind.Kind.TheVariants as kinds
+use Rattle.sp_frame.specs.declared.refused.FrameRefused.{FrameRefused}
+use Rattle.sp_frame.specs.declared.refused.FrameRefused.TheVariants as frames
 use Rattle.sp_msg.specs.Bodies.{HasGoodFields, encoded}
 use Rattle.sp_msg.specs.Views.{signer_of}
 use Rattle.sp_msg.specs.declared.body.Body.{Body}
 use Rattle.sp_msg.specs.declared.body.Body.TheVariants as bodies
 use Rattle.sp_msg.specs.declared.kept.Kept.{Kept}
 use Rattle.sp_rules.specs.Answers.{is_new}
-use Rattle.sp_rules.specs.Arrivals.{arrival_at, pieces_in, pieces_where, reply_at, sections_in}
+use Rattle.sp_rules.specs.Arrivals.{arrival_at, no_frame, of_frame, pieces_in, pieces_where, reply_at, sections_in}
 use Rattle.sp_rules.specs.Arts.{Arts}
 use Rattle.sp_rules.specs.Node.{call_refusal, link_in}
 use Rattle.sp_rules.specs.Parts.{Fixed, nodes_of}
-use Rattle.sp_rules.specs.Pieces.{pieces_of}
+use Rattle.sp_rules.specs.Pieces.{Piece, pieces_of}
 use Rattle.sp_rules.specs.Steps as steps
 use Rattle.sp_rules.specs.Steps.{Input, NodeStep, Output, arrived, refused_call}
 use Rattle.sp_rules.specs.declared.answers.Item.{Item}
@@ -37,7 +39,7 @@ use Rattle.sp_journal.specs.declared.entry.Entry.{Entry}
 use Rattle.sp_schedule_events.specs.declared.event.Event.{Event}
 use Rattle.sp_schedule_events.specs.declared.event.Event.TheVariants as events
 use Rattle.sp_runs.specs.declared.what.What.TheVariants as whats
-use Rattle.laws_runs.specs.Crafts.{OwnCraftsForgeNothing}
+use Rattle.laws_runs.specs.Crafts.{NoFrameIsForged, OwnCraftsForgeNothing}
 use Rattle.laws_runs.specs.Premises.{Carries}
 use Rattle.laws_runs.proofs.Goods.{where_keep}
 use Rattle.laws_runs.proofs.Lists.{both}
@@ -88,6 +90,42 @@ arrived_unforged arts x es js w new e j m c contents carries len bad good only i
     never_first : (a b c : Bool) → a ≡ false → (a && b && not c) ≡ false
     never_first true b c e = absurd cc
     never_first false b c e = refl
+
+-- ---- what is no frame
+
+untagged : (refused : FrameRefused) → is_tagged (no_frame refused) ≡ false
+untagged frames.TooLong = refl
+untagged (frames.Short short) = refl
+untagged frames.Magic = refl
+untagged frames.Version = refl
+
+no_pieces : (P : Kept → Type 0) (refused : FrameRefused) (pieces : List Piece) → AllKeep P (pieces_where (no_frame refused) pieces)
+no_pieces P frames.TooLong pieces = tt
+no_pieces P (frames.Short short) pieces = tt
+no_pieces P frames.Magic pieces = tt
+no_pieces P frames.Version pieces = tt
+
+pub no_frame_is_forged : NoFrameIsForged
+no_frame_is_forged arts x es js w new u v bytes j none (Stays s) = refl
+no_frame_is_forged arts x es js w new u v bytes j none (Moves m) =
+    let n = m.node in
+    let P = IsOfCompromised x in
+    let is : m.input ≡ steps.Datagram u bytes = one_input _ m.input m.reaches in
+    let moves : NodeStep arts n (steps.Datagram u bytes) m.output m.after = subst (λ i. NodeStep arts n i m.output m.after) is m.step in
+    let reply : reply_at arts n u bytes ≡ no_frame none.0 = ap (of_frame arts n.fixed (link_in n u) bytes) none.1 in
+    let read = pieces_in (sections_in arts n.fixed bytes) in
+    let pieces : AllKeep P (pieces_where (reply_at arts n u bytes) read) = subst (λ r. AllKeep P (pieces_where r read)) (sym reply) (no_pieces P none.0 read) in
+    let news : NewKeep P m.output.answered =
+    subst (λ (o : Output). NewKeep P o.answered) (sym moves.0) (called_good P (arrived arts n u bytes) (call_refusal n u)
+    (pieces_new P arts (arrival_at n u) n.parts (pieces_where (reply_at arts n u bytes) read) pieces)) in
+    let tag : has_forged_tag arts x w n m.input ≡ false =
+    ap (has_forged_tag arts x w n) is ∙ never_second (is_correct x u) (is_tagged (reply_at arts n u bytes)) (is_among bytes (frames_in w.directions u n.fixed.me)) (ap is_tagged reply ∙ untagged none.0) in
+    neither _ _ tag (none_forged x es js m.output.answered news)
+  where
+    never_second : (a b c : Bool) → b ≡ false → (a && b && not c) ≡ false
+    never_second true true c e = absurd cc
+    never_second true false c e = refl
+    never_second false b c e = refl
 
 -- ---- what is crafted is in its ranges
 

@@ -27,6 +27,8 @@ pub mod StoreFacts
 pub mod PlaceFacts
 pub mod PlaceSteps
 pub mod PlaceRuns
+pub mod OwnDeliveries
+pub mod GoodRuns
 pub mod Determined
 pub mod SentLists
 pub mod Neighbours

@@ -20,13 +20,14 @@ use Rattle.sp_topology.specs.declared.topology.Edge.{Edge}
 use Rattle.laws_runs.proofs.Lives.{step_stays}
 use Rattle.laws_runs.proofs.Played.{shares_from_start}
 use Rattle.sp_runs.specs.Inputs.{acting}
-use Rattle.sp_runs.specs.Runs.{Clean, Starts, Turned, Moves, Stays, Move, Spends, InRange, Turn, forged_in}
+use Rattle.sp_runs.specs.Runs.{Starts, Turned, Moves, Stays, Move, Spends, InRange, Turn, forged_in}
 use Rattle.sp_runs.specs.Settings.{Setting, SettingFits, fixed_of, node_at_boot}
 use Rattle.sp_runs.specs.Told.{effects_at, told_at}
 use Rattle.sp_runs.specs.Worlds.{World, at_start, node_in}
 use Rattle.sp_journal.specs.declared.entry.Entry.{Entry as JournalEntry}
 use Rattle.sp_schedule_events.specs.declared.event.Event.{Event}
 use Rattle.laws_runs.specs.Premises.{Carries}
+use Rattle.laws_runs.specs.Good.{PlacesAreTold}
 use Rattle.laws_runs.specs.Shares.{EvictionsLeaveShares}
 use Rattle.laws_runs.specs.Signs.{Good, Signs}
 use Rattle.laws_runs.proofs.FlowRuns.{here_is, none_either}
@@ -138,10 +139,10 @@ shares_on arts x es js old e j new fits reads signs range (Moves m) unforged h =
     (h.nodes (acting e) m.node m.is_there))
 shares_on arts x es js old e j new fits reads signs range (Stays m) unforged h = stayed_on x es js old new e j signs.entries m h
 
-held_right : (arts : Arts) (x : Setting) (es : List Event) (js : List JournalEntry) (w : World) → SettingFits arts x → Carries arts → Clean arts x es js w → SharePart x es js w
-held_right arts x es js w fits reads Starts = starts arts x fits
-held_right arts x es js w fits reads (Turned {es = es'} {js = js'} {old = old} {e = e} {j = j} run range turn unforged) =
-    shares_on arts x es' js' old e j w fits reads (signs arts x es' js' old fits reads run) range turn unforged (held_right arts x es' js' old fits reads run)
+pub places_are_told : PlacesAreTold
+places_are_told arts x es js w fits reads Starts = starts arts x fits
+places_are_told arts x es js w fits reads (Turned {es = es'} {js = js'} {old = old} {e = e} {j = j} run range turn unforged) =
+    shares_on arts x es' js' old e j w fits reads (signs arts x es' js' old fits reads run) range turn unforged (places_are_told arts x es' js' old fits reads run)
 
 pub turns_keep_shares : TurnsKeepShares
 turns_keep_shares = record {
@@ -150,4 +151,4 @@ turns_keep_shares = record {
 }
 
 pub evictions_leave_shares : EvictionsLeaveShares
-evictions_leave_shares arts x es js w fits reads run = λ u place. shares_from_start x.store place (effects_at es js u) ((held_right arts x es js w fits reads run).shares u place)
+evictions_leave_shares arts x es js w fits reads run = λ u place. shares_from_start x.store place (effects_at es js u) ((places_are_told arts x es js w fits reads run).shares u place)

@@ -1,6 +1,6 @@
 -- What a place holds as its effects are played one after the other, and that it is what the stored entries without the gone ones are.
-use Rattle.laws_runs.specs.Places.{FreshIf, Shelf, Steps, less_held, shelf_after}
-use Rattle.std.proofs.Common.{◌≡◌, ◌<◌, ◌≤◌, ℕ, ◌==◌, ◌&&◌, ◌||◌, Bool, true, false, not, List, [], ◌∷◌, ◌++◌, filter, flat_map, refl, sym, ap, subst, ◌∙◌, inl, inr, arith}
+use Rattle.laws_runs.specs.Places.{FreshIf, Shelf, Steps, less_held, no_shelf, shelf_after, shelf_by}
+use Rattle.std.proofs.Common.{◌≡◌, ◌<◌, ◌≤◌, ℕ, ◌==◌, ◌&&◌, ◌||◌, Bool, true, false, not, List, [], ◌∷◌, ◌++◌, filter, flat_map, refl, sym, ap, subst, ◌∙◌, inl, inr, arith, append_assoc}
 use Rattle.std.specs.List.{list_any}
 use Rattle.std.proofs.lemmas.Bool.{cases_Bool, eq-eqb, eqb-true, ne_eqb}
 use Rattle.std.proofs.lemmas.List.{append-nil}
@@ -132,3 +132,15 @@ shares_of capacity p before st (e ∷ later) h steps = (
 pub shares_from_start : (capacity p : ℕ) (es : List Effect) → Steps capacity p (record { top = 0; held = [] }) es → AreShares capacity p [] es
 shares_from_start capacity p es steps =
     shares_of capacity p [] (record { top = 0; held = [] }) es (record { held = refl; given = λ id is. absurd (let wrong : false ≡ true = is in cc) }) steps
+
+-- ---- and what is held is what the effects lead to
+
+played_on : (capacity p : ℕ) (before : List Effect) (st : Shelf) (later : List Effect) → IsPlayed p before st → Steps capacity p st later → IsPlayed p (before ++ later) (shelf_by p st later)
+played_on capacity p before st [] h steps = subst (λ (es : List Effect). IsPlayed p es st) (sym (append-nil before)) h
+played_on capacity p before st (e ∷ later) h steps =
+    subst (λ (es : List Effect). IsPlayed p es (shelf_by p (shelf_after p st e) later)) (append_assoc before (e ∷ []) later)
+    (played_on capacity p (before ++ e ∷ []) (shelf_after p st e) later (one_more capacity p before st e steps.0.0 h) steps.1)
+
+pub held_from_start : (capacity p : ℕ) (es : List Effect) → Steps capacity p no_shelf es → held_in p es ≡ (shelf_by p no_shelf es).held
+held_from_start capacity p es steps =
+    (played_on capacity p [] no_shelf es (record { held = refl; given = λ id is. absurd (let wrong : false ≡ true = is in cc) }) steps).held

@@ -8,6 +8,7 @@ pub mod Weights
 pub mod States
 pub mod Shares
 pub mod Places
+pub mod Good
 pub mod Calls
 pub mod Turns
 pub mod Crafts

@@ -3,6 +3,7 @@
 
 ghost use Rattle.laws_runs.specs.Calls.{EachReplyHasWords, FramesAreCounted, FramesAreMade, LinksHaveTheirKeys, NeighboursAreAnswered};
 ghost use Rattle.laws_runs.specs.Flows.{FlowsAreKept, TurnsKeepFlows};
+ghost use Rattle.laws_runs.specs.Good.{PlacesAreTold, RunsAreGood};
 ghost use Rattle.laws_runs.specs.Laws.{BoundsFollow, BuffersStayBounded, OnlyTheAdversaryForges};
 ghost use Rattle.laws_runs.specs.Priority.{PriorityIsKept, TurnsKeepPriority};
 ghost use Rattle.laws_runs.specs.Places.{TurnsKeepShares};
@@ -10,7 +11,7 @@ ghost use Rattle.laws_runs.specs.Shares.{EvictionsLeaveShares};
 ghost use Rattle.laws_runs.specs.Signs.{SignsBegin, TurnsKeepSigns};
 ghost use Rattle.laws_runs.specs.States.{BeginningsAreClean, CorrectNodesAreThere, RunsAreDetermined, WhatIsKeptWasSigned};
 ghost use Rattle.laws_runs.specs.Weights.{TurnsKeepWeights, WeightsAreKept};
-ghost use Rattle.laws_runs.specs.Crafts.{OwnCraftsForgeNothing};
+ghost use Rattle.laws_runs.specs.Crafts.{NoFrameIsForged, OwnCraftsForgeNothing};
 ghost use Rattle.laws_runs.specs.Story.{StoriesArePlayed};
 ghost use Rattle.laws_runs.specs.Turns.{EachEventHasATurn};
 
@@ -64,6 +65,16 @@ pub fn evictions_leave_shares()
     ensures { EvictionsLeaveShares }
 {}
 
+/// A law: what the effects of a correct node say that each of its places holds is what it has there.
+pub fn places_are_told()
+    ensures { PlacesAreTold }
+{}
+
+/// A law: no event of a run without forgery breaks a promise that an auditor asks for.
+pub fn runs_are_good()
+    ensures { RunsAreGood }
+{}
+
 /// A law: the events of a run and their journal lead to one world: to one state of each node, and to the same frames.
 pub fn events_and_journal_determine_a_run()
     ensures { RunsAreDetermined }
@@ -105,6 +116,11 @@ pub fn each_event_has_a_turn()
 /// forgery by them.
 pub fn own_crafts_forge_nothing()
     ensures { OwnCraftsForgeNothing }
+{}
+
+/// A law: an injected datagram that is no frame, by its length, its name or its version, is never forged.
+pub fn no_frame_is_forged()
+    ensures { NoFrameIsForged }
 {}
 
 /// The part on signed objects, and what nodes are: it holds at the start, and each turn of which nothing is forged keeps it.

@@ -5,9 +5,17 @@ pub mod ReadBack
 pub mod Topologies
 pub mod Headers
 pub mod Headline
+pub mod Audited
 pub mod EffectCounts
 pub mod Deliveries
 pub mod FrameLengths
 pub mod Schedules
 pub mod Lengths
 pub mod Opens
+pub mod Listed
+pub mod MaskBits
+pub mod PathSets
+pub mod Choices
+pub mod Turned
+pub mod Unforged
+pub mod Generated

@@ -1,8 +1,11 @@
 pub mod FormatCarries
 pub mod Headers
 pub mod Headline
+pub mod Audited
 pub mod Journals
 pub mod Frames
 pub mod Schedules
+pub mod Turns
 pub mod ComesThrough
 pub mod Delivery
+pub mod Unforged

@@ -1,6 +1,7 @@
 //! What the laws of runs ask of arts and of settings, proved of this format and of what a schedule's header makes; and so counted delivery for every schedule.
 #![tactic(auto)]
 
+ghost use Rattle.laws_runs_format.specs.Audited.{ClaimedRunsPassAudits, RunsPassAudits};
 ghost use Rattle.laws_runs_format.specs.ComesThrough.{FormatComesThrough};
 ghost use Rattle.laws_runs_format.specs.Delivery.{SchedulesDeliver, SchedulesReturn};
 ghost use Rattle.laws_runs_format.specs.FormatCarries.{FormatCarries};
@@ -9,6 +10,8 @@ ghost use Rattle.laws_runs_format.specs.Headers.{HeadersFit, SignaturesAreLong, 
 ghost use Rattle.laws_runs_format.specs.Journals.{JournalsAreCountable};
 ghost use Rattle.laws_runs_format.specs.Frames.{FramesHaveTheirLength};
 ghost use Rattle.laws_runs_format.specs.Schedules.{ScheduledEventsAreInRange};
+ghost use Rattle.laws_runs_format.specs.Turns.{EachRequestHasAChoice, ScheduledEventsHaveTurns};
+ghost use Rattle.laws_runs_format.specs.Unforged.{GeneratedForgeNothing, HarmlessSchedulesForgeNothing};
 
 /// A law: what this format writes is read back, and all of it is bytes: frames, tags and signatures, and what is read of bytes.
 pub fn this_format_carries_bytes()
@@ -35,6 +38,13 @@ pub fn every_run()
     ensures { EveryRun }
 {}
 
+/// A law: an auditor, who knows the events and the journal alone, finds no broken promise in any run of a schedule without forgery; and so in none that
+/// the headline is true of.
+pub fn runs_pass_audits()
+    ensures runs { RunsPassAudits }
+    ensures claimed { ClaimedRunsPassAudits }
+{}
+
 /// A law: a run's journal has an entry for each event, which tells no more deliveries than a frame has bytes.
 pub fn journals_are_countable()
     ensures { JournalsAreCountable }
@@ -50,9 +60,26 @@ pub fn scheduled_events_are_in_range()
     ensures { ScheduledEventsAreInRange }
 {}
 
+/// A law: nothing of a good schedule is forged whose injected bytes are no frames, whose crafts are by compromised nodes in the names of such, and that
+/// changes no bits.
+pub fn harmless_schedules_forge_nothing()
+    ensures { HarmlessSchedulesForgeNothing }
+{}
+
+/// A law: nothing of the schedule of a number is forged.
+pub fn generated_forge_nothing()
+    ensures { GeneratedForgeNothing }
+{}
+
 /// A law: in the setting of every header in its ranges, what a source accepted is delivered, and what a destination acknowledged has returned, after so many
 /// complete rounds of a path.
 pub fn schedules_deliver_in_rounds()
     ensures delivered { SchedulesDeliver }
     ensures returned { SchedulesReturn }
+{}
+
+/// A law: whatever the weights are, a priority message has a choice of its edges; and so each event that may come in a run of a schedule has a turn.
+pub fn events_have_turns()
+    ensures choices { EachRequestHasAChoice }
+    ensures turns { ScheduledEventsHaveTurns }
 {}

@@ -5,7 +5,7 @@ use sp_text::push_number;
 use std::alloc::Global;
 
 /// A text of so many bytes isn't read.
-const TOO_MANY: usize = 0xffff_ffff;
+pub const TOO_MANY: usize = 0xffff_ffff;
 
 /// The text of the journal that was read, or the line `refused LINE Form`. What is too long is refused at line 0.
 pub fn checked(alloc: Global, text: &[u8]) -> Result<String, Memory> {
@@ -20,8 +20,13 @@ pub fn checked(alloc: Global, text: &[u8]) -> Result<String, Memory> {
 }
 
 fn refused(alloc: Global, line: u32) -> Result<String, Memory> {
-    let mut out = String::from_str(alloc, "refused ")?;
-    push_number(&mut out, u64::from(line))?;
-    out.push_str(" Form\n")?;
+    numbered(alloc, "refused ", line, " Form\n")
+}
+
+/// The number between two texts.
+pub fn numbered(alloc: Global, front: &str, number: u32, end: &str) -> Result<String, Memory> {
+    let mut out = String::from_str(alloc, front)?;
+    push_number(&mut out, u64::from(number))?;
+    out.push_str(end)?;
     Ok(out)
 }

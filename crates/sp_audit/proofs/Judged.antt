@@ -1,6 +1,7 @@
 -- What the effects of one event say of the promises, and what that says of a whole run.
-use Rattle.std.proofs.Common.{◌≡◌, ◌<◌, ◌≤◌, ℕ, zero, suc, ◌+◌, ◌-◌, nat_le, Bool, List, [], ◌∷◌, ◌++◌, length, map, get_or, take, drop, refl, sym, ap, ap₂, subst, ◌∙◌, inl, inr, arith, length-append, length-take-le, Result, Ok, Err, IfOk, IsTrue, Bor}
+use Rattle.std.proofs.Common.{◌≡◌, ◌<◌, ◌≤◌, ℕ, zero, suc, ◌+◌, ◌-◌, nat_le, ◌||◌, Bool, true, false, List, [], ◌∷◌, ◌++◌, length, map, get_or, take, drop, refl, sym, ap, ap₂, subst, ◌∙◌, inl, inr, arith, length-append, length-take-le, Result, Ok, Err, IfOk, IsTrue, Bor}
 use Rattle.std.specs.Prelude.{◌↔◌}
+use Rattle.std.specs.List.{list_any}
 use Rattle.std.proofs.Math.Seq.{take-append_seam}
 use Rattle.std.proofs.lemmas.Bool.{cases_Bool, leb-true}
 use Rattle.std.proofs.lemmas.Bool.Decides.{nat_tests}
@@ -8,12 +9,14 @@ use Rattle.std.proofs.lemmas.List.{length-map, take-map, take_more}
 use Rattle.sp_base.specs.declared.memory.Memory.{Memory}
 use Rattle.sp_journal.specs.declared.entry.Entry.{Entry}
 use Rattle.sp_msg.specs.declared.effect.Effect.{Effect}
+use Rattle.sp_base.specs.declared.id.NodeId.{NodeId}
+use Rattle.sp_msg.specs.declared.effect.Effect.TheVariants as effects
 use Rattle.sp_runs.specs.Inputs.{acting}
 use Rattle.sp_runs.specs.Settings.{Setting}
 use Rattle.sp_runs.specs.Told.{effects_at}
 use Rattle.sp_schedule_events.specs.declared.event.Event.{Event}
-use Rattle.sp_audit.specs.Good.{IsGood}
-use Rattle.sp_audit.specs.Holds.{EachHolds}
+use Rattle.laws_runs.specs.Good.{IsGood}
+use Rattle.sp_audit.specs.Holds.{EachHolds, EffectHolds, asks}
 use Rattle.sp_audit.proofs.Steps.{effects_here, good_after, holds_after}
 use Rattle.sp_audit.proofs.Walks.{take_all}
 
@@ -72,6 +75,38 @@ event_judged x es js place e j all from r even below is_e is_j are is_from judge
     (subst (λ (xs : List Event). IsTrue b ↔ EachHolds x xs (take (place + 1) js) (acting e) (map now all) (map now (take from all)) (map now (drop from all))) here is)))) in
     let judged : IsTrue b ↔ IsGood x (es0 ++ e ∷ []) (js0 ++ j ∷ []) = both_after x es0 js0 e j same b each good in
     subst (λ (ys : List Entry). IsTrue b ↔ IsGood x (take (place + 1) es) ys) (sym there) (subst (λ (xs : List Event). IsTrue b ↔ IsGood x xs (js0 ++ j ∷ [])) (sym here) judged)) judged
+
+-- where no effect asks anything, each holds
+quiet_holds : (x : Setting) (es : List Event) (js : List Entry) (u : NodeId) (all before later : List Effect) → list_any asks later ≡ false → EachHolds x es js u all before later
+quiet_holds x es js u all before [] quiet = tt
+quiet_holds x es js u all before (e ∷ later) quiet =
+    let both = neither (asks e) (list_any asks later) quiet in
+    (one e both.0, quiet_holds x es js u all (before ++ e ∷ []) later both.1)
+  where
+    neither : (a b : Bool) → (a || b) ≡ false → (a ≡ false) × (b ≡ false)
+    neither true b is = absurd (cc)
+    neither false b is = (refl, is)
+
+    one : (e : Effect) → asks e ≡ false → EffectHolds x es js u all before e
+    one (effects.Signed bytes) is = tt
+    one (effects.WeightHeld origin edge seq weight) is = tt
+    one (effects.Delivered src seq payload) is = absurd (cc)
+    one (effects.DeliveredPrio src seq payload) is = absurd (cc)
+    one (effects.Stored place id src seq prio) is = absurd (cc)
+    one (effects.Gone place id why) is = absurd (cc)
+
+-- so an event of such effects breaks no promise
+pub event_quiet : (x : Setting) (es : List Event) (js : List Entry) (place : ℕ) (e : Event) (j : Entry) → length es ≡ length js → place < length es → e ≡ get_or es place e → j ≡ get_or js place j
+    → list_any asks j.effects ≡ false → IsGood x (take place es) (take place js) → (IsTrue true ↔ IsGood x (take (place + 1) es) (take (place + 1) js))
+event_quiet x es js place e j even below is_e is_j quiet good =
+    let es0 = take place es in
+    let js0 = take place js in
+    let here : take (place + 1) es ≡ es0 ++ e ∷ [] = take_more es place e below ∙ ap (λ (y : Event). es0 ++ y ∷ []) (sym is_e) in
+    let there : take (place + 1) js ≡ js0 ++ j ∷ [] = take_more js place j (omega (arith, below, even)) ∙ ap (λ (y : Entry). js0 ++ y ∷ []) (sym is_j) in
+    let same : length es0 ≡ length js0 = omega (arith, length-take-le place es (omega (arith, below)), length-take-le place js (omega (arith, below, even))) in
+    let each = quiet_holds x (es0 ++ e ∷ []) (js0 ++ j ∷ []) (acting e) (effects_at (es0 ++ e ∷ []) (js0 ++ j ∷ []) (acting e)) (effects_at es0 js0 (acting e)) j.effects quiet in
+    let after : IsGood x (es0 ++ e ∷ []) (js0 ++ j ∷ []) = good_after x es0 js0 e j same good each in
+    (λ t. subst (λ (ys : List Entry). IsGood x (take (place + 1) es) ys) (sym there) (subst (λ (xs : List Event). IsGood x xs (js0 ++ j ∷ [])) (sym here) after), λ t. refl)
 
 -- ---- whole runs
 

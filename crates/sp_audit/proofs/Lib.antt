@@ -8,3 +8,6 @@ pub mod FlowLemmas
 pub mod PathLemmas
 pub mod Hops
 pub mod Greedy
+pub mod ShelfLemmas
+pub mod OnceLemmas
+pub mod MadeLemmas

@@ -1,12 +1,22 @@
 -- What a walk over nodes finds out of a path.
-use Rattle.std.proofs.Common.{◌≡◌, ◌<◌, ◌≤◌, ℕ, zero, suc, ◌+◌, Bool, true, false, ◌||◌, List, [], ◌∷◌, ◌++◌, length, take, drop, All, get_or, refl, sym, ap, subst, ◌∙◌, inl, inr, arith, ◌-◌, min, length-append}
-use Rattle.std.specs.Prelude.{◌==◌}
-use Rattle.std.specs.List.{Any, list_any}
-use Rattle.std.proofs.lemmas.Bool.{cases_Bool, eq-eqb}
+use Rattle.std.proofs.Common.{◌≡◌, ◌<◌, ◌≤◌, ℕ, zero, suc, ◌+◌, Bool, true, false, ◌&&◌, ◌||◌, eqb, nat_le, map, IsTrue, List, [], ◌∷◌, ◌++◌, length, take, drop, All, get_or, refl, sym, ap, subst, ◌∙◌, inl, inr, arith, ◌-◌, min, length-append}
+use Rattle.std.specs.Prelude.{◌==◌, ◌≢◌}
+use Rattle.std.specs.List.{AllPairs, Any, list_any}
+use Rattle.std.proofs.lemmas.Bool.{cases_Bool, eq-eqb, eqb-true}
+use Rattle.std.proofs.lemmas.Bool.Decides.{Decides-eqb, nat_tests}
+use Rattle.std.proofs.lemmas.List.{length-map}
+use Rattle.std.proofs.Math.ListN.{get_or-map}
+use Rattle.std.proofs.lemmas.List.Elements.{All-head, All-tail, All-weaker}
+use Rattle.std.proofs.lemmas.Map.Made.{IsDistinct-from_AllPairs}
+use Rattle.std.proofs.lemmas.Map.Steps.{length-le_from_distinct_below}
 use Rattle.sp_base.specs.declared.id.NodeId.{NodeId}
 use Rattle.sp_graph.specs.Walks.{is_between, steps}
+use Rattle.sp_runs.specs.Scenarios.{setting_of}
+use Rattle.sp_runs.specs.Settings.{is_correct, is_node}
+use Rattle.sp_schedule_events.specs.declared.scenario.Scenario.{Scenario}
 use Rattle.sp_topology.specs.declared.topology.Edge.{Edge}
 use Rattle.sp_audit.proofs.Hops.{cases_below, count_steps}
+use Rattle.sp_audit.proofs.Nodes.{node_is}
 use Rattle.sp_audit.proofs.Walks.{or_second, take_all}
 use Rattle.sp_audit.proofs.SweepLemmas.{drop_past}
 use Rattle.sp_audit.proofs.Steps.{same_node}
@@ -144,3 +154,38 @@ drop_least xs k = elim (cases_below k (length xs)) [
   | inl most ↦ ap (λ (n : ℕ). drop n xs) (omega (arith, most))
   | inr past ↦ ap (λ (n : ℕ). drop n xs) (omega (arith, past)) ∙ drop_past xs (length xs) (omega arith) ∙ sym (drop_past xs k (omega (arith, past)))
 ]
+
+-- ---- how long a path is
+
+apart_ids : (path : List NodeId) → AllPairs (λ u v. u ≢ v) path → AllPairs (λ a b. a ≢ b) (map (λ (u : NodeId). u.0) path)
+apart_ids path apart i j d less below =
+    let long = length-map path (λ (u : NodeId). u.0) in
+    let there : j < length path = omega (arith, below, long) in
+    λ same. apart i j (record { 0 = d }) less there
+    (ap (λ (n : ℕ). record { 0 = n }) (sym (get_or-map (λ (u : NodeId). u.0) path i (record { 0 = d })) ∙ same ∙ get_or-map (λ (u : NodeId). u.0) path j (record { 0 = d })))
+
+below_all : (n q : ℕ) (path : List NodeId) → All (λ u. u.0 < n) path → list_any (eqb q) (map (λ (u : NodeId). u.0) path) ≡ true → q < n
+below_all n q [] all is = absurd (let f : false ≡ true = is in cc)
+below_all n q (u ∷ path) all is = elim (cases_Bool (eqb q u.0)) [
+  | inl t ↦ (let here = All-head (λ (v : NodeId). v.0 < n) u path all in let same : q ≡ u.0 = eqb-true q u.0 t in omega (arith, here, same))
+  | inr t ↦ below_all n q path (All-tail (λ (v : NodeId). v.0 < n) u path all) (rw t at is)
+]
+
+-- as many numbers as there are nodes
+pub no_longer : (path : List NodeId) (n : ℕ) → All (λ u. u.0 < n) path → AllPairs (λ u v. u ≢ v) path → length path ≤ n
+no_longer path n below apart =
+    let ids = map (λ (u : NodeId). u.0) path in
+    let few = length-le_from_distinct_below ids n (IsDistinct-from_AllPairs Decides-eqb ids (apart_ids path apart)) (λ q is. below_all n q path below is) in
+    omega (arith, few, length-map path (λ (u : NodeId). u.0))
+
+pub correct_below : (s : Scenario) (path : List NodeId) → s.graph.nodes < 256 → All (λ u. IsTrue (is_correct (setting_of s) u)) path → All (λ u. u.0 < 256) path
+correct_below s path few all =
+    All-weaker (λ u. IsTrue (is_correct (setting_of s) u)) (λ u. u.0 < 256)
+    (λ u is. in_range u.0 s.graph.nodes few (sym (node_is s u) ∙ first (is_node (setting_of s) u) _ is)) path all
+  where
+    first : (a b : Bool) → (a && b) ≡ true → a ≡ true
+    first true b is = refl
+    first false b is = absurd (let f : false ≡ true = is in cc)
+
+    in_range : (u n : ℕ) → n < 256 → (nat_le 1 u && nat_le u n) ≡ true → u < 256
+    in_range u n few is = grind (arith, nat_tests, few, is)

@@ -18,7 +18,7 @@ use Rattle.sp_runs.specs.Inputs.{acting}
 use Rattle.sp_runs.specs.Settings.{Setting, is_correct}
 use Rattle.sp_runs.specs.Told.{accepted_in, delivered, delivered_by, effects_at, prio_by, sent, told_at}
 use Rattle.sp_schedule_events.specs.declared.event.Event.{Event}
-use Rattle.sp_audit.specs.Good.{IsGood}
+use Rattle.laws_runs.specs.Good.{IsGood}
 use Rattle.sp_audit.specs.Holds.{EachHolds, EffectHolds}
 use Rattle.sp_audit.specs.Lists.{numbers}
 use Rattle.sp_audit.proofs.Walks.{told_of_effects}

@@ -1,9 +1,9 @@
 -- The walk finds the earliest end of a sweep.
-use Rattle.std.proofs.Common.{◌≡◌, ◌<◌, ◌≤◌, ℕ, zero, suc, ◌+◌, Bool, true, false, ◌&&◌, IsTrue, List, [], ◌∷◌, ◌++◌, length, take, drop, nat_le, refl, sym, ap, subst, ◌∙◌, inl, inr, ◌⊎◌, arith, append_assoc, append-nil, length-append, get_or}
+use Rattle.std.proofs.Common.{◌≡◌, ◌<◌, ◌≤◌, ℕ, zero, suc, ◌+◌, Bool, true, false, ◌&&◌, IsTrue, List, [], ◌∷◌, ◌++◌, length, take, drop, nat_le, refl, sym, ap, subst, ◌∙◌, inl, inr, ◌⊎◌, arith, append_assoc, append-nil, length-append, take-add, get_or}
 use Rattle.std.specs.Prelude.{if◌then◌else◌, cond}
 use Rattle.std.proofs.lemmas.Bool.{cases_Bool, leb-true}
 use Rattle.std.proofs.lemmas.Bool.Decides.{nat_tests}
-use Rattle.std.proofs.lemmas.List.Sums.{sum_by-append, sum_by-cons}
+use Rattle.std.proofs.lemmas.List.Sums.{count_by-le-length, sum_by-append, sum_by-cons}
 use Rattle.sp_base.specs.declared.id.NodeId.{NodeId}
 use Rattle.sp_runs.specs.Rounds.{IsSweep, are_passed, is_pass, is_passed}
 use Rattle.sp_runs.specs.Runs.{is_poll, polls}
@@ -372,3 +372,12 @@ drop_past [] zero past = refl
 drop_past [] (suc i) past = refl
 drop_past (x ∷ xs) zero past = absurd (omega (arith, past))
 drop_past (x ∷ xs) (suc i) past = drop_past xs i (omega (arith, past))
+
+-- ---- how many frames were made
+
+pub polls_few : (u v : NodeId) (es : List Event) → polls es u v ≤ length es
+polls_few u v es = count_by-le-length (is_poll u v) es
+
+-- up to a later place
+pub polls_on : (u v : NodeId) (es : List Event) (from n : ℕ) → polls (take (from + n) es) u v ≡ polls (take from es) u v + polls (take n (drop from es)) u v
+polls_on u v es from n = ap (λ (xs : List Event). polls xs u v) (take-add from n es) ∙ polls_append u v (take from es) (take n (drop from es))

@@ -1,5 +1,5 @@
 -- Steps of a walk over effects, and over events with their entries.
-use Rattle.std.proofs.Common.{◌≡◌, ◌<◌, ◌≤◌, ℕ, zero, suc, ◌+◌, Bool, true, false, List, [], ◌∷◌, ◌++◌, length, map, filter, get_or, take, drop, refl, sym, ap, ap₂, subst, ◌∙◌, append-nil, arith, length-take-le}
+use Rattle.std.proofs.Common.{◌≡◌, ◌<◌, ◌≤◌, ℕ, zero, suc, ◌+◌, ◌-◌, Bool, true, false, List, [], ◌∷◌, ◌++◌, length, map, filter, get_or, take, drop, refl, sym, ap, ap₂, subst, ◌∙◌, append-nil, arith, length-drop, length-take-le}
 use Rattle.std.specs.Prelude.{◌==◌, ◌||◌, if◌then◌else◌}
 use Rattle.std.specs.List.{flat_map, list_any, zip}
 use Rattle.std.proofs.lemmas.List.{map_more, take_more}
@@ -90,6 +90,10 @@ take_drop [] zero = refl
 take_drop [] (suc n) = refl
 take_drop (x ∷ xs) zero = refl
 take_drop (x ∷ xs) (suc n) = ap (λ (ys : List _). x ∷ ys) (take_drop xs n)
+
+-- a slice from a place to the end
+pub slice_from : {X : Type 0} (xs : List X) (from : ℕ) → take (length xs - from) (drop from xs) ≡ drop from xs
+slice_from xs from = let long = length-drop from xs in take_all (drop from xs) (length xs - from) (omega (arith, long))
 
 -- a list whose every item the other has in its place is a front of it
 pub front_of : {X : Type 0} (xs ys : List X) (n : ℕ) → length xs ≤ n → take n xs ≡ take n ys → IsPrefix xs ys

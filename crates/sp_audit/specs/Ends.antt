@@ -1,9 +1,9 @@
 -- The earliest end of what is sought in a list: the least beginning of it that has it.
-use Rattle.std.specs.Prelude.{ℕ, suc, ◌≡◌, ◌+◌, ◌<◌, ◌≤◌, ◌&&◌, Bool, true, false, IsTrue, List, [], ◌∷◌, ◌++◌, length, take, nat_le, if◌then◌else◌}
+use Rattle.std.specs.Prelude.{ℕ, suc, ◌≡◌, ◌+◌, ◌-◌, ◌<◌, ◌≤◌, ◌&&◌, Bool, true, false, IsTrue, List, [], ◌∷◌, ◌++◌, length, take, nat_le, slice_index_or, if◌then◌else◌}
 use Rattle.std.specs.List.{list_any}
 use Rattle.sp_base.specs.declared.id.NodeId.{NodeId}
 use Rattle.sp_runs.specs.Rounds.{IsSweep, is_pass, is_take}
-use Rattle.sp_runs.specs.Runs.{is_poll}
+use Rattle.sp_runs.specs.Runs.{is_poll, polls}
 use Rattle.sp_schedule_events.specs.declared.event.Event.{Event}
 
 -- The beginning of so many has it and no shorter one. Where no beginning has it, the number is one more than there are.
@@ -24,6 +24,15 @@ pub record HasSweep (least : ℕ) (u v : NodeId) (before during : List Event) : 
 pub record IsReady (least : ℕ) (s d u v : NodeId) (before during : List Event) : Type 0 where
   pub back : HasSweep least v u before during
   pub take : v ≡ d → IsTrue (list_any (is_take d s) during)
+
+-- ---- how many frames were made before
+
+-- for each hop of the path, at the place of its second node, the frames that its ends made for each other among these events
+abbrev pub AreMade : (forth back : List ℕ) → List NodeId → List Event → Type 0
+AreMade forth back path es =
+    (place : ℕ) (d : NodeId) → 1 ≤ place → place < length path
+    → (slice_index_or forth place 0 ≡ polls es (slice_index_or path (place - 1) d) (slice_index_or path place d))
+    × (slice_index_or back place 0 ≡ polls es (slice_index_or path place d) (slice_index_or path (place - 1) d))
 
 -- ---- how an auditor finds the earliest end of a sweep
 

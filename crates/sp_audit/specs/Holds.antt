@@ -1,5 +1,5 @@
 -- What each effect of an event asks, by the lists that it changes. Where each of an event's effects holds, no promise is broken that was kept before.
-use Rattle.std.specs.Prelude.{◌≤◌, IsTrue, List, [], ◌∷◌, ◌++◌, length}
+use Rattle.std.specs.Prelude.{◌≤◌, Bool, true, false, IsTrue, List, [], ◌∷◌, ◌++◌, length}
 use Rattle.std.specs.List.{flat_map}
 use Rattle.laws_runs.specs.Priority.{AreOnce}
 use Rattle.sp_base.specs.Lists.{IsPrefix}
@@ -21,6 +21,12 @@ EffectHolds x es js u all before (effects.DeliveredPrio src seq payload) = IsTru
 EffectHolds x es js u all before (effects.Stored place id src seq prio) = length (held_in place all) ≤ x.store
 EffectHolds x es js u all before (effects.Gone place id why) = (length (held_in place all) ≤ x.store) × ShareIf x.store place (held_in place before) (effects.Gone place id why)
 EffectHolds x es js u all before _ = Unit {0}
+
+-- the effect asks anything
+abbrev pub asks : Effect → Bool
+asks (effects.Signed bytes) = false
+asks (effects.WeightHeld origin edge seq weight) = false
+asks _ = true
 
 -- each of the later effects, one after the other
 abbrev pub EachHolds : Setting → List Event → List Entry → NodeId → (all before later : List Effect) → Type 0

@@ -1,6 +1,8 @@
-pub mod Good
+pub mod Refusals
+pub mod Counted
+-- ---- what proofs and the parts of this crate use among themselves
 pub mod Lists
 pub mod Shares
+pub mod Shelves
 pub mod Holds
 pub mod Ends
-pub mod Counted

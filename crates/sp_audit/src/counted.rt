@@ -1,15 +1,18 @@
 // How often a path was served: complete rounds one after another.
 ghost use Rattle.std.specs.Prelude.{◌≡◌, ◌+◌, ◌≤◌, IfErr, IfOk, drop, length, take};
-ghost use Rattle.sp_audit.specs.Ends.{IsFirstEnd};
+ghost use Rattle.sp_audit.specs.Ends.{AreMade, IsFirstEnd};
 ghost use Rattle.sp_audit.specs.Counted.{IsCount, IsNoPath};
 ghost use Rattle.sp_runs.specs.Scenarios.{setting_of};
 ghost use Rattle.sp_base.specs.declared.limits.TheConstants.{MAX_EVENTS};
+ghost use Rattle.sp_rules.specs.declared.store.TheConstants.{IDS};
 ghost use Rattle.sp_runs.specs.Rounds.{CompleteRounds, IsCompleteRound, IsHopServed};
+ghost use Rattle.sp_runs.specs.Runs.{polls};
 
 use crate::AuditRefused;
 use crate::flows::flow_count;
+use crate::made::Made;
 use crate::path::is_path;
-use crate::sweeps::{ready_end, sweep_end};
+use crate::sweeps::{polls, ready_end, sweep_end};
 use sp_base::{Flow, NodeId};
 use sp_schedule_events::{Event, Scenario};
 
@@ -38,36 +41,6 @@ pub fn rounds(
     Ok(count_rounds(events, at, least, flow, path))
 }
 
-/// How many events from this place on go by up to the earliest end of a complete round: one more than there are where there is none.
-fn round_end(events: &[Event], from: usize, least: usize, flow: Flow, path: &[NodeId]) -> usize
-    requires some { 1 ≤ least }
-    requires few { length events.now ≤ MAX_EVENTS }
-    requires there { from ≤ length events.now }
-    ensures { IsFirstEnd (IsCompleteRound least flow.src flow.dst path.now (take from events.now)) (drop from events.now) result }
-{
-    let mut end = 0usize;
-    'hops: for place in 1..path.len() {
-        end = end.max(hop_end(events, from, least, flow, path[place - 1], path[place]));
-    }
-    end
-}
-
-/// The same of an interval that serves the hop from `u` to `v`.
-fn hop_end(events: &[Event], from: usize, least: usize, flow: Flow, u: NodeId, v: NodeId) -> usize
-    requires some { 1 ≤ least }
-    requires few { length events.now ≤ MAX_EVENTS }
-    requires there { from ≤ length events.now }
-    ensures { IsFirstEnd (IsHopServed least flow.src flow.dst u v (take from events.now)) (drop from events.now) result }
-{
-    let (before, during) = (&events[..from], &events[from..]);
-    let ready = ready_end(before, during, least, flow, u, v);
-    if during.len() < ready {
-        return ready;
-    }
-    let at = from + ready;
-    ready + sweep_end(&events[..at], &events[at..], least, u, v)
-}
-
 /// How many complete rounds of the nodes follow one after another for the flow from this place on, exactly, where a sweep has `least` polls at least.
 /// At most so many flows may wait at a node as `least` says. It takes no memory.
 fn count_rounds(events: &[Event], from: usize, least: usize, flow: Flow, path: &[NodeId]) -> u32
@@ -75,17 +48,81 @@ fn count_rounds(events: &[Event], from: usize, least: usize, flow: Flow, path: &
     requires few { length events.now ≤ MAX_EVENTS }
     requires there { from ≤ length events.now }
     requires hops { 2 ≤ length path.now }
+    requires short { length path.now ≤ IDS }
     ensures counted { CompleteRounds least flow.src flow.dst path.now result (take from events.now) (drop from events.now) }
     ensures no_more { CompleteRounds least flow.src flow.dst path.now (result + 1) (take from events.now) (drop from events.now) → ⊥ }
 {
+    let mut made = Made::none();
+    made.count(&events[..from], path);
     let mut at = from;
     'rounds: for round in 0..events.len() + 1 {
-        let end = round_end(events, at, least, flow, path);
+        let end = round_end(events, at, &made, least, flow, path);
         if events.len() - at < end {
             return round as u32;
         }
+        made.count(&events[at..at + end], path);
         at += end;
     }
     // No round is without an event.
     events.len() as u32
+}
+
+/// How many events from this place on go by up to the earliest end of a complete round: one more than there are where there is none.
+fn round_end(
+    events: &[Event],
+    from: usize,
+    made: &Made,
+    least: usize,
+    flow: Flow,
+    path: &[NodeId],
+) -> usize
+    requires some { 1 ≤ least }
+    requires few { length events.now ≤ MAX_EVENTS }
+    requires there { from ≤ length events.now }
+    requires short { length path.now ≤ IDS }
+    requires made { AreMade made.now.forth made.now.back path.now (take from events.now) }
+    ensures { IsFirstEnd (IsCompleteRound least flow.src flow.dst path.now (take from events.now)) (drop from events.now) result }
+{
+    let mut end = 0usize;
+    'hops: for place in 1..path.len() {
+        let count = (made.forth[place], made.back[place]);
+        let served = hop_end(
+            events,
+            from,
+            count,
+            least,
+            flow,
+            path[place - 1],
+            path[place],
+        );
+        end = end.max(served);
+    }
+    end
+}
+
+/// The same of an interval that serves the hop from `u` to `v`, which made so many frames before, forth and back.
+fn hop_end(
+    events: &[Event],
+    from: usize,
+    made: (usize, usize),
+    least: usize,
+    flow: Flow,
+    u: NodeId,
+    v: NodeId,
+) -> usize
+    requires some { 1 ≤ least }
+    requires few { length events.now ≤ MAX_EVENTS }
+    requires there { from ≤ length events.now }
+    requires forth { made.0 ≡ polls (take from events.now) u v }
+    requires back { made.1 ≡ polls (take from events.now) v u }
+    ensures { IsFirstEnd (IsHopServed least flow.src flow.dst u v (take from events.now)) (drop from events.now) result }
+{
+    let during = &events[from..];
+    let ready = ready_end(during, made.1, least, flow, u, v);
+    if during.len() < ready {
+        return ready;
+    }
+    let at = from + ready;
+    let forth = made.0 + polls(&events[from..at], u, v);
+    ready + sweep_end(&events[at..], forth, least, u, v)
 }

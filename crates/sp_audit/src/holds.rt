@@ -1,9 +1,9 @@
 // Whether the effects of an event break no promise, by the lists that they change.
 ghost use Rattle.std.specs.Prelude.{◌≡◌, ◌<◌, ◌≤◌, ◌+◌, ◌↔◌, IfOk, IsTrue, drop, length, map, take};
-ghost use Rattle.std.specs.List.{flat_map};
+ghost use Rattle.std.specs.List.{flat_map, list_any};
 ghost use Rattle.laws_runs.specs.Priority.{AreOnce};
-ghost use Rattle.sp_audit.specs.Good.{IsGood};
-ghost use Rattle.sp_audit.specs.Holds.{EachHolds, EffectHolds};
+ghost use Rattle.laws_runs.specs.Good.{IsGood};
+ghost use Rattle.sp_audit.specs.Holds.{EachHolds, EffectHolds, asks};
 ghost use Rattle.sp_audit.specs.Lists.{numbers};
 ghost use Rattle.sp_base.specs.Lists.{IsPrefix};
 ghost use Rattle.sp_msg.specs.declared.effect.Effect.TheVariants as effects;
@@ -13,10 +13,11 @@ ghost use Rattle.sp_runs.specs.Settings.{is_correct};
 ghost use Rattle.sp_runs.specs.Told.{delivered_by, sent};
 
 use crate::correct::is_correct;
-use crate::lists::{acting, effects_of, held_of, numbers_of};
+use crate::lists::{acting, effects_of, numbers_of};
 use crate::messages::{delivered_of, is_prefix, sent_of};
 use crate::once::are_once;
 use crate::share::is_share;
+use crate::shelf::held_of;
 use sp_base::{Memory, NodeId};
 use sp_journal::Entry;
 use sp_msg::{Effect, Why};
@@ -37,11 +38,31 @@ pub fn event_holds(
         → (IsTrue holds ↔ IsGood (setting_of scenario.now) (take (place + 1) events.now) (take (place + 1) journal.now))) }
 {
     let u = acting(&events[place]);
-    let caused = journal[place].effects.as_slice().len();
+    let caused = journal[place].effects.as_slice();
+    if !any_asks(caused) {
+        return Ok(true);
+    }
     let (past, told) = (&events[..place + 1], &journal[..place + 1]);
     let all = effects_of(alloc, past, told, u)?;
-    let from = all.len().saturating_sub(caused);
+    let from = all.len().saturating_sub(caused.len());
     each_holds(alloc, scenario, past, told, u, all.as_slice(), from)
+}
+
+/// Whether one of the effects asks anything of what was told before.
+fn any_asks(effects: &[Effect]) -> bool
+    ensures { result ≡ list_any asks effects.now }
+{
+    effects.iter().any(|e| asks(e))
+}
+
+/// Whether the effect does.
+fn asks(effect: &Effect) -> bool
+    ensures { result ≡ asks effect.now }
+{
+    match effect {
+        Effect::Signed(_) | Effect::WeightHeld { .. } => false,
+        _ => true,
+    }
 }
 
 /// Whether each effect of `u` from this place on holds.

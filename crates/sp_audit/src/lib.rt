@@ -6,11 +6,13 @@ mod counted;
 mod flows;
 mod holds;
 mod lists;
+mod made;
 mod messages;
 mod once;
 mod path;
 mod refused;
 mod share;
+mod shelf;
 mod sweeps;
 mod whole;
 

@@ -1,12 +1,9 @@
-// The effects of a node, and what a place of it holds, from events and their journal.
-ghost use Rattle.std.specs.Prelude.{◌≡◌, ◌==◌, ◌++◌, [], IfOk, OnOk, filter, length, map, not, option_to_list, if◌then◌else◌};
-ghost use Rattle.std.specs.List.{list_any};
+// The effects of a node, and what they tell, from events and their journal.
+ghost use Rattle.std.specs.Prelude.{◌≡◌, ◌==◌, ◌++◌, [], IfOk, OnOk, length, map, if◌then◌else◌};
 ghost use Rattle.sp_audit.specs.Lists.{numbers};
-ghost use Rattle.sp_runs.specs.Held.{goes_from, held_in, stored_in};
 ghost use Rattle.sp_runs.specs.Inputs.{acting};
 ghost use Rattle.sp_runs.specs.Told.{effects_at};
 
-use crate::share::Held;
 use sp_base::{Memory, NodeId, push};
 use sp_journal::Entry;
 use sp_msg::Effect;
@@ -66,81 +63,6 @@ fn push_all<'a>(effects: &mut Vec<&'a Effect>, more: &'a [Effect]) -> Result<(),
         push(effects, effect)?;
     }
     Ok(())
-}
-
-/// What place `p` holds after these effects: the entries that were stored there without those that went.
-pub fn held_of(alloc: Global, effects: &[&Effect], p: u8) -> Result<Vec<Held>, Memory>
-    ensures { IfOk result (λ held. held.items ≡ held_in p (map (λ e. e.now) effects.now)) }
-{
-    let mut held = Vec::new(alloc);
-    'effects: for effect in effects {
-        push_held(&mut held, effects, effect, p)?;
-    }
-    Ok(held)
-}
-
-/// The entry that an effect stored in the place, unless it went.
-fn push_held(
-    held: &mut Vec<Held>,
-    effects: &[&Effect],
-    effect: &Effect,
-    p: u8,
-) -> Result<(), Memory>
-    ensures { OnOk result (held.new.items ≡ held.old.items
-        ++ filter (λ h. not (list_any (goes_from p h.id) (map (λ e. e.now) effects.now))) (stored_in p effect.now)) }
-{
-    if let Some(entry) = stored(effect, p) {
-        if !is_gone(effects, p, entry.id) {
-            push(held, entry)?;
-        }
-    }
-    Ok(())
-}
-
-/// The entry that an effect stored in the place.
-fn stored(effect: &Effect, p: u8) -> Option<Held>
-    ensures { option_to_list result ≡ stored_in p effect.now }
-{
-    match effect {
-        Effect::Stored {
-            place,
-            id,
-            src,
-            seq,
-            prio,
-        } if *place == p => Some(Held {
-            id: *id,
-            src: src.0,
-            seq: *seq,
-            prio: *prio,
-        }),
-        _ => None,
-    }
-}
-
-/// Whether an entry of this id went from the place.
-fn is_gone(effects: &[&Effect], p: u8, id: u64) -> bool
-    ensures { result ≡ list_any (goes_from p id) (map (λ e. e.now) effects.now) }
-{
-    'effects: for effect in effects {
-        if goes(effect, p, id) {
-            return true;
-        }
-    }
-    false
-}
-
-fn goes(effect: &Effect, p: u8, id: u64) -> bool
-    ensures { result ≡ goes_from p id effect.now }
-{
-    match effect {
-        Effect::Gone {
-            place,
-            id: gone,
-            ..
-        } => *place == p && *gone == id,
-        _ => false,
-    }
 }
 
 /// The numbers of the priority messages from `s` that these effects deliver.

@@ -1,8 +1,9 @@
 // Whether nodes are a path that a flow may go.
-ghost use Rattle.std.specs.Prelude.{◌≡◌, ◌≢◌, ◌↔◌, ◌==◌, ◌≤◌, IsTrue, length};
+ghost use Rattle.std.specs.Prelude.{◌≡◌, ◌≢◌, ◌↔◌, ◌==◌, ◌<◌, ◌≤◌, IsTrue, length};
 ghost use Rattle.std.specs.List.{All, AllPairs, list_any};
 ghost use Rattle.sp_base.specs.declared.id.NodeId.{NodeId};
 ghost use Rattle.sp_graph.specs.Walks.{Joined, is_between, steps};
+ghost use Rattle.sp_rules.specs.declared.store.TheConstants.{IDS};
 ghost use Rattle.sp_runs.specs.Paths.{IsCorrectPath, graph_in};
 ghost use Rattle.sp_runs.specs.Scenarios.{setting_of};
 ghost use Rattle.sp_runs.specs.Settings.{is_correct};
@@ -14,6 +15,7 @@ use sp_schedule_events::{Edge, Scenario};
 /// Whether they are a path of correct nodes from the first to the last, at least two.
 pub fn is_path(scenario: &Scenario, path: &[NodeId]) -> bool
     ensures long { IsTrue result → 2 ≤ length path.now }
+    ensures short { IsTrue result → length path.now ≤ IDS }
     ensures holds { IsTrue result ↔ ((s : NodeId) × (d : NodeId) × IsCorrectPath (setting_of scenario.now) s d path.now) }
 {
     if path.len() < 2 {
@@ -25,7 +27,15 @@ pub fn is_path(scenario: &Scenario, path: &[NodeId]) -> bool
     if !are_joined(scenario, path) {
         return false;
     }
+    recall(scenario);
     are_apart(path)
+}
+
+/// Nodes have numbers of one byte, so no path is longer than these. This only tells the prover so.
+fn recall(scenario: &Scenario)
+    ensures { scenario.now.graph.nodes < IDS }
+{
+    let _nodes = scenario.graph.nodes;
 }
 
 fn are_correct(scenario: &Scenario, path: &[NodeId]) -> bool

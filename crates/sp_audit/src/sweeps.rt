@@ -45,14 +45,15 @@ impl Walk {
     }
 }
 
-/// How many of the events during go by up to the earliest end of a sweep from `u` to `v`: one more than there are where there is none.
-pub fn sweep_end(before: &[Event], during: &[Event], least: usize, u: NodeId, v: NodeId) -> usize
+/// How many of the events go by up to the earliest end of a sweep from `u` to `v`, where `u` made so many frames for `v` before: one more than there are
+/// where there is none.
+pub fn sweep_end(during: &[Event], made: usize, least: usize, u: NodeId, v: NodeId) -> usize
     requires some { 1 ≤ least }
-    requires few { length before.now + length during.now ≤ MAX_EVENTS }
-    ensures { IsFirstEnd (HasSweep least u v before.now) during.now result }
+    requires few { made + length during.now ≤ MAX_EVENTS }
+    ensures { (before : List Event) → made ≡ polls before u v → IsFirstEnd (HasSweep least u v before) during.now result }
 {
     let mut walk = Walk {
-        made: polls(before, u, v),
+        made,
         good: 0,
         waits: false,
     };
@@ -66,18 +67,18 @@ pub fn sweep_end(before: &[Event], during: &[Event], least: usize, u: NodeId, v:
 
 /// The same of a sweep from `v` to `u`, and on the hop to the flow's destination of a take too.
 pub fn ready_end(
-    before: &[Event],
     during: &[Event],
+    made: usize,
     least: usize,
     flow: Flow,
     u: NodeId,
     v: NodeId,
 ) -> usize
     requires some { 1 ≤ least }
-    requires few { length before.now + length during.now ≤ MAX_EVENTS }
-    ensures { IsFirstEnd (IsReady least flow.src flow.dst u v before.now) during.now result }
+    requires few { made + length during.now ≤ MAX_EVENTS }
+    ensures { (before : List Event) → made ≡ polls before v u → IsFirstEnd (IsReady least flow.src flow.dst u v before) during.now result }
 {
-    let back = sweep_end(before, during, least, v, u);
+    let back = sweep_end(during, made, least, v, u);
     if v == flow.dst {
         back.max(take_end(during, flow))
     } else {
@@ -101,7 +102,7 @@ fn take_end(during: &[Event], flow: Flow) -> usize
 // ---- events
 
 /// How many frames `u` made for `v`.
-fn polls(events: &[Event], u: NodeId, v: NodeId) -> usize
+pub fn polls(events: &[Event], u: NodeId, v: NodeId) -> usize
     ensures { result ≡ polls events.now u v }
 {
     events.iter().filter(|e| is_poll(e, u, v)).count()

@@ -1,6 +1,7 @@
 // The audit of a whole run.
 ghost use Rattle.std.specs.Prelude.{◌≡◌, ◌≤◌, IfErr, IfOk, length};
-ghost use Rattle.sp_audit.specs.Good.{AreGood, IsRefusal};
+ghost use Rattle.laws_runs.specs.Good.{AreGood};
+ghost use Rattle.sp_audit.specs.Refusals.{IsRefusal};
 ghost use Rattle.sp_base.specs.declared.limits.TheConstants.{MAX_EVENTS};
 ghost use Rattle.sp_runs.specs.Scenarios.{setting_of};
 

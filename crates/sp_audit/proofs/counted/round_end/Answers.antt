@@ -11,8 +11,8 @@ pub hops-preserved : goal.hops-preserved
 hops-preserved c =
     subst (IsFirstEnd (λ xs. All (λ hop. IsHopServed c.args.least c.args.flow.src c.args.flow.dst hop.0 hop.1 (take c.args.from c.args.events.now) xs) (take (c.hops.place + 1 - 1) (steps c.args.path.now)))
     (drop c.args.from c.args.events.now)) (sym c.max-end.ensures)
-    (hops_more c.args.least c.args.flow.src c.args.flow.dst (take c.args.from c.args.events.now) (drop c.args.from c.args.events.now) c.args.path.now c.hops.place c.hops.end c.hop_end.result
-    (get_or c.args.path.now (c.hops.place - 1) (record { 0 = 0 })) (get_or c.args.path.now c.hops.place (record { 0 = 0 })) (record { 0 = 0 }) c.hops.auto.place c.hops-test.true refl refl c.hops.invariant c.hop_end.ensures)
+    (hops_more c.args.least c.args.flow.src c.args.flow.dst (take c.args.from c.args.events.now) (drop c.args.from c.args.events.now) c.args.path.now c.hops.place c.hops.end c.hop_end-served.result
+    (get_or c.args.path.now (c.hops.place - 1) (record { 0 = 0 })) (get_or c.args.path.now c.hops.place (record { 0 = 0 })) (record { 0 = 0 }) c.hops.auto.place c.hops-test.true refl refl c.hops.invariant c.hop_end-served.ensures)
 
 pub returns : goal.returns
 returns c =

@@ -1,12 +1,13 @@
-use Rattle.std.proofs.Common.{◌≡◌, ◌+◌, IfOk, IsTrue, List, map, take, drop, length, sym, ap, ◌∙◌, subst, arith, Bor}
+use Rattle.std.proofs.Common.{◌≡◌, ◌+◌, false, IfOk, IsTrue, List, map, take, drop, length, sym, ap, ◌∙◌, subst, arith, Bor}
 use Rattle.std.specs.Prelude.{◌↔◌}
+use Rattle.std.specs.List.{list_any}
 use Rattle.sp_base.specs.declared.id.NodeId.{NodeId}
 use Rattle.sp_journal.specs.declared.entry.Entry.{Entry}
 use Rattle.sp_msg.specs.declared.effect.Effect.{Effect}
 use Rattle.sp_runs.specs.Scenarios.{setting_of}
 use Rattle.sp_runs.specs.Told.{effects_at}
-use Rattle.sp_audit.specs.Holds.{EachHolds}
-use Rattle.sp_audit.proofs.Judged.{event_judged}
+use Rattle.sp_audit.specs.Holds.{EachHolds, asks}
+use Rattle.sp_audit.proofs.Judged.{event_judged, event_quiet}
 use Rattle.sp_audit.proofs.holds.event_holds.Goals as goal
 
 pub returns : goal.returns
@@ -25,3 +26,10 @@ returns c =
     (map (λ (e : Bor Effect). e.now) (take c.saturating_sub-from.result all)) (map (λ (e : Bor Effect). e.now) (drop c.saturating_sub-from.result all))))
     c.acting-u.ensures
     c.each_holds.ensures)
+
+pub returns-then-not-any_asks : goal.returns-then-not-any_asks
+returns-then-not-any_asks c =
+    let quiet : list_any asks c.index-journal-place.result.effects ≡ false =
+    ap (λ (j : Entry). list_any asks j.effects) c.index-journal-place.is ∙ ap (λ (xs : List Effect). list_any asks xs) (sym c.as_slice-caused.ensures) ∙ sym c.any_asks.ensures ∙ c.if-not-any_asks.true in
+    event_quiet (setting_of c.args.scenario.now) c.args.events.now c.args.journal.now c.args.place c.index-events-place.result c.index-journal-place.result c.requires.even c.requires.there c.index-events-place.is
+    c.index-journal-place.is quiet

@@ -1,5 +1,5 @@
 use Rattle.std.proofs.Common.{arith}
-use Rattle.sp_audit.proofs.PathLemmas.{ends_of}
+use Rattle.sp_audit.proofs.PathLemmas.{correct_below, ends_of, no_longer}
 use Rattle.sp_audit.proofs.path.is_path.Goals as goal
 
 pub returns-clause-holds : goal.returns-clause-holds
@@ -15,3 +15,9 @@ returns-clause-holds c = (
       )),
   λ p. c.are_apart.ensures.1 p.2.walks.once,
 )
+
+pub returns-clause-short : goal.returns-clause-short
+returns-clause-short c = λ is.
+    no_longer c.args.path.now 256
+    (correct_below c.args.scenario.now c.args.path.now c.recall.ensures (c.are_correct.ensures.0 c.if-not-are_correct.false))
+    (c.are_apart.ensures.0 is)

@@ -1,5 +1,5 @@
 use Rattle.std.proofs.Common.{ℕ, ◌≤◌, take}
-use Rattle.sp_audit.specs.Good.{IsGood}
+use Rattle.laws_runs.specs.Good.{IsGood}
 use Rattle.sp_runs.specs.Scenarios.{setting_of}
 use Rattle.sp_audit.proofs.whole.audit.Given as goal
 

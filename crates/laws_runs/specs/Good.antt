@@ -1,15 +1,18 @@
--- What an auditor asks of events and their journal, whoever made them: by the definitions alone, without a world.
-use Rattle.std.specs.Prelude.{ℕ, ◌<◌, ◌≤◌, IsTrue, List, [], length, map, take}
-use Rattle.laws_runs.specs.Priority.{AreOnce}
+-- What an auditor asks of events and their journal, whoever made them: by the definitions alone, without a world. Each run without forgery has it.
+use Rattle.std.specs.Prelude.{ℕ, ◌≤◌, IsTrue, List, [], length, map, take}
 use Rattle.sp_base.specs.Lists.{IsPrefix}
 use Rattle.sp_base.specs.declared.id.NodeId.{NodeId}
 use Rattle.sp_journal.specs.declared.entry.Entry.{Entry}
+use Rattle.sp_rules.specs.Arts.{Arts}
 use Rattle.sp_runs.specs.Held.{AreShares, held}
-use Rattle.sp_runs.specs.Settings.{Setting, is_correct}
+use Rattle.sp_runs.specs.Runs.{Clean}
+use Rattle.sp_runs.specs.Settings.{Setting, SettingFits, is_correct}
 use Rattle.sp_runs.specs.Told.{delivered, effects_at, prio_delivered, sent}
+use Rattle.sp_runs.specs.Worlds.{World}
 use Rattle.sp_schedule_events.specs.declared.event.Event.{Event}
-use Rattle.sp_audit.specs.declared.refused.AuditRefused.{AuditRefused}
-use Rattle.sp_audit.specs.declared.refused.AuditRefused.TheVariants as refusals
+use Rattle.laws_runs.specs.Places.{SharePart}
+use Rattle.laws_runs.specs.Premises.{Carries}
+use Rattle.laws_runs.specs.Priority.{AreOnce}
 
 -- these events and their entries break no promise
 pub record IsGood (x : Setting) (es : List Event) (js : List Entry) : Type 0 where
@@ -26,14 +29,14 @@ pub record IsGood (x : Setting) (es : List Event) (js : List Entry) : Type 0 whe
 abbrev pub AreGood : Setting → List Event → List Entry → Type 0
 AreGood x es js = (n : ℕ) → IsGood x (take n es) (take n js)
 
--- the event of this number, counted from 1, is the first that breaks one
-pub record IsFirstBroken (x : Setting) (es : List Event) (js : List Entry) (number : ℕ) : Type 0 where
-  pub there : (1 ≤ number) × (number ≤ length es)
-  pub before : (n : ℕ) → n < number → IsGood x (take n es) (take n js)
-  pub broken : IsGood x (take number es) (take number js) → ⊥
+-- ---- the laws
 
--- why the audit of a run is refused
-abbrev pub IsRefusal : Setting → List Event → List Entry → AuditRefused → Type 0
-IsRefusal x es js (refusals.Broken number) = IsFirstBroken x es js number
-IsRefusal x es js refusals.NotPath = ⊥
-IsRefusal x es js refusals.Memory = Unit {0}
+-- of each run without forgery
+abbrev pub RunsAreGood : Type 0
+RunsAreGood = (arts : Arts) (x : Setting) (es : List Event) (js : List Entry) (w : World) → SettingFits arts x → Carries arts → Clean arts x es js w
+    → AreGood x es js
+
+-- and so what its effects say that a place holds is what the node has there
+abbrev pub PlacesAreTold : Type 0
+PlacesAreTold = (arts : Arts) (x : Setting) (es : List Event) (js : List Entry) (w : World) → SettingFits arts x → Carries arts → Clean arts x es js w
+    → SharePart x es js w
