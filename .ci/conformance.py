@@ -7,19 +7,27 @@ A case is an input, NAME.schedule, NAME.graph or NAME.toml, and beside it
     NAME.sha256    in place of NAME.out, the SHA-256 of the standard output, in hexadecimal
     NAME.words     the words, one a line; without it they are `replay` for a schedule and `topology` for a toml
 
+Words that read nothing have no input: such a case is a NAME.words alone, and beside it NAME.status and NAME.out, or in place of NAME.out
+
+    NAME.summary   the first line of the standard output; the second and last is `digest` with 64 digits
+    NAME.replayed  a schedule of this folder: the digest is that of the standard output of its replay
+
 Inputs of more than 100 KB are made here, from the pieces that RECIPES has. Each case runs twice, and both runs must answer the same. Words
-that are no command (status 2) run once more over an input that can't be read, which changes nothing, and once more where nothing can be
-written, which is status 6. Each difference is told, and the status is then 1; so it is where a kind has no file, or a file no case.
+that read nothing, as those that are no command (status 2), run once more over an input that can't be read and once without one, which changes
+nothing, and once more where nothing can be written, which is status 6. Each difference is told, and the status is then 1; so it is where a kind
+has no file, or a file no case.
 """
 
 import hashlib
 import os
+import re
 import subprocess
 import sys
 
 ROOT = os.path.dirname(os.path.dirname(os.path.abspath(__file__)))
 FOLDER = os.path.join(ROOT, "conformance")
 PLAIN = {"schedule": [b"replay"], "graph": None, "toml": [b"topology"]}
+ALONE = "without input"
 HEADER = b"schedule 1\nseed " + 64 * b"0" + b"\nheight 5\nbounds 2 4\nnodes 3\nedge 1 2 10\nedge 2 3 10\nbegin\n"
 PATHS = [b"paths", b"--from", b"1", b"--to", b"2", b"--paths", b"1"]
 # a frame in which each of these bits is changed, 31 times over: none of it is heard, and then the frame still is
@@ -27,6 +35,14 @@ FLIPS = b"".join(b"flip 1 2 1 %d %d\n" % (back, bit) for back in range(1, 65) fo
 HEARD = b"".join(b"%d badtag\n" % number for number in range(2, 2 + 31 * 512))
 FIRST_FRAME = b"1 frame 1 76 449e95834d7aeecc94f2aa99fc95617b4a38c38a9f0781b1029faf9c2950b707\n"
 TAKES = b"".join(b"%d empty\n" % number for number in range(1, 16_385))
+
+
+def stored(path):
+    with open(path, "rb") as file:
+        return file.read()
+
+
+DRAFT, TOPOLOGY = (stored(os.path.join(ROOT, "examples", "two_nodes." + end)) for end in ("toml", "topology"))
 
 # a name, the words, the pieces of the input with how often each stands there, the status, and the output
 RECIPES = [
@@ -36,6 +52,7 @@ RECIPES = [
     ("131,201 bytes and no newline", PATHS, [(b"graph 1\n", 1), (b"a", 131_201)], 3, b"refused 2 LineLong\n"),
     ("a graph of 64 MiB", PATHS, [(b"\n", 67_108_864)], 3, b"refused 1 Word\n"),
     ("a graph of one byte more", PATHS, [(b"\n", 67_108_865)], 3, b"refused 0 TooBig\n"),
+    ("a draft with a comment of 100 KB", [b"topology"], [(b"# ", 1), (b"a", 100_000), (b"\n" + DRAFT, 1)], 0, TOPOLOGY),
     ("a draft of more than 64 MiB", [b"topology"], [(b"\n", 67_108_865)], 3, b"refused 0 TooBig\n"),
     ("an event of 131,201 bytes", [b"replay"], [(HEADER, 1), (b"0", 131_201)], 3, b"journal 1\nrefused 9 LineLong\n"),
     ("such an event and an end", [b"replay"], [(HEADER, 1), (b"0", 131_201), (b"\nend\n", 1)], 3, b"journal 1\nrefused 9 LineLong\n"),
@@ -47,11 +64,6 @@ RECIPES = [
     ("an event without an end", [b"replay"], [(HEADER, 1), (b"0", 134_217_728)], 3, b"journal 1\nrefused 9 LineLong\n"),
     ("bytes without an end after end", [b"replay"], [(HEADER + b"end\n", 1), (b"0", 134_217_728)], 3, b"journal 1\nrefused 10 LineLong\n"),
 ]
-
-
-def stored(path):
-    with open(path, "rb") as file:
-        return file.read()
 
 
 def outputs_of(path):
@@ -76,6 +88,13 @@ def right_of(path):
     return (lambda output: output in outputs) if outputs else None
 
 
+def is_told(path, output, digest):
+    """Whether an output is a summary and a digest, where the digest is known this one."""
+    summary = stored(path + ".summary")
+    told = re.fullmatch(rb"digest ([0-9a-f]{64})\n", output.removeprefix(summary))
+    return output.startswith(summary) and told is not None and (digest is None or told.group(1) == digest)
+
+
 class Runs:
     """The program, how many cases of each kind passed, and how many answers differed."""
 
@@ -95,11 +114,12 @@ class Runs:
         self.tell(name, f"status {ended.returncode}, wanted {status}; the output is {'right' if is_right(output) else 'another'}: {output[:200]!r}")
         return None
 
-    def no_command(self, name, words, given, is_right):
-        """Words that are no command read nothing, and want to write."""
+    def unread(self, name, words, given, status, is_right):
+        """These words read nothing, and want to write."""
         folder = os.open(ROOT, os.O_RDONLY)
-        self.once(name + " over an input that can't be read", words, 2, is_right, stdin=folder)
+        self.once(name + " over an input that can't be read", words, status, is_right, stdin=folder)
         os.close(folder)
+        self.once(name + " without an input", words, status, is_right, stdin=subprocess.DEVNULL, preexec_fn=lambda: os.close(0))
         with open("/dev/full", "wb") as full:
             self.once(name + " where nothing can be written", words, 6, lambda output: output == b"", input=given, stdout=full)
 
@@ -108,8 +128,8 @@ class Runs:
         first, second = (self.once(name, words, status, is_right, input=given) for _ in range(2))
         if None not in (first, second) and first != second:
             self.tell(name, "two runs wrote two outputs")
-        if status == 2:
-            self.no_command(name, words, given, is_right)
+        if status == 2 or kind == ALONE:
+            self.unread(name, words, given, status, is_right)
         self.passed[kind] = self.passed.get(kind, 0) + (self.wrong == before)
 
 
@@ -123,6 +143,28 @@ def run_file(runs, path, kind):
     return {f"{path}.{end}" for end in (kind, "status", "words", "sha256")} | set(outputs_of(path))
 
 
+def digest_of(runs, path):
+    """The digest of the replay that a case names; None where it names none."""
+    if not os.path.exists(path + ".replayed"):
+        return None
+    source = os.path.join(FOLDER, stored(path + ".replayed").decode().strip())
+    output = runs.once(os.path.relpath(source, ROOT), [b"replay"], 0, lambda output: True, input=stored(source)) or b""
+    return hashlib.sha256(output).hexdigest().encode()
+
+
+def run_alone(runs, path):
+    """Runs the case of words without an input, and gives the names of its files."""
+    name, is_right = os.path.relpath(path, ROOT), right_of(path)
+    if os.path.exists(path + ".summary") and is_right is None:
+        digest = digest_of(runs, path)
+        is_right = lambda output: is_told(path, output, digest)
+    if is_right is None or not os.path.exists(path + ".status"):
+        runs.tell(name, "no output, two, or no status")
+    else:
+        runs.case(name, ALONE, words_of(path, ALONE), b"", int(stored(path + ".status")), is_right)
+    return {f"{path}.{end}" for end in ("status", "words", "sha256", "summary", "replayed")} | set(outputs_of(path))
+
+
 def run_files(runs):
     """Runs the cases of the folder."""
     files = {os.path.join(folder, name) for folder, _, names in os.walk(FOLDER) for name in names}
@@ -132,8 +174,12 @@ def run_files(runs):
         for source in sorted(files):
             if source.endswith("." + kind):
                 used |= run_file(runs, source.removesuffix("." + kind), kind)
-        if not runs.passed[kind]:
-            runs.tell("conformance", f"no {kind} passed")
+    for words in sorted(files - used):
+        if words.endswith(".words"):
+            used |= run_alone(runs, words.removesuffix(".words"))
+    for kind in [*PLAIN, ALONE]:
+        if not runs.passed.get(kind):
+            runs.tell("conformance", f"no case {kind} passed")
     for name in sorted(files - used):
         runs.tell(os.path.relpath(name, ROOT), "a file of no case")
 

@@ -4,6 +4,7 @@ Each row is a run with the status and the output that docs/FORMATS.md has for it
 """
 
 import os
+import re
 import subprocess
 import sys
 import tempfile
@@ -29,6 +30,11 @@ def example(name):
         return file.read()
 
 
+def conformance(name):
+    with open(os.path.join(ROOT, "conformance", name), "rb") as file:
+        return file.read()
+
+
 NO_EVENTS = b"journal 1\nsummary events 0 sent 0 delivered 0 priority 0 frames 0\n"
 TWO_EVENTS = b"journal 1\n1 accepted 1\n+ signed 020103000000000000000100026869\n2 empty\nsummary events 2 sent 1 delivered 0 priority 0 frames 0\n"
 # more text than a pipe holds, so that the program has to wait for its reader
@@ -42,6 +48,12 @@ class Runs:
 
     def __init__(self, program, folder):
         self.program, self.folder, self.wrong, self.count = os.path.abspath(program), folder, 0, 0
+
+    def generated(self, name, line, summary):
+        """A schedule of a number, as a shell's line: its summary and a digest."""
+        ended = subprocess.run(["sh", "-c", line, self.program], stdout=subprocess.PIPE, check=False)
+        told = re.fullmatch(re.escape(summary) + rb"digest [0-9a-f]{64}\n", ended.stdout)
+        self.judge(name, ended, 0, ended.stdout if told else summary + b"digest ..\n")
 
     def judge(self, name, ended, status, output):
         self.count += 1
@@ -97,6 +109,10 @@ def main():
         runs.piped("three paths", ["paths", "--from", "1", "--to", "4", "--paths", "3"], example("trap.graph"), 12, b"fewer 2\ncut 1\n")
         runs.piped("a signed topology", ["topology"], example("two_nodes.toml"), 0, example("two_nodes.topology"))
         runs.piped("a graph for a draft", ["topology"], example("trap.graph"), 3, b"refused 0 Toml\n")
+        runs.generated("a number", '"$0" generate --seed 7', conformance("generated/seed_7.summary"))
+        runs.generated("a number and no standard input", '"$0" generate --seed 7 <&-', conformance("generated/seed_7.summary"))
+        runs.shell("a number and a full device", '"$0" generate --seed 7 > /dev/full', 6, b"")
+        runs.piped("a number below the first", ["generate", "--seed", "0"], b"", 2, b"usage\n")
         runs.shell("a folder as input", '"$0" replay < /', 5, b"")
         runs.shell("a closed standard input", '"$0" replay <&-', 5, b"")
         runs.shell("a full device", f'"$0" replay < "{os.path.join(CRATE, "stdin")}" > /dev/full', 6, b"")

@@ -3,7 +3,8 @@
 Where an allocation fails a run must end with status 0 and its output, or with status 9 and nothing written; a second round lets each later
 allocation fail too. Where one read of the input fails, and the next would go well, it must end with status 5 and nothing written; where one
 write fails, with status 6 and a beginning of the output. A command of which no allocation, read or write is counted is a fault of its own:
-then nothing was tried. It needs a C compiler, `cc`.
+then nothing was tried. `generate` reads nothing, so there no read may be counted. Of more than MANY allocations SOME are tried, evenly apart, and
+the last one. It needs a C compiler, `cc`.
 """
 
 import os
@@ -12,9 +13,12 @@ import sys
 import tempfile
 
 ROOT = os.path.dirname(os.path.dirname(os.path.abspath(__file__)))
-# the words of a command, the file of its input, and that of its output or the output itself
+# up to so many allocations of a command are all tried in a round, and of more so many
+MANY, SOME = 1_000, 60
+# the words of a command, the file of its input, if it reads any, and that of its output or of the output's first line, or the output itself
 RUNS = [
     (["replay"], "crates/spinesd/stdin", "crates/spinesd/stdout"),
+    (["generate", "--seed", "7"], None, "conformance/generated/seed_7.summary"),
     (["paths", "--from", "1", "--to", "4", "--paths", "2"], "examples/trap.graph", b"path 1 2 4\npath 1 3 4\ncost 10\n"),
     (["topology"], "examples/two_nodes.toml", "examples/two_nodes.topology"),
 ]
@@ -25,6 +29,12 @@ def stored(path):
         return file.read()
 
 
+def tried(count):
+    """The numbers of the calls that fail, of so many."""
+    apart = 1 if count <= MANY else count // SOME
+    return sorted({*range(1, count + 1, apart), count} - {0})
+
+
 class Failing:
     """A command that runs with one of its calls failing."""
 
@@ -33,13 +43,13 @@ class Failing:
 
     def run(self, **variables):
         """The status, the output, and how many allocations, reads and writes there were."""
-        ended = subprocess.run([self.program, *self.words], input=self.text, capture_output=True, env={"LD_PRELOAD": self.library, **variables}, check=False)
+        ended = subprocess.run([self.program, *self.words], input=self.text or b"", capture_output=True, env={"LD_PRELOAD": self.library, **variables}, check=False)
         return ended.returncode, ended.stdout, [int(count) for count in ended.stderr.split()]
 
     def each(self, name, count, is_right, **variables):
         """Lets each of these calls fail in turn, and gives how often each status came."""
         ends = {}
-        for number in range(1, count + 1):
+        for number in tried(count):
             status, output, _ = self.run(**variables, **{name: str(number)})
             if not is_right(status, output):
                 sys.exit(f"{self.words[0]}, {name} {number}: status {status}, output {output[:200]!r}")
@@ -48,11 +58,13 @@ class Failing:
 
     def all(self):
         status, output, counts = self.run()
+        if self.text is None and output.startswith(self.wanted):
+            self.wanted = output
         if (status, output) != (0, self.wanted):
             sys.exit(f"{self.words[0]} with no failure: status {status}, output {output[:200]!r}")
-        if 0 in counts:
-            sys.exit(f"{self.words[0]}: {counts} allocations, reads and writes were counted, so nothing would be tried")
         allocations, reads, writes = counts
+        if 0 in (allocations, writes) or (reads == 0) != (self.text is None):
+            sys.exit(f"{self.words[0]}: {counts} allocations, reads and writes were counted, so nothing would be tried, or what reads nothing read")
         in_memory = lambda status, output: (status, output) in ((0, self.wanted), (9, b""))
         for rest in ({}, {"FAIL_REST": "1"}):
             ends = self.each("FAIL_ALLOC", allocations, in_memory, **rest)
@@ -70,7 +82,7 @@ def main():
         library = os.path.join(folder, "fail_calls.so")
         subprocess.run(["cc", "-O1", "-shared", "-fPIC", "-o", library, os.path.join(ROOT, "bench", "fail_calls.c"), "-ldl"], check=True)
         for words, text, wanted in RUNS:
-            Failing(os.path.abspath(sys.argv[1]), library, words, stored(text), wanted if isinstance(wanted, bytes) else stored(wanted)).all()
+            Failing(os.path.abspath(sys.argv[1]), library, words, text and stored(text), wanted if isinstance(wanted, bytes) else stored(wanted)).all()
 
 
 if __name__ == "__main__":

@@ -1,30 +1,13 @@
 // The time, as a number of milliseconds.
-ghost use Rattle.std.specs.Prelude.{◌≡◌};
+ghost use Rattle.std.specs.Prelude.{◌∷◌, [], ℕ, List, Option};
+ghost use Rattle.sp_outside.specs.Calls.{Tells};
 
 /// A clock that can't fail.
 pub trait Clock {
-    /// Milliseconds since a moment of the clock's own choice.
-    fn now_ms(&mut self) -> u64;
-}
+    /// The readings, in order, where the object tells them.
+    ghost told: { Self → Option (List ℕ) };
 
-/// A clock that stands still.
-#[derive(Drop)]
-pub struct MemoryClock {
-    now_ms: u64,
-}
-
-impl MemoryClock {
-    pub fn new(now_ms: u64) -> Self
-        ensures { result.now_ms ≡ now_ms }
-    {
-        MemoryClock { now_ms }
-    }
-}
-
-impl Clock for MemoryClock {
+    /// Milliseconds since the beginning of 1970. Expiries travel between daemons, so the clocks of all of them count from there.
     fn now_ms(&mut self) -> u64
-        ensures { result ≡ self.old.now_ms }
-    {
-        self.now_ms
-    }
+        ensures told { Tells (told self.old) (told self.new) (result ∷ []) };
 }

@@ -2,18 +2,26 @@
 //! counts its faults, and a call fails only where that count rose in this very call.
 #![tactic(auto)]
 
+mod calls;
 mod clock;
 mod failed;
 mod keeper;
+mod memory_clock;
+mod memory_wire;
+mod side;
 mod sink;
 mod source;
 mod streams;
 mod wire;
 
-pub use clock::{Clock, MemoryClock};
+pub use calls::{Coming, Kept, WirePlan};
+pub use clock::Clock;
 pub use failed::Failed;
 pub use keeper::{FILE_BYTES, Keeper, MemoryKeeper};
+pub use memory_clock::MemoryClock;
+pub use memory_wire::MemoryWire;
+pub use side::Side;
 pub use sink::{MemorySink, PlannedSink, Sink};
 pub use source::{MemorySource, PlannedSource, Source};
 pub use streams::{Input, ReadRefused, read_up_to, write_all};
-pub use wire::{DATAGRAM_BYTES, MemoryWire, Side, Wire};
+pub use wire::{DATAGRAM_BYTES, Wire};

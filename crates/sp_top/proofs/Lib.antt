@@ -1,3 +1,5 @@
+pub mod Complete
+pub mod GeneratedRuns
 pub mod Outputs
 pub mod Timelines
 pub mod Worlds

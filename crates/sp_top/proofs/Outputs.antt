@@ -33,7 +33,7 @@ use Rattle.sp_top.specs.declared.ended.Status.{Status}
 use Rattle.sp_top.specs.declared.ended.Status.TheVariants as statuses
 use Rattle.sp_top.specs.Claims.{Wrote}
 use Rattle.sp_top.specs.Commands.{AreWords}
-use Rattle.sp_top.specs.Outputs.{Answers, AreDone, AreOffline, First_bad_line, First_forgery, IsForgedIn, IsForgery, IsNoCommand, IsOfStage, IsOutput, IsRefusal, IsRead, No_command, Offline_answer, ReadsWhole, Spells, Whole_journal, replay_words, usage_line}
+use Rattle.sp_top.specs.Outputs.{Answers, AreDone, AreOffline, First_bad_line, First_forgery, Generated_summary, IsForgedIn, IsForgery, IsNoCommand, IsOfStage, IsOutput, IsRefusal, IsRead, No_command, Offline_answer, ReadsWhole, Spells, Whole_journal, replay_words, usage_line}
 use Rattle.sp_top.specs.Played.{AreRun, IsPlayed, IsPlayedBy, IsTextOf, ToldBy, ToldWhole, status_by, status_of}
 use Rattle.sp_top.specs.Statuses.{verdict_status}
 
@@ -73,11 +73,11 @@ ended_well is_cut stage line (No_words refused) e = absurd (never is_cut refused
 ended_well is_cut stage line (Bad_words kind) e = absurd cc
 
 -- nothing of a short text is cut
-short_text : (text : List ℕ) → nat_lt MAX_INPUT_BYTES (length text) ≡ false → take MAX_INPUT_BYTES text ≡ text
+pub short_text : (text : List ℕ) → nat_lt MAX_INPUT_BYTES (length text) ≡ false → take MAX_INPUT_BYTES text ≡ text
 short_text text is = let within : length text ≤ MAX_INPUT_BYTES = grind (arith, nat_tests) in take_all MAX_INPUT_BYTES text within
 
 -- an uncut reading of a text is one of all of it
-uncut : (text : List ℕ) (reading : Reading) → nat_lt MAX_INPUT_BYTES (length text) ≡ false
+pub uncut : (text : List ℕ) (reading : Reading) → nat_lt MAX_INPUT_BYTES (length text) ≡ false
     → IsReading (take MAX_INPUT_BYTES text) (nat_lt MAX_INPUT_BYTES (length text)) reading → IsReading text false reading
 uncut text reading short is =
     let P : Bool → Type 0 = λ b. IsReading (take MAX_INPUT_BYTES text) b reading in
@@ -99,7 +99,7 @@ whole_read law text stage past reading of_stage =
 -- ---- the output
 
 -- a text that is refused spells no schedule
-refused_spells_none : GoodTextsAreRead → OneReading → (text : List ℕ) (stage : Stage) (line : ℕ) (kind : Kind) → IsRead text stage (endings.Refused line kind)
+pub refused_spells_none : GoodTextsAreRead → OneReading → (text : List ℕ) (stage : Stage) (line : ℕ) (kind : Kind) → IsRead text stage (endings.Refused line kind)
     → (s : Scenario) (es : List Event) → Spells text s es → ⊥
 refused_spells_none good one text stage line kind reading s es spells =
     let within = spells.size in
@@ -181,7 +181,11 @@ answers_of command left verdict out text is_cut input answered = record { text =
 
 -- words that were found to be no command
 pub no_command : (words : List (List ℕ)) → ((x : Command) → AreWords words x → ⊥) → IsNoCommand words
-no_command words none = record { no_replay = λ is. none commands.Replay is; not_offline = λ command are. none (commands.Offline command) are }
+no_command words none = record {
+  no_replay = λ is. none commands.Replay is;
+  not_generate = λ number are. none (commands.Generate number) are;
+  not_offline = λ command are. none (commands.Offline command) are;
+}
 
 -- the usage line was written, or a beginning of it
 pub usage_written : (words : List (List ℕ)) (left : Option (List ℕ)) (world : Option Past) (status : Status) (before after : Option (List ℕ)) → IsNoCommand words → world ≡ None
@@ -214,4 +218,5 @@ wrote_whole words left world status out before after (No_command wrong) written 
 wrote_whole words left world status out before after (Whole_journal past right going reads) written = record { output = out; is_output = Whole_journal past right going reads; written = written }
 wrote_whole words left world status out before after (First_forgery past number what right is) written = record { output = out; is_output = First_forgery past number what right is; written = written }
 wrote_whole words left world status out before after (First_bad_line past line kind right is) written = record { output = out; is_output = First_bad_line past line kind right is; written = written }
+wrote_whole words left world status out before after (Generated_summary number past are is) written = record { output = out; is_output = Generated_summary number past are is; written = written }
 wrote_whole words left world status out before after (Offline_answer command verdict output are answers) written = offline_written words left command verdict output before after are answers written

@@ -1,6 +1,7 @@
 pub mod Statuses
 pub mod Outputs
 pub mod Claims
+pub mod Complete
 -- ---- what proofs and the parts of this crate use among themselves
 pub mod Commands
 pub mod Played

@@ -1,8 +1,10 @@
 -- What the program writes for its words and its input.
-use Rattle.std.specs.Prelude.{ℕ, ◌≡◌, ◌≢◌, ◌+◌, ◌≤◌, Bool, List, [], ◌∷◌, ◌++◌, length, take, nat_lt, Option, Some, None, codes}
+use Rattle.std.specs.Prelude.{ℕ, ◌≡◌, ◌≢◌, ◌+◌, ◌<◌, ◌≤◌, ◌^◌, Bool, List, [], ◌∷◌, ◌++◌, length, take, nat_lt, Option, Some, None, codes}
 use Rattle.std.specs.Fmt.{decimal}
+use Rattle.hex.specs.Hex.{encode_lower}
+use Rattle.sha2.specs.Sha256.{sha256}
 use Rattle.sp_base.specs.declared.limits.TheConstants.{MAX_INPUT_BYTES}
-use Rattle.sp_lines.specs.Rows.{after_spaces}
+use Rattle.sp_lines.specs.Rows.{after_spaces, line_text}
 use Rattle.sp_text.specs.Spelling.{hex_word}
 use Rattle.sp_schedule.specs.declared.stage.Stage.{Stage}
 use Rattle.sp_schedule.specs.declared.stage.Stage.TheVariants as stages
@@ -15,13 +17,15 @@ use Rattle.sp_schedule.specs.Scenarios.{IsSchedule}
 use Rattle.sp_schedule.specs.Spelling.{schedule_text}
 use Rattle.sp_schedule_events.specs.declared.scenario.Scenario.{Scenario}
 use Rattle.sp_schedule_events.specs.declared.event.Event.{Event}
-use Rattle.sp_journal.specs.JournalText.{journal_lines, journal_text}
+use Rattle.sp_generate.specs.Generated.{generated_events, generated_scenario}
+use Rattle.sp_journal.specs.JournalText.{journal_lines, journal_text, summary_words}
 use Rattle.sp_node_core.specs.Format.{format}
 use Rattle.sp_runs.specs.Runs.{Clean, IsForgedAt}
 use Rattle.sp_runs.specs.Scenarios.{setting_of}
 use Rattle.sp_runs.specs.Worlds.{World}
 use Rattle.sp_runs.specs.declared.what.What.{What}
 use Rattle.sp_runs.specs.declared.what.What.TheVariants as whats
+use Rattle.sp_journal.specs.declared.entry.Entry.{Entry}
 use Rattle.sp_world.specs.Past.{Past}
 use Rattle.sp_world.specs.declared.refused.WorldRefused.TheVariants as stops
 use Rattle.sp_outside.specs.Streams.{IsInput}
@@ -38,6 +42,15 @@ use Rattle.sp_top.specs.declared.ended.Status.TheVariants as statuses
 abbrev pub replay_words : List (List ℕ)
 replay_words = codes "replay" ∷ []
 
+-- generate --seed N
+abbrev pub generate_words : ℕ → List (List ℕ)
+generate_words number = codes "generate" ∷ codes "--seed" ∷ decimal number ∷ []
+
+-- the words of `generate` for this number, from 1 to 4,294,967,295
+pub record AreGenerate (words : List (List ℕ)) (number : ℕ) : Type 0 where
+  pub in_range : (1 ≤ number) × (number < 2 ^ 32)
+  pub spelled : words ≡ generate_words number
+
 -- the words of an offline command, with numbers in their ranges
 pub record AreOffline (words : List (List ℕ)) (command : Offline) : Type 0 where
   pub in_range : IsOffline command
@@ -46,6 +59,7 @@ pub record AreOffline (words : List (List ℕ)) (command : Offline) : Type 0 whe
 -- the words of no command
 pub record IsNoCommand (words : List (List ℕ)) : Type 0 where
   pub no_replay : words ≢ replay_words
+  pub not_generate : (number : ℕ) → AreGenerate words number → ⊥
   pub not_offline : (command : Offline) → AreOffline words command → ⊥
 
 abbrev pub usage_line : List ℕ
@@ -136,6 +150,22 @@ abbrev pub IsForgery : Option (List ℕ) → Past → ℕ → What → Type 0
 IsForgery None past number what = past.stopped ≡ Some (stops.Forged number what)
 IsForgery (Some text) past number what = ForgeryOf text past number what
 
+-- ---- the schedule of a number
+
+-- the whole schedule of a number was run, and nothing of it is forged
+pub record IsGenerated (number : ℕ) (past : Past) : Type 0 where
+  pub scenario : past.scenario ≡ generated_scenario number
+  pub events : past.events ≡ generated_events number
+  pub going : past.stopped ≡ None
+
+-- digest HEX, the SHA-256 of a text
+abbrev pub digest_line : List ℕ → List ℕ
+digest_line text = line_text (codes "digest" ∷ encode_lower (sha256 text) ∷ [])
+
+-- the summary of a journal, and the digest of its whole text
+abbrev pub generated_text : List Entry → List ℕ
+generated_text journal = line_text (summary_words journal) ++ digest_line (journal_text journal)
+
 -- what an offline command answers for what a source had left, of which no more is read than may be
 pub record Answers (command : Offline) (left : Option (List ℕ)) (verdict : Verdict) (output : List ℕ) : Type 0 where
   pub text : List ℕ
@@ -154,5 +184,7 @@ pub data IsOutput (words : List (List ℕ)) (left : Option (List ℕ)) : Option 
       → IsOutput words left past statuses.Refused (lines_before past ++ refused_line line kind)
   First_forgery : (past : Past) (number : ℕ) (what : What) → words ≡ replay_words → IsForgery left past number what
       → IsOutput words left (Some past) statuses.Forged (journal_lines past.journal ++ forged_line number what)
+  Generated_summary : (number : ℕ) (past : Past) → AreGenerate words number → IsGenerated number past
+      → IsOutput words left (Some past) statuses.Done (generated_text past.journal)
   Offline_answer : (command : Offline) (verdict : Verdict) (output : List ℕ) → AreOffline words command → Answers command left verdict output
       → IsOutput words left None (verdict_status verdict) output

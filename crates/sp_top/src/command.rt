@@ -5,6 +5,7 @@ ghost use Rattle.sp_base.specs.Finds.{Finds};
 ghost use Rattle.sp_top.specs.Commands.{AreWords};
 ghost use Rattle.sp_top.specs.Outputs.{replay_words};
 
+use crate::generate_words::number_of;
 use sp_offline::{Offline, offline_of};
 
 /// What the program is to do.
@@ -12,6 +13,8 @@ use sp_offline::{Offline, offline_of};
 pub enum Command {
     /// A schedule is run.
     Replay,
+    /// The schedule of this number is run.
+    Generate(u32),
     Offline(Offline),
 }
 
@@ -21,6 +24,9 @@ pub fn command_of(words: &[String]) -> Option<Command>
 {
     if is_replay(words) {
         return Some(Command::Replay);
+    }
+    if let Some(number) = number_of(words) {
+        return Some(Command::Generate(number));
     }
     let command = offline_of(words)?;
     Some(Command::Offline(command))

@@ -3,6 +3,8 @@
 
 mod command;
 mod ended;
+mod generate;
+mod generate_words;
 mod offline;
 mod output;
 mod play;

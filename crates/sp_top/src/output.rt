@@ -2,13 +2,13 @@
 ghost use Rattle.std.specs.Prelude.{◌≡◌, ◌≢◌, ◌++◌, IfOk, IfSome, OnOk, None as Nothing, Some as There};
 ghost use Rattle.std.specs.String.{string_bytes};
 ghost use Rattle.sp_journal.specs.JournalText as text;
-ghost use Rattle.sp_lines.specs.Rows.{after_spaces};
+ghost use Rattle.sp_lines.specs.Rows.{after_spaces, line_text};
 ghost use Rattle.sp_top.specs.Outputs.{forged_line, what_words};
 ghost use Rattle.sp_top.specs.Played.{HasWorld, IsShort, IsTextOf, ToldWhole};
 
 use laws_runs_format::journals_are_countable;
 use sp_base::Memory;
-use sp_journal::{journal_lines, journal_text};
+use sp_journal::{journal_lines, journal_text, push_summary};
 use sp_lines::{push_field, push_hex_field, push_name_field};
 use sp_schedule::{Ending, push_refused};
 use sp_world::{What, World, WorldRefused};
@@ -97,13 +97,24 @@ fn push_what(out: &mut String, what: &What) -> Result<(), Memory>
 
 /// The whole journal with its summary.
 #[tactic(auto, using(crate::proofs::Worlds::journal_is_short, crate::proofs::Worlds::deliveries_are_few, crate::proofs::Worlds::priority_is_few))]
-fn whole(alloc: Global, world: &World) -> Result<String, Memory>
+pub fn whole(alloc: Global, world: &World) -> Result<String, Memory>
     requires { IsShort world.now }
     ensures { IfOk result (λ out. string_bytes out ≡ text.journal_text world.now.journal) }
 {
     journals_are_countable();
     world.is_run();
     journal_text(alloc, world.journal())
+}
+
+/// Appends the summary of a world's journal.
+#[tactic(auto, using(crate::proofs::Worlds::deliveries_are_few, crate::proofs::Worlds::priority_is_few))]
+pub fn push_summary_of(out: &mut String, world: &World) -> Result<(), Memory>
+    requires { IsShort world.now }
+    ensures { OnOk result (string_bytes out.new ≡ string_bytes out.old ++ line_text (text.summary_words world.now.journal)) }
+{
+    journals_are_countable();
+    world.is_run();
+    push_summary(out, world.journal())
 }
 
 /// The journal without a summary.

@@ -7,7 +7,7 @@ ghost use Rattle.sp_top.specs.Played.{AreRun, HasBuffers, IsPlayedBy, IsShort};
 
 use laws_runs_format::scheduled_events_are_in_range;
 use sp_base::Memory;
-use sp_schedule::{Scenario, Stage, Timeline};
+use sp_schedule::{Event, Scenario, Stage};
 use sp_world::{World, WorldRefused};
 use std::alloc::Global;
 
@@ -20,22 +20,24 @@ pub fn play(alloc: Global, stage: Stage) -> Result<Option<World>, Memory>
     ensures buffers { IfOk result (λ world. IfSome world HasBuffers) }
 {
     match stage {
-        Stage::Events(scenario, events) => Ok(Some(play_all(alloc, scenario, events)?)),
-        Stage::End(scenario, events) => Ok(Some(play_all(alloc, scenario, events)?)),
+        Stage::Events(scenario, events) => {
+            Ok(Some(play_all(alloc, scenario, events.into_events())?))
+        }
+        Stage::End(scenario, events) => Ok(Some(play_all(alloc, scenario, events.into_events())?)),
         _ => Ok(None),
     }
 }
 
 /// The world after these events, or after those before the first of which anything is forged.
-fn play_all(alloc: Global, scenario: Scenario, events: Timeline) -> Result<World, Memory>
-    requires { IsSchedule scenario events }
-    ensures run { IfOk result (λ world. IsPlayedBy (stages.End scenario events) world world.stopped) }
+pub fn play_all(alloc: Global, scenario: Scenario, events: Vec<Event>) -> Result<World, Memory>
+    requires { IsSchedule scenario events.items }
+    ensures run { IfOk result (λ world. IsPlayedBy (stages.End scenario events.items) world world.stopped) }
     ensures short { IfOk result IsShort }
     ensures buffers { IfOk result HasBuffers }
 {
     scheduled_events_are_in_range();
     let mut world = World::make(alloc, scenario)?;
-    'events: for event in events.into_events() {
+    'events: for event in events {
         world.is_run();
         match world.step(alloc, event) {
             Ok(()) => {}

@@ -7,6 +7,7 @@ ghost use Rattle.sp_top.specs.Played as played;
 ghost use Rattle.sp_top.specs.Outputs.{replay_words};
 ghost use Rattle.sp_top.specs.Played.{HasBuffers, IsPlayed};
 ghost use Rattle.sp_top.specs.Claims.{Wrote, WorldClaims};
+ghost use Rattle.sp_top.specs.Complete.{IsComplete};
 
 use crate::output::text_of;
 use crate::play::play;
@@ -37,6 +38,8 @@ pub fn replay<S: Source, K: Sink>(alloc: Global, source: &mut S, sink: &mut K) -
     ensures read { result.status ≡ Status.Source → Rose (S.faults source.old) (S.faults source.new) }
     ensures write { result.status ≡ Status.Sink → Rose (K.faults sink.old) (K.faults sink.new) }
     ensures usage { result.status ≢ Status.Usage }
+    ensures complete { ¬ Rose (S.faults source.old) (S.faults source.new) → ¬ Rose (K.faults sink.old) (K.faults sink.new)
+        → IsComplete replay_words (S.left source.old) result.status }
 {
     a_reading_is_of_its_text();
     a_good_text_is_read();

@@ -1,7 +1,7 @@
 // The whole program over any reader and any writer: words and input go in, output and a number come out.
 ghost use Rattle.std.specs.Prelude.{◌≡◌, ◌⊎◌, IfOk, OnErr, map};
 ghost use Rattle.std.specs.String.{string_bytes};
-ghost use Rattle.sp_top.specs.Outputs.{IsNoCommand};
+ghost use Rattle.sp_top.specs.Complete.{ReadsNothing};
 ghost use Rattle.spinesd.specs.Ended.{Ended};
 
 use crate::standard::{StandardSink, StandardSource};
@@ -30,7 +30,7 @@ pub fn program<R: Read, W: Write>(
 
     // no word was kept, so none is run
     ensures wordless { OnErr words ((result.code ≡ 9) × (result.reader ≡ reader) × (result.writer ≡ writer)) }
-    ensures unread { IfOk words (λ words. IsNoCommand (map string_bytes words.items) → result.reader ≡ reader) }
+    ensures unread { IfOk words (λ words. ReadsNothing (map string_bytes words.items) → result.reader ≡ reader) }
     ensures quiet { (result.code ≡ 5) ⊎ (result.code ≡ 9) → result.writer ≡ writer }
 {
     let Ok(words) = words else {
@@ -47,7 +47,7 @@ pub fn program<R: Read, W: Write>(
         words.as_slice(),
         &mut source,
         &mut sink,
-        &mut MemoryWire,
+        &mut MemoryWire::silent(alloc),
         &mut MemoryClock::new(0),
         &mut MemoryKeeper::new(),
     );

@@ -28,7 +28,7 @@ pub(crate) fn run_over(
         words.as_slice(),
         source,
         sink,
-        &mut MemoryWire,
+        &mut MemoryWire::silent(alloc),
         &mut MemoryClock::new(0),
         &mut MemoryKeeper::new(),
     );

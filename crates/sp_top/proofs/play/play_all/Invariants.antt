@@ -8,5 +8,5 @@ invariant-events l = record {
   finite : (goal.iterator-events).is_finite l.event-iterator;
   scenario : l.world.scenario ≡ l.fn.scenario;
   going : l.world.stopped ≡ None;
-  all : l.world.events ++ into_iter_items l.event-iterator ≡ l.fn.events;
+  all : l.world.events ++ into_iter_items l.event-iterator ≡ l.fn.events.items;
 }

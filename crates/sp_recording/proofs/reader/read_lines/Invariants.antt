@@ -1,0 +1,14 @@
+use Rattle.std.proofs.Common.{◌≡◌, ◌+◌, ◌≤◌, length}
+use Rattle.sp_base.specs.declared.limits.TheConstants.{MAX_INPUT_BYTES}
+use Rattle.sp_recording.proofs.ReadingLemmas.{SoFar}
+use Rattle.sp_recording.proofs.reader.read_lines.Given as goal
+
+abbrev pub invariant-lines : goal.invariant-lines
+invariant-lines l = record {
+  given : l.lines.given ≡ l.count;
+  fits : l.before + l.count + length l.lines.rest ≤ MAX_INPUT_BYTES;
+  goes_on : SoFar l.total l.neighbours l.text l.stage l.count l.lines.rest;
+}
+
+abbrev pub decreases-lines : goal.decreases-lines
+decreases-lines l = length l.lines.rest

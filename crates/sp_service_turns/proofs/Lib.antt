@@ -1,0 +1,6 @@
+pub mod TextLemmas
+pub mod TurnLemmas
+pub mod EarlyLemmas
+pub mod RunLemmas
+pub mod RecordedLemmas
+pub mod VerifiedLemmas

@@ -1,0 +1,29 @@
+use Rattle.std.proofs.Common.{refl}
+use Rattle.sp_service_turns.proofs.EarlyLemmas.{at_client, at_overlay, at_poll, at_tick, on_err_of}
+use Rattle.sp_service_turns.proofs.TurnLemmas.{whole}
+use Rattle.sp_service_turns.proofs.one_turn.turn.Goals as goal
+
+pub returns-clause-done : goal.returns-clause-done
+returns-clause-done g c =
+    whole g.N.Core.steps c.args.peers.now c.args.polled _ _ _ _ _ _ _ _ _ _ _ _ _ _ _ _ _ _ _ c.in_ok-tick.ensures.ticked c.in_ok-overlay_lost.ensures.heard c.in_ok-client_lost.ensures.served
+    c.in_ok-poll_lost.ensures.polled
+
+pub returns-in_err-tick-clause-early : goal.returns-in_err-tick-clause-early
+returns-in_err-tick-clause-early g c =
+    on_err_of c.from_residual.result (at_tick c.args.peers.now c.args.polled (g.W.Wire.told c.args.wire.now) _ _ _ refl c.in_err-tick.ensures.early)
+
+pub returns-in_err-overlay_lost-clause-early : goal.returns-in_err-overlay_lost-clause-early
+returns-in_err-overlay_lost-clause-early g c =
+    on_err_of c.from_residual-in_err-overlay_lost.result
+    (at_overlay g.N.Core.steps c.args.peers.now c.args.polled _ _ _ _ _ _ _ _ _ c.in_ok-tick.ensures.ticked c.in_err-overlay_lost.ensures.early)
+
+pub returns-in_err-client_lost-clause-early : goal.returns-in_err-client_lost-clause-early
+returns-in_err-client_lost-clause-early g c =
+    on_err_of c.from_residual-in_err-client_lost.result
+    (at_client g.N.Core.steps c.args.peers.now c.args.polled _ _ _ _ _ _ _ _ _ _ _ _ _ c.in_ok-tick.ensures.ticked c.in_ok-overlay_lost.ensures.heard c.in_err-client_lost.ensures.early)
+
+pub returns-in_err-poll_lost-clause-early : goal.returns-in_err-poll_lost-clause-early
+returns-in_err-poll_lost-clause-early g c =
+    on_err_of c.from_residual-in_err-poll_lost.result
+    (at_poll g.N.Core.steps c.args.peers.now c.args.polled _ _ _ _ _ _ _ _ _ _ _ _ _ _ _ _ _ c.in_ok-tick.ensures.ticked c.in_ok-overlay_lost.ensures.heard c.in_ok-client_lost.ensures.served
+    c.in_err-poll_lost.ensures.silent c.in_err-poll_lost.ensures.early)

@@ -1,0 +1,94 @@
+-- What each part of a turn promises, and the whole turn. The text is what the recording got.
+use Rattle.std.specs.Prelude.{ℕ, ◌≡◌, Bool, List, [], ◌∷◌, Option, None, Some}
+use Rattle.std.specs.Io.KnownBytes.{Appends}
+use Rattle.sp_base.specs.declared.id.NodeId.{NodeId}
+use Rattle.sp_outside.specs.declared.side.Side.TheVariants.{Overlay, Client}
+use Rattle.sp_outside.specs.declared.side.Side.{Side}
+use Rattle.sp_outside.specs.Calls.{Call, Got, Nothing, Lost, Came as Came_in, Tells, Received, Sent}
+use Rattle.sp_recording.specs.RecordingText.{lines_text}
+use Rattle.sp_recording.specs.declared.line.Line.{Line}
+use Rattle.sp_recording.specs.declared.line.Line.TheVariants as lines
+use Rattle.sp_service_turns.specs.Inputs.{Datagram, Poll, Request, Steps, Tick}
+use Rattle.sp_service_turns.specs.Turns.{Moves, Turn, calls_of, lines_of, lost_of, node_at, tick_line, told, unless}
+use Rattle.sp_service_turns.specs.declared.peer.Peer.{Peer}
+
+-- what is known of a text
+abbrev pub Text : Type 0
+Text = Option (List ℕ)
+
+-- the recording got just these lines
+abbrev pub Gets : Text → Text → List Line → Type 0
+Gets before after ls = Appends before after (lines_text ls)
+
+-- a turn was made: the node took its steps, the recording got its lines, and what tells its calls tells just those of the turn
+pub record Done {N : Type 0} (steps : Steps N) (peers : List Peer) (polled : Option Peer) (old new : N)
+    (wire_before wire_after : Option (List Call)) (clock_before clock_after : Option (List ℕ)) (text_before text_after : Text) (lost : ℕ) : Type 0 where
+  pub t : Turn
+  pub moves : Moves steps peers polled t old new
+  pub calls : Tells wire_before wire_after (calls_of polled t)
+  pub reading : Tells clock_before clock_after (t.now ∷ [])
+  pub text : Gets text_before text_after (lines_of peers polled t)
+  pub lost_are : lost ≡ lost_of polled t
+
+-- ---- the parts
+
+pub record Ticked {N : Type 0} (steps : Steps N) (old new : N) (clock_before clock_after : Option (List ℕ)) (text_before text_after : Text) : Type 0 where
+  pub now : ℕ
+  pub answer : List ℕ
+  pub step : steps old (Tick now) answer new
+  pub reading : Tells clock_before clock_after (now ∷ [])
+  pub text : Gets text_before text_after (tick_line now answer ∷ [])
+
+-- a datagram that came on the overlay side, by the neighbour whose port it came from
+abbrev pub Came : {N : Type 0} → Steps N → Option NodeId → N → ℕ → List ℕ → N → Text → Text → Type 0
+Came steps None old port bytes new before after = (new ≡ old) × Gets before after (lines.Stray port ∷ [])
+Came steps (Some node) old port bytes new before after =
+    (answer : List ℕ) × steps old (Datagram node bytes) answer new × Gets before after (lines.Overlay node bytes (told answer) ∷ [])
+
+abbrev pub IsOverheard : {N : Type 0} → Steps N → List Peer → Got → N → N → Text → Text → ℕ → Type 0
+IsOverheard steps peers (Came_in port bytes) old new before after lost = Came steps (node_at peers port) old port bytes new before after × (lost ≡ 0)
+IsOverheard steps peers Nothing old new before after lost = (new ≡ old) × (after ≡ before) × (lost ≡ 0)
+IsOverheard steps peers Lost old new before after lost = (new ≡ old) × (after ≡ before) × (lost ≡ 1)
+
+pub record Overheard {N : Type 0} (steps : Steps N) (peers : List Peer) (old new : N)
+    (wire_before wire_after : Option (List Call)) (text_before text_after : Text) (lost : ℕ) : Type 0 where
+  pub got : Got
+  pub calls : Tells wire_before wire_after (Received Overlay got ∷ [])
+  pub heard : IsOverheard steps peers got old new text_before text_after lost
+
+-- a send, and 1 where it was lost
+pub record SentOne (before after : Option (List Call)) (side : Side) (port : ℕ) (bytes : List ℕ) (lost : ℕ) : Type 0 where
+  pub is_sent : Bool
+  pub calls : Tells before after (Sent side port bytes is_sent ∷ [])
+  pub lost_is : lost ≡ unless is_sent
+
+pub record Replied {N : Type 0} (steps : Steps N) (old : N) (port : ℕ) (bytes : List ℕ) (new : N)
+    (wire_before wire_after : Option (List Call)) (text_before text_after : Text) (lost : ℕ)
+    : Type 0 where
+  pub reply : List ℕ
+  pub step : steps old (Request port bytes) reply new
+  pub sent : SentOne wire_before wire_after Client port reply lost
+  pub text : Gets text_before text_after (lines.Client port bytes (told reply) ∷ [])
+
+abbrev pub IsServed : {N : Type 0} → Steps N → Got → N → N → Option (List Call) → Option (List Call) → Text → Text → ℕ → Type 0
+IsServed steps (Came_in port bytes) old new wire_before wire_after before after lost = Replied steps old port bytes new wire_before wire_after before after lost
+IsServed steps Nothing old new wire_before wire_after before after lost = (new ≡ old) × (wire_after ≡ wire_before) × (after ≡ before) × (lost ≡ 0)
+IsServed steps Lost old new wire_before wire_after before after lost = (new ≡ old) × (wire_after ≡ wire_before) × (after ≡ before) × (lost ≡ 1)
+
+pub record Served {N : Type 0} (steps : Steps N) (old new : N)
+    (wire_before wire_after : Option (List Call)) (text_before text_after : Text) (lost : ℕ) : Type 0 where
+  pub got : Got
+  pub wire_between : Option (List Call)
+  pub calls : Tells wire_before wire_between (Received Client got ∷ [])
+  pub served : IsServed steps got old new wire_between wire_after text_before text_after lost
+
+pub record Polled {N : Type 0} (steps : Steps N) (old : N) (peer : Peer) (new : N)
+    (wire_before wire_after : Option (List Call)) (text_before text_after : Text) (lost : ℕ) : Type 0 where
+  pub frame : List ℕ
+  pub step : steps old (Poll peer.node) frame new
+  pub sent : SentOne wire_before wire_after Overlay peer.port frame lost
+  pub text : Gets text_before text_after (lines.Poll peer.node (told frame) ∷ [])
+
+abbrev pub PolledNext : {N : Type 0} → Steps N → Option Peer → N → N → Option (List Call) → Option (List Call) → Text → Text → ℕ → Type 0
+PolledNext steps (Some peer) old new wire_before wire_after before after lost = Polled steps old peer new wire_before wire_after before after lost
+PolledNext steps None old new wire_before wire_after before after lost = (new ≡ old) × (wire_after ≡ wire_before) × (after ≡ before) × (lost ≡ 0)

@@ -1,0 +1,9 @@
+// Laws of turns and their recordings.
+ghost use Rattle.sp_service_turns.specs.Verified.{RecordingsAgree};
+
+use crate::node::Core;
+
+/// A law: whatever turns a daemon made, the lines of them agree with the steps of its node.
+pub fn recordings_agree<N: Core>()
+    ensures { RecordingsAgree N.steps }
+{}

@@ -1,0 +1,23 @@
+//! The turns of a daemon over any wire, clock, recording and node: what is read, what the node answers, what is recorded and what is sent.
+#![tactic(auto)]
+
+mod compared;
+mod ended;
+mod laws;
+mod many_turns;
+mod node;
+mod note;
+mod one_turn;
+mod parts;
+mod peer;
+mod poll;
+mod verified;
+
+pub use compared::{LinesRefused, VerifyRefused};
+pub use ended::Ended;
+pub use laws::recordings_agree;
+pub use many_turns::serve;
+pub use node::Core;
+pub use one_turn::turn;
+pub use peer::Peer;
+pub use verified::verify;

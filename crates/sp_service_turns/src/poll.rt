@@ -1,0 +1,74 @@
+// The poll of the next neighbour, which ends a turn.
+ghost use Rattle.std.specs.Prelude.{◌≡◌, ◌≤◌, ◌<◌, ◌^◌, IfOk, IsErrOf, OnErr, Some, length};
+ghost use Rattle.sp_outside.specs.Causes.{Rose};
+ghost use Rattle.sp_service_turns.specs.Done.{Polled, PolledNext};
+ghost use Rattle.sp_service_turns.specs.Early.{EarlyPoll};
+ghost use Rattle.sp_service_turns.specs.Runs.{polled_by};
+
+use crate::ended::Ended;
+use crate::node::Core;
+use crate::note::{note, told};
+use crate::parts::sent;
+use crate::peer::Peer;
+use sp_outside::{Side, Sink, Wire};
+use sp_recording::LineRef;
+use std::alloc::Global;
+
+/// The poll of one neighbour, and 1 where its frame was lost.
+fn poll<N: Core, W: Wire, K: Sink>(
+    alloc: Global,
+    node: &mut N,
+    peer: Peer,
+    wire: &mut W,
+    sink: &mut K,
+) -> Result<u32, Ended>
+    ensures polled { IfOk result (λ lost. Polled N.steps node.old peer node.new (W.told wire.old) (W.told wire.new)
+        (K.contents sink.old) (K.contents sink.new) lost) }
+    ensures silent { OnErr result (W.told wire.new ≡ W.told wire.old) }
+    ensures early { OnErr result (EarlyPoll (Some peer) (K.contents sink.old) (K.contents sink.new)) }
+    ensures later { K.faults sink.old ≤ K.faults sink.new }
+    ensures failed { IsErrOf result Ended.Sink → Rose (K.faults sink.old) (K.faults sink.new) }
+{
+    let Ok(frame) = node.poll(alloc, peer.node) else {
+        return Err(Ended::Memory);
+    };
+    let line = LineRef::Poll {
+        node: peer.node,
+        digest: told(frame.as_slice()),
+    };
+    note(alloc, sink, &line)?;
+    Ok(sent(wire, Side::Overlay, peer.port, frame.as_slice()))
+}
+
+/// The poll of the next neighbour, if there is one.
+pub fn poll_next<N: Core, W: Wire, K: Sink>(
+    alloc: Global,
+    node: &mut N,
+    polled: Option<Peer>,
+    wire: &mut W,
+    sink: &mut K,
+) -> Result<u32, Ended>
+    ensures polled { IfOk result (λ lost. PolledNext N.steps polled node.old node.new (W.told wire.old) (W.told wire.new)
+        (K.contents sink.old) (K.contents sink.new) lost) }
+    ensures silent { OnErr result (W.told wire.new ≡ W.told wire.old) }
+    ensures early { OnErr result (EarlyPoll polled (K.contents sink.old) (K.contents sink.new)) }
+    ensures later { K.faults sink.old ≤ K.faults sink.new }
+    ensures failed { IsErrOf result Ended.Sink → Rose (K.faults sink.old) (K.faults sink.new) }
+{
+    match polled {
+        Some(peer) => poll(alloc, node, peer, wire, sink),
+        None => Ok(0),
+    }
+}
+
+/// The neighbour that a turn polls, in a cycle. None where there is none.
+pub fn polled_by(peers: &[Peer], turn: u32) -> Option<Peer>
+    requires { length peers.now < 2 ^ 16 }
+    ensures { result ≡ polled_by peers.now turn }
+{
+    if peers.is_empty() {
+        return None;
+    }
+    let place = turn as usize % peers.len();
+    Some(peers[place])
+}
