@@ -1,0 +1,12 @@
+//! The words of the command line, read by `clap`: a command with its values, or that they are none.
+#![tactic(auto)]
+
+mod command_line;
+mod given;
+mod reading;
+mod refused;
+mod values;
+
+pub use command_line::{Ask, CommandLine, PathsQuery};
+pub use reading::parse;
+pub use refused::WordsRefused;
