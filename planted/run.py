@@ -4,7 +4,7 @@ Each file planted/CRATE/NAME.edit is a small bug, as three lines: `file:`, `old:
 ones made). All bugs of a crate that stand in functions of their own are put into one copy of it, and the copy is checked once: a bug is
 refused where its function isn't proved. Bugs of one function take turns. The status is 1 where a bug isn't refused or can't be planted.
 
-The copy stands beside the checkout and is removed; the check begins with what earlier checks on this machine kept.
+The copy stands beside the checkout and is removed; the check begins with what earlier checks kept in out/: so check the crate first.
 """
 
 import os
@@ -98,20 +98,26 @@ def judged_in(folder):
     return at_fault, unproved
 
 
-def lay_copy(copy):
-    """The sources of the checkout in this folder."""
+def lay_copy(copy, crate):
+    """The sources of the checkout in this folder, with what earlier checks kept: of this crate all, of the others the libraries that they made."""
     for part in ("crates", "crates.txt", "HANDLES"):
         source = os.path.join(ROOT, part)
         if os.path.isdir(source):
             shutil.copytree(source, os.path.join(copy, part), ignore=shutil.ignore_patterns("out"))
         else:
             shutil.copy(source, copy)
+    for name in os.listdir(os.path.join(ROOT, "crates")):
+        kept, into = (os.path.join(top, "crates", name, "out") for top in (ROOT, copy))
+        if name == crate and os.path.isdir(kept):
+            shutil.copytree(kept, into)
+        elif os.path.isdir(os.path.join(kept, "rlib")):
+            shutil.copytree(os.path.join(kept, "rlib"), os.path.join(into, "rlib"), copy_function=os.link)
 
 
 def try_round(crate, bugs, alone):
     """Those of the bugs that are refused, those that aren't, and those that only call a function which is: these want a try alone."""
     with tempfile.TemporaryDirectory(dir=os.path.dirname(ROOT), prefix="planted-") as copy:
-        lay_copy(copy)
+        lay_copy(copy, crate)
         folder = os.path.join(copy, "crates", crate)
         planted = plant(folder, bugs)
         at_fault, unproved = judged_in(folder)
