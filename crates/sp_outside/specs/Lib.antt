@@ -4,3 +4,6 @@ pub mod Plans
 pub mod Calls
 pub mod Kept
 pub mod Readings
+pub mod Disk
+pub mod Moments
+pub mod KeeperRecord

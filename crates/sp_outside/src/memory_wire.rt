@@ -98,7 +98,7 @@ fn next_of_side<'a>(
 }
 
 /// Whether the next call of a kind is planned to fail. It is counted.
-fn is_planned(failing: &[u64], calls: &mut u64) -> bool
+pub(crate) fn is_planned(failing: &[u64], calls: &mut u64) -> bool
     ensures planned { result ≡ is_planned failing.now calls.old }
     ensures counted { calls.new ≡ min (calls.old + 1) (2 ^ 64 - 1) }
 {

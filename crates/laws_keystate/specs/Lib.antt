@@ -1,0 +1,5 @@
+pub mod Disks
+pub mod Starts
+pub mod Histories
+pub mod Laws
+pub mod Calls

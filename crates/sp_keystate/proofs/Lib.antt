@@ -1,0 +1,9 @@
+pub mod Since
+pub mod Pieces
+pub mod Torn
+pub mod SlotLemmas
+pub mod Finding
+pub mod Standing
+pub mod StateLemmas
+pub mod SoundLemmas
+pub mod StartingLemmas

@@ -1,0 +1,5 @@
+pub mod Slots
+pub mod Changes
+pub mod Soundness
+pub mod States
+pub mod Starting

@@ -1,0 +1,45 @@
+-- What a start takes from a key file before it signs.
+use Rattle.std.specs.Prelude.{ℕ, ◌≡◌, ◌+◌, ◌<◌, min, List, Option, None, Some, Result, Ok, Err, IfSome}
+use Rattle.sp_outside.specs.Disk.{Disk, bytes_of, still}
+use Rattle.sp_outside.specs.Moments.{AllSince}
+use Rattle.sp_keystate.specs.declared.numbers.Numbers.{Numbers}
+use Rattle.sp_keystate.specs.declared.slot.Slot.{Slot}
+use Rattle.sp_keystate.specs.declared.slot.InUse.{InUse}
+use Rattle.sp_keystate.specs.declared.starts.Started.{Started}
+use Rattle.sp_keystate.specs.declared.refused.KeyRefused.{KeyRefused}
+use Rattle.sp_keystate.specs.declared.refused.KeyRefused.TheVariants.{KeeperFault, Unformatted, Formatted, Exhausted}
+use Rattle.sp_keystate.specs.Slots.{in_use}
+use Rattle.sp_keystate.specs.Soundness.{IsSound, Keeps}
+use Rattle.sp_keystate.specs.States.{SoundAs}
+
+-- the file stood for these numbers: the first index is their bound, and the boot is the next
+pub record BeginsAt (started : Started) (disk : Disk) : Type 0 where
+  pub found : InUse
+  pub stood : in_use (bytes_of disk) ≡ Some found
+  pub first : started.first ≡ found.numbers.bound
+  pub boot : started.state.boot ≡ found.numbers.boot + 1
+
+pub record Starts (told : Option Disk) (n total : ℕ) (started : Started) : Type 0 where
+  pub begins : IfSome told (BeginsAt started)
+  -- some indexes are reserved, so many at most, and none from the total on
+  pub some : started.first < total
+  pub bound : started.state.bound ≡ min (started.first + n) total
+
+-- a sound file is sound after the start
+abbrev pub StartsSafely : Option Disk → Option Disk → Started → Type 0
+StartsSafely None new started = Unit {0}
+StartsSafely (Some disk) new started = (slot : Slot) (numbers : Numbers) → IsSound slot numbers (bytes_of disk) → IfSome new (SoundAs started.state)
+
+-- and no moment meanwhile leaves a lower bound or a lower boot
+abbrev pub KeepsAll : Option Disk → Option (List Disk) → Option (List Disk) → Type 0
+KeepsAll told past now =
+    (file : List ℕ) (slot : Slot) (numbers : Numbers) → told ≡ Some (still file) → IsSound slot numbers file
+    → AllSince past now (Keeps numbers.bound numbers.boot)
+
+-- a start is never refused as formatted
+abbrev pub IsStartAnswer : {T : Type 0} → Result T KeyRefused → Type 0
+IsStartAnswer (Ok x) = Unit {0}
+IsStartAnswer (Err KeeperFault) = Unit {0}
+IsStartAnswer (Err Unformatted) = Unit {0}
+IsStartAnswer (Err Formatted) = ⊥
+IsStartAnswer (Err (Exhausted number)) = Unit {0}

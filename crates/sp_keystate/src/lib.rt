@@ -1,0 +1,17 @@
+//! The indexes of a signing seed that are reserved, and how often the daemon was started, kept in a small file over any crash: no write
+//! at which the machine stops takes either number back.
+#![tactic(auto)]
+
+mod change;
+mod key_state;
+mod numbers;
+mod opening;
+mod reading;
+mod refused;
+mod slot;
+mod starts;
+
+pub use key_state::KeyState;
+pub use opening::{format, open};
+pub use refused::KeyRefused;
+pub use starts::{Started, start};
