@@ -57,6 +57,7 @@ impl Clients {
         bytes: &[u8],
     ) -> Result<Bytes, Memory>
         ensures handled { IfOk result (λ reply. Datagram L.steps self.old port bytes.now reply self.new local.old local.new) }
+        ensures short { IfOk result (λ reply. length reply ≤ MAX_REPLY_BYTES) }
         ensures memory { OnErr result ((self.new ≡ self.old) × (local.new ≡ local.old)) }
     {
         let Some(request) = read_request(alloc, bytes)? else {
@@ -80,6 +81,7 @@ impl Clients {
         requires empty { reply.old.items ≡ [] }
         requires room { MAX_REPLY_BYTES ≤ vec_capacity reply.old }
         ensures served { OnOk result (Serves L.steps self.old port request.now reply.new.items self.new local.old local.new) }
+        ensures short { OnOk result (length reply.new.items ≤ MAX_REPLY_BYTES) }
         ensures memory { OnErr result ((self.new ≡ self.old) × (local.new ≡ local.old)) }
     {
         if let Some(kept) = self.repeat(port, request.number) {

@@ -48,15 +48,15 @@ open
 2 weight 2";
 
 /// What is a request, though its node is no right end.
-const NO_ENDS: &str = "9000 2 send 0 - = 2 badend
-9000 3 send 1 - = 3 badend
-9000 4 send 255 - = 4 badend
-9000 5 sendprio 1 10 18446744073709551615 8 - = 5 badend
-9000 6 weight 1 1000000 = 6 badend
-9000 7 weight 0 1 = 7 badend";
+const NO_ENDS: &str = "49000 2 send 0 - = 2 badend
+49000 3 send 1 - = 3 badend
+49000 4 send 255 - = 4 badend
+49000 5 sendprio 1 10 18446744073709551615 8 - = 5 badend
+49000 6 weight 1 1000000 = 6 badend
+49000 7 weight 0 1 = 7 badend";
 
 fn is_no_request(rt: &impl Abort, talk: &mut Talk, bytes: &[u8], row: &str) -> Result<(), Fail> {
-    assert_eq!(rt; talk.reply(9000, bytes)?.as_str(), "0 badrequest", "{row}");
+    assert_eq!(rt; talk.reply(49000, bytes)?.as_str(), "0 badrequest", "{row}");
     Ok(())
 }
 
@@ -64,7 +64,7 @@ fn is_no_request(rt: &impl Abort, talk: &mut Talk, bytes: &[u8], row: &str) -> R
 fn what_is_no_request_is_told_so_and_touches_no_session(rt: HostRuntime) -> Result<(), Fail> {
     let mut talk = Talk::new(rt.alloc())?;
     is_no_request(&rt, &mut talk, b"", "no bytes")?;
-    talk.rows(&rt, "9000 1 open = 1 opened")?;
+    talk.rows(&rt, "49000 1 open = 1 opened")?;
     for row in NO_REQUESTS.lines() {
         let request = row.replace(rt.alloc(), "|", "\n")?;
         is_no_request(&rt, &mut talk, request.as_bytes(), row)?;
@@ -86,7 +86,7 @@ fn send_of(alloc: Global, payload: usize) -> Result<String, Fail> {
 fn a_payload_has_at_most_1024_bytes(rt: HostRuntime) -> Result<(), Fail> {
     let alloc = rt.alloc();
     let mut talk = Talk::new(alloc)?;
-    talk.rows(&rt, "9000 1 open = 1 opened")?;
+    talk.rows(&rt, "49000 1 open = 1 opened")?;
     is_no_request(
         &rt,
         &mut talk,
@@ -95,7 +95,7 @@ fn a_payload_has_at_most_1024_bytes(rt: HostRuntime) -> Result<(), Fail> {
     )?;
     let longest = send_of(alloc, 1_024)?;
     assert_eq!(rt;
-        talk.reply(9000, longest.as_bytes())?.as_str(),
+        talk.reply(49000, longest.as_bytes())?.as_str(),
         "2 accepted 1"
     );
     Ok(())

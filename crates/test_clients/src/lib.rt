@@ -12,6 +12,8 @@ mod node_talk;
 #[cfg(test)]
 mod node_talks;
 #[cfg(test)]
+mod questions;
+#[cfg(test)]
 mod talk;
 #[cfg(test)]
 mod talks;

@@ -11,6 +11,9 @@ use std::process::Abort;
 use std::str;
 use std::test::Fail;
 
+/// The start of node 1, by a number that no schedule can have.
+const BOOT: u64 = 1 << 33;
+
 /// The seed of a node's key.
 fn seed_of(id: u8) -> [u8; 32] {
     [id; 32]
@@ -44,10 +47,10 @@ fn first_node(alloc: Global) -> Result<Node, Fail> {
     };
     let signer = Signer::make(alloc, LmsParam::H5, seed_of(1), 0, 1024)?;
     let signer = NodeSigner::new(NodeId(1), signer);
-    if !can_boot(&config, &signer, 1) {
+    if !can_boot(&config, &signer, BOOT) {
         return Err("the node can't boot".into());
     }
-    Ok(Node::boot(alloc, config, signer, 1)?)
+    Ok(Node::boot(alloc, config, signer, BOOT)?)
 }
 
 /// The sessions and the node that they stand before.
