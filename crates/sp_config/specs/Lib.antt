@@ -2,4 +2,5 @@ pub mod Keys
 pub mod Values
 pub mod Walks
 pub mod Readings
+pub mod RefusedLines
 pub mod Good

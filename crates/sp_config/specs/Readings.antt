@@ -1,5 +1,5 @@
 -- What a text says: the four refusals in their order, and the values.
-use Rattle.std.specs.Prelude.{ℕ, ◌≡◌, ◌≢◌, ◌-◌, ◌^◌, ◌==◌, List, map, Option, Some, None, Result, Ok, Err, codes, if◌then◌else◌}
+use Rattle.std.specs.Prelude.{ℕ, ◌≡◌, ◌≢◌, ◌<◌, ◌≤◌, ◌-◌, ◌^◌, ◌==◌, List, map, Option, Some, None, Result, Ok, Err, codes, if◌then◌else◌}
 use Rattle.sp_base.specs.Refusals.{◌>>=◌, as_refusal}
 use Rattle.sp_topology.specs.Documents.{read_of}
 use Rattle.sp_topology.specs.Faults.{graph_fault}
@@ -82,6 +82,11 @@ config_in ms = do
   _ ← refused_by (Range (index_bound (height_of (bytes_at (codes "topology") ms)))) forms.Config ms
   _ ← as_refusal refusals.Topology (height_of (bytes_at (codes "topology") ms))
   Ok (config_from ms)
+
+-- what is known of each configuration that is read
+pub record IsRanged (c : Config) : Type 0 where
+  pub boot : (1 ≤ c.boot) × (c.boot < 2 ^ 63)
+  pub index : (height : LmsHeight) → height_of c.topology ≡ Ok height → c.first_index ≤ total height
 
 -- ---- a draft
 

@@ -1,10 +1,10 @@
 // A configuration: what an operator tells a daemon.
-ghost use Rattle.std.specs.Prelude.{◌≡◌, IfOk, codes, map};
+ghost use Rattle.std.specs.Prelude.{◌≡◌, ◌<◌, ◌≤◌, ◌^◌, IfOk, codes, map};
 ghost use Rattle.toml.specs.Data.{get_member};
 ghost use Rattle.toml.specs.View.{items_view, table_view};
 ghost use Rattle.sp_config.specs.Good.{AreGood, IsGood};
 ghost use Rattle.sp_config.specs.Keys.{own_keys, peer_keys, running_keys};
-ghost use Rattle.sp_config.specs.Readings.{GivesInMemory, config_from, config_in, config_of, height_of, index_bound, peer_of};
+ghost use Rattle.sp_config.specs.Readings.{GivesInMemory, IsRanged, config_from, config_in, config_of, height_of, index_bound, peer_of};
 ghost use Rattle.sp_config.specs.Values.{bytes_at, number_at, number_or, tables_at, tables_of};
 
 use crate::ConfigRefused;
@@ -54,7 +54,8 @@ pub struct Peer {
 
 /// The configuration that the text says, or the first refusal in the order of `ConfigRefused`.
 pub fn read_config(alloc: Global, text: &str) -> Result<Config, ConfigRefused>
-    ensures { GivesInMemory (λ config. config) result (config_of text.now) }
+    ensures said { GivesInMemory (λ config. config) result (config_of text.now) }
+    ensures ranges { IfOk result IsRanged }
 {
     let table = table_of(alloc, text)?;
     config_in(alloc, &table)
@@ -62,7 +63,8 @@ pub fn read_config(alloc: Global, text: &str) -> Result<Config, ConfigRefused>
 
 #[tactic(auto, unfolding(crate::specs::Readings::config_in))]
 fn config_in(alloc: Global, table: &Table) -> Result<Config, ConfigRefused>
-    ensures { GivesInMemory (λ config. config) result (config_in (table_view table.now)) }
+    ensures said { GivesInMemory (λ config. config) result (config_in (table_view table.now)) }
+    ensures ranges { IfOk result IsRanged }
 {
     refuse_keys(alloc, Form::Config, table)?;
     let document = bytes_of(alloc, text_at(table, "topology"))?;
@@ -107,11 +109,14 @@ fn config_from(
     requires running { IsGood running_keys bound (table_view table.now) }
     requires peers { AreGood peer_keys bound (tables_at (codes "peer") (table_view table.now)) }
     requires document { document.items ≡ bytes_at (codes "topology") (table_view table.now) }
-    ensures { IfOk result (λ config. config ≡ config_from (table_view table.now)) }
+    ensures config { IfOk result (λ config. config ≡ config_from (table_view table.now)) }
+    ensures life { IfOk result (λ config. (1 ≤ config.boot) × (config.boot < 2 ^ 63)) }
+    ensures index { IfOk result (λ config. config.first_index ≤ bound) }
 {
     let peers = peers_of(alloc, bound, array_at(table, "peer"))?;
     let (node, seed, admin) = own_of(bound, table);
     let (port, client_port) = ports_of(bound, table);
+    let (boot, first_index) = counts_of(bound, table);
     let (buffer, store) = bounds_of(bound, table);
     Ok(Config {
         node,
@@ -120,8 +125,8 @@ fn config_from(
         topology: Bytes::from_vec(document),
         port,
         client_port,
-        boot: number_at(table, "boot"),
-        first_index: number_at(table, "first_index"),
+        boot,
+        first_index,
         buffer,
         store,
         peers: Listed::from_vec(peers),
@@ -148,6 +153,17 @@ fn ports_of(bound: u64, table: &Table) -> (u16, u16)
     ensures client_port { result.1 ≡ number_at (codes "client_port") (table_view table.now) }
 {
     (short_at(table, "port"), short_at(table, "client_port"))
+}
+
+#[tactic(auto, unfolding(crate::specs::Good::IsGood))]
+fn counts_of(bound: u64, table: &Table) -> (u64, u64)
+    requires { IsGood running_keys bound (table_view table.now) }
+    ensures boot { result.0 ≡ number_at (codes "boot") (table_view table.now) }
+    ensures index { result.1 ≡ number_at (codes "first_index") (table_view table.now) }
+    ensures life { (1 ≤ result.0) × (result.0 < 2 ^ 63) }
+    ensures within { result.1 ≤ bound }
+{
+    (number_at(table, "boot"), number_at(table, "first_index"))
 }
 
 #[tactic(auto, unfolding(crate::specs::Good::IsGood))]

@@ -6,6 +6,7 @@ mod config;
 mod digits;
 mod draft;
 mod keys;
+mod refusal;
 mod refused;
 mod steps;
 mod unsaid;
@@ -14,4 +15,5 @@ mod walks;
 
 pub use config::{Config, Peer, read_config};
 pub use draft::{Draft, DraftEdge, DraftNode, read_draft};
+pub use refusal::{fault_word, refused_line, too_big_line};
 pub use refused::ConfigRefused;

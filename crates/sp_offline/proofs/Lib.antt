@@ -1,3 +1,2 @@
 pub mod GoodDrafts
 pub mod DraftKeys
-pub mod WordLemmas

@@ -7,7 +7,7 @@ use Rattle.sp_config.specs.declared.refused.ConfigRefused.TheVariants as refusal
 use Rattle.sp_config.specs.Readings.{draft_of}
 use Rattle.sp_offline.specs.declared.draft_answer.DraftAnswer.{DraftAnswer}
 use Rattle.sp_offline.specs.declared.draft_answer.DraftAnswer.TheVariants as answers
-use Rattle.sp_offline.specs.DraftRefusals.{refused_line, too_big_line}
+use Rattle.sp_config.specs.RefusedLines.{refused_line, too_big_line}
 use Rattle.sp_offline.specs.SignedDrafts.{signed_text}
 
 -- the bytes say this draft, or are refused so. Bytes that are no UTF-8 are no TOML

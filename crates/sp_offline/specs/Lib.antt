@@ -1,11 +1,10 @@
-pub mod Words
+pub mod Ranges
 pub mod Answers
 -- ---- `topology`
-pub mod DraftRefusals
 pub mod SignedDrafts
 pub mod DraftAnswers
 -- ---- `paths`
-pub mod PathsWords
+pub mod Queries
 pub mod PathsLines
 pub mod PathsRefusals
 pub mod PathsAnswers

@@ -1,9 +1,9 @@
 // What an offline command answers.
 ghost use Rattle.std.specs.Prelude.{◌≡◌, ◌≤◌, IfOk, length};
 ghost use Rattle.sp_base.specs.declared.limits.TheConstants.{MAX_INPUT_BYTES};
-ghost use Rattle.sp_offline.specs.PathsWords.{IsQuery};
+ghost use Rattle.sp_offline.specs.Queries.{IsQuery};
 ghost use Rattle.sp_offline.specs.Answers.{IsAnswered};
-ghost use Rattle.sp_offline.specs.Words.{IsOffline};
+ghost use Rattle.sp_offline.specs.Ranges.{IsOffline};
 
 use crate::{DraftAnswer, Offline, PathsAnswer, Query, cheapest_paths, signed_topology};
 use sp_base::{Bytes, Memory};

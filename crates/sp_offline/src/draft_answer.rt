@@ -2,10 +2,9 @@
 ghost use Rattle.std.specs.Prelude.{◌≡◌, ◌≢◌, IfErr, IfOk};
 ghost use Rattle.sp_offline.specs.DraftAnswers.{IsAnswer, SaysDraft};
 
-use crate::draft_refusal::{refused_line, too_big_line};
 use crate::signed_draft::signed_text;
 use sp_base::{Bytes, Memory};
-use sp_config::{ConfigRefused, Draft, read_draft};
+use sp_config::{ConfigRefused, Draft, read_draft, refused_line, too_big_line};
 use std::alloc::Global;
 use std::str;
 

@@ -6,7 +6,6 @@ mod answered;
 mod command;
 mod draft_answer;
 mod draft_document;
-mod draft_refusal;
 mod paths_answer;
 mod paths_lines;
 mod paths_query;
@@ -14,7 +13,7 @@ mod paths_refusal;
 mod signed_draft;
 
 pub use answered::{Answered, Verdict, answer};
-pub use command::{Offline, offline_of};
+pub use command::Offline;
 pub use draft_answer::{DraftAnswer, signed_topology};
 pub use paths_answer::{PathsAnswer, cheapest_paths};
-pub use paths_query::{Query, query_of};
+pub use paths_query::Query;

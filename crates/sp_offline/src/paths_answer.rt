@@ -4,7 +4,7 @@ ghost use Rattle.sp_base.specs.declared.limits.TheConstants.{MAX_INPUT_BYTES};
 ghost use Rattle.sp_graph.specs.Edges.{IsGraph};
 ghost use Rattle.sp_graph.specs.Spelling.{graph_text};
 ghost use Rattle.sp_offline.specs.PathsAnswers.{IsAnswer, SaysGraph};
-ghost use Rattle.sp_offline.specs.PathsWords.{IsQuery};
+ghost use Rattle.sp_offline.specs.Queries.{IsQuery};
 
 use crate::Query;
 use crate::paths_lines::{fewer_text, paths_text};

@@ -1,4 +1,4 @@
--- How a draft's refusal is told: one line with its kind, and the key or the inner kind.
+-- How the refusal of a configuration or a draft is told: one line with its kind, and the key or the inner kind.
 --
 --     refused 0 Toml
 --     refused 0 Unknown KEY       also Missing and Range: the key's bytes as they are

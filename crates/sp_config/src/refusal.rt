@@ -1,9 +1,9 @@
-// The line that refuses a draft: its kind, and the key or the inner kind.
+// The line that refuses a configuration or a draft: its kind, and the key or the inner kind.
 ghost use Rattle.std.specs.Prelude.{◌≡◌, ◌++◌, IfOk, OnOk};
-ghost use Rattle.sp_offline.specs.DraftRefusals.{fault_word, refused_line, refused_words, too_big_line};
+ghost use Rattle.sp_config.specs.RefusedLines.{fault_word, refused_line, refused_words, too_big_line};
 
+use crate::ConfigRefused;
 use sp_base::{Bytes, Listed, Memory};
-use sp_config::ConfigRefused;
 use sp_topology::TopologyRefused;
 use std::alloc::Global;
 
@@ -15,7 +15,7 @@ pub fn too_big_line(alloc: Global) -> Result<Bytes, Memory>
 }
 
 /// The line `refused 0 KIND`, with the key or the inner kind.
-#[tactic(auto, unfolding(crate::specs::DraftRefusals::refused_line))]
+#[tactic(auto, unfolding(crate::specs::RefusedLines::refused_line))]
 pub fn refused_line(alloc: Global, refused: &ConfigRefused) -> Result<Bytes, Memory>
     ensures { IfOk result (λ line. line ≡ refused_line refused.now) }
 {
@@ -50,7 +50,7 @@ fn push_pair(out: &mut Vec<u8>, first: &[u8], second: &[u8]) -> Result<(), Memor
 }
 
 /// The word of a fault of a topology.
-fn fault_word(fault: TopologyRefused) -> &'static str
+pub fn fault_word(fault: TopologyRefused) -> &'static str
     ensures { result.now ≡ fault_word fault }
 {
     match fault {
