@@ -1,5 +1,6 @@
 // The entries of a journal, by what was answered and caused.
-ghost use Rattle.std.specs.Prelude.{◌≡◌, ◌<◌, ◌^◌, [], IfOk, length};
+ghost use Rattle.std.specs.Prelude.{◌≡◌, ◌<◌, ◌^◌, [], IfOk, length, map};
+ghost use Rattle.sp_runs.specs.Journals.{item_word, link_word};
 ghost use Rattle.sp_rules.specs.Steps.{Frame, replied};
 ghost use Rattle.sp_world_steps.specs.Gave.{Tells, taken};
 ghost use Rattle.sp_base.specs.declared.id.NodeId.{NodeId};
@@ -54,6 +55,14 @@ pub fn frame(alloc: Global, number: u32, bytes: &[u8]) -> Entry
 /// The entry of an arrival that was answered so.
 pub fn arrived(alloc: Global, step: Step<Taken>) -> Result<Entry, Memory>
     ensures { (n : NodeState) (u : NodeId) (bytes : List ℕ) → IfOk result (λ entry. Tells 0 (taken n u bytes step) entry) }
+{
+    entry_of(alloc, step)
+}
+
+/// The entry of what became of a datagram, and of what that caused.
+pub fn entry_of(alloc: Global, step: Step<Taken>) -> Result<Entry, Memory>
+    ensures reply { IfOk result (λ entry. entry.reply ≡ Reply.Arrived (link_word step.reply.link) (map item_word step.reply.items)) }
+    ensures effects { IfOk result (λ entry. entry.effects ≡ step.effects.list) }
 {
     let Step {
         reply: Taken { link, items },

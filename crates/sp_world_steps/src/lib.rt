@@ -7,6 +7,7 @@ mod member;
 mod members;
 mod words;
 
-pub use entries::{arrived, frame, spent};
+pub use entries::{arrived, entry_of, frame, spent, told};
 pub use member::Member;
 pub use members::{ask, forget, hear, member_of, poll};
+pub use words::tick_word;
