@@ -4,3 +4,5 @@ pub mod EarlyLemmas
 pub mod RunLemmas
 pub mod RecordedLemmas
 pub mod VerifiedLemmas
+pub mod WholeLemmas
+pub mod ServedLemmas

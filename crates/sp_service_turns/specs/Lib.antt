@@ -4,5 +4,7 @@ pub mod Hearing
 pub mod Done
 pub mod Early
 pub mod Runs
+pub mod Recorded
+pub mod Served
 pub mod Verified
 pub mod Compared

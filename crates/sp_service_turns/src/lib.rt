@@ -11,6 +11,8 @@ mod one_turn;
 mod parts;
 mod peer;
 mod poll;
+mod recorded;
+mod served;
 mod verified;
 
 pub use compared::{LinesRefused, VerifyRefused};
@@ -20,4 +22,6 @@ pub use many_turns::serve;
 pub use node::Core;
 pub use one_turn::turn;
 pub use peer::Peer;
+pub use recorded::serve_recorded;
+pub use served::{Ports, Served, serve_from};
 pub use verified::verify;

@@ -31,6 +31,7 @@ pub fn serve<N: Core, W: Wire, C: Clock, K: Sink>(
     ensures ran { IfOk result (λ lost. Ran N.steps peers.now turns node.old node.new (W.told wire.old) (W.told wire.new) (C.told clock.old) (C.told clock.new)
         (K.contents sink.old) (K.contents sink.new) lost) }
     ensures early { OnErr result (RanEarly peers.now turns (W.told wire.old) (W.told wire.new) (K.contents sink.old) (K.contents sink.new)) }
+    ensures later { K.faults sink.old ≤ K.faults sink.new }
     ensures failed { IsErrOf result Ended.Sink → Rose (K.faults sink.old) (K.faults sink.new) }
 {
     let mut lost = 0u32;
