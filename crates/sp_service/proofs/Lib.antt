@@ -1,0 +1,4 @@
+pub mod Bootable
+pub mod Openings
+pub mod Endings
+pub mod Judging

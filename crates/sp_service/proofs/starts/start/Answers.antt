@@ -1,0 +1,8 @@
+use Rattle.std.proofs.Common.{◌∙◌}
+use Rattle.sp_service.proofs.Bootable.{bootable}
+use Rattle.sp_service.proofs.starts.start.Goals as goal
+
+pub boot-requires : goal.boot-requires
+boot-requires c =
+    rw (c.from_vec.ensures ∙ c.in_ok-keys.ensures, c.in_ok-signer.ensures)
+    (bootable c.args.config.now c.args.topology c.args.opening c.requires.fits c.requires.topology c.requires.opening)

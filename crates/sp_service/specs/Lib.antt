@@ -1,0 +1,10 @@
+-- ---- configurations
+pub mod Configured
+pub mod Starts
+-- ---- the daemon
+pub mod Served
+-- ---- verification
+pub mod Splits
+pub mod Verdicts
+-- ---- what proofs and the parts of this crate use among themselves
+pub mod Parts

@@ -1,0 +1,47 @@
+-- What the parts of a daemon and of a verification promise each other.
+use Rattle.std.specs.Prelude.{ℕ, ◌≡◌, ◌⊎◌, List}
+use Rattle.std.specs.Io.KnownBytes.{Appends}
+use Rattle.sp_config.specs.declared.config.Config.{Config}
+use Rattle.sp_outside.specs.Streams.{AppendsFront}
+use Rattle.sp_recording.specs.declared.line.Digest.{Digest}
+use Rattle.sp_recording.specs.declared.line.Opening.{Opening}
+use Rattle.sp_recording.specs.declared.stage.Reading.{Reading}
+use Rattle.sp_service_station.specs.Stations.{Station, StationStep}
+use Rattle.sp_service_turns.specs.Compared.{AgreesWhole, DiffersAt, IsBadAfter}
+use Rattle.sp_service_turns.specs.Done.{Text}
+use Rattle.sp_service_turns.specs.Served.{Outside}
+use Rattle.sp_service_turns.specs.declared.served.Served.{Served}
+use Rattle.sp_service_turns.specs.declared.served.Served.TheVariants as served
+use Rattle.sp_topology.specs.declared.topology.Topology.{Topology}
+use Rattle.sp_service.specs.Starts.{IsStarted}
+use Rattle.sp_service.specs.Served.{EndsStarted, IsQuiet}
+use Rattle.sp_service.specs.Verdicts.{form_line, mismatch_line, verified_line}
+use Rattle.sp_service.specs.declared.verdict.Verdict.{Verdict}
+use Rattle.sp_service.specs.declared.verdict.Verdict.TheVariants as verdicts
+
+-- ---- a daemon
+
+-- the refusal was written, and it ended so; or the sink failed, and has a beginning of it
+abbrev pub IsTold : List ℕ → Served → Text → Text → Type 0
+IsTold line ended before after = ((ended ≡ served.Refused) × Appends before after line) ⊎ ((ended ≡ served.Sink) × AppendsFront before after line)
+
+-- how a daemon of a configuration that fits ended, or that there was no memory before anything was opened
+abbrev pub EndsTurns : Config → Topology → ℕ → Served → Outside → Outside → Type 0
+EndsTurns c t count ended before after =
+    EndsStarted c t count ended before after ⊎ ((ended ≡ served.Memory) × IsQuiet before after × (after.text ≡ before.text))
+
+-- ---- verification
+
+-- what comes of the lines of a recording, asked of a node again from here on
+abbrev pub ComeTo : Station → ℕ → Reading → Verdict → List ℕ → Type 0
+ComeTo start before reading verdicts.Verified out = (last : Station) × (count : ℕ) × AgreesWhole StationStep start reading last count × (out ≡ verified_line count)
+ComeTo start before reading verdicts.Mismatch out =
+    (line : ℕ) × (recorded : Digest) × (computed : Digest) × DiffersAt StationStep start before reading line recorded computed
+    × (out ≡ mismatch_line line recorded computed)
+ComeTo start before reading verdicts.Refused out = (line : ℕ) × IsBadAfter StationStep start reading line × (out ≡ form_line line)
+
+-- what comes of those lines, where the node starts as the first line of the recording says
+pub record ComesFrom (c : Config) (t : Topology) (o : Opening) (before : ℕ) (reading : Reading) (verdict : Verdict) (out : List ℕ) : Type 0 where
+  pub start : Station
+  pub started : IsStarted c t o start
+  pub comes : ComeTo start before reading verdict out

@@ -1,0 +1,18 @@
+//! A daemon from its configuration to its recording, and the verification of a recording by its configuration.
+#![tactic(auto)]
+
+mod configured;
+mod daemon;
+mod ready;
+mod split;
+mod starts;
+mod verdict;
+mod verdict_lines;
+mod verifying;
+
+pub use configured::{Configured, configure};
+pub use daemon::serve;
+pub use sp_service_turns::Served;
+pub use starts::start;
+pub use verdict::{Judged, Verdict};
+pub use verifying::verify;

@@ -1,0 +1,79 @@
+-- What a call of a station leaves as it is, and how long a frame is.
+use Rattle.std.proofs.Common.{◌≡◌, ℕ, ◌≤◌, Bool, true, false, List, Option, None, Some, length, refl, ap}
+use Rattle.laws_node.specs.Nodes.{IsKept}
+use Rattle.sp_base.specs.declared.id.NodeId.{NodeId}
+use Rattle.sp_client.specs.Sessions.{Answers, own_answer}
+use Rattle.sp_client.specs.Tables as tables
+use Rattle.sp_client.specs.declared.answer.Answer.{Answer}
+use Rattle.sp_client.specs.declared.request.Command.{Command}
+use Rattle.sp_client.specs.declared.request.Command.TheVariants as commands
+use Rattle.sp_client.specs.declared.request.Request.{Request}
+use Rattle.sp_client_node.specs.Steps.{AnswersBy, TakesFrom}
+use Rattle.sp_client_node.specs.declared.local.LocalNode.{LocalNode}
+use Rattle.sp_frame.specs.declared.frame.TheConstants.{MAX_FRAME_BYTES}
+use Rattle.sp_node_core.specs.Format.{format}
+use Rattle.sp_node_core.specs.PolledFrames.{most_signature}
+use Rattle.sp_rules.specs.Node.{NodeState, call_refusal}
+use Rattle.sp_rules.specs.Polls.{frame_to}
+use Rattle.sp_node_state.specs.States.{is_other}
+use Rattle.sp_rules.specs.Parts.{Fixed}
+use Rattle.sp_rules.specs.Steps.{Frame, NodeStep, NotCalled, Output, Poll, SendPrio, SendRel, SetWeight, TakePrio, TakeRel, refused_call, replied}
+use Rattle.sp_rules.specs.declared.node.NodeRefused.{NodeRefused}
+use Rattle.sp_world_steps.proofs.Lengths as lengths
+use Rattle.sp_world_steps.proofs.Stepping.{fixed_stays}
+
+-- ---- what a client's datagram leaves
+
+abbrev fixed_in : LocalNode → Fixed
+fixed_in l = l.node.state.fixed
+
+by_take : (other : Bool) (old : LocalNode) (src : NodeId) (answer : Answer) (new : LocalNode) → TakesFrom other old src answer new → fixed_in new ≡ fixed_in old
+by_take true old src answer new takes = fixed_stays old.node.state (TakeRel src) takes.output new.node.state takes.step
+by_take false old src answer new takes = ap fixed_in takes.1
+
+by_command : (old : LocalNode) (command : Command) (answer : Answer) (new : LocalNode) → AnswersBy old command answer new → fixed_in new ≡ fixed_in old
+by_command old (commands.Send dst payload) answer new sends = fixed_stays old.node.state (SendRel dst payload) sends.output new.node.state sends.step
+by_command old (commands.SendPrio dst prio expiry paths payload) answer new sends =
+    fixed_stays old.node.state (SendPrio (record { dst = dst; prio = prio; expiry = expiry; paths = paths; payload = payload })) sends.output new.node.state sends.step
+by_command old (commands.Take src) answer new takes = by_take (is_other old.node.state src) old src answer new takes
+by_command old commands.TakePrio answer new takes = fixed_stays old.node.state TakePrio takes.output new.node.state takes.step
+by_command old (commands.Weight peer weight) answer new sends = fixed_stays old.node.state (SetWeight peer weight) sends.output new.node.state sends.step
+by_command old commands.Open answer new never = absurd never
+by_command old commands.Listen answer new never = absurd never
+by_command old commands.Close answer new never = absurd never
+
+by_answer : (own : Option Answer) (old : LocalNode) (command : Command) (answer : Answer) (new : LocalNode) → Answers AnswersBy own old command answer new
+    → fixed_in new ≡ fixed_in old
+by_answer (Some own) old command answer new answers = ap fixed_in answers.1
+by_answer None old command answer new answers = by_command old command answer new answers
+
+by_served : (kept : Option (List ℕ)) (refused : Option Answer) (old : tables.Table) (port : ℕ) (r : Request) (reply : List ℕ) (new : tables.Table)
+    (before after : LocalNode) → tables.Served AnswersBy kept refused old port r reply new before after → fixed_in after ≡ fixed_in before
+by_served (Some kept) refused old port r reply new before after served = ap fixed_in served.2
+by_served None (Some answer) old port r reply new before after served = ap fixed_in served.2
+by_served None None old port r reply new before after served =
+    by_answer (own_answer old.holder port r.command) before r.command served.answer after served.answered
+
+by_handled : (read : Option Request) (old : tables.Table) (port : ℕ) (reply : List ℕ) (new : tables.Table) (before after : LocalNode)
+    → tables.Handles AnswersBy read old port reply new before after → fixed_in after ≡ fixed_in before
+by_handled None old port reply new before after handled = ap fixed_in handled.2
+by_handled (Some r) old port reply new before after handled =
+    by_served (tables.repeat old port r.number) (tables.refusal old port r) old port r reply new before after handled
+
+pub fixed_by_request : (old : tables.Table) (port : ℕ) (bytes reply : List ℕ) (new : tables.Table) (before after : LocalNode)
+    → tables.Datagram AnswersBy old port bytes reply new before after → after.node.state.fixed ≡ before.node.state.fixed
+fixed_by_request old port bytes reply new before after done = by_handled done.read old port reply new before after done.handled
+
+-- ---- frames
+
+-- a node that made a frame was called
+called : (n : NodeState) (v : NodeId) (bytes : List ℕ) (new : NodeState) → NodeStep format n (Poll v) (replied (Frame bytes)) new → call_refusal n v ≡ None
+called n v bytes new step = go (call_refusal n v) step.0
+  where
+    go : (r : Option NodeRefused) → replied (Frame bytes) ≡ refused_call r (replied (Frame (frame_to format n v))) → r ≡ None
+    go None is = refl
+    go (Some refused) is = let e : Frame bytes ≡ NotCalled refused = ap (λ (o : Output). o.reply) is in absurd (cc)
+
+pub polled_is_short : (n : NodeState) (v : NodeId) (bytes : List ℕ) (new : NodeState) → IsKept format n → n.fixed.signature_len ≤ most_signature
+    → NodeStep format n (Poll v) (replied (Frame bytes)) new → length bytes ≤ MAX_FRAME_BYTES
+polled_is_short n v bytes new kept short step = lengths.polled_is_short n v bytes new kept short (called n v bytes new step) step

@@ -1,0 +1,7 @@
+//! A daemon's node with the sessions of its clients, as its turns and a verifier ask it: each answer is that of one step of the rules.
+#![tactic(auto)]
+
+mod asked;
+mod station;
+
+pub use station::Station;
