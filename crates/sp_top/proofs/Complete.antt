@@ -3,9 +3,6 @@ use Rattle.std.proofs.Common.{◌≡◌, ◌++◌, ◌∷◌, ℕ, Bool, false, 
 use Rattle.std.proofs.lemmas.Bool.Decides.{nat_tests}
 use Rattle.laws_runs_format.specs.Unforged.{NothingForged}
 use Rattle.sp_base.specs.declared.limits.TheConstants.{MAX_INPUT_BYTES}
-use Rattle.sp_offline.specs.Words.{offline_words}
-use Rattle.sp_offline.specs.declared.command.Offline.{Offline}
-use Rattle.sp_offline.specs.declared.command.Offline.TheVariants as offlines
 use Rattle.sp_runs.specs.declared.what.What.{What}
 use Rattle.sp_schedule.specs.declared.stage.Ending.{Ending}
 use Rattle.sp_schedule.specs.declared.stage.Ending.TheVariants as endings
@@ -19,19 +16,10 @@ use Rattle.sp_schedule_events.specs.declared.event.Event.{Event}
 use Rattle.sp_world.specs.Past.{Past}
 use Rattle.sp_top.specs.declared.ended.Status.{Status}
 use Rattle.sp_top.specs.declared.ended.Status.TheVariants as statuses
-use Rattle.sp_top.specs.Complete.{HasBadLine, IsComplete, IsHonest, IsUnforged}
-use Rattle.sp_top.specs.Outputs.{First_bad_line, First_forgery, Generated_summary, IsForgedIn, IsOutput, IsRead, No_command, Offline_answer, Spells, Whole_journal, generate_words, replay_words}
+use Rattle.sp_top.specs.Complete.{HasBadLine, IsCompleteReplay, IsHonest, IsUnforged}
+use Rattle.sp_top.specs.Outputs.{First_bad_line, First_forgery, IsForgedIn, IsOutput, IsRead, Spells, Whole_journal}
+use Rattle.sp_top.specs.declared.command.Command.TheVariants as commands
 use Rattle.sp_top.proofs.Outputs.{refused_spells_none, short_text}
-
--- ---- words
-
--- the words of a replay are those of no other command
-offline_is_no_replay : (command : Offline) → replay_words ≡ offline_words command → ⊥
-offline_is_no_replay offlines.Topology is = cc
-offline_is_no_replay (offlines.Paths q) is = cc
-
-generate_is_no_replay : (number : ℕ) → replay_words ≡ generate_words number → ⊥
-generate_is_no_replay number is = cc
 
 -- ---- readings
 
@@ -78,38 +66,28 @@ none_forged (stages.Bads s) past number what unforged f = f.events
 -- ---- what must be done
 
 honest_is_done : GoodTextsAreRead → OneReading → (text : List ℕ) → IsHonest text → (past : Option Past) (status : Status) (out : List ℕ)
-    → IsOutput replay_words (Some text) past status out → status ≡ statuses.Done
-honest_is_done good one text honest past status out (No_command wrong) = absurd (wrong.no_replay refl)
-honest_is_done good one text honest past status out (Whole_journal run right going reads) = refl
-honest_is_done good one text honest past status out (First_bad_line run line kind right is) = absurd (is.bad honest.scenario honest.events honest.spells)
-honest_is_done good one text honest past status out (First_forgery run number what right is) =
+    → IsOutput (Some text) (Some commands.Replay) past status out → status ≡ statuses.Done
+honest_is_done good one text honest past status out (Whole_journal run going reads) = refl
+honest_is_done good one text honest past status out (First_bad_line run line kind is) = absurd (is.bad honest.scenario honest.events honest.spells)
+honest_is_done good one text honest past status out (First_forgery run number what is) =
     let read = spelled_is_read good text honest.scenario honest.events honest.spells in
     let same : is.stage ≡ stages.End honest.scenario honest.events = one_stage one text is.stage (stages.End honest.scenario honest.events) is.ending endings.Whole is.reading read in
     absurd (none_forged (stages.End honest.scenario honest.events) run number what honest.unforged (subst (λ (p : Stage). IsForgedIn p run number what) same is.forged))
-honest_is_done good one text honest past status out (Generated_summary number run are is) = refl
-honest_is_done good one text honest past status out (Offline_answer command verdict output are answers) = absurd (offline_is_no_replay command are.spelled)
 
 bad_is_refused : GoodTextsAreRead → OneReading → (text : List ℕ) → HasBadLine text → (past : Option Past) (status : Status) (out : List ℕ)
-    → IsOutput replay_words (Some text) past status out → status ≡ statuses.Refused
-bad_is_refused good one text bad past status out (No_command wrong) = absurd (wrong.no_replay refl)
-bad_is_refused good one text bad past status out (Whole_journal run right going reads) =
+    → IsOutput (Some text) (Some commands.Replay) past status out → status ≡ statuses.Refused
+bad_is_refused good one text bad past status out (Whole_journal run going reads) =
     absurd (refused_spells_none good one text bad.stage bad.line bad.kind bad.reading run.scenario run.events reads)
-bad_is_refused good one text bad past status out (First_bad_line run line kind right is) = refl
-bad_is_refused good one text bad past status out (First_forgery run number what right is) =
+bad_is_refused good one text bad past status out (First_bad_line run line kind is) = refl
+bad_is_refused good one text bad past status out (First_forgery run number what is) =
     let same : is.stage ≡ bad.stage = one_stage one text is.stage bad.stage is.ending (endings.Refused bad.line bad.kind) is.reading bad.reading in
     absurd (none_forged bad.stage run number what bad.unforged (subst (λ (p : Stage). IsForgedIn p run number what) same is.forged))
-bad_is_refused good one text bad past status out (Generated_summary number run are is) = absurd (generate_is_no_replay number are.spelled)
-bad_is_refused good one text bad past status out (Offline_answer command verdict output are answers) = absurd (offline_is_no_replay command are.spelled)
 
 -- an output that was written whole is that of a complete run
-pub complete_output : GoodTextsAreRead → OneReading → (left : Option (List ℕ)) (past : Option Past) (status : Status) (out : List ℕ) → IsOutput replay_words left past status out
-    → IsComplete replay_words left status
-complete_output good one None past status out is = record { honest = λ right tells. absurd tells; bad = λ right tells. absurd tells }
+pub complete_output : GoodTextsAreRead → OneReading → (left : Option (List ℕ)) (past : Option Past) (status : Status) (out : List ℕ)
+    → IsOutput left (Some commands.Replay) past status out → IsCompleteReplay left status
+complete_output good one None past status out is = record { honest = λ tells. absurd tells; bad = λ tells. absurd tells }
 complete_output good one (Some text) past status out is = record {
-  honest = λ right tells. inl (honest_is_done good one text tells past status out is);
-  bad = λ right tells. inl (bad_is_refused good one text tells past status out is);
+  honest = λ tells. inl (honest_is_done good one text tells past status out is);
+  bad = λ tells. inl (bad_is_refused good one text tells past status out is);
 }
-
--- a run of other words than a replay's is complete
-pub complete_otherwise : (words : List (List ℕ)) (left : Option (List ℕ)) (status : Status) → (words ≡ replay_words → ⊥) → IsComplete words left status
-complete_otherwise words left status other = record { honest = λ right tells. absurd (other right); bad = λ right tells. absurd (other right) }

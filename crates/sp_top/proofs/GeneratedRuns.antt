@@ -1,5 +1,5 @@
 -- The schedule of a number is run to its end, and what is written is the output that belongs to it.
-use Rattle.std.proofs.Common.{◌≡◌, ◌<◌, ◌≤◌, ◌^◌, ℕ, List, Option, Some, None, refl, sym, subst, ◌∙◌}
+use Rattle.std.proofs.Common.{◌≡◌, ℕ, List, Option, Some, None, refl, sym, subst, ◌∙◌}
 use Rattle.std.specs.Io.KnownBytes.{Appends}
 use Rattle.laws_runs_format.specs.Unforged.{GeneratedForgeNothing, NothingForged}
 use Rattle.sp_generate.specs.Generated.{generated_events, generated_scenario}
@@ -11,7 +11,8 @@ use Rattle.sp_world.specs.Past.{Past}
 use Rattle.sp_world.specs.declared.refused.WorldRefused.{WorldRefused}
 use Rattle.sp_world.specs.declared.refused.WorldRefused.TheVariants as stops
 use Rattle.sp_top.specs.Claims.{Wrote}
-use Rattle.sp_top.specs.Outputs.{Generated_summary, IsGenerated, generate_words, generated_text}
+use Rattle.sp_top.specs.Outputs.{Generated_summary, IsGenerated, generated_text}
+use Rattle.sp_top.specs.declared.command.Command.TheVariants as commands
 use Rattle.sp_top.specs.Played.{IsPlayedBy}
 use Rattle.sp_top.specs.declared.ended.Status.TheVariants as statuses
 use Rattle.sp_top.proofs.Complete.{none_forged}
@@ -32,20 +33,20 @@ generated_run law number s es past scenario events played = go past.stopped refl
     go (Some stops.Memory) is never = absurd never
 
 -- the whole output was written
-pub generate_written : (number : ℕ) (left : Option (List ℕ)) (past : Past) (before after : Option (List ℕ)) → 1 ≤ number → number < 2 ^ 32 → IsGenerated number past
-    → Appends before after (generated_text past.journal) → Wrote (generate_words number) left (Some past) statuses.Done before after
-generate_written number left past before after least most is written = record {
+pub generate_written : (number : ℕ) (left : Option (List ℕ)) (past : Past) (before after : Option (List ℕ)) → IsGenerated number past
+    → Appends before after (generated_text past.journal) → Wrote (Some (commands.Generate number)) left (Some past) statuses.Done before after
+generate_written number left past before after is written = record {
   output = generated_text past.journal;
-  is_output = Generated_summary number past (record { in_range = (least, most); spelled = refl }) is;
+  is_output = Generated_summary number past is;
   written = written;
 }
 
 -- a beginning of it was written
-pub generate_begun : (number : ℕ) (left : Option (List ℕ)) (past : Past) (before after : Option (List ℕ)) → 1 ≤ number → number < 2 ^ 32 → IsGenerated number past
-    → AppendsFront before after (generated_text past.journal) → Wrote (generate_words number) left (Some past) statuses.Sink before after
-generate_begun number left past before after least most is begun = record {
+pub generate_begun : (number : ℕ) (left : Option (List ℕ)) (past : Past) (before after : Option (List ℕ)) → IsGenerated number past
+    → AppendsFront before after (generated_text past.journal) → Wrote (Some (commands.Generate number)) left (Some past) statuses.Sink before after
+generate_begun number left past before after is begun = record {
   status = statuses.Done;
   output = generated_text past.journal;
-  is_output = Generated_summary number past (record { in_range = (least, most); spelled = refl }) is;
+  is_output = Generated_summary number past is;
   begun = begun;
 }

@@ -27,15 +27,16 @@ use Rattle.sp_offline.specs.declared.answered.Verdict.{Verdict}
 use Rattle.sp_offline.specs.declared.answered.Verdict.TheVariants as verdicts
 use Rattle.sp_offline.specs.declared.command.Offline.{Offline}
 use Rattle.sp_offline.specs.Answers.{IsAnswered}
-use Rattle.sp_top.specs.declared.command.Command.{Command}
+use Rattle.sp_service.specs.Verdicts.{IsJudged}
+use Rattle.sp_service.specs.declared.verdict.Verdict as verified
+use Rattle.sp_service.specs.declared.verdict.Verdict.TheVariants as judgements
 use Rattle.sp_top.specs.declared.command.Command.TheVariants as commands
 use Rattle.sp_top.specs.declared.ended.Status.{Status}
 use Rattle.sp_top.specs.declared.ended.Status.TheVariants as statuses
 use Rattle.sp_top.specs.Claims.{Wrote}
-use Rattle.sp_top.specs.Commands.{AreWords}
-use Rattle.sp_top.specs.Outputs.{Answers, AreDone, AreOffline, First_bad_line, First_forgery, Generated_summary, IsForgedIn, IsForgery, IsNoCommand, IsOfStage, IsOutput, IsRefusal, IsRead, No_command, Offline_answer, ReadsWhole, Spells, Whole_journal, replay_words, usage_line}
+use Rattle.sp_top.specs.Outputs.{Answers, AreDone, First_bad_line, First_forgery, IsForgedIn, IsForgery, IsOfStage, IsOutput, IsRefusal, IsRead, No_command, Offline_answer, ReadsWhole, Recording_judged, Spells, Whole_journal, usage_line}
 use Rattle.sp_top.specs.Played.{AreRun, IsPlayed, IsPlayedBy, IsTextOf, ToldBy, ToldWhole, status_by, status_of}
-use Rattle.sp_top.specs.Statuses.{verdict_status}
+use Rattle.sp_top.specs.Statuses.{verdict_status, verified_status}
 
 -- ---- whole readings
 
@@ -141,36 +142,36 @@ module _ (law : ReadingsAreOfTheirText) (good : GoodTextsAreRead) (one : OneRead
     (input : IsInput left MAX_INPUT_BYTES bytes is_cut) (stage : Stage) where
   -- nothing is forged
   done_output : (ending : Ending) (past : Past) (out : List ℕ) → IsReading bytes is_cut (record { stage = stage; ending = ending })
-      → IsOfStage stage past.scenario past.events → past.stopped ≡ None → ToldWhole (Some past) ending out → IsOutput replay_words left (Some past) (status_by None ending) out
+      → IsOfStage stage past.scenario past.events → past.stopped ≡ None → ToldWhole (Some past) ending out → IsOutput left (Some commands.Replay) (Some past) (status_by None ending) out
   done_output endings.Whole past out reading of_stage going text =
-      rw text (Whole_journal past refl going (output_whole law left bytes is_cut stage past input reading of_stage))
+      rw text (Whole_journal past going (output_whole law left bytes is_cut stage past input reading of_stage))
   done_output (endings.Refused line kind) past out reading of_stage going text =
-      rw text (First_bad_line (Some past) line kind refl (output_refused good one left bytes is_cut stage (Some past) line kind input reading (of_stage, going)))
+      rw text (First_bad_line (Some past) line kind (output_refused good one left bytes is_cut stage (Some past) line kind input reading (of_stage, going)))
 
   -- by why the world has stopped
   past_output : (ending : Ending) (past : Past) (out : List ℕ) (stopped : Option WorldRefused) → past.stopped ≡ stopped
       → IsReading bytes is_cut (record { stage = stage; ending = ending }) → IsPlayedBy stage past stopped → ToldBy past ending stopped out
-      → IsOutput replay_words left (Some past) (status_by stopped ending) out
+      → IsOutput left (Some commands.Replay) (Some past) (status_by stopped ending) out
   past_output ending past out None is reading played text = done_output ending past out reading played.0 is text
   past_output ending past out (Some (stops.Forged number what)) is reading played text =
-      rw text (First_forgery past number what refl (output_forged left bytes is_cut stage ending past number what input reading played))
+      rw text (First_forgery past number what (output_forged left bytes is_cut stage ending past number what input reading played))
   past_output ending past out (Some stops.Memory) is reading played text = absurd played
 
   -- there is no world
   no_output : (ending : Ending) (out : List ℕ) → IsReading bytes is_cut (record { stage = stage; ending = ending }) → AreDone stage None → ToldWhole None ending out
-      → IsOutput replay_words left None (status_by None ending) out
+      → IsOutput left (Some commands.Replay) None (status_by None ending) out
   no_output endings.Whole out reading done text = absurd text
   no_output (endings.Refused line kind) out reading done text =
-      rw text (First_bad_line None line kind refl (output_refused good one left bytes is_cut stage None line kind input reading done))
+      rw text (First_bad_line None line kind (output_refused good one left bytes is_cut stage None line kind input reading done))
 
   world_output : (ending : Ending) (world : Option Past) (out : List ℕ) → IsReading bytes is_cut (record { stage = stage; ending = ending }) → AreRun stage world
-      → IsTextOf world ending out → IsOutput replay_words left world (status_of world ending) out
+      → IsTextOf world ending out → IsOutput left (Some commands.Replay) world (status_of world ending) out
   world_output ending None out reading run text = no_output ending out reading run text
   world_output ending (Some past) out reading run text = past_output ending past out past.stopped refl reading run text
 
 -- what was played is the output of the input
 pub played_output : ReadingsAreOfTheirText → GoodTextsAreRead → OneReading → (left : Option (List ℕ)) (bytes : List ℕ) (is_cut : Bool) (world : Option Past) (status : Status)
-    (out : List ℕ) → IsInput left MAX_INPUT_BYTES bytes is_cut → IsPlayed bytes is_cut world status out → IsOutput replay_words left world status out
+    (out : List ℕ) → IsInput left MAX_INPUT_BYTES bytes is_cut → IsPlayed bytes is_cut world status out → IsOutput left (Some commands.Replay) world status out
 played_output law good one left bytes is_cut world status out input played =
     rw played.status_is (world_output law good one left bytes is_cut input played.stage played.ending world out played.reading played.run played.text_is)
 
@@ -179,44 +180,64 @@ pub answers_of : (command : Offline) (left : Option (List ℕ)) (verdict : Verdi
     → IsAnswered command text is_cut verdict out → Answers command left verdict out
 answers_of command left verdict out text is_cut input answered = record { text = text; is_cut = is_cut; input = input; answered = answered }
 
--- words that were found to be no command
-pub no_command : (words : List (List ℕ)) → ((x : Command) → AreWords words x → ⊥) → IsNoCommand words
-no_command words none = record {
-  no_replay = λ is. none commands.Replay is;
-  not_generate = λ number are. none (commands.Generate number) are;
-  not_offline = λ command are. none (commands.Offline command) are;
-}
-
 -- the usage line was written, or a beginning of it
-pub usage_written : (words : List (List ℕ)) (left : Option (List ℕ)) (world : Option Past) (status : Status) (before after : Option (List ℕ)) → IsNoCommand words → world ≡ None
-    → (status ≡ statuses.Usage) ⊎ (status ≡ statuses.Sink) → (status ≡ statuses.Usage → Appends before after usage_line) → (status ≡ statuses.Sink → AppendsFront before after usage_line)
-    → Wrote words left world status before after
-usage_written words left world status before after none worldless (inl usage) whole begun =
-    rw (worldless, usage) (record { output = usage_line; is_output = No_command none; written = whole usage })
-usage_written words left world status before after none worldless (inr sink) whole begun =
-    rw (worldless, sink) (record { status = statuses.Usage; output = usage_line; is_output = No_command none; begun = begun sink })
+pub usage_written : (left : Option (List ℕ)) (world : Option Past) (status : Status) (before after : Option (List ℕ)) → world ≡ None
+    → (status ≡ statuses.Usage) ⊎ (status ≡ statuses.Sink) → (status ≡ statuses.Usage → Appends before after usage_line)
+    → (status ≡ statuses.Sink → AppendsFront before after usage_line) → Wrote None left world status before after
+usage_written left world status before after worldless (inl usage) whole begun =
+    rw (worldless, usage) (record { output = usage_line; is_output = No_command; written = whole usage })
+usage_written left world status before after worldless (inr sink) whole begun =
+    rw (worldless, sink) (record { status = statuses.Usage; output = usage_line; is_output = No_command; begun = begun sink })
 
 -- the whole output of an offline command was written
-pub offline_written : (words : List (List ℕ)) (left : Option (List ℕ)) (command : Offline) (verdict : Verdict) (out : List ℕ) (before after : Option (List ℕ)) → AreOffline words command
-    → Answers command left verdict out → Appends before after out → Wrote words left None (verdict_status verdict) before after
-offline_written words left command verdicts.Done out before after are answers written =
-    record { output = out; is_output = Offline_answer command verdicts.Done out are answers; written = written }
-offline_written words left command verdicts.Fewer out before after are answers written =
-    record { output = out; is_output = Offline_answer command verdicts.Fewer out are answers; written = written }
-offline_written words left command verdicts.Refused out before after are answers written =
-    record { output = out; is_output = Offline_answer command verdicts.Refused out are answers; written = written }
+pub offline_written : (left : Option (List ℕ)) (command : Offline) (verdict : Verdict) (out : List ℕ) (before after : Option (List ℕ))
+    → Answers command left verdict out → Appends before after out → Wrote (Some (commands.Offline command)) left None (verdict_status verdict) before after
+offline_written left command verdicts.Done out before after answers written =
+    record { output = out; is_output = Offline_answer command verdicts.Done out answers; written = written }
+offline_written left command verdicts.Fewer out before after answers written =
+    record { output = out; is_output = Offline_answer command verdicts.Fewer out answers; written = written }
+offline_written left command verdicts.Refused out before after answers written =
+    record { output = out; is_output = Offline_answer command verdicts.Refused out answers; written = written }
 
 -- a beginning of it was written
-pub offline_begun : (words : List (List ℕ)) (left : Option (List ℕ)) (command : Offline) (verdict : Verdict) (out : List ℕ) (before after : Option (List ℕ)) → AreOffline words command
-    → Answers command left verdict out → AppendsFront before after out → Wrote words left None statuses.Sink before after
-offline_begun words left command verdict out before after are answers begun =
-    record { status = verdict_status verdict; output = out; is_output = Offline_answer command verdict out are answers; begun = begun }
+pub offline_begun : (left : Option (List ℕ)) (command : Offline) (verdict : Verdict) (out : List ℕ) (before after : Option (List ℕ))
+    → Answers command left verdict out → AppendsFront before after out → Wrote (Some (commands.Offline command)) left None statuses.Sink before after
+offline_begun left command verdict out before after answers begun =
+    record { status = verdict_status verdict; output = out; is_output = Offline_answer command verdict out answers; begun = begun }
 
--- the whole output was written
-pub wrote_whole : (words : List (List ℕ)) (left : Option (List ℕ)) (world : Option Past) (status : Status) (out : List ℕ) (before after : Option (List ℕ)) → IsOutput words left world status out → Appends before after out → Wrote words left world status before after
-wrote_whole words left world status out before after (No_command wrong) written = record { output = out; is_output = No_command wrong; written = written }
-wrote_whole words left world status out before after (Whole_journal past right going reads) written = record { output = out; is_output = Whole_journal past right going reads; written = written }
-wrote_whole words left world status out before after (First_forgery past number what right is) written = record { output = out; is_output = First_forgery past number what right is; written = written }
-wrote_whole words left world status out before after (First_bad_line past line kind right is) written = record { output = out; is_output = First_bad_line past line kind right is; written = written }
-wrote_whole words left world status out before after (Generated_summary number past are is) written = record { output = out; is_output = Generated_summary number past are is; written = written }
-wrote_whole words left world status out before after (Offline_answer command verdict output are answers) written = offline_written words left command verdict output before after are answers written
+-- the line that tells a verification was written
+pub judged_written : (left : Option (List ℕ)) (verdict : verified.Verdict) (out text : List ℕ) (is_cut : Bool) (before after : Option (List ℕ))
+    → IsInput left MAX_INPUT_BYTES text is_cut → IsJudged text is_cut verdict out → Appends before after out
+    → Wrote (Some commands.Verify) left None (verified_status verdict) before after
+judged_written left judgements.Verified out text is_cut before after input judged written = record {
+  output = out;
+  is_output = Recording_judged judgements.Verified out (record { text = text; is_cut = is_cut; input = input; judged = judged });
+  written = written;
+}
+judged_written left judgements.Mismatch out text is_cut before after input judged written = record {
+  output = out;
+  is_output = Recording_judged judgements.Mismatch out (record { text = text; is_cut = is_cut; input = input; judged = judged });
+  written = written;
+}
+judged_written left judgements.Refused out text is_cut before after input judged written = record {
+  output = out;
+  is_output = Recording_judged judgements.Refused out (record { text = text; is_cut = is_cut; input = input; judged = judged });
+  written = written;
+}
+
+pub judged_begun : (left : Option (List ℕ)) (verdict : verified.Verdict) (out text : List ℕ) (is_cut : Bool) (before after : Option (List ℕ))
+    → IsInput left MAX_INPUT_BYTES text is_cut → IsJudged text is_cut verdict out → AppendsFront before after out
+    → Wrote (Some commands.Verify) left None statuses.Sink before after
+judged_begun left verdict out text is_cut before after input judged begun = record {
+  status = verified_status verdict;
+  output = out;
+  is_output = Recording_judged verdict out (record { text = text; is_cut = is_cut; input = input; judged = judged });
+  begun = begun;
+}
+
+-- the whole output of a replay was written
+pub wrote_whole : (left : Option (List ℕ)) (world : Option Past) (status : Status) (out : List ℕ) (before after : Option (List ℕ))
+    → IsOutput left (Some commands.Replay) world status out → Appends before after out → Wrote (Some commands.Replay) left world status before after
+wrote_whole left world status out before after (Whole_journal past going reads) written = record { output = out; is_output = Whole_journal past going reads; written = written }
+wrote_whole left world status out before after (First_forgery past number what is) written = record { output = out; is_output = First_forgery past number what is; written = written }
+wrote_whole left world status out before after (First_bad_line past line kind is) written = record { output = out; is_output = First_bad_line past line kind is; written = written }

@@ -1,13 +1,17 @@
 -- The headline: what the program promises of every run.
-use Rattle.std.specs.Prelude.{ℕ, ◌≡◌, List, Option, None}
+use Rattle.std.specs.Prelude.{ℕ, ◌≡◌, ◌≢◌, ◌⊎◌, false, List, Option, None}
 use Rattle.std.specs.Io.KnownBytes.{Appends}
 use Rattle.sp_outside.specs.Streams.{AppendsFront}
 use Rattle.laws_runs_format.specs.Headline.{RunClaims}
 use Rattle.sp_runs.specs.Scenarios.{setting_of}
 use Rattle.sp_world.specs.Past.{Past, IsPast}
+use Rattle.sp_top.specs.declared.command.Command.{Command}
 use Rattle.sp_top.specs.declared.ended.Status.{Status}
 use Rattle.sp_top.specs.declared.ended.Status.TheVariants as statuses
+use Rattle.sp_service_turns.specs.Served.{Outside}
+use Rattle.sp_top.specs.Complete.{GeneratesAll, IsComplete, calls_wire}
 use Rattle.sp_top.specs.Outputs.{IsOutput}
+use Rattle.sp_top.specs.Services.{ServiceEnds}
 
 -- what holds of the world of an outcome
 pub record WorldClaims (past : Past) : Type 0 where
@@ -17,21 +21,37 @@ pub record WorldClaims (past : Past) : Type 0 where
   pub claims : RunClaims (setting_of past.scenario) past.events past.journal
 
 -- the sink got the whole output that goes with the status
-pub record IsWritten (words : List (List ℕ)) (left : Option (List ℕ)) (past : Option Past) (status : Status) (before after : Option (List ℕ)) : Type 0 where
+pub record IsWritten (said : Option Command) (left : Option (List ℕ)) (past : Option Past) (status : Status) (before after : Option (List ℕ)) : Type 0 where
   pub output : List ℕ
-  pub is_output : IsOutput words left past status output
+  pub is_output : IsOutput left said past status output
   pub written : Appends before after output
 
 -- the sink got a beginning of an output that some status would have had
-pub record IsBegun (words : List (List ℕ)) (left : Option (List ℕ)) (past : Option Past) (before after : Option (List ℕ)) : Type 0 where
+pub record IsBegun (said : Option Command) (left : Option (List ℕ)) (past : Option Past) (before after : Option (List ℕ)) : Type 0 where
   pub status : Status
   pub output : List ℕ
-  pub is_output : IsOutput words left past status output
+  pub is_output : IsOutput left said past status output
   pub begun : AppendsFront before after output
 
 -- what the sink got, by how the run ended
-abbrev pub Wrote : List (List ℕ) → Option (List ℕ) → Option Past → Status → Option (List ℕ) → Option (List ℕ) → Type 0
-Wrote words left past statuses.Sink before after = IsBegun words left past before after
-Wrote words left past statuses.Source before after = (past ≡ None) × (after ≡ before)
-Wrote words left past statuses.Memory before after = (past ≡ None) × (after ≡ before)
-Wrote words left past status before after = IsWritten words left past status before after
+abbrev pub Wrote : Option Command → Option (List ℕ) → Option Past → Status → Option (List ℕ) → Option (List ℕ) → Type 0
+Wrote said left past statuses.Sink before after = IsBegun said left past before after
+Wrote said left past statuses.Source before after = (past ≡ None) × (after ≡ before)
+Wrote said left past statuses.Memory before after = (past ≡ None) × (after ≡ before)
+Wrote said left past status before after = IsWritten said left past status before after
+
+-- ---- what is claimed of each run, by what its words say
+
+-- with what the source, the sink and the wire had before, the number of the status and the world
+pub record SaidClaims (said : Option Command) (left : Option (List ℕ)) (past : Option Past) (status : Status) (before after : Outside) : Type 0 where
+  -- what the sink got is the output that goes with the status, or on a fault of the sink a beginning of an output
+  pub wrote : calls_wire said ≡ false → Wrote said left past status before.text after.text
+  -- a daemon's calls, readings, steps and recording, and a question's calls and reply
+  pub served : ServiceEnds said left status before after
+  -- a schedule of which nothing is forged is run to its end, and a text with a bad line is refused, unless something outside fails
+  pub complete : status ≢ statuses.Source → status ≢ statuses.Sink → IsComplete said left status
+  -- the schedule of a number never meets a forgery
+  pub generated : GeneratesAll said status
+  -- the usage status comes exactly where the words are no command
+  pub usage : status ≡ statuses.Usage → said ≡ None
+  pub only_usage : said ≡ None → (status ≡ statuses.Usage) ⊎ ((status ≡ statuses.Sink) ⊎ (status ≡ statuses.Memory))

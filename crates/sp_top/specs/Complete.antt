@@ -1,5 +1,5 @@
 -- Which runs must be done: what the program may not refuse.
-use Rattle.std.specs.Prelude.{ℕ, ◌≡◌, ◌⊎◌, List, Option, Some, None}
+use Rattle.std.specs.Prelude.{ℕ, ◌≡◌, ◌⊎◌, Bool, true, false, List, Option, Some, None}
 use Rattle.laws_runs_format.specs.Unforged.{NothingForged}
 use Rattle.sp_schedule.specs.declared.stage.Stage.{Stage}
 use Rattle.sp_schedule.specs.declared.stage.Stage.TheVariants as stages
@@ -7,7 +7,9 @@ use Rattle.sp_schedule.specs.declared.stage.Ending.TheVariants as endings
 use Rattle.sp_schedule.specs.declared.refused.Kind.{Kind}
 use Rattle.sp_schedule_events.specs.declared.scenario.Scenario.{Scenario}
 use Rattle.sp_schedule_events.specs.declared.event.Event.{Event}
-use Rattle.sp_top.specs.Outputs.{AreGenerate, IsNoCommand, IsRead, Spells, replay_words}
+use Rattle.sp_top.specs.Outputs.{IsRead, Spells}
+use Rattle.sp_top.specs.declared.command.Command.{Command}
+use Rattle.sp_top.specs.declared.command.Command.TheVariants as commands
 use Rattle.sp_top.specs.declared.ended.Status.{Status}
 use Rattle.sp_top.specs.declared.ended.Status.TheVariants as statuses
 
@@ -45,19 +47,42 @@ Tells Holds (Some text) = Holds text
 abbrev pub EndsAs : Status → Status → Type 0
 EndsAs wanted status = (status ≡ wanted) ⊎ (status ≡ statuses.Memory)
 
--- How a run ends in which neither the source nor the sink fails.
-pub record IsComplete (words : List (List ℕ)) (left : Option (List ℕ)) (status : Status) : Type 0 where
+-- How a replay ends in which neither the source nor the sink fails.
+pub record IsCompleteReplay (left : Option (List ℕ)) (status : Status) : Type 0 where
   -- a schedule of which nothing is forged is run to its end
-  pub honest : words ≡ replay_words → Tells IsHonest left → EndsAs statuses.Done status
+  pub honest : Tells IsHonest left → EndsAs statuses.Done status
   -- a text that is no schedule is refused, where nothing is forged before its first bad line
-  pub bad : words ≡ replay_words → Tells HasBadLine left → EndsAs statuses.Refused status
+  pub bad : Tells HasBadLine left → EndsAs statuses.Refused status
+
+abbrev pub IsComplete : Option Command → Option (List ℕ) → Status → Type 0
+IsComplete (Some commands.Replay) left status = IsCompleteReplay left status
+IsComplete _ left status = Unit {0}
 
 -- it is done, or the sink failed, or there was no memory
 abbrev pub IsDoneOrFailed : Status → Type 0
 IsDoneOrFailed status = (status ≡ statuses.Done) ⊎ ((status ≡ statuses.Sink) ⊎ (status ≡ statuses.Memory))
 
--- ---- what isn't read
+-- the schedule of a number never meets a forgery
+abbrev pub GeneratesAll : Option Command → Status → Type 0
+GeneratesAll (Some (commands.Generate number)) status = IsDoneOrFailed status
+GeneratesAll _ status = Unit {0}
 
--- the words of `generate`, and words that are no command, read no input
-abbrev pub ReadsNothing : List (List ℕ) → Type 0
-ReadsNothing words = IsNoCommand words ⊎ ((number : ℕ) × AreGenerate words number)
+-- ---- which objects a command calls
+
+-- `generate` and `ask` read no input, and neither do words that are no command
+abbrev pub reads : Option Command → Bool
+reads None = false
+reads (Some (commands.Generate number)) = false
+reads (Some (commands.Ask a)) = false
+reads _ = true
+
+-- a daemon and a question call the wire
+abbrev pub calls_wire : Option Command → Bool
+calls_wire (Some (commands.Daemon turns)) = true
+calls_wire (Some (commands.Ask a)) = true
+calls_wire _ = false
+
+-- a daemon alone calls the clock
+abbrev pub calls_clock : Option Command → Bool
+calls_clock (Some (commands.Daemon turns)) = true
+calls_clock _ = false

@@ -1,7 +1,8 @@
+pub mod Commands
 pub mod Statuses
 pub mod Outputs
+pub mod Services
 pub mod Claims
 pub mod Complete
 -- ---- what proofs and the parts of this crate use among themselves
-pub mod Commands
 pub mod Played

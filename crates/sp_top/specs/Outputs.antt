@@ -1,5 +1,5 @@
 -- What the program writes for its words and its input.
-use Rattle.std.specs.Prelude.{ℕ, ◌≡◌, ◌≢◌, ◌+◌, ◌<◌, ◌≤◌, ◌^◌, Bool, List, [], ◌∷◌, ◌++◌, length, take, nat_lt, Option, Some, None, codes}
+use Rattle.std.specs.Prelude.{ℕ, ◌≡◌, ◌+◌, ◌≤◌, Bool, List, [], ◌∷◌, ◌++◌, length, take, nat_lt, Option, Some, None, codes}
 use Rattle.std.specs.Fmt.{decimal}
 use Rattle.hex.specs.Hex.{encode_lower}
 use Rattle.sha2.specs.Sha256.{sha256}
@@ -32,40 +32,18 @@ use Rattle.sp_outside.specs.Streams.{IsInput}
 use Rattle.sp_offline.specs.declared.answered.Verdict.{Verdict}
 use Rattle.sp_offline.specs.declared.command.Offline.{Offline}
 use Rattle.sp_offline.specs.Answers.{IsAnswered}
-use Rattle.sp_offline.specs.Words.{IsOffline, offline_words}
-use Rattle.sp_top.specs.Statuses.{verdict_status}
+use Rattle.sp_service.specs.Verdicts.{IsJudged}
+use Rattle.sp_service.specs.declared.verdict.Verdict as verified
+use Rattle.sp_top.specs.Statuses.{verdict_status, verified_status}
+use Rattle.sp_top.specs.declared.command.Command.{Command}
+use Rattle.sp_top.specs.declared.command.Command.TheVariants as commands
 use Rattle.sp_top.specs.declared.ended.Status.{Status}
 use Rattle.sp_top.specs.declared.ended.Status.TheVariants as statuses
 
--- ---- words
-
-abbrev pub replay_words : List (List ℕ)
-replay_words = codes "replay" ∷ []
-
--- generate --seed N
-abbrev pub generate_words : ℕ → List (List ℕ)
-generate_words number = codes "generate" ∷ codes "--seed" ∷ decimal number ∷ []
-
--- the words of `generate` for this number, from 1 to 4,294,967,295
-pub record AreGenerate (words : List (List ℕ)) (number : ℕ) : Type 0 where
-  pub in_range : (1 ≤ number) × (number < 2 ^ 32)
-  pub spelled : words ≡ generate_words number
-
--- the words of an offline command, with numbers in their ranges
-pub record AreOffline (words : List (List ℕ)) (command : Offline) : Type 0 where
-  pub in_range : IsOffline command
-  pub spelled : words ≡ offline_words command
-
--- the words of no command
-pub record IsNoCommand (words : List (List ℕ)) : Type 0 where
-  pub no_replay : words ≢ replay_words
-  pub not_generate : (number : ℕ) → AreGenerate words number → ⊥
-  pub not_offline : (command : Offline) → AreOffline words command → ⊥
+-- ---- the last line
 
 abbrev pub usage_line : List ℕ
 usage_line = codes "usage\n"
-
--- ---- the last line
 
 -- the journal of the events before a refusal. A header that is refused has none
 abbrev pub lines_before : Option Past → List ℕ
@@ -173,18 +151,27 @@ pub record Answers (command : Offline) (left : Option (List ℕ)) (verdict : Ver
   pub input : IsInput left MAX_INPUT_BYTES text is_cut
   pub answered : IsAnswered command text is_cut verdict output
 
+-- what comes of a recording with its configuration, for what a source had left
+pub record Judges (left : Option (List ℕ)) (verdict : verified.Verdict) (output : List ℕ) : Type 0 where
+  pub text : List ℕ
+  pub is_cut : Bool
+  pub input : IsInput left MAX_INPUT_BYTES text is_cut
+  pub judged : IsJudged text is_cut verdict output
+
 -- ---- the output
 
--- what is written for these words and what a source had left, with the status and the world that go with it
-pub data IsOutput (words : List (List ℕ)) (left : Option (List ℕ)) : Option Past → Status → List ℕ → Type 0 where
-  No_command : IsNoCommand words → IsOutput words left None statuses.Usage usage_line
-  Whole_journal : (past : Past) → words ≡ replay_words → past.stopped ≡ None → ReadsWhole left past
-      → IsOutput words left (Some past) statuses.Done (journal_text past.journal)
-  First_bad_line : (past : Option Past) (line : ℕ) (kind : Kind) → words ≡ replay_words → IsRefusal left past line kind
-      → IsOutput words left past statuses.Refused (lines_before past ++ refused_line line kind)
-  First_forgery : (past : Past) (number : ℕ) (what : What) → words ≡ replay_words → IsForgery left past number what
-      → IsOutput words left (Some past) statuses.Forged (journal_lines past.journal ++ forged_line number what)
-  Generated_summary : (number : ℕ) (past : Past) → AreGenerate words number → IsGenerated number past
-      → IsOutput words left (Some past) statuses.Done (generated_text past.journal)
-  Offline_answer : (command : Offline) (verdict : Verdict) (output : List ℕ) → AreOffline words command → Answers command left verdict output
-      → IsOutput words left None (verdict_status verdict) output
+-- what is written for what the words say and what a source had left, with the status and the world that go with it
+pub data IsOutput (left : Option (List ℕ)) : Option Command → Option Past → Status → List ℕ → Type 0 where
+  No_command : IsOutput left None None statuses.Usage usage_line
+  Whole_journal : (past : Past) → past.stopped ≡ None → ReadsWhole left past
+      → IsOutput left (Some commands.Replay) (Some past) statuses.Done (journal_text past.journal)
+  First_bad_line : (past : Option Past) (line : ℕ) (kind : Kind) → IsRefusal left past line kind
+      → IsOutput left (Some commands.Replay) past statuses.Refused (lines_before past ++ refused_line line kind)
+  First_forgery : (past : Past) (number : ℕ) (what : What) → IsForgery left past number what
+      → IsOutput left (Some commands.Replay) (Some past) statuses.Forged (journal_lines past.journal ++ forged_line number what)
+  Generated_summary : (number : ℕ) (past : Past) → IsGenerated number past
+      → IsOutput left (Some (commands.Generate number)) (Some past) statuses.Done (generated_text past.journal)
+  Offline_answer : (command : Offline) (verdict : Verdict) (output : List ℕ) → Answers command left verdict output
+      → IsOutput left (Some (commands.Offline command)) None (verdict_status verdict) output
+  Recording_judged : (verdict : verified.Verdict) (output : List ℕ) → Judges left verdict output
+      → IsOutput left (Some commands.Verify) None (verified_status verdict) output

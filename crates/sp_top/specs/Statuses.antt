@@ -1,7 +1,11 @@
--- The number of each status, and the status of each verdict of an offline command.
+-- The number of each status, and the status of each verdict.
 use Rattle.std.specs.Prelude.{ℕ}
 use Rattle.sp_offline.specs.declared.answered.Verdict.{Verdict}
 use Rattle.sp_offline.specs.declared.answered.Verdict.TheVariants as verdicts
+use Rattle.sp_service_turns.specs.declared.served.Served.{Served}
+use Rattle.sp_service_turns.specs.declared.served.Served.TheVariants as served
+use Rattle.sp_service.specs.declared.verdict.Verdict as verified
+use Rattle.sp_service.specs.declared.verdict.Verdict.TheVariants as judgements
 use Rattle.sp_top.specs.declared.ended.Status.{Status}
 use Rattle.sp_top.specs.declared.ended.Status.TheVariants as statuses
 
@@ -12,10 +16,26 @@ code_of statuses.Refused = 3
 code_of statuses.Forged = 4
 code_of statuses.Source = 5
 code_of statuses.Sink = 6
+code_of statuses.Wire = 7
 code_of statuses.Memory = 9
+code_of statuses.Mismatch = 10
+code_of statuses.Unanswered = 11
 code_of statuses.Fewer = 12
 
 abbrev pub verdict_status : Verdict → Status
 verdict_status verdicts.Done = statuses.Done
 verdict_status verdicts.Fewer = statuses.Fewer
 verdict_status verdicts.Refused = statuses.Refused
+
+abbrev pub verified_status : verified.Verdict → Status
+verified_status judgements.Verified = statuses.Done
+verified_status judgements.Mismatch = statuses.Mismatch
+verified_status judgements.Refused = statuses.Refused
+
+-- how a daemon ended
+abbrev pub served_status : Served → Status
+served_status served.Done = statuses.Done
+served_status served.Refused = statuses.Refused
+served_status served.Wire = statuses.Wire
+served_status served.Sink = statuses.Sink
+served_status served.Memory = statuses.Memory

@@ -19,8 +19,14 @@ pub enum Status {
     Source,
     /// 6: the sink failed in this run.
     Sink,
+    /// 7: the wire couldn't be opened. The last line written is `wire`.
+    Wire,
     /// 9: no memory was left.
     Memory,
+    /// 10: a digest of a recording isn't that of the node's answer. The last line written has its line and both digests.
+    Mismatch,
+    /// 11: a question had no reply in its turns. The last line written is `unanswered` with their number.
+    Unanswered,
     /// 12: there are fewer disjoint paths than were asked for. The last line written has the parts of the smallest cut.
     Fewer,
 }
@@ -37,7 +43,10 @@ impl Status {
             Status::Forged => 4,
             Status::Source => 5,
             Status::Sink => 6,
+            Status::Wire => 7,
             Status::Memory => 9,
+            Status::Mismatch => 10,
+            Status::Unanswered => 11,
             Status::Fewer => 12,
         }
     }

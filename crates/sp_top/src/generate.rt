@@ -4,9 +4,10 @@ ghost use Rattle.std.specs.String.{string_bytes};
 ghost use Rattle.sp_outside.specs.Causes.{Rose};
 ghost use Rattle.sp_top.specs.Claims.{Wrote, WorldClaims};
 ghost use Rattle.sp_top.specs.Complete.{IsDoneOrFailed};
-ghost use Rattle.sp_top.specs.Outputs.{IsGenerated, digest_line, generate_words, generated_text};
+ghost use Rattle.sp_top.specs.Outputs.{IsGenerated, digest_line, generated_text};
 ghost use Rattle.sp_top.specs.Played.{IsShort};
 
+use crate::command::Command;
 use crate::output::{push_summary_of, whole};
 use crate::play::play_all;
 use crate::{Outcome, Status, World};
@@ -21,7 +22,7 @@ use std::alloc::Global;
 /// Runs the schedule of a number, of which nothing is forged, and writes its summary and the digest of its journal. It reads nothing.
 pub fn generate<K: Sink>(alloc: Global, number: u32, sink: &mut K) -> Outcome
     requires { 1 ≤ number }
-    ensures wrote { (left : Option (List ℕ)) → Wrote (generate_words number) left result.world result.status (K.contents sink.old) (K.contents sink.new) }
+    ensures wrote { (left : Option (List ℕ)) → Wrote (Some (Command.Generate number)) left result.world result.status (K.contents sink.old) (K.contents sink.new) }
     ensures claims { IfSome result.world WorldClaims }
     ensures ends { IsDoneOrFailed result.status }
     ensures quiet { result.status ≡ Status.Memory → sink.new ≡ sink.old }

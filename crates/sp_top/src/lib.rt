@@ -2,14 +2,16 @@
 #![tactic(auto)]
 
 mod command;
+mod daemon;
 mod ended;
 mod generate;
-mod generate_words;
 mod offline;
 mod output;
 mod play;
+mod question;
 mod replay;
 mod top;
+mod verification;
 
 pub use ended::{Outcome, Status};
 pub use sp_schedule::{Event, Kind, Scenario};

@@ -3,10 +3,10 @@ ghost use Rattle.std.specs.Prelude.{◌≡◌, ◌≢◌, ◌≤◌, ◌⊎◌, 
 ghost use Rattle.sp_base.specs.declared.limits.TheConstants.{MAX_INPUT_BYTES};
 ghost use Rattle.sp_outside.specs.Causes.{Rose};
 ghost use Rattle.sp_top.specs.Claims.{Wrote};
-ghost use Rattle.sp_top.specs.Outputs.{AreOffline};
 ghost use Rattle.sp_top.specs.Statuses.{verdict_status};
-ghost use Rattle.sp_offline.specs.Words.{IsOffline, offline_words};
+ghost use Rattle.sp_offline.specs.Ranges.{IsOffline};
 
+use crate::command::Command;
 use crate::{Outcome, Status};
 use sp_base::MAX_INPUT_BYTES;
 use sp_offline::{Offline, Verdict, answer};
@@ -21,7 +21,7 @@ pub fn offline<S: Source, K: Sink>(
     sink: &mut K,
 ) -> Outcome
     requires { IsOffline command.now }
-    ensures wrote { Wrote (offline_words command.now) (S.left source.old) result.world result.status (K.contents sink.old) (K.contents sink.new) }
+    ensures wrote { Wrote (Some (Command.Offline command.now)) (S.left source.old) result.world result.status (K.contents sink.old) (K.contents sink.new) }
     ensures worldless { result.world ≡ None }
     ensures quiet { (result.status ≡ Status.Source) ⊎ (result.status ≡ Status.Memory) → sink.new ≡ sink.old }
     ensures faultless { result.status ≢ Status.Source → S.faults source.new ≡ S.faults source.old }
@@ -29,6 +29,7 @@ pub fn offline<S: Source, K: Sink>(
     ensures read { result.status ≡ Status.Source → Rose (S.faults source.old) (S.faults source.new) }
     ensures write { result.status ≡ Status.Sink → Rose (K.faults sink.old) (K.faults sink.new) }
     ensures usage { result.status ≢ Status.Usage }
+    ensures unopened { result.status ≢ Status.Wire }
 {
     let input = match read_up_to(alloc, source, MAX_INPUT_BYTES) {
         Ok(input) => input,

@@ -4,11 +4,11 @@ ghost use Rattle.std.specs.String.{string_bytes};
 ghost use Rattle.sp_base.specs.declared.limits.TheConstants.{MAX_INPUT_BYTES};
 ghost use Rattle.sp_outside.specs.Causes.{Rose};
 ghost use Rattle.sp_top.specs.Played as played;
-ghost use Rattle.sp_top.specs.Outputs.{replay_words};
 ghost use Rattle.sp_top.specs.Played.{HasBuffers, IsPlayed};
 ghost use Rattle.sp_top.specs.Claims.{Wrote, WorldClaims};
-ghost use Rattle.sp_top.specs.Complete.{IsComplete};
+ghost use Rattle.sp_top.specs.Complete.{IsCompleteReplay};
 
+use crate::command::Command;
 use crate::output::text_of;
 use crate::play::play;
 use crate::{Outcome, Status, World};
@@ -30,7 +30,7 @@ struct Played {
 
 /// Reads the whole input, runs its events in the order of their lines, and writes their journal.
 pub fn replay<S: Source, K: Sink>(alloc: Global, source: &mut S, sink: &mut K) -> Outcome
-    ensures wrote { Wrote replay_words (S.left source.old) result.world result.status (K.contents sink.old) (K.contents sink.new) }
+    ensures wrote { Wrote (Some Command.Replay) (S.left source.old) result.world result.status (K.contents sink.old) (K.contents sink.new) }
     ensures claims { IfSome result.world WorldClaims }
     ensures quiet { (result.status ≡ Status.Source) ⊎ (result.status ≡ Status.Memory) → sink.new ≡ sink.old }
     ensures faultless { result.status ≢ Status.Source → S.faults source.new ≡ S.faults source.old }
@@ -38,8 +38,8 @@ pub fn replay<S: Source, K: Sink>(alloc: Global, source: &mut S, sink: &mut K) -
     ensures read { result.status ≡ Status.Source → Rose (S.faults source.old) (S.faults source.new) }
     ensures write { result.status ≡ Status.Sink → Rose (K.faults sink.old) (K.faults sink.new) }
     ensures usage { result.status ≢ Status.Usage }
-    ensures complete { ¬ Rose (S.faults source.old) (S.faults source.new) → ¬ Rose (K.faults sink.old) (K.faults sink.new)
-        → IsComplete replay_words (S.left source.old) result.status }
+    ensures unopened { result.status ≢ Status.Wire }
+    ensures complete { result.status ≢ Status.Source → result.status ≢ Status.Sink → IsCompleteReplay (S.left source.old) result.status }
 {
     a_reading_is_of_its_text();
     a_good_text_is_read();

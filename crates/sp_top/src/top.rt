@@ -1,18 +1,23 @@
 // The top call: words and the outside go in, the outcome comes out.
-ghost use Rattle.std.specs.Prelude.{◌≡◌, ◌≢◌, ◌⊎◌, IfSome, None, map, ℕ};
+ghost use Rattle.std.specs.Prelude.{◌≡◌, ◌≢◌, ◌⊎◌, IfSome, None, false, map};
 ghost use Rattle.std.specs.Io.KnownBytes.{Appends};
 ghost use Rattle.std.specs.String.{string_bytes};
 ghost use Rattle.sp_outside.specs.Causes.{Rose};
 ghost use Rattle.sp_outside.specs.Streams.{AppendsFront};
-ghost use Rattle.sp_top.specs.Outputs.{AreGenerate, IsNoCommand, usage_line};
-ghost use Rattle.sp_top.specs.Claims.{Wrote, WorldClaims};
-ghost use Rattle.sp_top.specs.Complete.{IsComplete, IsDoneOrFailed, ReadsNothing};
+ghost use Rattle.sp_top.specs.Outputs.{usage_line};
+ghost use Rattle.sp_top.specs.Claims.{SaidClaims, WorldClaims};
+ghost use Rattle.sp_top.specs.Commands.{BySaid, IsInRange};
+ghost use Rattle.sp_top.specs.Complete.{calls_clock, calls_wire, reads};
 
 use crate::command::{Command, command_of};
+use crate::daemon::daemon;
 use crate::generate::generate;
 use crate::offline::offline;
+use crate::question::question;
 use crate::replay::replay;
+use crate::verification::verification;
 use crate::{Outcome, Status};
+use sp_base::Memory;
 use sp_outside::{Clock, Keeper, Sink, Source, Wire, write_all};
 use std::alloc::Global;
 
@@ -21,47 +26,92 @@ use std::alloc::Global;
 /// `replay` reads a schedule from the source, runs its events in the order of their lines, and writes their journal to the
 /// sink. `generate --seed N` makes the schedule of a number, runs it, and writes the summary and the digest of its journal. `topology`
 /// reads an administrator's draft, and writes its signed document and the administrator's key. `paths --from S --to D --paths K` reads a
-/// graph, and writes its cheapest disjoint paths, or how many there are. All other words are refused as a usage fault. The wire, the
-/// clock and the keeper aren't called.
+/// graph, and writes its cheapest disjoint paths, or how many there are. `daemon --turns T` reads a configuration, and serves as its daemon over
+/// the wire and the clock for so many turns, which it records. `verify` reads a configuration and a recording, and writes how many of its digests
+/// agree, or the first that doesn't. `ask --port P --local L --turns T --request LINE` asks a daemon over the wire, and writes its reply. All other
+/// words are refused as a usage fault. The keeper isn't called.
+#[tactic(auto, using(crate::proofs::SaidRuns::by_said, crate::proofs::SaidRuns::forgotten))]
 pub fn run<S: Source, K: Sink, W: Wire, C: Clock, P: Keeper>(
     alloc: Global,
     words: &[String],
     source: &mut S,
     sink: &mut K,
-    _wire: &mut W,
-    _clock: &mut C,
+    wire: &mut W,
+    clock: &mut C,
     _keeper: &mut P,
 ) -> Outcome
-    // What the sink got is the output that the words and the input have, or on a fault of the sink a beginning of it.
-    ensures wrote { Wrote (map string_bytes words.now) (S.left source.old) result.world result.status (K.contents sink.old) (K.contents sink.new) }
+    // What the program does is what its words say: the output, the daemon's calls and recording, and which runs must be done.
+    ensures said { BySaid (map string_bytes words.now) (λ said. SaidClaims said (S.left source.old) result.world result.status
+        (record { wire = W.told wire.old; clock = C.told clock.old; text = K.contents sink.old })
+        (record { wire = W.told wire.new; clock = C.told clock.new; text = K.contents sink.new })) }
 
     // The world is a run; after each of its events deliveries are a prefix of what was sent, each message once, and no
     // buffer is above its bound; each answer to a client has its cause.
     ensures claims { IfSome result.world WorldClaims }
 
-    ensures usage { result.status ≡ Status.Usage → IsNoCommand (map string_bytes words.now) }
-    ensures only_usage { IsNoCommand (map string_bytes words.now) → (result.status ≡ Status.Usage) ⊎ (result.status ≡ Status.Sink) }
+    // A command calls only what it needs, and where it wrote nothing, the sink wasn't called.
+    ensures unread { BySaid (map string_bytes words.now) (λ said. reads said ≡ false → source.new ≡ source.old) }
+    ensures uncalled { BySaid (map string_bytes words.now) (λ said. calls_wire said ≡ false → wire.new ≡ wire.old) }
+    ensures timeless { BySaid (map string_bytes words.now) (λ said. calls_clock said ≡ false → clock.new ≡ clock.old) }
+    ensures untouched { _keeper.new ≡ _keeper.old }
+    ensures quiet { BySaid (map string_bytes words.now) (λ said. calls_wire said ≡ false → (result.status ≡ Status.Source) ⊎ (result.status ≡ Status.Memory) → sink.new ≡ sink.old) }
 
-    // A schedule of which nothing is forged is run to its end, and a text with a bad line is refused, unless something outside fails.
-    ensures complete { ¬ Rose (S.faults source.old) (S.faults source.new) → ¬ Rose (K.faults sink.old) (K.faults sink.new)
-        → IsComplete (map string_bytes words.now) (S.left source.old) result.status }
-
-    // The schedule of a number never meets a forgery.
-    ensures generated { (number : ℕ) → AreGenerate (map string_bytes words.now) number → IsDoneOrFailed result.status }
-
-    ensures unread { ReadsNothing (map string_bytes words.now) → source.new ≡ source.old }
-    ensures quiet { (result.status ≡ Status.Source) ⊎ (result.status ≡ Status.Memory) → sink.new ≡ sink.old }
+    // A status that tells a fault comes only with one.
     ensures faultless { result.status ≢ Status.Source → S.faults source.new ≡ S.faults source.old }
-    ensures sunk { result.status ≢ Status.Sink → K.faults sink.new ≡ K.faults sink.old }
     ensures read { result.status ≡ Status.Source → Rose (S.faults source.old) (S.faults source.new) }
+    ensures sunk { BySaid (map string_bytes words.now) (λ said. calls_wire said ≡ false → result.status ≢ Status.Sink → K.faults sink.new ≡ K.faults sink.old) }
     ensures write { result.status ≡ Status.Sink → Rose (K.faults sink.old) (K.faults sink.new) }
-    ensures untouched { (_wire.new ≡ _wire.old) × (_clock.new ≡ _clock.old) × (_keeper.new ≡ _keeper.old) }
+    ensures open { result.status ≡ Status.Wire → Rose (W.failed_opens wire.old) (W.failed_opens wire.new) }
 {
-    match command_of(words) {
+    match command_of(alloc, words) {
+        Ok(said) => run_said(alloc, said, source, sink, wire, clock),
+        Err(Memory) => unsaid(),
+    }
+}
+
+/// Does what the words say.
+#[tactic(auto, using(crate::proofs::SaidRuns::replayed, crate::proofs::SaidRuns::generated, crate::proofs::SaidRuns::answered, crate::proofs::SaidRuns::verified, crate::proofs::SaidRuns::served, crate::proofs::SaidRuns::asked, crate::proofs::SaidRuns::no_command))]
+fn run_said<S: Source, K: Sink, W: Wire, C: Clock>(
+    alloc: Global,
+    said: Option<Command<'_>>,
+    source: &mut S,
+    sink: &mut K,
+    wire: &mut W,
+    clock: &mut C,
+) -> Outcome
+    requires { IfSome said IsInRange }
+    ensures said { SaidClaims said.entry (S.left source.old) result.world result.status
+        (record { wire = W.told wire.old; clock = C.told clock.old; text = K.contents sink.old })
+        (record { wire = W.told wire.new; clock = C.told clock.new; text = K.contents sink.new }) }
+    ensures claims { IfSome result.world WorldClaims }
+    ensures unread { reads said.entry ≡ false → source.new ≡ source.old }
+    ensures uncalled { calls_wire said.entry ≡ false → wire.new ≡ wire.old }
+    ensures timeless { calls_clock said.entry ≡ false → clock.new ≡ clock.old }
+    ensures quiet { calls_wire said.entry ≡ false → (result.status ≡ Status.Source) ⊎ (result.status ≡ Status.Memory) → sink.new ≡ sink.old }
+    ensures faultless { result.status ≢ Status.Source → S.faults source.new ≡ S.faults source.old }
+    ensures read { result.status ≡ Status.Source → Rose (S.faults source.old) (S.faults source.new) }
+    ensures sunk { calls_wire said.entry ≡ false → result.status ≢ Status.Sink → K.faults sink.new ≡ K.faults sink.old }
+    ensures write { result.status ≡ Status.Sink → Rose (K.faults sink.old) (K.faults sink.new) }
+    ensures open { result.status ≡ Status.Wire → Rose (W.failed_opens wire.old) (W.failed_opens wire.new) }
+{
+    match said {
         Some(Command::Replay) => replay(alloc, source, sink),
         Some(Command::Generate(number)) => generate(alloc, number, sink),
         Some(Command::Offline(command)) => offline(alloc, &command, source, sink),
+        Some(Command::Verify) => verification(alloc, source, sink),
+        Some(Command::Daemon(turns)) => daemon(alloc, turns, source, wire, clock, sink),
+        Some(Command::Ask(asked)) => question(alloc, asked, wire, sink),
         None => usage(sink),
+    }
+}
+
+/// A run that had no memory to read its words.
+fn unsaid() -> Outcome
+    ensures { result ≡ record { status = Status.Memory; world = None } }
+{
+    Outcome {
+        status: Status::Memory,
+        world: None,
     }
 }
 

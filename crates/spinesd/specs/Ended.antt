@@ -1,25 +1,30 @@
 -- How the program ends over a reader and a writer: its number, and what the writer got.
-use Rattle.std.specs.Prelude.{ℕ, ◌≡◌, ◌≢◌, ◌⊎◌, List, Option, IfSome}
+use Rattle.std.specs.Prelude.{ℕ, ◌≡◌, ◌≢◌, ◌⊎◌, false, List, Option, None, IfSome}
 use Rattle.sp_world.specs.Past.{Past}
+use Rattle.sp_top.specs.declared.command.Command.{Command}
 use Rattle.sp_top.specs.declared.ended.Status.{Status}
 use Rattle.sp_top.specs.declared.ended.Status.TheVariants as statuses
 use Rattle.sp_top.specs.Statuses.{code_of}
-use Rattle.sp_top.specs.Outputs.{AreGenerate, IsNoCommand}
 use Rattle.sp_top.specs.Claims.{Wrote, WorldClaims}
-use Rattle.sp_top.specs.Complete.{IsComplete, IsDoneOrFailed}
+use Rattle.sp_top.specs.Commands.{BySaid}
+use Rattle.sp_top.specs.Complete.{GeneratesAll, IsComplete, calls_wire}
+
+-- what is claimed by what the words say, where the wire and the clock tell nothing
+pub record SaidEnded (said : Option Command) (left : Option (List ℕ)) (past : Option Past) (status : Status) (before after : Option (List ℕ)) : Type 0 where
+  -- what was written is the output that the words and the input have
+  pub wrote : calls_wire said ≡ false → Wrote said left past status before after
+  -- a schedule of which nothing is forged is run to its end, and a text with a bad line is refused, unless something outside fails
+  pub complete : status ≢ statuses.Source → status ≢ statuses.Sink → IsComplete said left status
+  -- the schedule of a number never meets a forgery
+  pub generated : GeneratesAll said status
+  pub usage : status ≡ statuses.Usage → said ≡ None
+  pub only_usage : said ≡ None → (status ≡ statuses.Usage) ⊎ ((status ≡ statuses.Sink) ⊎ (status ≡ statuses.Memory))
 
 -- the run of these words ended with this number. A reader had so much left, and a writer held so much before and holds so much after
 pub record Ended (words : List (List ℕ)) (left before after : Option (List ℕ)) (code : ℕ) : Type 0 where
   pub status : Status
   pub code_is : code ≡ code_of status
   pub world : Option Past
-  -- what was written is the output that the words and the input have
-  pub wrote : Wrote words left world status before after
+  pub said : BySaid words (λ said. SaidEnded said left world status before after)
   -- the world is a run, of which all claims hold
   pub claims : IfSome world WorldClaims
-  pub usage : status ≡ statuses.Usage → IsNoCommand words
-  pub only_usage : IsNoCommand words → (status ≡ statuses.Usage) ⊎ (status ≡ statuses.Sink)
-  -- a schedule of which nothing is forged is run to its end, and a text with a bad line is refused, unless something outside fails
-  pub complete : status ≢ statuses.Source → status ≢ statuses.Sink → IsComplete words left status
-  -- the schedule of a number never meets a forgery
-  pub generated : (number : ℕ) → AreGenerate words number → IsDoneOrFailed status

@@ -1,8 +1,12 @@
-//! `spinesd`: hands standard input, standard output and the words of the command line to the one call that does it all.
+//! `spinesd`: hands the words of the command line, standard input and output, the sockets of this machine and its clock to the one call that
+//! does it all.
 #![tactic(auto)]
 
+mod pace;
 mod program;
 mod standard;
+mod system_clock;
+mod udp_wire;
 
 use program::program;
 use std::alloc::{AllocError, Global};
@@ -10,10 +14,20 @@ use std::env;
 use std::io::ErrorKind;
 use std::process::ExitCode;
 use std::rt::Env;
+use system_clock::SystemClock;
+use udp_wire::UdpWire;
 
 fn main(rt: HostRuntime) -> ExitCode {
     let alloc = rt.alloc();
-    ExitCode::from(program(alloc, words(&rt, alloc), rt.stdin(), rt.stdout()).code)
+    let finished = program(
+        alloc,
+        words(&rt, alloc),
+        rt.stdin(),
+        rt.stdout(),
+        UdpWire::new(&rt),
+        SystemClock::new(&rt),
+    );
+    ExitCode::from(finished.code)
 }
 
 /// The words of the command line after the program's name. Words that aren't UTF-8 are none.

@@ -1,11 +1,12 @@
-// The whole program over any reader and any writer: words and input go in, output and a number come out.
-ghost use Rattle.std.specs.Prelude.{◌≡◌, ◌⊎◌, IfOk, OnErr, map};
+// The whole program over any reader, writer, wire and clock: words and input go in, output and a number come out.
+ghost use Rattle.std.specs.Prelude.{◌≡◌, ◌⊎◌, IfOk, OnErr, false, map};
 ghost use Rattle.std.specs.String.{string_bytes};
-ghost use Rattle.sp_top.specs.Complete.{ReadsNothing};
+ghost use Rattle.sp_top.specs.Commands.{BySaid};
+ghost use Rattle.sp_top.specs.Complete.{calls_wire, reads};
 ghost use Rattle.spinesd.specs.Ended.{Ended};
 
 use crate::standard::{StandardSink, StandardSource};
-use sp_outside::{MemoryClock, MemoryKeeper, MemoryWire};
+use sp_outside::{Clock, MemoryKeeper, Wire};
 use sp_top::{Status, run};
 use std::alloc::{AllocError, Global};
 use std::io::{Read, Write};
@@ -13,25 +14,27 @@ use std::io::{Read, Write};
 /// What the program leaves: the number with which it ends, and the reader and the writer.
 #[derive(Drop)]
 pub struct Finished<R: Read, W: Write> {
-    /// 0 done, 2 usage, 3 refused, 4 forged, 5 source, 6 sink, 9 memory, 12 fewer paths.
+    /// 0 done, 2 usage, 3 refused, 4 forged, 5 source, 6 sink, 7 wire, 9 memory, 10 mismatch, 11 unanswered, 12 fewer paths.
     pub code: u8,
     pub reader: R,
     pub writer: W,
 }
 
-/// Runs the words of a command line, where there was memory for them. Nothing else is read, written or called.
-pub fn program<R: Read, W: Write>(
+/// Runs the words of a command line, where there was memory for them.
+pub fn program<R: Read, W: Write, N: Wire + Drop, C: Clock + Drop>(
     alloc: Global,
     words: Result<Vec<String>, AllocError>,
     reader: R,
     writer: W,
+    mut wire: N,
+    mut clock: C,
 ) -> Finished<R, W>
     ensures ended { IfOk words (λ words. Ended (map string_bytes words.items) (R.remaining reader) (W.contents writer) (W.contents result.writer) result.code) }
 
     // no word was kept, so none is run
     ensures wordless { OnErr words ((result.code ≡ 9) × (result.reader ≡ reader) × (result.writer ≡ writer)) }
-    ensures unread { IfOk words (λ words. ReadsNothing (map string_bytes words.items) → result.reader ≡ reader) }
-    ensures quiet { (result.code ≡ 5) ⊎ (result.code ≡ 9) → result.writer ≡ writer }
+    ensures unread { IfOk words (λ words. BySaid (map string_bytes words.items) (λ said. reads said ≡ false → result.reader ≡ reader)) }
+    ensures quiet { IfOk words (λ words. BySaid (map string_bytes words.items) (λ said. calls_wire said ≡ false → (result.code ≡ 5) ⊎ (result.code ≡ 9) → result.writer ≡ writer)) }
 {
     let Ok(words) = words else {
         return Finished {
@@ -47,8 +50,8 @@ pub fn program<R: Read, W: Write>(
         words.as_slice(),
         &mut source,
         &mut sink,
-        &mut MemoryWire::silent(alloc),
-        &mut MemoryClock::new(0),
+        &mut wire,
+        &mut clock,
         &mut MemoryKeeper::new(),
     );
     Finished {

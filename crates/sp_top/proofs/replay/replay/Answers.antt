@@ -7,7 +7,7 @@ pub returns-in-Ok-write_all-clause-wrote : goal.returns-in-Ok-write_all-clause-w
 returns-in-Ok-write_all-clause-wrote g c =
     let output = played_output c.a_reading_is_of_its_text.ensures c.a_good_text_is_read.ensures c.a_text_has_one_reading.ensures (g.S.Source.left c.args.source.now) c.in-Ok.input.bytes.items c.in-Ok.input.is_cut c.in-Ok-read_and_run.played.world
     c.in-Ok-read_and_run.played.status (string_bytes c.in-Ok-read_and_run.played.text) c.in-Ok.ensures.bytes c.in-Ok-read_and_run.ensures in
-    wrote_whole _ _ _ _ _ _ _ output (rw c.as_bytes.ensures.value at c.in-Ok-write_all.ensures.whole)
+    wrote_whole _ _ _ _ _ _ output (rw c.as_bytes.ensures.value at c.in-Ok-write_all.ensures.whole)
 
 pub returns-clause-wrote : goal.returns-clause-wrote
 returns-clause-wrote g c =

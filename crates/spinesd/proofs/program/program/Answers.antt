@@ -1,5 +1,5 @@
-use Rattle.std.proofs.Common.{ap, rules, ◌∙◌}
-use Rattle.spinesd.proofs.Quiet.{stayed}
+use Rattle.std.proofs.Common.{ap, rules, sym, ◌∙◌}
+use Rattle.spinesd.proofs.Lifts.{ended, quiet, unread}
 use Rattle.spinesd.proofs.program.program.Goals as goal
 
 pub returns-clause-ended : goal.returns-clause-ended
@@ -8,17 +8,19 @@ returns-clause-ended g c =
       status = c.run-outcome.result.status;
       code_is = search rules;
       world = c.run-outcome.result.world;
-      wrote = search rules;
+      said = ended _ _ _ _ _ _ _ _ _ _ _ _ _ (ap g.R.Read.remaining (ap (λ s. s.reader) c.new-source.ensures)) (ap g.W.Write.contents (ap (λ s. s.writer) c.new-sink.ensures))
+          (sym (ap g.W.Write.contents c.into_writer.ensures)) (rw c.as_slice.ensures.value at c.run-outcome.ensures.said);
       claims = search rules;
-      usage = search rules;
-      only_usage = search rules;
-      complete = λ read sunk.
-          let whole = c.run-outcome.ensures.complete (stayed _ _ (ap (λ s. s.faults) c.new-source.ensures) (c.run-outcome.ensures.faultless read))
-          (stayed _ _ (ap (λ s. s.faults) c.new-sink.ensures) (c.run-outcome.ensures.sunk sunk)) in
-          rw (c.as_slice.ensures.value, ap (λ s. s.reader) c.new-source.ensures) at whole;
-      generated = search rules;
     })
 
 pub returns-clause-unread : goal.returns-clause-unread
 returns-clause-unread g c =
-    rw c.in-Ok.is (λ wrong. c.into_reader.ensures ∙ ap (λ s. s.reader) (c.run-outcome.ensures.unread (rw c.as_slice.ensures.value wrong)) ∙ ap (λ s. s.reader) c.new-source.ensures)
+    rw c.in-Ok.is
+    (unread _ _ _ _ _ (rw c.as_slice.ensures.value at c.run-outcome.ensures.unread)
+    (λ same. c.into_reader.ensures ∙ ap (λ s. s.reader) same ∙ ap (λ s. s.reader) c.new-source.ensures))
+
+pub returns-clause-quiet : goal.returns-clause-quiet
+returns-clause-quiet g c =
+    rw c.in-Ok.is
+    (quiet _ _ _ _ _ c.run-outcome.result.status _ (search rules) (rw c.as_slice.ensures.value at c.run-outcome.ensures.quiet)
+    (λ same. c.into_writer.ensures ∙ ap (λ s. s.writer) same ∙ ap (λ s. s.writer) c.new-sink.ensures))

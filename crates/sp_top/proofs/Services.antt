@@ -1,0 +1,84 @@
+-- How the commands end that call the wire, from how their parts did.
+use Rattle.std.proofs.Common.{◌≡◌, ℕ, Bool, true, List, ◌∷◌, map, Option, Some, None, inl, inr, refl, sym, subst, Bor}
+use Rattle.std.specs.Prelude.{◌⊎◌}
+use Rattle.sp_base.specs.declared.limits.TheConstants.{MAX_INPUT_BYTES}
+use Rattle.sp_client.specs.Requests.{IsRequest}
+use Rattle.sp_outside.specs.Calls.{Call, Got, Opened, Received, Sent, Tells}
+use Rattle.sp_outside.specs.declared.side.Side.TheVariants.{Client}
+use Rattle.sp_outside.specs.Streams.{IsInput}
+use Rattle.sp_service.specs.Served.{Ends}
+use Rattle.sp_service_turns.specs.Served.{Outside, wire_line}
+use Rattle.sp_service_turns.specs.declared.served.Served.{Served}
+use Rattle.sp_service_ask.specs.Asking.{Asked, Unopened}
+use Rattle.sp_service_ask.specs.declared.question.Question.{Question}
+use Rattle.sp_words.specs.declared.command_line.Ask.{Ask}
+use Rattle.sp_top.specs.Services.{Answers, AskEnds, DaemonEnds, IsTold, No_port, No_reply, Reply, question_of, reply_line, unanswered_line}
+use Rattle.sp_top.specs.Statuses.{served_status}
+use Rattle.sp_top.specs.declared.ended.Status.{Status}
+use Rattle.sp_top.specs.declared.ended.Status.TheVariants as statuses
+
+-- ---- a daemon
+
+pub served : (left : Option (List ℕ)) (turns : ℕ) (text : List ℕ) (is_cut : Bool) (ended : Served) (status : Status) (before after : Outside)
+    → IsInput left MAX_INPUT_BYTES text is_cut → status ≡ served_status ended → Ends text is_cut turns before after ended → DaemonEnds left turns status before after
+served left turns text is_cut ended status before after input is ends =
+    inl (record { text = text; is_cut = is_cut; input = input; ended = ended; status_is = is; ends = ends })
+
+pub unread : (left : Option (List ℕ)) (turns : ℕ) (status : Status) (before : Outside) → (status ≡ statuses.Source) ⊎ (status ≡ statuses.Memory)
+    → DaemonEnds left turns status before before
+unread left turns status before cause = inr (record { cause = cause; quiet = (refl, refl); unwritten = refl })
+
+-- ---- a question
+
+told : (a : Ask) (would status : Status) (line : List ℕ) (before after : Outside) → Answers (question_of a) before after would line
+    → IsTold would line status before.text after.text → AskEnds a status before after
+told a would status line before after answers (inl whole) =
+    inl (record { line = line; answers = subst (λ (s : Status). Answers (question_of a) before after s line) (sym whole.0) answers; written = whole.1 })
+told a would status line before after answers (inr (inl begun)) =
+    inr (inl (record { sink = begun.0; would = would; line = line; answers = answers; begun = begun.1 }))
+told a would status line before after answers (inr (inr memory)) = inr (inr (record { memory = memory.0; unwritten = memory.1 }))
+
+-- the question of which these are the port, the turns and the bytes
+abbrev question : Ask → Bor (List ℕ) → Question
+question a request = record { port = a.port; local = a.local; turns = a.turns; request = request }
+
+same_asked : (a : Ask) (request : Bor (List ℕ)) (w0 w1 : Option (List Call)) (reply : Option (List ℕ)) → request.now ≡ a.request.now
+    → Asked (question a request) w0 w1 reply → Asked (question_of a) w0 w1 reply
+same_asked a request w0 w1 reply same asked = record {
+  request = asked.request;
+  right = subst (λ (t : List ℕ). IsRequest t asked.request) same asked.right;
+  is_sent = asked.is_sent;
+  heard = asked.heard;
+  calls = subst (λ (t : List ℕ). Tells w0 w1 (Opened 0 a.local true ∷ Sent Client a.port t asked.is_sent ∷ map (λ (got : Got). Received Client got) asked.heard)) same asked.calls;
+  ends = asked.ends;
+}
+
+same_unopened : (a : Ask) (request : Bor (List ℕ)) (w0 w1 : Option (List Call)) → request.now ≡ a.request.now
+    → Unopened (question a request) w0 w1 → Unopened (question_of a) w0 w1
+same_unopened a request w0 w1 same unopened = record {
+  request = unopened.request;
+  right = subst (λ (t : List ℕ). IsRequest t unopened.request) same unopened.right;
+  calls = unopened.calls;
+}
+
+pub replied : (a : Ask) (bytes : Bor (List ℕ)) (status : Status) (reply : List ℕ) (w0 w1 : Option (List Call)) (c : Option (List ℕ)) (b0 b1 : Option (List ℕ))
+    → bytes.now ≡ a.request.now → Asked (question a bytes) w0 w1 (Some reply) → IsTold statuses.Done (reply_line reply) status b0 b1
+    → AskEnds a status (record { wire = w0; clock = c; text = b0 }) (record { wire = w1; clock = c; text = b1 })
+replied a bytes status reply w0 w1 c b0 b1 same asked is =
+    told a statuses.Done status (reply_line reply) (record { wire = w0; clock = c; text = b0 }) (record { wire = w1; clock = c; text = b1 }) (Reply reply (same_asked a bytes w0 w1 (Some reply) same asked)) is
+
+pub unanswered : (a : Ask) (bytes : Bor (List ℕ)) (status : Status) (w0 w1 : Option (List Call)) (c : Option (List ℕ)) (b0 b1 : Option (List ℕ))
+    → bytes.now ≡ a.request.now → Asked (question a bytes) w0 w1 None → IsTold statuses.Unanswered (unanswered_line a.turns) status b0 b1
+    → AskEnds a status (record { wire = w0; clock = c; text = b0 }) (record { wire = w1; clock = c; text = b1 })
+unanswered a bytes status w0 w1 c b0 b1 same asked is =
+    told a statuses.Unanswered status (unanswered_line a.turns) (record { wire = w0; clock = c; text = b0 }) (record { wire = w1; clock = c; text = b1 }) (No_reply (same_asked a bytes w0 w1 None same asked)) is
+
+pub unopened : (a : Ask) (bytes : Bor (List ℕ)) (status : Status) (w0 w1 : Option (List Call)) (c : Option (List ℕ)) (b0 b1 : Option (List ℕ))
+    → bytes.now ≡ a.request.now → Unopened (question a bytes) w0 w1 → IsTold statuses.Wire wire_line status b0 b1
+    → AskEnds a status (record { wire = w0; clock = c; text = b0 }) (record { wire = w1; clock = c; text = b1 })
+unopened a bytes status w0 w1 c b0 b1 same opened is =
+    told a statuses.Wire status wire_line (record { wire = w0; clock = c; text = b0 }) (record { wire = w1; clock = c; text = b1 }) (No_port (same_unopened a bytes w0 w1 same opened)) is
+
+pub forgotten : (a : Ask) (w0 w1 : Option (List Call)) (c : Option (List ℕ)) (b : Option (List ℕ))
+    → AskEnds a statuses.Memory (record { wire = w0; clock = c; text = b }) (record { wire = w1; clock = c; text = b })
+forgotten a w0 w1 c b = inr (inr (record { memory = refl; unwritten = refl }))

@@ -1,0 +1,90 @@
+-- How the commands end that call the wire: a daemon, and a question to one.
+use Rattle.std.specs.Prelude.{ℕ, ◌≡◌, ◌⊎◌, Bool, List, [], ◌∷◌, ◌++◌, Option, Some, None, codes}
+use Rattle.std.specs.Fmt.{decimal}
+use Rattle.std.specs.Io.KnownBytes.{Appends}
+use Rattle.sp_base.specs.declared.limits.TheConstants.{MAX_INPUT_BYTES}
+use Rattle.sp_lines.specs.Rows.{line_text}
+use Rattle.sp_outside.specs.Streams.{AppendsFront, IsInput}
+use Rattle.sp_service.specs.Served.{Ends, IsQuiet}
+use Rattle.sp_service_turns.specs.Served.{Outside, wire_line}
+use Rattle.sp_service_turns.specs.declared.served.Served.{Served}
+use Rattle.sp_service_ask.specs.Asking.{Asked, Unopened}
+use Rattle.sp_service_ask.specs.declared.question.Question.{Question}
+use Rattle.sp_words.specs.declared.command_line.Ask.{Ask}
+use Rattle.sp_top.specs.Statuses.{served_status}
+use Rattle.sp_top.specs.declared.command.Command.{Command}
+use Rattle.sp_top.specs.declared.command.Command.TheVariants as commands
+use Rattle.sp_top.specs.declared.ended.Status.{Status}
+use Rattle.sp_top.specs.declared.ended.Status.TheVariants as statuses
+
+-- ---- a daemon
+
+-- it was the daemon of what a source had left, of which no more is read than may be
+pub record ServedFrom (left : Option (List ℕ)) (turns : ℕ) (status : Status) (before after : Outside) : Type 0 where
+  pub text : List ℕ
+  pub is_cut : Bool
+  pub input : IsInput left MAX_INPUT_BYTES text is_cut
+  pub ended : Served
+  pub status_is : status ≡ served_status ended
+  pub ends : Ends text is_cut turns before after ended
+
+-- the input couldn't be read, and nothing else was called
+pub record IsUnread (status : Status) (before after : Outside) : Type 0 where
+  pub cause : (status ≡ statuses.Source) ⊎ (status ≡ statuses.Memory)
+  pub quiet : IsQuiet before after
+  pub unwritten : after.text ≡ before.text
+
+abbrev pub DaemonEnds : Option (List ℕ) → ℕ → Status → Outside → Outside → Type 0
+DaemonEnds left turns status before after = ServedFrom left turns status before after ⊎ IsUnread status before after
+
+-- ---- a question
+
+abbrev pub reply_line : List ℕ → List ℕ
+reply_line reply = reply ++ codes "\n"
+
+abbrev pub unanswered_line : ℕ → List ℕ
+unanswered_line turns = line_text (codes "unanswered" ∷ decimal turns ∷ [])
+
+-- a question came to this line, and to the status with it
+pub data Answers (q : Question) (before after : Outside) : Status → List ℕ → Type 0 where
+  Reply : (reply : List ℕ) → Asked q before.wire after.wire (Some reply) → Answers q before after statuses.Done (reply_line reply)
+  No_reply : Asked q before.wire after.wire None → Answers q before after statuses.Unanswered (unanswered_line q.turns)
+  No_port : Unopened q before.wire after.wire → Answers q before after statuses.Wire wire_line
+
+-- the line was written
+pub record IsAnswered (q : Question) (status : Status) (before after : Outside) : Type 0 where
+  pub line : List ℕ
+  pub answers : Answers q before after status line
+  pub written : Appends before.text after.text line
+
+-- the sink failed, and has a beginning of the line
+pub record IsUntold (q : Question) (status : Status) (before after : Outside) : Type 0 where
+  pub sink : status ≡ statuses.Sink
+  pub would : Status
+  pub line : List ℕ
+  pub answers : Answers q before after would line
+  pub begun : AppendsFront before.text after.text line
+
+-- there was no memory, and nothing was written
+pub record IsForgotten (status : Status) (before after : Outside) : Type 0 where
+  pub memory : status ≡ statuses.Memory
+  pub unwritten : after.text ≡ before.text
+
+abbrev pub question_of : Ask → Question
+question_of a = record { port = a.port; local = a.local; turns = a.turns; request = a.request }
+
+abbrev pub AskEnds : Ask → Status → Outside → Outside → Type 0
+AskEnds a status before after = IsAnswered (question_of a) status before after ⊎ (IsUntold (question_of a) status before after ⊎ IsForgotten status before after)
+
+-- the run ended so, and this line was written; or the sink failed, and has a beginning of it; or there was no memory for it
+abbrev pub IsTold : Status → List ℕ → Status → Option (List ℕ) → Option (List ℕ) → Type 0
+IsTold would line status before after =
+    ((status ≡ would) × Appends before after line) ⊎ (((status ≡ statuses.Sink) × AppendsFront before after line) ⊎ ((status ≡ statuses.Memory) × (after ≡ before)))
+
+-- ---- together
+
+-- how what the words say ended, where it calls the wire
+abbrev pub ServiceEnds : Option Command → Option (List ℕ) → Status → Outside → Outside → Type 0
+ServiceEnds (Some (commands.Daemon turns)) left status before after = DaemonEnds left turns status before after
+ServiceEnds (Some (commands.Ask a)) left status before after = AskEnds a status before after
+ServiceEnds _ left status before after = Unit {0}

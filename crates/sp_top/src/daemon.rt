@@ -1,0 +1,73 @@
+// The command `daemon`: the whole input is read as a configuration, and its daemon serves.
+ghost use Rattle.std.specs.Prelude.{◌≡◌, ◌≢◌, ◌⊎◌, None as Nothing};
+ghost use Rattle.sp_outside.specs.Causes.{Rose};
+ghost use Rattle.sp_top.specs.Services.{DaemonEnds};
+ghost use Rattle.sp_top.specs.Statuses.{served_status};
+ghost use Rattle.sp_words.specs.CommandLines.{IsTurns};
+
+use crate::{Outcome, Status};
+use sp_base::MAX_INPUT_BYTES;
+use sp_outside::{Clock, ReadRefused, Sink, Source, Wire, read_up_to};
+use sp_service::serve;
+use sp_service_turns::Served;
+use std::alloc::Global;
+
+/// Reads the whole input, and serves as its daemon for so many turns.
+#[tactic(auto, using(crate::proofs::Services::served, crate::proofs::Services::unread))]
+pub fn daemon<S: Source, W: Wire, C: Clock, K: Sink>(
+    alloc: Global,
+    turns: u32,
+    source: &mut S,
+    wire: &mut W,
+    clock: &mut C,
+    sink: &mut K,
+) -> Outcome
+    requires { IsTurns turns }
+    ensures ends { DaemonEnds (S.left source.old) turns result.status
+        (record { wire = W.told wire.old; clock = C.told clock.old; text = K.contents sink.old })
+        (record { wire = W.told wire.new; clock = C.told clock.new; text = K.contents sink.new }) }
+    ensures worldless { result.world ≡ Nothing }
+    ensures faultless { result.status ≢ Status.Source → S.faults source.new ≡ S.faults source.old }
+    ensures read { result.status ≡ Status.Source → Rose (S.faults source.old) (S.faults source.new) }
+    ensures write { result.status ≡ Status.Sink → Rose (K.faults sink.old) (K.faults sink.new) }
+    ensures open { result.status ≡ Status.Wire → Rose (W.failed_opens wire.old) (W.failed_opens wire.new) }
+    ensures usage { result.status ≢ Status.Usage }
+{
+    let input = match read_up_to(alloc, source, MAX_INPUT_BYTES) {
+        Ok(input) => input,
+        Err(ReadRefused::Failed) => return ended(Status::Source),
+        Err(ReadRefused::Memory) => return ended(Status::Memory),
+    };
+    let served = serve(
+        alloc,
+        input.bytes.as_slice(),
+        input.is_cut,
+        turns,
+        wire,
+        clock,
+        sink,
+    );
+    ended(status_of(served))
+}
+
+fn status_of(served: Served) -> Status
+    ensures { result ≡ served_status served }
+{
+    match served {
+        Served::Done => Status::Done,
+        Served::Refused => Status::Refused,
+        Served::Wire => Status::Wire,
+        Served::Sink => Status::Sink,
+        Served::Memory => Status::Memory,
+    }
+}
+
+/// A run that made no world.
+fn ended(status: Status) -> Outcome
+    ensures { result ≡ record { status = status; world = None } }
+{
+    Outcome {
+        status,
+        world: None,
+    }
+}

@@ -1,0 +1,113 @@
+// The command `ask`: a request goes to a daemon of this machine, and its reply is written.
+ghost use Rattle.std.specs.Prelude.{◌≡◌, ◌≢◌, IfOk, List, None as Nothing, Option, ℕ};
+ghost use Rattle.sp_client.specs.Requests.{IsRequest};
+ghost use Rattle.sp_client.specs.declared.request.Request.{Request};
+ghost use Rattle.sp_outside.specs.Causes.{Rose};
+ghost use Rattle.std.specs.String.{string_bytes};
+ghost use Rattle.sp_top.specs.Services.{AskEnds, IsTold, reply_line, unanswered_line};
+
+use crate::{Outcome, Status};
+use sp_base::{Bytes, Memory};
+use sp_lines::push_field;
+use sp_outside::{Sink, Wire, write_all};
+use sp_service_ask::{AskRefused, Question, ask};
+use sp_words::Ask;
+use std::alloc::Global;
+
+/// Asks a daemon of this machine, and writes its reply, or that none came.
+#[tactic(auto, using(crate::proofs::Services::replied, crate::proofs::Services::unanswered, crate::proofs::Services::unopened))]
+pub fn question<W: Wire, K: Sink>(
+    alloc: Global,
+    asked: Ask<'_>,
+    wire: &mut W,
+    sink: &mut K,
+) -> Outcome
+    requires { (r : Request) × IsRequest asked.request.now r }
+    ensures ends { (clock : Option (List ℕ)) → AskEnds asked.entry result.status
+        (record { wire = W.told wire.old; clock = clock; text = K.contents sink.old })
+        (record { wire = W.told wire.new; clock = clock; text = K.contents sink.new }) }
+    ensures worldless { result.world ≡ Nothing }
+    ensures write { result.status ≡ Status.Sink → Rose (K.faults sink.old) (K.faults sink.new) }
+    ensures open { result.status ≡ Status.Wire → Rose (W.failed_opens wire.old) (W.failed_opens wire.new) }
+    ensures usage { result.status ≢ Status.Usage }
+    ensures source { result.status ≢ Status.Source }
+{
+    let question = Question {
+        port: asked.port,
+        local: asked.local,
+        turns: asked.turns,
+        request: asked.request.as_bytes(),
+    };
+    match ask(alloc, &question, wire) {
+        Ok(reply) => tell_reply(alloc, reply, sink),
+        Err(AskRefused::Unanswered) => tell_silence(alloc, asked.turns, sink),
+        Err(AskRefused::Unopened) => tell(sink, b"wire\n", Status::Wire),
+        Err(AskRefused::NoRequest) => unreachable!(),
+        Err(AskRefused::Memory) => forgotten(),
+    }
+}
+
+/// Writes a reply as it came, with a newline.
+fn tell_reply<K: Sink>(alloc: Global, reply: Bytes, sink: &mut K) -> Outcome
+    ensures told { IsTold Status.Done (reply_line reply) result.status (K.contents sink.old) (K.contents sink.new) }
+    ensures worldless { result.world ≡ Nothing }
+    ensures write { result.status ≡ Status.Sink → Rose (K.faults sink.old) (K.faults sink.new) }
+{
+    let mut line = reply.into_vec();
+    if line.push(b'\n').is_err() {
+        return forgotten();
+    }
+    tell(sink, line.as_slice(), Status::Done)
+}
+
+/// Writes that no reply came.
+fn tell_silence<K: Sink>(alloc: Global, turns: u32, sink: &mut K) -> Outcome
+    ensures told { IsTold Status.Unanswered (unanswered_line turns) result.status (K.contents sink.old) (K.contents sink.new) }
+    ensures worldless { result.world ≡ Nothing }
+    ensures write { result.status ≡ Status.Sink → Rose (K.faults sink.old) (K.faults sink.new) }
+{
+    match unanswered_line(alloc, turns) {
+        Ok(line) => tell(sink, line.as_bytes(), Status::Unanswered),
+        Err(_) => forgotten(),
+    }
+}
+
+/// The line `unanswered T`.
+fn unanswered_line(alloc: Global, turns: u32) -> Result<String, Memory>
+    ensures { IfOk result (λ line. string_bytes line ≡ unanswered_line turns) }
+{
+    let mut line = String::new(alloc);
+    line.push_str("unanswered")?;
+    push_field(&mut line, u64::from(turns))?;
+    line.push_str("\n")?;
+    Ok(line)
+}
+
+/// Writes a line, with which the run ends so.
+fn tell<K: Sink>(sink: &mut K, line: &[u8], status: Status) -> Outcome
+    requires { status ≢ Status.Sink }
+    ensures told { IsTold status line.now result.status (K.contents sink.old) (K.contents sink.new) }
+    ensures worldless { result.world ≡ Nothing }
+    ensures write { result.status ≡ Status.Sink → Rose (K.faults sink.old) (K.faults sink.new) }
+{
+    match write_all(sink, line) {
+        Ok(()) => Outcome {
+            status,
+            world: None,
+        },
+        Err(_) => Outcome {
+            status: Status::Sink,
+            world: None,
+        },
+    }
+}
+
+/// A run that found no memory.
+fn forgotten() -> Outcome
+    ensures { result ≡ record { status = Status.Memory; world = Nothing } }
+{
+    Outcome {
+        status: Status::Memory,
+        world: None,
+    }
+}

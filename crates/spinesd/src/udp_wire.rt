@@ -1,0 +1,175 @@
+// Datagrams on this machine: UDP on 127.0.0.1 for both sides of a daemon. The wire tells nothing of them.
+ghost use Rattle.std.specs.Prelude.{◌≡◌, ◌≤◌, IfOk, IfSome, None, length};
+ghost use Rattle.sp_outside.specs.declared.wire.TheConstants.{DATAGRAM_BYTES};
+
+use crate::pace::Pace;
+use sp_outside::{DATAGRAM_BYTES, Failed, Side, Wire};
+use std::io::ErrorKind;
+use std::net::{IpAddr, Ipv4Addr, Net, SocketAddr, SocketAddrV4, UdpSocket};
+use std::rt::Clock;
+use std::time::Duration;
+use std::{io, thread};
+
+/// How long a receive waits for a datagram, at most.
+const WAIT_MS: u64 = 5;
+
+/// The system's sockets of the two sides. A receive of the overlay side waits for a while; one of the client side doesn't, unless it is
+/// the only side that is open. Once in each cycle of the neighbours the overlay side naps first: so a daemon with many neighbours hears
+/// as many frames as they send. A datagram from another address than 127.0.0.1 is none, whatever port it comes from.
+#[derive(Drop)]
+pub struct UdpWire<'r, R: Net + Clock> {
+    rt: &'r R,
+    overlay: Option<UdpSocket>,
+    client: Option<UdpSocket>,
+    pace: Pace,
+    failed_opens: u64,
+    faults: u64,
+}
+
+impl<'r, R: Net + Clock> UdpWire<'r, R> {
+    /// No side is open yet.
+    pub fn new(rt: &'r R) -> Self {
+        UdpWire {
+            rt,
+            overlay: None,
+            client: None,
+            pace: Pace::new(),
+            failed_opens: 0,
+            faults: 0,
+        }
+    }
+
+    fn socket(&self, side: Side) -> &Option<UdpSocket> {
+        match side {
+            Side::Overlay => &self.overlay,
+            Side::Client => &self.client,
+        }
+    }
+
+    /// Sleeps before a receive of the overlay side, where its pace wants it.
+    fn nap(&mut self, side: Side)
+        ensures { (self.new.faults ≡ self.old.faults) × (self.new.failed_opens ≡ self.old.failed_opens) }
+    {
+        if side == Side::Client || self.overlay.is_none() {
+            return;
+        }
+        let millis = self.pace.nap_ms();
+        if 0 < millis {
+            thread::sleep(self.rt, Duration::from_millis(millis));
+        }
+    }
+}
+
+/// A socket on this port of 127.0.0.1, whose receives wait for a while, or don't. There is none for port 0.
+fn bound<R: Net>(rt: &R, port: u16, waits: bool) -> io::Result<Option<UdpSocket>> {
+    if port == 0 {
+        return Ok(None);
+    }
+    let socket = UdpSocket::bind(rt, SocketAddrV4::new(Ipv4Addr::LOCALHOST, port))?;
+    if waits {
+        socket.set_read_timeout(Some(Duration::from_millis(WAIT_MS)))?;
+    } else {
+        socket.set_nonblocking(true)?;
+    }
+    Ok(Some(socket))
+}
+
+/// Both sockets. The client's waits where it is the only one.
+fn both<R: Net>(
+    rt: &R,
+    overlay: u16,
+    client: u16,
+) -> io::Result<(Option<UdpSocket>, Option<UdpSocket>)> {
+    let overlay_socket = bound(rt, overlay, true)?;
+    let client_socket = bound(rt, client, overlay == 0)?;
+    Ok((overlay_socket, client_socket))
+}
+
+/// The port of a sender on 127.0.0.1. Nobody else is heard.
+fn port_of(from: SocketAddr) -> Option<u16> {
+    if from.ip() == IpAddr::V4(Ipv4Addr::LOCALHOST) {
+        Some(from.port())
+    } else {
+        None
+    }
+}
+
+/// What a receive gives: the sender's port and the length, where a datagram came that is heard.
+fn received(socket: &UdpSocket, buf: &mut [u8]) -> Result<Option<(u16, usize)>, Failed>
+    requires { length buf.old ≤ DATAGRAM_BYTES }
+    ensures { IfOk result (λ got. IfSome got (λ datagram. datagram.1 ≤ DATAGRAM_BYTES)) }
+{
+    match socket.recv_from(buf) {
+        Ok((count, from)) => Ok(port_of(from).map(|port| (port, count))),
+        Err(error) if matches!(error.kind(), ErrorKind::WouldBlock | ErrorKind::Interrupted) => {
+            Ok(None)
+        }
+        Err(_) => Err(Failed),
+    }
+}
+
+/// The same of a side. Nothing comes where it isn't open.
+fn received_on(socket: &Option<UdpSocket>, buf: &mut [u8]) -> Result<Option<(u16, usize)>, Failed>
+    requires { DATAGRAM_BYTES ≤ length buf.old }
+    ensures { IfOk result (λ got. IfSome got (λ datagram. datagram.1 ≤ DATAGRAM_BYTES)) }
+{
+    match socket {
+        Some(socket) => received(socket, &mut buf[..DATAGRAM_BYTES]),
+        None => Ok(None),
+    }
+}
+
+/// Sends a whole datagram. It fails where the side isn't open.
+fn sent_on(socket: &Option<UdpSocket>, port: u16, bytes: &[u8]) -> Result<(), Failed> {
+    let Some(socket) = socket else {
+        return Err(Failed);
+    };
+    match socket.send_to(bytes, SocketAddrV4::new(Ipv4Addr::LOCALHOST, port)) {
+        Ok(count) if count == bytes.len() => Ok(()),
+        _ => Err(Failed),
+    }
+}
+
+impl<R: Net + Clock> Wire for UdpWire<'_, R> {
+    ghost told = { λ _. None };
+
+    ghost failed_opens = { λ w. w.failed_opens };
+
+    ghost faults = { λ w. w.faults };
+
+    fn open(&mut self, overlay: u16, client: u16) -> Result<(), Failed> {
+        match both(self.rt, overlay, client) {
+            Ok((overlay, client)) => {
+                self.overlay = overlay;
+                self.client = client;
+                Ok(())
+            }
+            Err(_) => {
+                self.failed_opens = self.failed_opens.saturating_add(1);
+                Err(Failed)
+            }
+        }
+    }
+
+    fn receive(&mut self, side: Side, buf: &mut [u8]) -> Result<Option<(u16, usize)>, Failed> {
+        self.nap(side);
+        let got = received_on(self.socket(side), buf);
+        match got {
+            Ok(Some((_, count))) => self.pace.heard(count),
+            Ok(None) => {}
+            Err(_) => self.faults = self.faults.saturating_add(1),
+        }
+        got
+    }
+
+    fn send(&mut self, side: Side, port: u16, bytes: &[u8]) -> Result<(), Failed> {
+        if side == Side::Overlay {
+            self.pace.sent_to(port);
+        }
+        let done = sent_on(self.socket(side), port, bytes);
+        if done.is_err() {
+            self.faults = self.faults.saturating_add(1);
+        }
+        done
+    }
+}
