@@ -1,11 +1,11 @@
 """Runs each case of conformance/ through a program and compares byte by byte: python3 .ci/conformance.py PATH/TO/PROGRAM
 
-A case is an input, NAME.schedule, NAME.graph or NAME.toml, and beside it
+A case is an input, NAME.schedule, NAME.graph, NAME.toml or NAME.recording, and beside it
 
     NAME.status    the status, in decimal
     NAME.out       the standard output; where several are right, each other one in NAME.out.2, NAME.out.3 and so on
     NAME.sha256    in place of NAME.out, the SHA-256 of the standard output, in hexadecimal
-    NAME.words     the words, one a line; without it they are `replay` for a schedule and `topology` for a toml
+    NAME.words     the words, one a line; without it they are `replay` for a schedule, `topology` for a toml, `verify` for a recording
 
 Words that read nothing have no input: such a case is a NAME.words alone, and beside it NAME.status and NAME.out, or in place of NAME.out
 
@@ -26,7 +26,7 @@ import sys
 
 ROOT = os.path.dirname(os.path.dirname(os.path.abspath(__file__)))
 FOLDER = os.path.join(ROOT, "conformance")
-PLAIN = {"schedule": [b"replay"], "graph": None, "toml": [b"topology"]}
+PLAIN = {"schedule": [b"replay"], "graph": None, "toml": [b"topology"], "recording": [b"verify"]}
 ALONE = "without input"
 HEADER = b"schedule 1\nseed " + 64 * b"0" + b"\nheight 5\nbounds 2 4\nnodes 3\nedge 1 2 10\nedge 2 3 10\nbegin\n"
 PATHS = [b"paths", b"--from", b"1", b"--to", b"2", b"--paths", b"1"]

@@ -1,0 +1,105 @@
+"""Runs an overlay of three daemons with the built program: python3 .ci/overlay.py PATH/TO/spinesd
+
+It makes keys, a signed topology and three configurations in a folder of its own, sends messages from one end of a line to the other, verifies
+each recording, and does the same of daemons that end by themselves. Ports are the system's, nothing is left running, and it takes less than ten
+seconds. Each difference is told, and the status is then 1.
+"""
+
+import os
+import re
+import signal
+import sys
+import tempfile
+
+ROOT = os.path.dirname(os.path.dirname(os.path.abspath(__file__)))
+sys.path.insert(0, os.path.join(ROOT, "examples", "overlay"))
+
+from overlay import Overlay, line_of  # noqa: E402
+
+HEIGHT = 5
+MANY_TURNS = 100_000
+FEW_TURNS = 25
+MESSAGES = [b"\x00", b"hello", bytes(range(256)) * 4]
+# a line of a recording that has a digest
+WITH_DIGEST = re.compile(rb"^(?:tick|overlay|client|poll) .*[0-9a-f]{64}$", re.MULTILINE)
+
+
+class Judge:
+    """How many differences there were, of how many looks."""
+
+    def __init__(self):
+        self.looks, self.wrong = 0, 0
+
+    def equal(self, name, got, wanted):
+        self.looks += 1
+        if got != wanted:
+            self.wrong += 1
+            print(f"{name}: {got!r}, wanted {wanted!r}")
+
+
+def verified(judge, name, overlay, node):
+    """All digests of a recording agree, and one that is changed doesn't."""
+    recording = overlay.recording(node)
+    found = list(WITH_DIGEST.finditer(recording))
+    judge.equal(f"{name}: the recording of node {node}", overlay.verify(node), (0, f"verified {len(found)}"))
+    last = found[-1]
+    changed = recording[: last.end() - 64] + 64 * b"0" + recording[last.end():]
+    line = overlay.read(f"{node}.toml").count(b"\n") + changed[: last.end()].count(b"\n") + 1
+    status, output = overlay.verify(node, changed)
+    told = f"mismatch {line} {64 * '0'} {recording[last.end() - 64: last.end()].decode()}"
+    judge.equal(f"{name}: the recording of node {node} with another digest", (status, output), (10, told))
+
+
+def messages_arrive(judge, folder, program):
+    """Messages go from one end to the other in their order. Then the middle is killed, and the last one doesn't arrive."""
+    overlay = Overlay(folder, program)
+    try:
+        overlay.make(line_of(3), HEIGHT)
+        for node in overlay.ports:
+            overlay.start(node, MANY_TURNS)
+        overlay.ask(3, "listen")
+        for number, payload in enumerate(MESSAGES, 1):
+            judge.equal(f"message {number} is sent", overlay.ask(1, f"send 3 {payload.hex()}"), f"accepted {number}")
+        for number, payload in enumerate(MESSAGES, 1):
+            judge.equal(f"message {number} arrives", overlay.take(3, 1), payload)
+        overlay.end(2, signal.SIGKILL)
+        judge.equal("a message that can't arrive is sent", overlay.ask(1, "send 3 -"), f"accepted {len(MESSAGES) + 1}")
+        judge.equal("and doesn't arrive", overlay.take(3, 1, 0.5), None)
+    finally:
+        overlay.end_all()
+    for node in overlay.ports:
+        verified(judge, "daemons that are stopped", overlay, node)
+
+
+def daemons_end(judge, folder, program):
+    """Daemons end by themselves after their turns, and the last line says so."""
+    overlay = Overlay(folder, program)
+    try:
+        overlay.make(line_of(3), HEIGHT)
+        children = [overlay.start(node, FEW_TURNS) for node in overlay.ports]
+        for node, child in zip(overlay.ports, children):
+            judge.equal(f"node {node} ends", child.wait(timeout=5), 0)
+    finally:
+        overlay.end_all()
+    for node in overlay.ports:
+        lines = overlay.recording(node).split(b"\n")
+        judge.equal(f"the first line of node {node}", lines[0], b"recording 1 1 0 1024")
+        judge.equal(f"the last line of node {node}", lines[-2], b"end turns %d lost 0" % FEW_TURNS)
+        judge.equal(f"the ticks of node {node}", sum(line.startswith(b"tick ") for line in lines), FEW_TURNS)
+        judge.equal(f"the polls of node {node}", sum(line.startswith(b"poll ") for line in lines), FEW_TURNS)
+        verified(judge, "daemons that ended", overlay, node)
+
+
+def main():
+    if len(sys.argv) != 2:
+        sys.exit("usage: python3 .ci/overlay.py PATH/TO/spinesd")
+    judge = Judge()
+    with tempfile.TemporaryDirectory() as folder:
+        messages_arrive(judge, os.path.join(folder, "messages"), sys.argv[1])
+        daemons_end(judge, os.path.join(folder, "ended"), sys.argv[1])
+    print(f"{judge.looks - judge.wrong} looks at an overlay of daemons as wanted, {judge.wrong} not")
+    sys.exit(1 if judge.wrong else 0)
+
+
+if __name__ == "__main__":
+    main()
