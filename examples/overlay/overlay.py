@@ -117,7 +117,9 @@ class Overlay:
     def start(self, node, turns):
         """Starts the daemon of a node, which ends by itself after so many turns."""
         with open(self.path(f"{node}.toml"), "rb") as given, open(self.path(f"{node}.recording"), "wb") as recording:
-            child = subprocess.Popen([self.program, "daemon", "--turns", str(turns)], stdin=given, stdout=recording, start_new_session=True)
+            words = [self.program, "daemon", "--turns", str(turns)]
+            # it has no end of the caller's pipes, so who started it needn't wait for it
+            child = subprocess.Popen(words, stdin=given, stdout=recording, stderr=subprocess.DEVNULL, start_new_session=True)
         self.children[node] = child
         self.write(f"{node}.pid", str(child.pid))
         return child

@@ -171,7 +171,7 @@ claimed (Some (commands.Daemon turns)) left o = record {
 }
 claimed (Some (commands.Ask a)) left o = record {
   wrote = λ _. (refl, refl);
-  served = inr (inr (record { memory = refl; unwritten = refl }));
+  served = inr (inr (record { memory = refl; called = inl refl; unwritten = refl }));
   complete = λ read written. tt;
   generated = tt;
   usage = λ is. absurd (cc);

@@ -36,7 +36,8 @@ told a would status line before after answers (inl whole) =
     inl (record { line = line; answers = subst (λ (s : Status). Answers (question_of a) before after s line) (sym whole.0) answers; written = whole.1 })
 told a would status line before after answers (inr (inl begun)) =
     inr (inl (record { sink = begun.0; would = would; line = line; answers = answers; begun = begun.1 }))
-told a would status line before after answers (inr (inr memory)) = inr (inr (record { memory = memory.0; unwritten = memory.1 }))
+told a would status line before after answers (inr (inr memory)) =
+    inr (inr (record { memory = memory.0; called = inr (would, line, answers); unwritten = memory.1 }))
 
 -- the question of which these are the port, the turns and the bytes
 abbrev question : Ask → Bor (List ℕ) → Question
@@ -79,6 +80,6 @@ pub unopened : (a : Ask) (bytes : Bor (List ℕ)) (status : Status) (w0 w1 : Opt
 unopened a bytes status w0 w1 c b0 b1 same opened is =
     told a statuses.Wire status wire_line (record { wire = w0; clock = c; text = b0 }) (record { wire = w1; clock = c; text = b1 }) (No_port (same_unopened a bytes w0 w1 same opened)) is
 
-pub forgotten : (a : Ask) (w0 w1 : Option (List Call)) (c : Option (List ℕ)) (b : Option (List ℕ))
+pub forgotten : (a : Ask) (w0 w1 : Option (List Call)) (c : Option (List ℕ)) (b : Option (List ℕ)) → w1 ≡ w0
     → AskEnds a statuses.Memory (record { wire = w0; clock = c; text = b }) (record { wire = w1; clock = c; text = b })
-forgotten a w0 w1 c b = inr (inr (record { memory = refl; unwritten = refl }))
+forgotten a w0 w1 c b same = inr (inr (record { memory = refl; called = inl same; unwritten = refl }))

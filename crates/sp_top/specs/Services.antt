@@ -65,16 +65,17 @@ pub record IsUntold (q : Question) (status : Status) (before after : Outside) : 
   pub answers : Answers q before after would line
   pub begun : AppendsFront before.text after.text line
 
--- there was no memory, and nothing was written
-pub record IsForgotten (status : Status) (before after : Outside) : Type 0 where
+-- there was no memory: before anything was called, or for the line that the question came to. Nothing was written
+pub record IsForgotten (q : Question) (status : Status) (before after : Outside) : Type 0 where
   pub memory : status ≡ statuses.Memory
+  pub called : (after.wire ≡ before.wire) ⊎ ((would : Status) × (line : List ℕ) × Answers q before after would line)
   pub unwritten : after.text ≡ before.text
 
 abbrev pub question_of : Ask → Question
 question_of a = record { port = a.port; local = a.local; turns = a.turns; request = a.request }
 
 abbrev pub AskEnds : Ask → Status → Outside → Outside → Type 0
-AskEnds a status before after = IsAnswered (question_of a) status before after ⊎ (IsUntold (question_of a) status before after ⊎ IsForgotten status before after)
+AskEnds a status before after = IsAnswered (question_of a) status before after ⊎ (IsUntold (question_of a) status before after ⊎ IsForgotten (question_of a) status before after)
 
 -- the run ended so, and this line was written; or the sink failed, and has a beginning of it; or there was no memory for it
 abbrev pub IsTold : Status → List ℕ → Status → Option (List ℕ) → Option (List ℕ) → Type 0

@@ -1,5 +1,5 @@
-use Rattle.std.proofs.Common.{Err, ap}
-use Rattle.sp_top.proofs.Services.{replied, unanswered, unopened}
+use Rattle.std.proofs.Common.{Err, ap, inr}
+use Rattle.sp_top.proofs.Services.{forgotten, replied, unanswered, unopened}
 use Rattle.sp_top.proofs.question.question.Goals as goal
 
 pub returns-in-Ok-clause-ends : goal.returns-in-Ok-clause-ends
@@ -15,3 +15,7 @@ pub returns-in-Err-Unopened-clause-ends : goal.returns-in-Err-Unopened-clause-en
 returns-in-Err-Unopened-clause-ends g c = λ clock.
     unopened c.args.asked c.as_bytes.result _ _ _ clock _ _ c.as_bytes.ensures.value (c.in-Err-Unopened.ensures.unopened (ap Err c.in-Err-Unopened.field-0-is))
     c.tell.ensures.told
+
+pub returns-in-Err-Memory-clause-ends : goal.returns-in-Err-Memory-clause-ends
+returns-in-Err-Memory-clause-ends g c = rw c.forgotten.ensures (λ clock.
+    forgotten c.args.asked _ _ clock _ (ap g.W.Wire.told (c.in-Err-Memory.ensures.untouched (inr (ap Err c.in-Err-Memory.field-0-is)))))
