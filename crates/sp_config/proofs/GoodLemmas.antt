@@ -1,5 +1,5 @@
 -- Where no key is missing and none is out of range, each value is what its row wants.
-use Rattle.std.proofs.Common.{◌≡◌, ℕ, ◌≤◌, ℤ, pos, negsuc, Bool, true, false, ◌||◌, List, [], ◌∷◌, ◌++◌, Option, Some, None, is_some, option_and_then, Result, Ok, Err, codes, refl, inl, inr, arith}
+use Rattle.std.proofs.Common.{◌≡◌, ℕ, ◌≤◌, ℤ, pos, negsuc, Bool, true, ◌||◌, List, [], ◌∷◌, ◌++◌, Option, Some, None, is_some, option_and_then, Result, Ok, Err, codes, refl, inl, inr, arith}
 use Rattle.std.proofs.lemmas.Bool.{cases_Bool}
 use Rattle.std.proofs.lemmas.Bool.Decides.{nat_tests}
 use Rattle.sp_base.specs.Cursor.{or_else}
@@ -7,7 +7,7 @@ use Rattle.sp_base.specs.Refusals.{◌>>=◌}
 use Rattle.toml.specs.Data.{Data, string, integer, float, boolean, datetime, array, table, Members, get_member, as_integer}
 use Rattle.sp_config.specs.declared.keys.Form.{Form}
 use Rattle.sp_config.specs.declared.keys.Form.TheVariants as forms
-use Rattle.sp_config.specs.declared.keys.Shape.TheVariants.{Index, Number}
+use Rattle.sp_config.specs.declared.keys.Shape.TheVariants.{Number}
 use Rattle.sp_config.specs.declared.refused.ConfigRefused.{ConfigRefused}
 use Rattle.sp_config.specs.declared.walks.Wrong.{Wrong}
 use Rattle.sp_config.specs.declared.walks.Wrong.TheVariants.{Missing, Range, Unknown}
@@ -121,30 +121,3 @@ number_below bound low high name optional (Some (boolean b)) h = omega arith
 number_below bound low high name optional (Some (datetime dt)) h = omega arith
 number_below bound low high name optional (Some (array ds)) h = omega arith
 number_below bound low high name optional (Some (table ms)) h = omega arith
-
-within_above : (low high : ℕ) (z : ℤ) → is_within low high z ≡ true → low ≤ number_of (Some z)
-within_above low high (pos n) h = grind (arith, nat_tests)
-within_above low high (negsuc n) h = let wrong : false ≡ true = h in absurd (cc)
-
-pub number_above : (bound low high : ℕ) (name : List ℕ) (d : Option Data) → IsGoodAt bound (record { name = name; optional = false; shape = Number low high }) d
-    → low ≤ number_of (option_and_then as_integer d)
-number_above bound low high name None h = let wrong : false ≡ true = h in absurd (cc)
-number_above bound low high name (Some (integer z)) h = within_above low high z h
-number_above bound low high name (Some (string t)) h = let wrong : false ≡ true = h in absurd (cc)
-number_above bound low high name (Some (float x)) h = let wrong : false ≡ true = h in absurd (cc)
-number_above bound low high name (Some (boolean b)) h = let wrong : false ≡ true = h in absurd (cc)
-number_above bound low high name (Some (datetime dt)) h = let wrong : false ≡ true = h in absurd (cc)
-number_above bound low high name (Some (array ds)) h = let wrong : false ≡ true = h in absurd (cc)
-number_above bound low high name (Some (table ms)) h = let wrong : false ≡ true = h in absurd (cc)
-
--- an index below its bound
-pub index_below : (bound : ℕ) (name : List ℕ) (d : Option Data) → IsGoodAt bound (record { name = name; optional = false; shape = Index }) d
-    → number_of (option_and_then as_integer d) ≤ bound
-index_below bound name None h = omega arith
-index_below bound name (Some (integer z)) h = within_below 0 bound z h
-index_below bound name (Some (string t)) h = omega arith
-index_below bound name (Some (float x)) h = omega arith
-index_below bound name (Some (boolean b)) h = omega arith
-index_below bound name (Some (datetime dt)) h = omega arith
-index_below bound name (Some (array ds)) h = omega arith
-index_below bound name (Some (table ms)) h = omega arith

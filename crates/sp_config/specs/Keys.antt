@@ -35,12 +35,10 @@ own_keys =
     ∷ must (codes "client_port") (Number 1 (2 ^ 16 - 1))
     ∷ []
 
--- where its counts go on, its bounds, and its neighbours
+-- its bounds, and its neighbours
 abbrev pub running_keys : List Row
 running_keys =
-    must (codes "boot") (Number 1 (2 ^ 63 - 1))
-    ∷ must (codes "first_index") Index
-    ∷ may (codes "buffer") (Number 1 MAX_BUFFER)
+    may (codes "buffer") (Number 1 MAX_BUFFER)
     ∷ may (codes "store") (Number 1 MAX_STORE)
     ∷ may (codes "peer") Tables
     ∷ []

@@ -1,5 +1,5 @@
 -- What a text says: the four refusals in their order, and the values.
-use Rattle.std.specs.Prelude.{ℕ, ◌≡◌, ◌≢◌, ◌<◌, ◌≤◌, ◌-◌, ◌^◌, ◌==◌, List, map, Option, Some, None, Result, Ok, Err, codes, if◌then◌else◌}
+use Rattle.std.specs.Prelude.{ℕ, ◌≡◌, ◌≢◌, ◌-◌, ◌^◌, ◌==◌, List, map, Option, Some, None, Result, Ok, Err, codes, if◌then◌else◌}
 use Rattle.sp_base.specs.Refusals.{◌>>=◌, as_refusal}
 use Rattle.sp_topology.specs.Documents.{read_of}
 use Rattle.sp_topology.specs.Faults.{graph_fault}
@@ -10,6 +10,7 @@ use Rattle.sp_topology.specs.declared.refused.TopologyRefused.{TopologyRefused}
 use Rattle.toml.specs.Data.{Members, get_member}
 use Rattle.toml.specs.Parse.{parse_document}
 use Rattle.sp_config.specs.declared.config.Config.{Config}
+use Rattle.sp_config.specs.declared.config.TheConstants.{NO_INDEX}
 use Rattle.sp_config.specs.declared.config.Peer.{Peer}
 use Rattle.sp_config.specs.declared.draft.Draft.{Draft}
 use Rattle.sp_config.specs.declared.draft.DraftEdge.{DraftEdge}
@@ -49,14 +50,9 @@ total Ten = 2 ^ 20
 
 -- ---- a configuration
 
--- the height of the document
-abbrev pub height_of : List ℕ → Result LmsHeight TopologyRefused
-height_of document = read_of document >>= λ read. Ok read.0.height
-
--- the greatest first index: the total of the document's height, or any number where the document is refused
-abbrev pub index_bound : Result LmsHeight TopologyRefused → ℕ
-index_bound (Ok height) = total height
-index_bound (Err refused) = 2 ^ 64 - 1
+-- whether the bytes begin with a document, or why they are refused
+abbrev pub document_in : List ℕ → Result (Unit {0}) TopologyRefused
+document_in bytes = read_of bytes >>= λ read. Ok tt
 
 abbrev pub peer_of : Members → Peer
 peer_of ms = record { id = record { 0 = number_at (codes "id") ms }; port = number_at (codes "port") ms; key = bytes_at (codes "key") ms }
@@ -69,8 +65,6 @@ config_from ms = record {
   topology = bytes_at (codes "topology") ms;
   port = number_at (codes "port") ms;
   client_port = number_at (codes "client_port") ms;
-  boot = number_at (codes "boot") ms;
-  first_index = number_at (codes "first_index") ms;
   buffer = number_or 16 (get_member (codes "buffer") ms);
   store = number_or 64 (get_member (codes "store") ms);
   peers = map peer_of (tables_at (codes "peer") ms);
@@ -79,14 +73,9 @@ config_from ms = record {
 unfoldable pub config_in : Members → Result Config ConfigRefused
 config_in ms = do
   _ ← refused_keys forms.Config ms
-  _ ← refused_by (Range (index_bound (height_of (bytes_at (codes "topology") ms)))) forms.Config ms
-  _ ← as_refusal refusals.Topology (height_of (bytes_at (codes "topology") ms))
+  _ ← refused_by (Range NO_INDEX) forms.Config ms
+  _ ← as_refusal refusals.Topology (document_in (bytes_at (codes "topology") ms))
   Ok (config_from ms)
-
--- what is known of each configuration that is read
-pub record IsRanged (c : Config) : Type 0 where
-  pub boot : (1 ≤ c.boot) × (c.boot < 2 ^ 63)
-  pub index : (height : LmsHeight) → height_of c.topology ≡ Ok height → c.first_index ≤ total height
 
 -- ---- a draft
 

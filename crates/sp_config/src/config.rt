@@ -1,20 +1,22 @@
 // A configuration: what an operator tells a daemon.
-ghost use Rattle.std.specs.Prelude.{◌≡◌, ◌<◌, ◌≤◌, ◌^◌, IfOk, codes, map};
+ghost use Rattle.std.specs.Prelude.{◌≡◌, IfOk, codes, map};
 ghost use Rattle.toml.specs.Data.{get_member};
 ghost use Rattle.toml.specs.View.{items_view, table_view};
+ghost use Rattle.sp_config.specs.declared.config.TheConstants.{NO_INDEX};
 ghost use Rattle.sp_config.specs.Good.{AreGood, IsGood};
 ghost use Rattle.sp_config.specs.Keys.{own_keys, peer_keys, running_keys};
-ghost use Rattle.sp_config.specs.Readings.{GivesInMemory, IsRanged, config_from, config_in, config_of, height_of, index_bound, peer_of};
+ghost use Rattle.sp_base.specs.Refusals.{as_refusal};
+ghost use Rattle.sp_config.specs.Readings.{GivesInMemory, config_from, config_in, config_of, document_in, peer_of};
 ghost use Rattle.sp_config.specs.Values.{bytes_at, number_at, number_or, tables_at, tables_of};
 
 use crate::ConfigRefused;
 use crate::digits::{bytes_of, key_of, seed_of};
 use crate::keys::Form;
-use crate::steps::{refuse, refuse_keys, table_of, total};
-use crate::values::{array_at, byte_at, number_at, short_at, short_or, text_at};
+use crate::steps::{refuse, refuse_keys, table_of};
+use crate::values::{array_at, byte_at, short_at, short_or, text_at};
 use crate::walks::Wrong;
 use sp_base::{Bytes, Listed, Memory, NodeId};
-use sp_topology::{LmsHeight, Topology, TopologyRefused};
+use sp_topology::{Topology, TopologyRefused};
 use std::alloc::Global;
 use toml::{Table, Value};
 
@@ -24,7 +26,10 @@ const BUFFER: u16 = 16;
 /// The bound of a store where it isn't said.
 const STORE: u16 = 64;
 
-/// What a daemon is told: who it is, the signed topology and its administrator's key, its ports, where its counts go on, and its bounds.
+/// No key of a configuration is an index, so the greatest index counts for none.
+const NO_INDEX: u64 = 0;
+
+/// What a daemon is told: who it is, the signed topology and its administrator's key, its ports, and its bounds.
 /// A debug line says neither the seed nor a key.
 #[derive(Drop)]
 pub struct Config {
@@ -35,8 +40,6 @@ pub struct Config {
     pub topology: Bytes,
     pub port: u16,
     pub client_port: u16,
-    pub boot: u64,
-    pub first_index: u64,
     /// 16 where it isn't said.
     pub buffer: u16,
     /// 64 where it isn't said.
@@ -54,8 +57,7 @@ pub struct Peer {
 
 /// The configuration that the text says, or the first refusal in the order of `ConfigRefused`.
 pub fn read_config(alloc: Global, text: &str) -> Result<Config, ConfigRefused>
-    ensures said { GivesInMemory (λ config. config) result (config_of text.now) }
-    ensures ranges { IfOk result IsRanged }
+    ensures { GivesInMemory (λ config. config) result (config_of text.now) }
 {
     let table = table_of(alloc, text)?;
     config_in(alloc, &table)
@@ -63,61 +65,38 @@ pub fn read_config(alloc: Global, text: &str) -> Result<Config, ConfigRefused>
 
 #[tactic(auto, unfolding(crate::specs::Readings::config_in))]
 fn config_in(alloc: Global, table: &Table) -> Result<Config, ConfigRefused>
-    ensures said { GivesInMemory (λ config. config) result (config_in (table_view table.now)) }
-    ensures ranges { IfOk result IsRanged }
+    ensures { GivesInMemory (λ config. config) result (config_in (table_view table.now)) }
 {
     refuse_keys(alloc, Form::Config, table)?;
+    refuse(alloc, Wrong::Range(NO_INDEX), Form::Config, table)?;
     let document = bytes_of(alloc, text_at(table, "topology"))?;
-    let height = height_of(alloc, &document)?;
-    let bound = index_bound(&height);
-    refuse(alloc, Wrong::Range(bound), Form::Config, table)?;
-    if let Err(refused) = height {
-        return Err(ConfigRefused::Topology(refused));
-    }
-    Ok(config_from(alloc, bound, table, document)?)
+    refuse_document(alloc, &document)?;
+    Ok(config_from(alloc, table, document)?)
 }
 
-/// The height of a document, or why it is refused.
-fn height_of(alloc: Global, document: &[u8]) -> Result<Result<LmsHeight, TopologyRefused>, Memory>
-    ensures { IfOk result (λ height. height ≡ height_of document.now) }
+/// Refuses bytes that don't begin with a document.
+fn refuse_document(alloc: Global, document: &[u8]) -> Result<(), ConfigRefused>
+    ensures { GivesInMemory (λ none. none) result (as_refusal ConfigRefused.Topology (document_in document.now)) }
 {
     match Topology::read(alloc, document) {
-        Ok((topology, _)) => Ok(Ok(topology.height)),
-        Err(TopologyRefused::Memory) => Err(Memory),
-        Err(refused) => Ok(Err(refused)),
-    }
-}
-
-/// The greatest first index.
-fn index_bound(height: &Result<LmsHeight, TopologyRefused>) -> u64
-    ensures { result ≡ index_bound height.now }
-{
-    match height {
-        Ok(height) => total(*height),
-        Err(_) => u64::MAX,
+        Ok(_) => Ok(()),
+        Err(TopologyRefused::Memory) => Err(ConfigRefused::Memory),
+        Err(refused) => Err(ConfigRefused::Topology(refused)),
     }
 }
 
 /// The values of a good table, with the document at its key `topology`.
-fn config_from(
-    alloc: Global,
-    bound: u64,
-    table: &Table,
-    document: Vec<u8>,
-) -> Result<Config, Memory>
-    requires own { IsGood own_keys bound (table_view table.now) }
-    requires running { IsGood running_keys bound (table_view table.now) }
-    requires peers { AreGood peer_keys bound (tables_at (codes "peer") (table_view table.now)) }
+fn config_from(alloc: Global, table: &Table, document: Vec<u8>) -> Result<Config, Memory>
+    requires own { IsGood own_keys NO_INDEX (table_view table.now) }
+    requires running { IsGood running_keys NO_INDEX (table_view table.now) }
+    requires peers { AreGood peer_keys NO_INDEX (tables_at (codes "peer") (table_view table.now)) }
     requires document { document.items ≡ bytes_at (codes "topology") (table_view table.now) }
-    ensures config { IfOk result (λ config. config ≡ config_from (table_view table.now)) }
-    ensures life { IfOk result (λ config. (1 ≤ config.boot) × (config.boot < 2 ^ 63)) }
-    ensures index { IfOk result (λ config. config.first_index ≤ bound) }
+    ensures { IfOk result (λ config. config ≡ config_from (table_view table.now)) }
 {
-    let peers = peers_of(alloc, bound, array_at(table, "peer"))?;
-    let (node, seed, admin) = own_of(bound, table);
-    let (port, client_port) = ports_of(bound, table);
-    let (boot, first_index) = counts_of(bound, table);
-    let (buffer, store) = bounds_of(bound, table);
+    let peers = peers_of(alloc, array_at(table, "peer"))?;
+    let (node, seed, admin) = own_of(table);
+    let (port, client_port) = ports_of(table);
+    let (buffer, store) = bounds_of(table);
     Ok(Config {
         node,
         seed,
@@ -125,8 +104,6 @@ fn config_from(
         topology: Bytes::from_vec(document),
         port,
         client_port,
-        boot,
-        first_index,
         buffer,
         store,
         peers: Listed::from_vec(peers),
@@ -134,8 +111,8 @@ fn config_from(
 }
 
 #[tactic(auto, unfolding(crate::specs::Good::IsGood))]
-fn own_of(bound: u64, table: &Table) -> (NodeId, [u8; 32], [u8; 60])
-    requires { IsGood own_keys bound (table_view table.now) }
+fn own_of(table: &Table) -> (NodeId, [u8; 32], [u8; 60])
+    requires { IsGood own_keys NO_INDEX (table_view table.now) }
     ensures node { result.0.0 ≡ number_at (codes "node") (table_view table.now) }
     ensures seed { result.1 ≡ bytes_at (codes "seed") (table_view table.now) }
     ensures admin { result.2 ≡ bytes_at (codes "admin") (table_view table.now) }
@@ -147,8 +124,8 @@ fn own_of(bound: u64, table: &Table) -> (NodeId, [u8; 32], [u8; 60])
 }
 
 #[tactic(auto, unfolding(crate::specs::Good::IsGood))]
-fn ports_of(bound: u64, table: &Table) -> (u16, u16)
-    requires { IsGood own_keys bound (table_view table.now) }
+fn ports_of(table: &Table) -> (u16, u16)
+    requires { IsGood own_keys NO_INDEX (table_view table.now) }
     ensures port { result.0 ≡ number_at (codes "port") (table_view table.now) }
     ensures client_port { result.1 ≡ number_at (codes "client_port") (table_view table.now) }
 {
@@ -156,19 +133,8 @@ fn ports_of(bound: u64, table: &Table) -> (u16, u16)
 }
 
 #[tactic(auto, unfolding(crate::specs::Good::IsGood))]
-fn counts_of(bound: u64, table: &Table) -> (u64, u64)
-    requires { IsGood running_keys bound (table_view table.now) }
-    ensures boot { result.0 ≡ number_at (codes "boot") (table_view table.now) }
-    ensures index { result.1 ≡ number_at (codes "first_index") (table_view table.now) }
-    ensures life { (1 ≤ result.0) × (result.0 < 2 ^ 63) }
-    ensures within { result.1 ≤ bound }
-{
-    (number_at(table, "boot"), number_at(table, "first_index"))
-}
-
-#[tactic(auto, unfolding(crate::specs::Good::IsGood))]
-fn bounds_of(bound: u64, table: &Table) -> (u16, u16)
-    requires { IsGood running_keys bound (table_view table.now) }
+fn bounds_of(table: &Table) -> (u16, u16)
+    requires { IsGood running_keys NO_INDEX (table_view table.now) }
     ensures buffer { result.0 ≡ number_or 16 (get_member (codes "buffer") (table_view table.now)) }
     ensures store { result.1 ≡ number_or 64 (get_member (codes "store") (table_view table.now)) }
 {
@@ -179,22 +145,22 @@ fn bounds_of(bound: u64, table: &Table) -> (u16, u16)
 }
 
 /// Each of these tables as a peer.
-fn peers_of(alloc: Global, bound: u64, values: &[Value]) -> Result<Vec<Peer>, Memory>
-    requires { AreGood peer_keys bound (tables_of (items_view values.now)) }
+fn peers_of(alloc: Global, values: &[Value]) -> Result<Vec<Peer>, Memory>
+    requires { AreGood peer_keys NO_INDEX (tables_of (items_view values.now)) }
     ensures { IfOk result (λ peers. peers.items ≡ map peer_of (tables_of (items_view values.now))) }
 {
     let mut peers = Vec::new(alloc);
     'peers: for value in values {
         if let Some(inside) = value.as_table() {
-            peers.push(peer_of(bound, inside))?;
+            peers.push(peer_of(inside))?;
         }
     }
     Ok(peers)
 }
 
 #[tactic(auto, unfolding(crate::specs::Good::IsGood))]
-fn peer_of(bound: u64, table: &Table) -> Peer
-    requires { IsGood peer_keys bound (table_view table.now) }
+fn peer_of(table: &Table) -> Peer
+    requires { IsGood peer_keys NO_INDEX (table_view table.now) }
     ensures { result ≡ peer_of (table_view table.now) }
 {
     let id = NodeId(byte_at(table, "id"));

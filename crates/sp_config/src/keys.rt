@@ -85,13 +85,11 @@ fn own_keys() -> &'static [Key]
     ]
 }
 
-/// Where its counts go on, its bounds, and its neighbours.
+/// Its bounds, and its neighbours.
 fn running_keys() -> &'static [Key]
     ensures { map row_of result.now ≡ running_keys }
 {
     &[
-        Key::Must("boot", Shape::Number(1, i64::MAX as u64)),
-        Key::Must("first_index", Shape::Index),
         Key::May("buffer", Shape::Number(1, MAX_BUFFER as u64)),
         Key::May("store", Shape::Number(1, MAX_STORE as u64)),
         Key::May("peer", Shape::Tables),

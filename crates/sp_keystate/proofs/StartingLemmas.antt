@@ -1,6 +1,6 @@
 -- A start: an open, the next boot, and a reserve.
-use Rattle.std.proofs.Common.{◌≡◌, ℕ, ◌+◌, ◌<◌, ◌≤◌, min, Bool, true, false, List, Option, None, Some, refl, sym, ap, subst, ◌∙◌, arith}
-use Rattle.std.specs.Prelude.{IfSome, if◌then◌else◌, nat_le}
+use Rattle.std.proofs.Common.{◌≡◌, ℕ, ◌+◌, ◌<◌, ◌≤◌, min, Bool, true, false, List, Option, None, Some, refl, sym, ap, subst, ◌∙◌, arith, inl, inr}
+use Rattle.std.specs.Prelude.{Err, IfSome, ◌==◌, ◌-◌, ◌^◌, if◌then◌else◌, nat_le}
 use Rattle.std.proofs.lemmas.Bool.Decides.{nat_tests}
 use Rattle.std.proofs.lemmas.Option.{none-some}
 use Rattle.sp_outside.specs.Disk.{Disk, IsImage, bytes_of, still}
@@ -14,12 +14,19 @@ use Rattle.sp_keystate.specs.declared.starts.Started.{Started}
 use Rattle.sp_keystate.specs.Slots.{in_slot, in_use}
 use Rattle.sp_keystate.specs.Changes.{Changes, changed}
 use Rattle.sp_keystate.specs.Soundness.{IsSound, Keeps}
-use Rattle.sp_keystate.specs.States.{Finds, KeepsMeanwhile, SoundAs, changed_state, numbers_of, reserve_end, serial_end}
-use Rattle.sp_keystate.specs.Starting.{BeginsAt, KeepsAll, Starts, StartsSafely}
+use Rattle.sp_keystate.specs.States.{Finds, IsChangeAnswer, IsOpenAnswer, IsSoundAt, KeepsMeanwhile, SoundAs, boot_end, changed_state, numbers_of, reserve_end, serial_end}
+use Rattle.sp_keystate.specs.declared.refused.KeyRefused.{KeyRefused}
+use Rattle.sp_keystate.specs.declared.refused.KeyRefused.TheVariants.{KeeperFault, Unformatted, Formatted, Exhausted}
+use Rattle.sp_keystate.specs.Starting.{AreSpent, BeginsAt, IsSpent, KeepsAll, NoStart, Starts, StartsSafely}
 use Rattle.sp_keystate.proofs.Pieces.{same_some}
 use Rattle.sp_keystate.proofs.Since.{since_on, since_weaker}
 
 -- ---- what was found
+
+-- the keeper tells its bytes
+abbrev IsTold : Option Disk → Type 0
+IsTold None = ⊥
+IsTold (Some disk) = Unit {0}
 
 no_end : (total bound : ℕ) (o : Option ℕ) → (if nat_le total bound then Some bound else o) ≡ None → bound < total
 no_end total bound o is = go (nat_le total bound) refl is
@@ -28,15 +35,22 @@ no_end total bound o is = go (nat_le total bound) refl is
     go true most e = absurd (none-some bound (sym e))
     go false less e = grind (arith, nat_tests)
 
+no_last : (opened : KeyState) → boot_end opened ≡ None → opened.boot < 2 ^ 63 - 1
+no_last opened is = go (nat_le (2 ^ 63 - 1) opened.boot) refl is
+  where
+    go : (t : Bool) → nat_le (2 ^ 63 - 1) opened.boot ≡ t → (if t then Some opened.boot else serial_end opened) ≡ None → opened.boot < 2 ^ 63 - 1
+    go true most e = absurd (none-some opened.boot (sym e))
+    go false less e = grind (arith, nat_tests)
+
 begins_at : (d e : Option Disk) (opened last : KeyState) (first : ℕ) → Finds d e (Some (in_slot opened.slot (numbers_of opened))) → first ≡ opened.bound → last.boot ≡ opened.boot + 1
     → IfSome d (BeginsAt (record { state = last; first = first }))
 begins_at None e opened last first finds is boot = tt
 begins_at (Some d) e opened last first finds is boot = record { found = in_slot opened.slot (numbers_of opened); stood = sym finds.1; first = is; boot = boot }
 
 pub starts : (d e : Option Disk) (opened booted last : KeyState) (n total : ℕ) → Finds d e (Some (in_slot opened.slot (numbers_of opened)))
-    → booted ≡ changed_state opened opened.bound (opened.boot + 1) → reserve_end booted total ≡ None → last ≡ changed_state booted (min (booted.bound + n) total) booted.boot
-    → Starts d n total (record { state = last; first = opened.bound })
-starts d e opened booted last n total finds boot room is =
+    → boot_end opened ≡ None → booted ≡ changed_state opened opened.bound (opened.boot + 1) → reserve_end booted total ≡ None
+    → last ≡ changed_state booted (min (booted.bound + n) total) booted.boot → Starts d n total (record { state = last; first = opened.bound })
+starts d e opened booted last n total finds another boot room is =
     let bound : booted.bound ≡ opened.bound = ap (λ (s : KeyState). s.bound) boot in
     let last_bound : last.bound ≡ min (booted.bound + n) total = ap (λ (s : KeyState). s.bound) is in
     let last_boot : last.boot ≡ opened.boot + 1 = ap (λ (s : KeyState). s.boot) is ∙ ap (λ (s : KeyState). s.boot) boot in
@@ -45,11 +59,29 @@ starts d e opened booted last n total finds boot room is =
       begins = begins_at d e opened last opened.bound finds refl last_boot;
       some = omega (arith, some, bound);
       bound = last_bound ∙ ap (λ (b : ℕ). min (b + n) total) bound;
+      boot = (omega (arith, last_boot), (let few = no_last opened another in omega (arith, last_boot, few)));
     }
 
-pub starts_safely : (d e : Option Disk) (started : Started) → IfSome e (SoundAs started.state) → StartsSafely d e started
-starts_safely None e started sound = tt
-starts_safely (Some d) e started sound = λ slot numbers is. sound
+-- a call that changes the file leaves one that is told, where one was
+told_on : (d e : Option Disk) (at : ℕ) (next : Numbers) → Changes d e at next → IsTold d → IsTold e
+told_on None e at next changes told = absurd told
+told_on (Some d) None at next changes told = absurd (none-some _ changes)
+told_on (Some d) (Some e) at next changes told = tt
+
+found_on : (d e : Option Disk) (o : Option InUse) → Finds d e o → IsTold d → IsTold e
+found_on None e o finds told = absurd told
+found_on (Some d) None o finds told = absurd (none-some _ finds.0)
+found_on (Some d) (Some e) o finds told = tt
+
+sound_told : (e : Option Disk) (state : KeyState) → IsTold e → IfSome e (SoundAs state) → IsSoundAt e state
+sound_told None state told sound = absurd told
+sound_told (Some e) state told sound = sound
+
+pub starts_safely : (d e f g : Option Disk) (o : Option InUse) (at to : ℕ) (next later : Numbers) (started : Started) → Finds d e o → Changes e f at next → Changes f g to later
+    → IfSome g (SoundAs started.state) → StartsSafely d g started
+starts_safely None e f g o at to next later started finds boots reserves sound = tt
+starts_safely (Some d) e f g o at to next later started finds boots reserves sound = λ slot numbers is.
+    sound_told g started.state (told_on f g to later reserves (told_on e f at next boots (found_on (Some d) e o finds tt))) sound
 
 -- ---- what a crash leaves meanwhile
 
@@ -108,3 +140,60 @@ keeps_reserve d e f p t u opened booted at next finds is changes safe before dur
     let bound : numbers.bound ≡ booted.bound = ap (λ (u : InUse). u.numbers.bound) (sym found.1) ∙ sym (ap (λ (s : KeyState). s.bound) is) in
     let boot : numbers.boot + 1 ≡ booted.boot = ap (λ (u : InUse). u.numbers.boot + 1) (sym found.1) ∙ sym (ap (λ (s : KeyState). s.boot) is) in
     keeps_on p t u numbers.bound numbers.boot booted.bound booted.boot (omega (arith, bound)) (omega (arith, boot)) (before file slot numbers told sound) (during now.0 now.1 now.2)
+
+-- ---- why there is no start
+
+unformatted : (d e : Option Disk) → Finds d e None → IfSome d (λ disk. in_use (bytes_of disk) ≡ None)
+unformatted None e finds = tt
+unformatted (Some d) e finds = sym finds.1
+
+pub unopened : (d e : Option Disk) (total : ℕ) (refused : KeyRefused) → IsOpenAnswer {T = Unit {0}} (Err refused) → (refused ≡ Unformatted → Finds d e None) → NoStart d total refused
+unopened d e total KeeperFault answer finds = tt
+unopened d e total Unformatted answer finds = unformatted d e (finds refl)
+unopened d e total Formatted answer finds = absurd answer
+unopened d e total (Exhausted number) answer finds = absurd answer
+
+spent : (d e : Option Disk) (total : ℕ) (opened : KeyState) → Finds d e (Some (in_slot opened.slot (numbers_of opened))) → AreSpent total (numbers_of opened) → IfSome d (IsSpent total)
+spent None e total opened finds is = tt
+spent (Some d) e total opened finds is = record { found = in_slot opened.slot (numbers_of opened); stood = sym finds.1; spent = is }
+
+last_serial : (serial number : ℕ) → (if serial == 2 ^ 64 - 1 then Some serial else None) ≡ Some number → serial ≡ 2 ^ 64 - 1
+last_serial serial number is = go (serial == 2 ^ 64 - 1) refl is
+  where
+    go : (t : Bool) → (serial == 2 ^ 64 - 1) ≡ t → (if t then Some serial else None) ≡ Some number → serial ≡ 2 ^ 64 - 1
+    go true same e = grind (arith, nat_tests)
+    go false other e = absurd (none-some number e)
+
+no_boot : (total number : ℕ) (opened : KeyState) → boot_end opened ≡ Some number → AreSpent total (numbers_of opened)
+no_boot total number opened is = go (nat_le (2 ^ 63 - 1) opened.boot) refl is
+  where
+    go : (t : Bool) → nat_le (2 ^ 63 - 1) opened.boot ≡ t → (if t then Some opened.boot else serial_end opened) ≡ Some number → AreSpent total (numbers_of opened)
+    go true most e = inl (grind (arith, nat_tests))
+    go false less e = inr (inr (let last = last_serial opened.serial number e in omega (arith, last)))
+
+no_index : (total number : ℕ) (opened booted : KeyState) → booted ≡ changed_state opened opened.bound (opened.boot + 1) → reserve_end booted total ≡ Some number → AreSpent total (numbers_of opened)
+no_index total number opened booted boots is = go (nat_le total booted.bound) refl is
+  where
+    bound : booted.bound ≡ opened.bound
+    bound = ap (λ (s : KeyState). s.bound) boots
+
+    serial : booted.serial ≡ opened.serial + 1
+    serial = ap (λ (s : KeyState). s.serial) boots
+
+    go : (t : Bool) → nat_le total booted.bound ≡ t → (if t then Some booted.bound else serial_end booted) ≡ Some number → AreSpent total (numbers_of opened)
+    go true most e = inr (inl (let least : total ≤ booted.bound = grind (arith, nat_tests) in omega (arith, least, bound)))
+    go false less e = inr (inr (let last = last_serial booted.serial number e in omega (arith, last, serial)))
+
+pub unbooted : (d e : Option Disk) (total : ℕ) (opened : KeyState) (refused : KeyRefused) → Finds d e (Some (in_slot opened.slot (numbers_of opened)))
+    → IsChangeAnswer {T = Unit {0}} (boot_end opened) (Err refused) → NoStart d total refused
+unbooted d e total opened KeeperFault finds answer = tt
+unbooted d e total opened Unformatted finds answer = absurd answer
+unbooted d e total opened Formatted finds answer = absurd answer
+unbooted d e total opened (Exhausted number) finds answer = spent d e total opened finds (no_boot total number opened answer)
+
+pub unreserved : (d e : Option Disk) (total : ℕ) (opened booted : KeyState) (refused : KeyRefused) → Finds d e (Some (in_slot opened.slot (numbers_of opened)))
+    → booted ≡ changed_state opened opened.bound (opened.boot + 1) → IsChangeAnswer {T = Unit {0}} (reserve_end booted total) (Err refused) → NoStart d total refused
+unreserved d e total opened booted KeeperFault finds boots answer = tt
+unreserved d e total opened booted Unformatted finds boots answer = absurd answer
+unreserved d e total opened booted Formatted finds boots answer = absurd answer
+unreserved d e total opened booted (Exhausted number) finds boots answer = spent d e total opened finds (no_index total number opened booted boots answer)

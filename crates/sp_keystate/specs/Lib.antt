@@ -3,3 +3,4 @@ pub mod Changes
 pub mod Soundness
 pub mod States
 pub mod Starting
+pub mod RefusedLines

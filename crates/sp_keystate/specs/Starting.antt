@@ -1,5 +1,5 @@
 -- What a start takes from a key file before it signs.
-use Rattle.std.specs.Prelude.{ℕ, ◌≡◌, ◌+◌, ◌<◌, min, List, Option, None, Some, Result, Ok, Err, IfSome}
+use Rattle.std.specs.Prelude.{ℕ, ◌≡◌, ◌+◌, ◌-◌, ◌^◌, ◌<◌, ◌≤◌, ◌⊎◌, min, List, Option, None, Some, Result, Ok, Err, IfSome}
 use Rattle.sp_outside.specs.Disk.{Disk, bytes_of, still}
 use Rattle.sp_outside.specs.Moments.{AllSince}
 use Rattle.sp_keystate.specs.declared.numbers.Numbers.{Numbers}
@@ -10,7 +10,7 @@ use Rattle.sp_keystate.specs.declared.refused.KeyRefused.{KeyRefused}
 use Rattle.sp_keystate.specs.declared.refused.KeyRefused.TheVariants.{KeeperFault, Unformatted, Formatted, Exhausted}
 use Rattle.sp_keystate.specs.Slots.{in_use}
 use Rattle.sp_keystate.specs.Soundness.{IsSound, Keeps}
-use Rattle.sp_keystate.specs.States.{SoundAs}
+use Rattle.sp_keystate.specs.States.{IsSoundAt}
 
 -- the file stood for these numbers: the first index is their bound, and the boot is the next
 pub record BeginsAt (started : Started) (disk : Disk) : Type 0 where
@@ -24,11 +24,29 @@ pub record Starts (told : Option Disk) (n total : ℕ) (started : Started) : Typ
   -- some indexes are reserved, so many at most, and none from the total on
   pub some : started.first < total
   pub bound : started.state.bound ≡ min (started.first + n) total
+  -- it isn't start 0, and no start has a number of 64 bits
+  pub boot : (1 ≤ started.state.boot) × (started.state.boot < 2 ^ 63)
+
+-- the numbers of a file have no start left: no boot, no index of this total, or no serial for two changes
+abbrev pub AreSpent : ℕ → Numbers → Type 0
+AreSpent total found = (2 ^ 63 - 1 ≤ found.boot) ⊎ ((total ≤ found.bound) ⊎ (2 ^ 64 - 2 ≤ found.serial))
+
+pub record IsSpent (total : ℕ) (disk : Disk) : Type 0 where
+  pub found : InUse
+  pub stood : in_use (bytes_of disk) ≡ Some found
+  pub spent : AreSpent total found.numbers
+
+-- why a key file gave no start
+abbrev pub NoStart : Option Disk → ℕ → KeyRefused → Type 0
+NoStart told total KeeperFault = Unit {0}
+NoStart told total Unformatted = IfSome told (λ disk. in_use (bytes_of disk) ≡ None)
+NoStart told total Formatted = ⊥
+NoStart told total (Exhausted number) = IfSome told (IsSpent total)
 
 -- a sound file is sound after the start
 abbrev pub StartsSafely : Option Disk → Option Disk → Started → Type 0
 StartsSafely None new started = Unit {0}
-StartsSafely (Some disk) new started = (slot : Slot) (numbers : Numbers) → IsSound slot numbers (bytes_of disk) → IfSome new (SoundAs started.state)
+StartsSafely (Some disk) new started = (slot : Slot) (numbers : Numbers) → IsSound slot numbers (bytes_of disk) → IsSoundAt new started.state
 
 -- and no moment meanwhile leaves a lower bound or a lower boot
 abbrev pub KeepsAll : Option Disk → Option (List Disk) → Option (List Disk) → Type 0

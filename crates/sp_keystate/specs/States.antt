@@ -34,6 +34,11 @@ pub record SoundAs (state : KeyState) (disk : Disk) : Type 0 where
   pub still : disk ≡ still file
   pub sound : IsSound state.slot (numbers_of state) file
 
+-- the keeper tells its bytes, and they are a sound file that opens as this state
+abbrev pub IsSoundAt : Option Disk → KeyState → Type 0
+IsSoundAt None state = ⊥
+IsSoundAt (Some disk) state = SoundAs state disk
+
 -- Of a sound file no moment of a call leaves a lower bound or a lower boot: each image opens with numbers that are no lower, and is
 -- sound again
 abbrev pub KeepsMeanwhile : Option Disk → Option (List Disk) → Option (List Disk) → KeyState → Type 0

@@ -8,10 +8,12 @@ mod numbers;
 mod opening;
 mod reading;
 mod refused;
+mod refused_line;
 mod slot;
 mod starts;
 
 pub use key_state::KeyState;
 pub use opening::{format, open};
 pub use refused::KeyRefused;
+pub use refused_line::line_of;
 pub use starts::{Started, start};

@@ -1,7 +1,7 @@
 // What a daemon does with its key file before it signs.
-ghost use Rattle.std.specs.Prelude.{IfOk, IfSome};
-ghost use Rattle.sp_keystate.specs.States.{HasFaultCause, SoundAs, StandsFor};
-ghost use Rattle.sp_keystate.specs.Starting.{IsStartAnswer, KeepsAll, Starts, StartsSafely};
+ghost use Rattle.std.specs.Prelude.{IfErr, IfOk, IfSome};
+ghost use Rattle.sp_keystate.specs.States.{HasFaultCause, StandsFor};
+ghost use Rattle.sp_keystate.specs.Starting.{IsStartAnswer, KeepsAll, NoStart, Starts, StartsSafely};
 
 use crate::{KeyRefused, KeyState, open};
 use sp_outside::Keeper;
@@ -19,6 +19,7 @@ pub fn start<P: Keeper>(keeper: &mut P, n: u64, total: u64) -> Result<Started, K
     ensures stands { IfOk result (λ started. StandsFor (P.disk keeper.new) started.state) }
     ensures safe { IfOk result (StartsSafely (P.disk keeper.old) (P.disk keeper.new)) }
     ensures answer { IsStartAnswer result }
+    ensures refused { IfErr result (NoStart (P.disk keeper.old) total) }
     ensures kept { KeepsAll (P.disk keeper.old) (P.past keeper.old) (P.past keeper.new) }
     ensures cause { HasFaultCause (P.faults keeper.old) (P.faults keeper.new) result }
 {

@@ -1,9 +1,8 @@
 -- How a daemon starts is in its ranges, and its neighbours are few.
-use Rattle.std.proofs.Common.{◌≡◌, ◌≤◌, ◌<◌, ◌+◌, ◌^◌, ℕ, List, [], ◌∷◌, length, map, Option, Some, None, Ok, refl, ap, length-append, arith}
+use Rattle.std.proofs.Common.{◌≡◌, ◌≤◌, ◌<◌, ◌+◌, ◌^◌, min, ℕ, List, [], ◌∷◌, length, map, Option, Some, None, Ok, refl, sym, ap, length-append, arith}
 use Rattle.sp_base.specs.declared.id.EdgeId.{EdgeId}
 use Rattle.sp_base.specs.declared.id.NodeId.{NodeId}
 use Rattle.sp_base.specs.declared.limits.TheConstants.{MAX_EDGES}
-use Rattle.sp_config.specs.Readings as readings
 use Rattle.sp_config.specs.declared.config.Config.{Config}
 use Rattle.sp_config.specs.declared.config.Peer.{Peer}
 use Rattle.sp_service_setup.specs.Fits.{Fits, neighbours}
@@ -12,28 +11,40 @@ use Rattle.sp_service_turns.specs.declared.peer.Peer as near
 use Rattle.sp_topology.specs.Neighbours.{neighbour, neighbours_from, other_end}
 use Rattle.sp_topology.specs.Ranges.{IsTopology}
 use Rattle.sp_topology.specs.declared.topology.Edge.{Edge}
-use Rattle.sp_topology.specs.declared.topology.LmsHeight.{LmsHeight}
-use Rattle.sp_topology.specs.declared.topology.LmsHeight.TheVariants.{Five, Ten}
 use Rattle.sp_topology.specs.declared.topology.Topology.{Topology}
-use Rattle.sp_service.specs.Starts.{IsOpening, opening_of, total_of}
+use Rattle.sp_keystate.specs.Starting.{Starts}
+use Rattle.sp_keystate.specs.States.{StandsFor}
+use Rattle.sp_keystate.specs.declared.starts.Started.{Started}
+use Rattle.sp_outside.specs.Disk.{Disk}
+use Rattle.sp_service_station.specs.Stations.{Station, indexes_in}
+use Rattle.sp_service_turns.specs.Keys.{HoldsKeys}
+use Rattle.sp_service_turns.specs.Served.{opening_of}
+use Rattle.sp_service_turns.specs.declared.indexes.TheConstants.{RESERVED}
+use Rattle.sp_service.specs.Starts.{IsOpening, IsStarted, total_of}
 
 -- a list keeps its length
 mapped : {A B : Type 0} (f : A → B) (xs : List A) → length (map f xs) ≡ length xs
 mapped f [] = refl
 mapped f (x ∷ xs) = let rest = mapped f xs in omega (arith, rest)
 
-same_total : (t : Topology) → readings.total t.height ≡ total_of t
-same_total t = go t.height
+-- a start's indexes are those of the key
+pub is_opening : (t : Topology) (told : Option Disk) (started : Started) → Starts told RESERVED (total_of t) started → IsOpening t (opening_of started)
+is_opening t told started starts = record {
+  boot = starts.boot.0;
+  index = omega (arith, forward started.first (total_of t) starts.some, starts.bound);
+  bound = omega (arith, capped started.first (total_of t), starts.bound);
+}
   where
-    go : (h : LmsHeight) → readings.total h ≡ total_of (record t { height = h })
-    go Five = refl
-    go Ten = refl
+    forward : (first total : ℕ) → first < total → first ≤ min (first + RESERVED) total
+    forward first total less = grind (arith, less)
 
-pub is_opening : (c : Config) (t : Topology) → Fits c t → readings.IsRanged c → IsTopology t → IsOpening t (opening_of c t)
-is_opening c t fits ranged topology =
-    let height : readings.height_of c.topology ≡ Ok t.height = rw fits.read refl in
-    let below = ranged.index t.height height in
-    record { boot = ranged.boot.0; index = omega (arith, below, same_total t); bound = omega arith }
+    capped : (first total : ℕ) → min (first + RESERVED) total ≤ total
+    capped first total = grind arith
+
+-- the node that starts has the bound of the start
+pub held_at_start : (c : Config) (t : Topology) (started : Started) (told : Option Disk) (start : Station) → StandsFor told started.state → IsStarted c t (opening_of started) start
+    → HoldsKeys told started.state (indexes_in start)
+held_at_start c t started told start stands begun = record { stands = stands; bound = sym (ap (λ (n : _). n.signer.bound) begun.node) }
 
 one : (place : ℕ) (o : Option NodeId) → length (neighbour place o) ≤ 1
 one place None = omega arith

@@ -5,7 +5,7 @@
 --     refused 0 Topology KIND           the document's first fault, or Signature, Me, Key, Peer
 use Rattle.std.specs.Prelude.{ℕ, ◌≡◌, ◌≢◌, ◌⊎◌, List, [], ◌++◌, Result, Ok, Err, codes}
 use Rattle.std.specs.Str.{IsUtf8}
-use Rattle.sp_config.specs.Readings.{IsRanged, config_of}
+use Rattle.sp_config.specs.Readings.{config_of}
 use Rattle.sp_config.specs.RefusedLines.{fault_word, refused_line}
 use Rattle.sp_config.specs.declared.config.Config.{Config}
 use Rattle.sp_config.specs.declared.refused.ConfigRefused.{ConfigRefused}
@@ -29,7 +29,6 @@ SaysConfig text (Err refused) = (IsUtf8 text × (config_of text ≡ Err refused)
 pub record IsConfigured (text : List ℕ) (c : Config) (t : Topology) : Type 0 where
   pub says : SaysConfig text (Ok c)
   pub fits : Fits c t
-  pub ranged : IsRanged c
   pub topology : IsTopology t
 
 -- ---- refusals

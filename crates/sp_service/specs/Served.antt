@@ -1,30 +1,35 @@
--- How a daemon of a configuration ends: from its input, what its wire, its clock and its recording tell.
+-- How a daemon of a configuration ends: from its input, what its wire, its clock, its key file and its recording tell.
 use Rattle.std.specs.Prelude.{ℕ, ◌≡◌, Bool, true, false, List}
 use Rattle.std.specs.Io.KnownBytes.{Appends}
 use Rattle.sp_config.specs.RefusedLines.{too_big_line}
 use Rattle.sp_config.specs.declared.config.Config.{Config}
+use Rattle.sp_keystate.specs.declared.starts.Started.{Started}
 use Rattle.sp_outside.specs.Streams.{AppendsFront}
 use Rattle.sp_service_setup.specs.NodeParts.{peers_of}
-use Rattle.sp_service_station.specs.Stations.{Station, StationStep}
-use Rattle.sp_service_turns.specs.Served.{EndsFrom, Outside}
-use Rattle.sp_service_turns.specs.declared.served.Ports.{Ports}
+use Rattle.sp_service_station.specs.Stations.{Station, StationStep, indexes_in}
+use Rattle.sp_service_turns.specs.Served.{EndsTurns, FailsToOpen, IsOpened, Outside, opening_of}
+use Rattle.sp_service_turns.specs.declared.opened.Ports.{Ports}
 use Rattle.sp_service_turns.specs.declared.served.Served.{Served}
 use Rattle.sp_service_turns.specs.declared.served.Served.TheVariants as served
 use Rattle.sp_topology.specs.declared.topology.Topology.{Topology}
 use Rattle.sp_service.specs.Configured.{IsConfigured, IsRefused}
-use Rattle.sp_service.specs.Starts.{IsStarted, opening_of}
+use Rattle.sp_service.specs.Starts.{IsStarted, total_of}
 
 abbrev pub ports_of : Config → Ports
 ports_of c = record { overlay = c.port; client = c.client_port }
 
--- the daemon of a configuration that fits, from the start of its node on
-pub record EndsStarted (c : Config) (t : Topology) (count : ℕ) (ended : Served) (before after : Outside) : Type 0 where
+-- The daemon of a configuration that fits: its wire was opened and a start taken from its key file, and then its node, which has the indexes of that
+-- start, made its turns
+pub record EndsOpened (c : Config) (t : Topology) (count : ℕ) (ended : Served) (before after : Outside) : Type 0 where
+  pub started : Started
+  pub between : Outside
+  pub opened : IsOpened (ports_of c) (total_of t) started before between
   pub start : Station
-  pub started : IsStarted c t (opening_of c t) start
-  pub ends : EndsFrom StationStep (ports_of c) (peers_of c) (opening_of c t) count start ended before after
+  pub is_start : IsStarted c t (opening_of started) start
+  pub ends : EndsTurns StationStep indexes_in (peers_of c) (opening_of started) count start between after ended
 
 abbrev pub IsQuiet : Outside → Outside → Type 0
-IsQuiet before after = (after.wire ≡ before.wire) × (after.clock ≡ before.clock)
+IsQuiet before after = (after.wire ≡ before.wire) × (after.clock ≡ before.clock) × (after.disk ≡ before.disk)
 
 -- why the input is no configuration that fits: there was more of it than may be read, or the line that refuses it
 abbrev pub IsRefusal : List ℕ → Bool → List ℕ → Type 0
@@ -37,8 +42,14 @@ pub data Ends (text : List ℕ) (is_cut : Bool) (count : ℕ) (before after : Ou
   Refusal : (out : List ℕ) → IsRefusal text is_cut out → IsQuiet before after → Appends before.text after.text out → Ends text is_cut count before after served.Refused
   Refusal_begun : (out : List ℕ) → IsRefusal text is_cut out → IsQuiet before after → AppendsFront before.text after.text out
       → Ends text is_cut count before after served.Sink
-  -- the configuration fits, and its daemon ended so
-  Daemon : (ended : Served) (c : Config) (t : Topology) → is_cut ≡ false → IsConfigured text c t → EndsStarted c t count ended before after
+  -- the configuration fits, and the wire couldn't be opened, or the key file gave no start
+  Unopened : (ended : Served) (c : Config) (t : Topology) → is_cut ≡ false → IsConfigured text c t → FailsToOpen (ports_of c) (total_of t) before after ended
+      → Ends text is_cut count before after ended
+  -- both were opened, and there was no memory for the node
+  No_node : (c : Config) (t : Topology) (started : Started) → is_cut ≡ false → IsConfigured text c t → IsOpened (ports_of c) (total_of t) started before after
+      → Ends text is_cut count before after served.Memory
+  -- its daemon ended so
+  Daemon : (ended : Served) (c : Config) (t : Topology) → is_cut ≡ false → IsConfigured text c t → EndsOpened c t count ended before after
       → Ends text is_cut count before after ended
   -- there was no memory before anything was opened or written
   No_memory : IsQuiet before after → after.text ≡ before.text → Ends text is_cut count before after served.Memory

@@ -28,7 +28,3 @@ pub record IsOpening (t : Topology) (o : Opening) : Type 0 where
 pub record IsStarted (c : Config) (t : Topology) (o : Opening) (s : Station) : Type 0 where
   pub node : node_of s ≡ booted_of (node_config c t) (node_signer c t.height o.index o.bound) o.boot
   pub clients : s.clients ≡ no_sessions
-
--- how a daemon starts by its configuration: all indexes from the first on are its own
-abbrev pub opening_of : Config → Topology → Opening
-opening_of c t = record { boot = c.boot; index = c.first_index; bound = total_of t }

@@ -1,6 +1,5 @@
 // What the text of a configuration comes to.
 ghost use Rattle.std.specs.Prelude.{◌≡◌, ◌≢◌, ◌++◌, IfErr, IfOk, OnOk};
-ghost use Rattle.sp_config.specs.Readings.{IsRanged};
 ghost use Rattle.sp_service.specs.Configured.{ComesTo, SaysConfig, misfit_line, misfit_word};
 
 use sp_base::{Bytes, Listed, Memory};
@@ -38,7 +37,6 @@ pub fn configure(alloc: Global, text: &[u8]) -> Result<Configured, Memory>
 /// The configuration that a text says. Bytes that are no UTF-8 are no TOML.
 fn config_in(alloc: Global, text: &[u8]) -> Result<Config, ConfigRefused>
     ensures ok { IfOk result (λ config. SaysConfig text.now (Ok config)) }
-    ensures ranged { IfOk result IsRanged }
     ensures err { IfErr result (λ refused. refused ≢ ConfigRefused.Memory → SaysConfig text.now (Err refused)) }
 {
     match str::from_utf8(text) {

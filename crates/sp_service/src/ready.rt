@@ -3,7 +3,6 @@ ghost use Rattle.std.specs.Prelude.{◌≡◌, ◌≤◌, ◌<◌, ◌^◌, IfOk
 ghost use Rattle.sp_hss.specs.KeyTree.{total};
 ghost use Rattle.sp_outside.specs.declared.wire.TheConstants.{DATAGRAM_BYTES};
 ghost use Rattle.sp_service.specs.Served.{ports_of};
-ghost use Rattle.sp_service.specs.Starts.{opening_of};
 ghost use Rattle.sp_service_setup.specs.Fits.{Fits};
 ghost use Rattle.sp_service_setup.specs.NodeParts.{peers_of};
 ghost use Rattle.sp_sign.specs.Heights.{param_of};
@@ -12,22 +11,10 @@ ghost use Rattle.sp_topology.specs.Ranges.{IsTopology};
 use sp_base::Memory;
 use sp_config::Config;
 use sp_outside::DATAGRAM_BYTES;
-use sp_recording::Opening;
 use sp_service_setup::peers_of;
 use sp_service_turns::{Peer, Ports};
 use sp_topology::{LmsHeight, Topology};
 use std::alloc::{AllocError, Global};
-
-/// How the daemon starts: all indexes from the first on are its own.
-pub fn opening_of(config: &Config, topology: &Topology) -> Opening
-    ensures { result ≡ opening_of config.now topology.now }
-{
-    Opening {
-        boot: config.boot,
-        index: config.first_index,
-        bound: total(topology.height),
-    }
-}
 
 /// How many messages a key of two levels of this height signs.
 pub fn total(height: LmsHeight) -> u64

@@ -1,3 +1,4 @@
 pub mod Boots
 pub mod Entries
+pub mod Uses
 pub mod Stays

@@ -1,5 +1,5 @@
 -- What a call of a station leaves as it is, and how long a frame is.
-use Rattle.std.proofs.Common.{◌≡◌, ℕ, ◌≤◌, Bool, true, false, List, Option, None, Some, length, refl, ap}
+use Rattle.std.proofs.Common.{◌≡◌, ℕ, ◌≤◌, Bool, true, false, List, Option, None, Some, length, refl, sym, subst, ap}
 use Rattle.laws_node.specs.Nodes.{IsKept}
 use Rattle.sp_base.specs.declared.id.NodeId.{NodeId}
 use Rattle.sp_client.specs.Sessions.{Answers, own_answer}
@@ -16,53 +16,64 @@ use Rattle.sp_node_core.specs.PolledFrames.{most_signature}
 use Rattle.sp_rules.specs.Node.{NodeState, call_refusal}
 use Rattle.sp_rules.specs.Polls.{frame_to}
 use Rattle.sp_node_state.specs.States.{is_other}
-use Rattle.sp_rules.specs.Parts.{Fixed}
-use Rattle.sp_rules.specs.Steps.{Frame, NodeStep, NotCalled, Output, Poll, SendPrio, SendRel, SetWeight, TakePrio, TakeRel, refused_call, replied}
+use Rattle.sp_rules.specs.Steps.{Frame, Input, NodeStep, NotCalled, Output, Poll, SendPrio, SendRel, SetWeight, TakePrio, TakeRel, refused_call, replied}
 use Rattle.sp_rules.specs.declared.node.NodeRefused.{NodeRefused}
 use Rattle.sp_world_steps.proofs.Lengths as lengths
 use Rattle.sp_world_steps.proofs.Stepping.{fixed_stays}
+use Rattle.sp_service_station.proofs.Uses.{uses_none, uses_one}
+use Rattle.sp_service_station.specs.Stations.{indexes_of}
+use Rattle.sp_service_turns.specs.Indexes.{UsesOne}
 
 -- ---- what a client's datagram leaves
 
-abbrev fixed_in : LocalNode → Fixed
-fixed_in l = l.node.state.fixed
+-- what holds of each step of a node, and where nothing was done, holds of what a client's datagram led to
+module _ (R : NodeState → NodeState → Type 0) (same : (n : NodeState) → R n n)
+    (by_step : (old : NodeState) (input : Input) (output : Output) (new : NodeState) → NodeStep format old input output new → R old new) where
+  as_before : (old new : LocalNode) → new ≡ old → R old.node.state new.node.state
+  as_before old new is = subst (λ (l : LocalNode). R old.node.state l.node.state) (sym is) (same old.node.state)
 
-by_take : (other : Bool) (old : LocalNode) (src : NodeId) (answer : Answer) (new : LocalNode) → TakesFrom other old src answer new → fixed_in new ≡ fixed_in old
-by_take true old src answer new takes = fixed_stays old.node.state (TakeRel src) takes.output new.node.state takes.step
-by_take false old src answer new takes = ap fixed_in takes.1
+  by_take : (other : Bool) (old : LocalNode) (src : NodeId) (answer : Answer) (new : LocalNode) → TakesFrom other old src answer new → R old.node.state new.node.state
+  by_take true old src answer new takes = by_step old.node.state (TakeRel src) takes.output new.node.state takes.step
+  by_take false old src answer new takes = as_before old new takes.1
 
-by_command : (old : LocalNode) (command : Command) (answer : Answer) (new : LocalNode) → AnswersBy old command answer new → fixed_in new ≡ fixed_in old
-by_command old (commands.Send dst payload) answer new sends = fixed_stays old.node.state (SendRel dst payload) sends.output new.node.state sends.step
-by_command old (commands.SendPrio dst prio expiry paths payload) answer new sends =
-    fixed_stays old.node.state (SendPrio (record { dst = dst; prio = prio; expiry = expiry; paths = paths; payload = payload })) sends.output new.node.state sends.step
-by_command old (commands.Take src) answer new takes = by_take (is_other old.node.state src) old src answer new takes
-by_command old commands.TakePrio answer new takes = fixed_stays old.node.state TakePrio takes.output new.node.state takes.step
-by_command old (commands.Weight peer weight) answer new sends = fixed_stays old.node.state (SetWeight peer weight) sends.output new.node.state sends.step
-by_command old commands.Open answer new never = absurd never
-by_command old commands.Listen answer new never = absurd never
-by_command old commands.Close answer new never = absurd never
+  by_command : (old : LocalNode) (command : Command) (answer : Answer) (new : LocalNode) → AnswersBy old command answer new → R old.node.state new.node.state
+  by_command old (commands.Send dst payload) answer new sends = by_step old.node.state (SendRel dst payload) sends.output new.node.state sends.step
+  by_command old (commands.SendPrio dst prio expiry paths payload) answer new sends =
+      by_step old.node.state (SendPrio (record { dst = dst; prio = prio; expiry = expiry; paths = paths; payload = payload })) sends.output new.node.state sends.step
+  by_command old (commands.Take src) answer new takes = by_take (is_other old.node.state src) old src answer new takes
+  by_command old commands.TakePrio answer new takes = by_step old.node.state TakePrio takes.output new.node.state takes.step
+  by_command old (commands.Weight peer weight) answer new sends = by_step old.node.state (SetWeight peer weight) sends.output new.node.state sends.step
+  by_command old commands.Open answer new never = absurd never
+  by_command old commands.Listen answer new never = absurd never
+  by_command old commands.Close answer new never = absurd never
 
-by_answer : (own : Option Answer) (old : LocalNode) (command : Command) (answer : Answer) (new : LocalNode) → Answers AnswersBy own old command answer new
-    → fixed_in new ≡ fixed_in old
-by_answer (Some own) old command answer new answers = ap fixed_in answers.1
-by_answer None old command answer new answers = by_command old command answer new answers
+  by_answer : (own : Option Answer) (old : LocalNode) (command : Command) (answer : Answer) (new : LocalNode) → Answers AnswersBy own old command answer new
+      → R old.node.state new.node.state
+  by_answer (Some own) old command answer new answers = as_before old new answers.1
+  by_answer None old command answer new answers = by_command old command answer new answers
 
-by_served : (kept : Option (List ℕ)) (refused : Option Answer) (old : tables.Table) (port : ℕ) (r : Request) (reply : List ℕ) (new : tables.Table)
-    (before after : LocalNode) → tables.Served AnswersBy kept refused old port r reply new before after → fixed_in after ≡ fixed_in before
-by_served (Some kept) refused old port r reply new before after served = ap fixed_in served.2
-by_served None (Some answer) old port r reply new before after served = ap fixed_in served.2
-by_served None None old port r reply new before after served =
-    by_answer (own_answer old.holder port r.command) before r.command served.answer after served.answered
+  by_served : (kept : Option (List ℕ)) (refused : Option Answer) (old : tables.Table) (port : ℕ) (r : Request) (reply : List ℕ) (new : tables.Table)
+      (before after : LocalNode) → tables.Served AnswersBy kept refused old port r reply new before after → R before.node.state after.node.state
+  by_served (Some kept) refused old port r reply new before after served = as_before before after served.2
+  by_served None (Some answer) old port r reply new before after served = as_before before after served.2
+  by_served None None old port r reply new before after served =
+      by_answer (own_answer old.holder port r.command) before r.command served.answer after served.answered
 
-by_handled : (read : Option Request) (old : tables.Table) (port : ℕ) (reply : List ℕ) (new : tables.Table) (before after : LocalNode)
-    → tables.Handles AnswersBy read old port reply new before after → fixed_in after ≡ fixed_in before
-by_handled None old port reply new before after handled = ap fixed_in handled.2
-by_handled (Some r) old port reply new before after handled =
-    by_served (tables.repeat old port r.number) (tables.refusal old port r) old port r reply new before after handled
+  by_handled : (read : Option Request) (old : tables.Table) (port : ℕ) (reply : List ℕ) (new : tables.Table) (before after : LocalNode)
+      → tables.Handles AnswersBy read old port reply new before after → R before.node.state after.node.state
+  by_handled None old port reply new before after handled = as_before before after handled.2
+  by_handled (Some r) old port reply new before after handled =
+      by_served (tables.repeat old port r.number) (tables.refusal old port r) old port r reply new before after handled
 
 pub fixed_by_request : (old : tables.Table) (port : ℕ) (bytes reply : List ℕ) (new : tables.Table) (before after : LocalNode)
     → tables.Datagram AnswersBy old port bytes reply new before after → after.node.state.fixed ≡ before.node.state.fixed
-fixed_by_request old port bytes reply new before after done = by_handled done.read old port reply new before after done.handled
+fixed_by_request old port bytes reply new before after done =
+    by_handled (λ n m. m.fixed ≡ n.fixed) (λ n. refl) fixed_stays done.read old port reply new before after done.handled
+
+pub uses_by_request : (old : tables.Table) (port : ℕ) (bytes reply : List ℕ) (new : tables.Table) (before after : LocalNode)
+    → tables.Datagram AnswersBy old port bytes reply new before after → UsesOne (indexes_of before.node.state) (indexes_of after.node.state)
+uses_by_request old port bytes reply new before after done =
+    by_handled (λ n m. UsesOne (indexes_of n) (indexes_of m)) uses_none uses_one done.read old port reply new before after done.handled
 
 -- ---- frames
 

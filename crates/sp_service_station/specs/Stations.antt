@@ -8,6 +8,7 @@ use Rattle.sp_node_core.specs.Format.{format}
 use Rattle.sp_rules.specs.Node.{NodeState, extended}
 use Rattle.sp_rules.specs.Steps as steps
 use Rattle.sp_service_turns.specs.Inputs.{Datagram, Input, Poll, Request, Reserve, Tick}
+use Rattle.sp_service_turns.specs.declared.indexes.Indexes.{Indexes}
 use Rattle.sp_service_station.specs.Texts.{answer_text, frame_in}
 
 -- the table of its sessions, and its node
@@ -21,6 +22,13 @@ node_of s = s.local.node.state
 -- indexes up to this bound are reserved, where it is one that the signer may have. Else nothing changes
 abbrev pub reserved : NodeState → ℕ → NodeState
 reserved n upto = if nat_le n.signer.bound upto && nat_le upto n.signer.total then extended n upto else n
+
+-- how far the node is with the indexes of its signing key
+abbrev pub indexes_of : NodeState → Indexes
+indexes_of n = record { index = n.signer.index; bound = n.signer.bound; total = n.signer.total }
+
+abbrev pub indexes_in : Station → Indexes
+indexes_in s = indexes_of (node_of s)
 
 -- the node answers so: this makes the answer of the output of one step
 abbrev pub Gives : (steps.Output → List ℕ) → NodeState → steps.Input → List ℕ → NodeState → Type 0

@@ -7,7 +7,8 @@ ghost use Rattle.sp_journal.specs.JournalText.{reply_text};
 ghost use Rattle.sp_node_core.specs.PolledFrames.{most_signature};
 ghost use Rattle.sp_outside.specs.declared.wire.TheConstants.{DATAGRAM_BYTES};
 ghost use Rattle.sp_rules.specs.Steps.{Datagram, Poll, Tick};
-ghost use Rattle.sp_service_station.specs.Stations.{Gives, frame_of, reserved};
+ghost use Rattle.sp_service_station.specs.Stations.{Gives, frame_of, indexes_of, reserved};
+ghost use Rattle.sp_service_turns.specs.Indexes.{AreReserved, UsesOne};
 ghost use Rattle.sp_service_station.specs.Texts.{answer_text};
 
 use sp_base::{Bytes, Memory, NodeId};
@@ -16,6 +17,7 @@ use sp_client_node::LocalNode;
 use sp_journal::{Entry, Reply, reply_text};
 use sp_node::{Node, NodeRefused};
 use sp_rules::{Step, Taken};
+use sp_service_turns::Indexes;
 use sp_world_steps::{entry_of, tick_word, told};
 use std::alloc::Global;
 
@@ -44,6 +46,7 @@ pub fn request(
     port: u16,
     bytes: &[u8],
 ) -> Result<Bytes, Memory>
+    ensures uses { IfOk result (λ _. UsesOne (indexes_of local.old.node.state) (indexes_of local.new.node.state)) }
     ensures handled { IfOk result (λ reply. tables.Datagram AnswersBy clients.old port bytes.now reply clients.new local.old local.new) }
     ensures within { IfOk result (λ reply. length reply ≤ DATAGRAM_BYTES) }
     ensures fixed { local.new.node.state.fixed ≡ local.old.node.state.fixed }
@@ -54,9 +57,24 @@ pub fn request(
     }
 }
 
+/// How far the node is with the indexes of its signing key.
+pub fn indexes(node: &Node) -> Indexes
+    ensures value { result ≡ indexes_of node.now.state }
+    ensures ordered { result.index ≤ result.bound }
+{
+    node.is_kept();
+    Indexes {
+        index: node.index(),
+        bound: node.bound(),
+        total: node.total(),
+    }
+}
+
 /// Indexes below this bound may be signed with, where it is one that the signer may have.
+#[tactic(auto, using(crate::proofs::Uses::are_reserved))]
 pub fn reserve(node: &mut Node, upto: u64)
     ensures reserved { node.new.state ≡ reserved node.old.state upto }
+    ensures indexes { AreReserved (indexes_of node.old.state) upto (indexes_of node.new.state) }
     ensures fixed { node.new.state.fixed ≡ node.old.state.fixed }
 {
     if node.bound() <= upto && upto <= node.total() {
@@ -65,8 +83,9 @@ pub fn reserve(node: &mut Node, upto: u64)
 }
 
 /// The clock says so.
-#[tactic(auto, using(sp_world_steps::proofs::Stepping::fixed_by_tick))]
+#[tactic(auto, using(sp_world_steps::proofs::Stepping::fixed_by_tick, crate::proofs::Uses::uses_one))]
 pub fn tick(alloc: Global, node: &mut Node, now: u64) -> Result<Bytes, Memory>
+    ensures uses { IfOk result (λ _. UsesOne (indexes_of node.old.state) (indexes_of node.new.state)) }
     ensures gives { IfOk result (λ answer. Gives answer_text node.old.state (Tick now) answer node.new.state) }
     ensures fixed { node.new.state.fixed ≡ node.old.state.fixed }
 {
@@ -77,8 +96,9 @@ pub fn tick(alloc: Global, node: &mut Node, now: u64) -> Result<Bytes, Memory>
 }
 
 /// A datagram comes from a neighbour. A node that it doesn't answer gives nothing.
-#[tactic(auto, using(sp_world_steps::proofs::Stepping::fixed_by_datagram))]
+#[tactic(auto, using(sp_world_steps::proofs::Stepping::fixed_by_datagram, crate::proofs::Uses::uses_one))]
 pub fn datagram(alloc: Global, node: &mut Node, from: NodeId, bytes: &[u8]) -> Result<Bytes, Memory>
+    ensures uses { IfOk result (λ _. UsesOne (indexes_of node.old.state) (indexes_of node.new.state)) }
     ensures gives { IfOk result (λ answer. Gives answer_text node.old.state (Datagram from bytes.now) answer node.new.state) }
     ensures fixed { node.new.state.fixed ≡ node.old.state.fixed }
 {
@@ -90,9 +110,10 @@ pub fn datagram(alloc: Global, node: &mut Node, from: NodeId, bytes: &[u8]) -> R
 }
 
 /// The next frame for a neighbour. A node that isn't called gives nothing.
-#[tactic(auto, using(sp_world_steps::proofs::Stepping::fixed_by_poll, crate::proofs::Stays::polled_is_short))]
+#[tactic(auto, using(sp_world_steps::proofs::Stepping::fixed_by_poll, crate::proofs::Stays::polled_is_short, crate::proofs::Uses::uses_one))]
 pub fn poll(alloc: Global, node: &mut Node, to: NodeId) -> Result<Bytes, Memory>
     requires { node.old.state.fixed.signature_len ≤ most_signature }
+    ensures uses { IfOk result (λ _. UsesOne (indexes_of node.old.state) (indexes_of node.new.state)) }
     ensures gives { IfOk result (λ frame. Gives frame_of node.old.state (Poll to) frame node.new.state) }
     ensures within { IfOk result (λ frame. length frame ≤ DATAGRAM_BYTES) }
     ensures fixed { node.new.state.fixed ≡ node.old.state.fixed }

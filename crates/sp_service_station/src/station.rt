@@ -9,7 +9,7 @@ use sp_base::{Bytes, Memory, NodeId};
 use sp_client::Clients;
 use sp_client_node::LocalNode;
 use sp_node::{Node, NodeConfig};
-use sp_service_turns::Core;
+use sp_service_turns::{Core, Indexes};
 use sp_sign::NodeSigner;
 use std::alloc::Global;
 use std::marker::Model;
@@ -62,9 +62,15 @@ impl Station {
 }
 
 impl Core for Station {
-    ghost use Rattle.sp_service_station.specs.Stations.{StationStep};
+    ghost use Rattle.sp_service_station.specs.Stations.{StationStep, indexes_in};
 
     ghost steps = { λ old input answer new. StationStep old input answer new };
+
+    ghost indexes = { λ s. indexes_in s };
+
+    fn indexes(&self) -> Indexes {
+        asked::indexes(&self.local.node)
+    }
 
     fn reserve(&mut self, upto: u64) {
         asked::reserve(&mut self.local.node, upto);

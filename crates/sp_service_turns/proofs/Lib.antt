@@ -1,4 +1,5 @@
 pub mod TextLemmas
+pub mod KeyLemmas
 pub mod TurnLemmas
 pub mod EarlyLemmas
 pub mod RunLemmas
@@ -6,3 +7,4 @@ pub mod RecordedLemmas
 pub mod VerifiedLemmas
 pub mod WholeLemmas
 pub mod ServedLemmas
+pub mod OpenLemmas

@@ -3,10 +3,13 @@ use Rattle.std.proofs.Common.{◌≡◌, ℕ, ◌+◌, Bool, true, List, [], ◌
 use Rattle.sp_base.specs.declared.id.NodeId.{NodeId}
 use Rattle.sp_outside.specs.Calls.{Call, Got, Nothing, Lost, Came as Came_in, Received, Tells}
 use Rattle.sp_outside.specs.declared.side.Side.TheVariants.{Client}
-use Rattle.sp_service_turns.specs.Done.{Came, Done, Gets, IsOverheard, IsServed, Overheard, PolledNext, Served, Text, Ticked}
+use Rattle.sp_service_turns.specs.Done.{Came, Done, Gets, IsOverheard, IsServed, Overheard, PolledNext, Restocked, Served, Text, Ticked}
+use Rattle.sp_service_turns.specs.Indexes.{HaveLeft, UsesOne}
+use Rattle.sp_service_turns.specs.declared.indexes.Indexes.{Indexes}
 use Rattle.sp_service_turns.specs.Inputs.{Steps}
-use Rattle.sp_service_turns.specs.Turns.{Hears, HearsFrom, Polls, Replies, Turn, client_lines, lost_in, lost_poll, lost_reply, node_at, overlay_line, overlay_lines, poll_calls, poll_lines, reply_calls, tick_line}
+use Rattle.sp_service_turns.specs.Turns.{Hears, HearsFrom, Polls, Replies, Turn, client_lines, lost_in, lost_poll, lost_reply, node_at, overlay_line, overlay_lines, poll_calls, poll_lines, reply_calls, reserve_lines, tick_line}
 use Rattle.sp_service_turns.specs.declared.peer.Peer.{Peer}
+use Rattle.sp_service_turns.proofs.KeyLemmas.{left_after, left_less}
 use Rattle.sp_service_turns.proofs.TextLemmas.{gets_no_more, gets_on, tells_no_more, tells_on}
 
 -- ---- the overlay side
@@ -68,14 +71,17 @@ frames steps None old new w0 w1 before after lost h =
 
 -- ---- the turn
 
-pub whole : {N : Type 0} (steps : Steps N) (peers : List Peer) (polled : Option Peer) (n0 n1 n2 n3 n4 : N) (w0 w1 w2 w3 : Option (List Call)) (c0 c1 : Option (List ℕ)) (b0 b1 b2 b3 b4 : Text) (x y z : ℕ)
-    → Ticked steps n0 n1 c0 c1 b0 b1 → Overheard steps peers n1 n2 w0 w1 b1 b2 x → Served steps n2 n3 w1 w2 b2 b3 y → PolledNext steps polled n3 n4 w2 w3 b3 b4 z
-    → Done steps peers polled n0 n4 w0 w3 c0 c1 b0 b4 (x + y + z)
-whole steps peers polled n0 n1 n2 n3 n4 w0 w1 w2 w3 c0 c1 b0 b1 b2 b3 b4 x y z tick overlay client poll =
+pub whole : {N : Type 0} (steps : Steps N) (indexes : N → Indexes) (peers : List Peer) (polled : Option Peer) (n n0 n1 n2 n3 n4 : N) (w0 w1 w2 w3 : Option (List Call))
+    (c0 c1 : Option (List ℕ)) (b b0 b1 b2 b3 b4 : Text) (x y z : ℕ) → Restocked steps indexes n n0 b b0
+    → Ticked steps n0 n1 c0 c1 b0 b1 → UsesOne (indexes n0) (indexes n1) → Overheard steps peers n1 n2 w0 w1 b1 b2 x → UsesOne (indexes n1) (indexes n2)
+    → Served steps n2 n3 w1 w2 b2 b3 y → PolledNext steps polled n3 n4 w2 w3 b3 b4 z
+    → Done steps indexes peers polled n n4 w0 w3 c0 c1 b b4 (x + y + z)
+whole steps indexes peers polled n n0 n1 n2 n3 n4 w0 w1 w2 w3 c0 c1 b b0 b1 b2 b3 b4 x y z restock tick tick_uses overlay overlay_uses client poll =
     let a = arrives steps peers overlay.got n1 n2 b1 b2 x overlay.heard in
     let r = answers steps client.got n2 n3 client.wire_between w2 b2 b3 y client.served in
     let f = frames steps polled n3 n4 w2 w3 b3 b4 z poll in
     let t : Turn = record {
+      reserved = restock.reserved;
       now = tick.now;
       ticked = tick.answer;
       overlay = overlay.got;
@@ -88,12 +94,29 @@ whole steps peers polled n0 n1 n2 n3 n4 w0 w1 w2 w3 c0 c1 b0 b1 b2 b3 b4 x y z t
     } in
     let served : Tells w1 w2 ((Received Client client.got ∷ []) ++ reply_calls r.reply r.is_replied client.got) =
     tells_on w1 client.wire_between w2 (Received Client client.got ∷ []) (reply_calls r.reply r.is_replied client.got) client.calls r.calls in
+    let left : HaveLeft 4 (indexes n0) = restock.left in
+    let after_tick = left_after 3 (indexes n0) (indexes n1) tick_uses left in
+    let after_overlay = left_after 2 (indexes n1) (indexes n2) overlay_uses after_tick in
     record {
       t = t;
-      moves = record { after_tick = n1; after_overlay = n2; after_client = n3; tick = tick.step; overlay = a.hears; client = r.replies; poll = f.polls };
+      moves = record {
+        after_reserve = n0;
+        after_tick = n1;
+        after_overlay = n2;
+        after_client = n3;
+        due = restock.due;
+        reserve = restock.step;
+        tick = tick.step;
+        overlay = a.hears;
+        client = r.replies;
+        poll = f.polls;
+        tick_supplied = left_less 1 (indexes n0) (left_less 2 (indexes n0) (left_less 3 (indexes n0) left));
+        client_supplied = left_less 1 (indexes n2) after_overlay;
+      };
       calls = tells_on w0 w1 w3 _ _ overlay.calls (tells_on w1 w2 w3 _ _ served f.calls);
       reading = tick.reading;
-      text = gets_on b0 b1 b4 (tick_line t.now t.ticked ∷ []) _ tick.text
-          (gets_on b1 b2 b4 (overlay_lines peers a.arrived overlay.got) _ a.text (gets_on b2 b3 b4 (client_lines r.reply client.got) (poll_lines f.frame polled) r.text f.text));
+      text = gets_on b b0 b4 (reserve_lines restock.reserved) _ restock.text
+          (gets_on b0 b1 b4 (tick_line t.now t.ticked ∷ []) _ tick.text
+          (gets_on b1 b2 b4 (overlay_lines peers a.arrived overlay.got) _ a.text (gets_on b2 b3 b4 (client_lines r.reply client.got) (poll_lines f.frame polled) r.text f.text)));
       lost_are = omega (arith, a.lost_is, r.lost_is, f.lost_is);
     }

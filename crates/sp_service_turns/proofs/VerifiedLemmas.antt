@@ -1,5 +1,5 @@
 -- One line more that agrees.
-use Rattle.std.proofs.Common.{◌≡◌, ◌≢◌, ℕ, ◌+◌, ◌<◌, List, [], ◌∷◌, ◌++◌, take, length, Option, None, Some, refl, sym, ap, subst, ◌∙◌, arith}
+use Rattle.std.proofs.Common.{◌≡◌, ℕ, ◌+◌, List, [], ◌∷◌, ◌++◌, take, Option, None, Some, refl, sym, ap, subst, ◌∙◌, arith}
 use Rattle.std.specs.Prelude.{zero, suc, slice_get}
 use Rattle.std.proofs.lemmas.Option.{none-some}
 use Rattle.sp_recording.specs.declared.line.Digest.{Digest}
@@ -7,7 +7,7 @@ use Rattle.sp_recording.specs.declared.line.Line.{Line}
 use Rattle.sp_service_turns.specs.Compared.{IsJudged, IsOfDigests, counted}
 use Rattle.sp_service_turns.specs.Inputs.{Steps}
 use Rattle.sp_service_turns.specs.Turns.{told}
-use Rattle.sp_service_turns.specs.Verified.{Agrees, Differs, Is_silent, Is_so, Question, Starts, asked}
+use Rattle.sp_service_turns.specs.Verified.{Agrees, Differs, Is_silent, Is_so, Question, asked}
 use Rattle.sp_service_turns.specs.declared.compared.Compared.{Compared}
 use Rattle.sp_service_turns.specs.declared.compared.Compared.TheVariants as compared
 

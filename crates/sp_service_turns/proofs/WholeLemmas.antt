@@ -1,24 +1,23 @@
 -- A whole recording from its first line, its turns and its end line, and the beginnings of one.
-use Rattle.std.proofs.Common.{◌≡◌, ◌≤◌, ℕ, ◌+◌, List, [], ◌∷◌, ◌++◌, length, take, map, Option, None, Some, refl, sym, ap, ◌∙◌, subst, append_assoc, append-nil, length-append, arith}
+use Rattle.std.proofs.Common.{◌≡◌, ℕ, ◌+◌, List, [], ◌∷◌, ◌++◌, length, take, map, Option, None, Some, refl, sym, ap, ◌∙◌, subst, append-nil, length-append, arith}
 use Rattle.std.specs.Io.KnownBytes.{Appends}
 use Rattle.std.specs.List.{flat_map}
 use Rattle.std.proofs.KnownBytes.{Appends-trans}
-use Rattle.std.proofs.Math.Seq.{take-append-add, take-length}
+use Rattle.std.proofs.Math.Seq.{take-append-add}
 use Rattle.std.proofs.lemmas.List.{take-append-le}
 use Rattle.std.proofs.lemmas.Grind.{flat_map-append}
 use Rattle.sp_lines.specs.Rows.{line_text}
-use Rattle.sp_outside.specs.Calls.{Call, Tells}
+use Rattle.sp_outside.specs.Calls.{Call}
 use Rattle.sp_outside.specs.Streams.{AppendsFront}
 use Rattle.sp_recording.specs.RecordingText.{closing_words, line_words, lines_text, opening_words, recording_text}
 use Rattle.sp_recording.specs.declared.line.Closing.{Closing}
 use Rattle.sp_recording.specs.declared.line.Line.{Line}
 use Rattle.sp_recording.specs.declared.line.Opening.{Opening}
 use Rattle.sp_service_turns.specs.Done.{Text}
-use Rattle.sp_service_turns.specs.Early.{GetsFront}
 use Rattle.sp_service_turns.specs.Inputs.{Steps}
-use Rattle.sp_service_turns.specs.Recorded.{Recorded, RecordedEarly, closing_of, whole_text}
-use Rattle.sp_service_turns.specs.Runs.{Ran, RanEarly, all_lines, all_lost}
-use Rattle.sp_service_turns.specs.Turns.{Turn}
+use Rattle.sp_service_turns.specs.Recorded.{Recorded, RecordedEarly, RecordedFewer, closing_of}
+use Rattle.sp_service_turns.specs.declared.indexes.Indexes.{Indexes}
+use Rattle.sp_service_turns.specs.Runs.{Ran, RanEarly, RanFewer, all_lines}
 use Rattle.sp_service_turns.specs.declared.peer.Peer.{Peer}
 use Rattle.sp_service_turns.proofs.TextLemmas.{tells_no_more}
 
@@ -61,10 +60,10 @@ parts o ls c =
 
 -- ---- the whole
 
-pub recorded_whole : {N : Type 0} (steps : Steps N) (peers : List Peer) (o : Opening) (count lost : ℕ) (old new : N) (w0 w1 : Option (List Call))
-    (c0 c1 : Option (List ℕ)) (b0 b1 b2 b3 : Text) → Appends b0 b1 (first o) → Ran steps peers count old new w0 w1 c0 c1 b1 b2 lost
-    → Appends b2 b3 (last (record { turns = count; lost = lost })) → Recorded steps peers o count old new w0 w1 c0 c1 b0 b3
-recorded_whole steps peers o count lost old new w0 w1 c0 c1 b0 b1 b2 b3 begun r ended =
+pub recorded_whole : {N : Type 0} (steps : Steps N) (indexes : N → Indexes) (peers : List Peer) (o : Opening) (count lost : ℕ) (old new : N) (w0 w1 : Option (List Call))
+    (c0 c1 : Option (List ℕ)) (b0 b1 b2 b3 : Text) → Appends b0 b1 (first o) → Ran steps indexes peers count old new w0 w1 c0 c1 b1 b2 lost
+    → Appends b2 b3 (last (record { turns = count; lost = lost })) → Recorded steps indexes peers o count old new w0 w1 c0 c1 b0 b3
+recorded_whole steps indexes peers o count lost old new w0 w1 c0 c1 b0 b1 b2 b3 begun r ended =
     let ls = all_lines peers 0 r.turns in
     let same : record { turns = count; lost = lost } ≡ closing_of peers r.turns =
     ap (λ n. record { turns = n; lost = lost }) (sym r.counted) ∙ ap (λ n. record { turns = length r.turns; lost = n }) r.lost_are in
@@ -110,10 +109,10 @@ early_turns peers o count w0 w1 b0 b1 b2 begun r =
           (after b0 b1 b2 (first o) (lines_text ls ++ last c) begun (before b1 b2 (lines_text ls) (last c) r.text));
     }
 
-pub early_last : {N : Type 0} (steps : Steps N) (peers : List Peer) (o : Opening) (count lost : ℕ) (old new : N) (w0 w1 : Option (List Call))
-    (c0 c1 : Option (List ℕ)) (b0 b1 b2 b3 : Text) → Appends b0 b1 (first o) → Ran steps peers count old new w0 w1 c0 c1 b1 b2 lost
+pub early_last : {N : Type 0} (steps : Steps N) (indexes : N → Indexes) (peers : List Peer) (o : Opening) (count lost : ℕ) (old new : N) (w0 w1 : Option (List Call))
+    (c0 c1 : Option (List ℕ)) (b0 b1 b2 b3 : Text) → Appends b0 b1 (first o) → Ran steps indexes peers count old new w0 w1 c0 c1 b1 b2 lost
     → AppendsFront b2 b3 (last (record { turns = count; lost = lost })) → RecordedEarly peers o count w0 w1 b0 b3
-early_last steps peers o count lost old new w0 w1 c0 c1 b0 b1 b2 b3 begun r ended =
+early_last steps indexes peers o count lost old new w0 w1 c0 c1 b0 b1 b2 b3 begun r ended =
     let ls = all_lines peers 0 r.turns in
     let c = closing_of peers r.turns in
     let same : record { turns = count; lost = lost } ≡ c =
@@ -129,4 +128,25 @@ early_last steps peers o count lost old new w0 w1 c0 c1 b0 b1 b2 b3 begun r ende
       text =
           subst (AppendsFront b0 b3) (sym (parts o ls c))
           (after b0 b1 b3 (first o) (lines_text ls ++ last c) begun (after b1 b2 b3 (lines_text ls) (last c) r.text there));
+    }
+
+-- ---- fewer turns
+
+parts_open : (o : Opening) (ls : List Line) → recording_text o ls None ≡ first o ++ lines_text ls
+unfolding recording_text
+parts_open o ls = ap (λ (rest : List ℕ). first o ++ rest) (flat_of_map ls)
+
+pub fewer_turns : {N : Type 0} (steps : Steps N) (indexes : N → Indexes) (peers : List Peer) (o : Opening) (count : ℕ) (old : N) (w0 w1 : Option (List Call))
+    (c0 c1 : Option (List ℕ)) (b0 b1 b2 : Text) → Appends b0 b1 (first o) → RanFewer steps indexes peers count old w0 w1 c0 c1 b1 b2
+    → RecordedFewer steps indexes peers o count old w0 w1 c0 c1 b0 b2
+fewer_turns steps indexes peers o count old w0 w1 c0 c1 b0 b1 b2 begun f =
+    let ls = all_lines peers 0 f.ran.turns in
+    record {
+      turns = f.ran.turns;
+      fewer = omega (arith, f.fewer, f.ran.counted);
+      last = f.last;
+      moves = f.ran.moves;
+      calls = f.ran.calls;
+      readings = f.ran.readings;
+      text = subst (Appends b0 b2) (sym (parts_open o ls)) (Appends-trans b0 b1 b2 (first o) (lines_text ls) begun f.ran.text);
     }

@@ -8,8 +8,11 @@ use Rattle.sp_outside.specs.Calls.{Call, Got, Nothing, Lost, Came as Came_in, Te
 use Rattle.sp_recording.specs.RecordingText.{lines_text}
 use Rattle.sp_recording.specs.declared.line.Line.{Line}
 use Rattle.sp_recording.specs.declared.line.Line.TheVariants as lines
+use Rattle.sp_service_turns.specs.Indexes.{HaveLeft, reserved_by}
 use Rattle.sp_service_turns.specs.Inputs.{Datagram, Poll, Request, Steps, Tick}
-use Rattle.sp_service_turns.specs.Turns.{Moves, Turn, calls_of, lines_of, lost_of, node_at, tick_line, told, unless}
+use Rattle.sp_service_turns.specs.Turns.{Moves, Restocks, Turn, calls_of, lines_of, lost_of, node_at, reserve_lines, tick_line, told, unless}
+use Rattle.sp_service_turns.specs.declared.indexes.Indexes.{Indexes}
+use Rattle.sp_service_turns.specs.declared.indexes.TheConstants.{LEAST_LEFT}
 use Rattle.sp_service_turns.specs.declared.peer.Peer.{Peer}
 
 -- what is known of a text
@@ -21,16 +24,24 @@ abbrev pub Gets : Text → Text → List Line → Type 0
 Gets before after ls = Appends before after (lines_text ls)
 
 -- a turn was made: the node took its steps, the recording got its lines, and what tells its calls tells just those of the turn
-pub record Done {N : Type 0} (steps : Steps N) (peers : List Peer) (polled : Option Peer) (old new : N)
+pub record Done {N : Type 0} (steps : Steps N) (indexes : N → Indexes) (peers : List Peer) (polled : Option Peer) (old new : N)
     (wire_before wire_after : Option (List Call)) (clock_before clock_after : Option (List ℕ)) (text_before text_after : Text) (lost : ℕ) : Type 0 where
   pub t : Turn
-  pub moves : Moves steps peers polled t old new
+  pub moves : Moves steps indexes peers polled t old new
   pub calls : Tells wire_before wire_after (calls_of polled t)
   pub reading : Tells clock_before clock_after (t.now ∷ [])
   pub text : Gets text_before text_after (lines_of peers polled t)
   pub lost_are : lost ≡ lost_of polled t
 
 -- ---- the parts
+
+-- indexes were reserved where few were left, and so many are left now
+pub record Restocked {N : Type 0} (steps : Steps N) (indexes : N → Indexes) (old new : N) (text_before text_after : Text) : Type 0 where
+  pub reserved : Option ℕ
+  pub due : reserved ≡ reserved_by (indexes old)
+  pub step : Restocks steps reserved old new
+  pub left : HaveLeft LEAST_LEFT (indexes new)
+  pub text : Gets text_before text_after (reserve_lines reserved)
 
 pub record Ticked {N : Type 0} (steps : Steps N) (old new : N) (clock_before clock_after : Option (List ℕ)) (text_before text_after : Text) : Type 0 where
   pub now : ℕ

@@ -8,7 +8,7 @@ use Rattle.sp_recording.specs.RecordingText.{lines_text}
 use Rattle.sp_recording.specs.declared.line.Line.{Line}
 use Rattle.sp_recording.specs.declared.line.Line.TheVariants as lines
 use Rattle.sp_service_turns.specs.Done.{Text}
-use Rattle.sp_service_turns.specs.Turns.{Turn, calls_of, client_lines, lines_of, overlay_line, overlay_lines, poll_lines, tick_line, told}
+use Rattle.sp_service_turns.specs.Turns.{Turn, calls_of, client_lines, lines_of, overlay_line, overlay_lines, poll_lines, reserve_lines, tick_line, told}
 use Rattle.sp_service_turns.specs.declared.peer.Peer.{Peer}
 
 -- the recording got a beginning of these lines
@@ -24,6 +24,9 @@ pub record Early (peers : List Peer) (polled : Option Peer) (wire_before wire_af
   pub text : GetsFront text_before text_after (lines_of peers polled t)
 
 -- ---- the parts
+
+abbrev pub EarlyRestock : Text → Text → Type 0
+EarlyRestock before after = (reserved : Option ℕ) × GetsFront before after (reserve_lines reserved)
 
 abbrev pub EarlyTick : Text → Text → Type 0
 EarlyTick before after = (now : ℕ) × (answer : List ℕ) × GetsFront before after (tick_line now answer ∷ [])

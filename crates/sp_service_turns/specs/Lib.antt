@@ -1,4 +1,6 @@
 pub mod Inputs
+pub mod Indexes
+pub mod Keys
 pub mod Turns
 pub mod Hearing
 pub mod Done
@@ -6,5 +8,6 @@ pub mod Early
 pub mod Runs
 pub mod Recorded
 pub mod Served
+pub mod Told
 pub mod Verified
 pub mod Compared

@@ -1,11 +1,12 @@
 -- Many turns, one after another.
-use Rattle.std.specs.Prelude.{ℕ, ◌≡◌, ◌≤◌, ◌+◌, ◌%◌, List, [], ◌∷◌, ◌++◌, length, map, slice_get, Option, None}
+use Rattle.std.specs.Prelude.{ℕ, ◌≡◌, ◌≤◌, ◌<◌, ◌+◌, ◌%◌, List, [], ◌∷◌, ◌++◌, length, map, slice_get, Option, None}
 use Rattle.sp_outside.specs.Calls.{Call, Tells}
 use Rattle.sp_recording.specs.declared.line.Line.{Line}
 use Rattle.sp_service_turns.specs.Done.{Gets, Text}
 use Rattle.sp_service_turns.specs.Early.{GetsFront}
 use Rattle.sp_service_turns.specs.Inputs.{Steps}
 use Rattle.sp_service_turns.specs.Turns.{Moves, Turn, calls_of, lines_of, lost_of}
+use Rattle.sp_service_turns.specs.declared.indexes.Indexes.{Indexes}
 use Rattle.sp_service_turns.specs.declared.peer.Peer.{Peer}
 
 -- the neighbour that a turn polls, in a cycle. None where there is none
@@ -14,9 +15,10 @@ polled_by [] turn = None
 polled_by (p ∷ ps) turn = slice_get (p ∷ ps) (turn % length (p ∷ ps))
 
 -- from this turn on
-abbrev pub MovesOn : {N : Type 0} → Steps N → List Peer → ℕ → List Turn → N → N → Type 0
-MovesOn steps peers turn [] old new = new ≡ old
-MovesOn {N} steps peers turn (t ∷ ts) old new = (mid : N) × Moves steps peers (polled_by peers turn) t old mid × MovesOn steps peers (turn + 1) ts mid new
+abbrev pub MovesOn : {N : Type 0} → Steps N → (N → Indexes) → List Peer → ℕ → List Turn → N → N → Type 0
+MovesOn steps indexes peers turn [] old new = new ≡ old
+MovesOn {N} steps indexes peers turn (t ∷ ts) old new =
+    (mid : N) × Moves steps indexes peers (polled_by peers turn) t old mid × MovesOn steps indexes peers (turn + 1) ts mid new
 
 abbrev pub all_calls : List Peer → ℕ → List Turn → List Call
 all_calls peers turn [] = []
@@ -31,11 +33,11 @@ all_lost peers turn [] = 0
 all_lost peers turn (t ∷ ts) = lost_of (polled_by peers turn) t + all_lost peers (turn + 1) ts
 
 -- so many turns were made
-pub record Ran {N : Type 0} (steps : Steps N) (peers : List Peer) (count : ℕ) (old new : N)
+pub record Ran {N : Type 0} (steps : Steps N) (indexes : N → Indexes) (peers : List Peer) (count : ℕ) (old new : N)
     (wire_before wire_after : Option (List Call)) (clock_before clock_after : Option (List ℕ)) (text_before text_after : Text) (lost : ℕ) : Type 0 where
   pub turns : List Turn
   pub counted : length turns ≡ count
-  pub moves : MovesOn steps peers 0 turns old new
+  pub moves : MovesOn steps indexes peers 0 turns old new
   pub calls : Tells wire_before wire_after (all_calls peers 0 turns)
   pub readings : Tells clock_before clock_after (map (λ t. t.now) turns)
   pub text : Gets text_before text_after (all_lines peers 0 turns)
@@ -50,3 +52,12 @@ pub record RanEarly (peers : List Peer) (count : ℕ) (wire_before wire_after : 
   pub front : calls ++ rest ≡ all_calls peers 0 turns
   pub made : Tells wire_before wire_after calls
   pub text : GetsFront text_before text_after (all_lines peers 0 turns)
+
+-- fewer turns were made than were asked for, each of them whole
+pub record RanFewer {N : Type 0} (steps : Steps N) (indexes : N → Indexes) (peers : List Peer) (count : ℕ) (old : N)
+    (wire_before wire_after : Option (List Call)) (clock_before clock_after : Option (List ℕ)) (text_before text_after : Text) : Type 0 where
+  pub made : ℕ
+  pub fewer : made < count
+  pub last : N
+  pub lost : ℕ
+  pub ran : Ran steps indexes peers made old last wire_before wire_after clock_before clock_after text_before text_after lost

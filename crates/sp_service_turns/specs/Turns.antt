@@ -1,6 +1,7 @@
 -- One turn of a daemon as data: what was read, what the node answered, and what was sent. From it follow the calls of the wire, the lines of
 -- the recording, and the steps of the node. A turn is, in this order:
 --
+--     the key file             more indexes for the node, if few are left      a reserve line
 --     the clock is read        a tick of the node                      a tick line
 --     the overlay side         a neighbour's datagram to the node      an overlay line, or a stray line for any other port
 --     the client side          a request to the node                   a client line, and the reply is sent
@@ -14,10 +15,14 @@ use Rattle.sp_recording.specs.LineTable.{digest_of}
 use Rattle.sp_recording.specs.declared.line.Digest.{Digest}
 use Rattle.sp_recording.specs.declared.line.Line.{Line}
 use Rattle.sp_recording.specs.declared.line.Line.TheVariants as lines
-use Rattle.sp_service_turns.specs.Inputs.{Datagram, Poll, Request, Steps, Tick}
+use Rattle.sp_service_turns.specs.Indexes.{HaveLeft, reserved_by}
+use Rattle.sp_service_turns.specs.Inputs.{Datagram, Poll, Request, Reserve, Steps, Tick}
+use Rattle.sp_service_turns.specs.declared.indexes.Indexes.{Indexes}
 use Rattle.sp_service_turns.specs.declared.peer.Peer.{Peer}
 
 pub record Turn : Type 0 where
+  -- the bound up to which indexes were reserved, if any were
+  pub reserved : Option ℕ
   pub now : ℕ
   pub ticked : List ℕ
   pub overlay : Got
@@ -56,6 +61,10 @@ calls_of polled t =
 
 -- ---- the lines
 
+abbrev pub reserve_lines : Option ℕ → List Line
+reserve_lines None = []
+reserve_lines (Some upto) = lines.Reserve upto ∷ []
+
 abbrev pub tick_line : ℕ → List ℕ → Line
 tick_line now ticked = lines.Tick now (told ticked)
 
@@ -77,9 +86,14 @@ poll_lines frame None = []
 
 abbrev pub lines_of : List Peer → Option Peer → Turn → List Line
 lines_of peers polled t =
-    (tick_line t.now t.ticked ∷ []) ++ (overlay_lines peers t.arrived t.overlay ++ (client_lines t.reply t.client ++ poll_lines t.frame polled))
+    reserve_lines t.reserved
+    ++ ((tick_line t.now t.ticked ∷ []) ++ (overlay_lines peers t.arrived t.overlay ++ (client_lines t.reply t.client ++ poll_lines t.frame polled)))
 
 -- ---- the steps
+
+abbrev pub Restocks : {N : Type 0} → Steps N → Option ℕ → N → N → Type 0
+Restocks steps (Some upto) old new = steps old (Reserve upto) [] new
+Restocks steps None old new = new ≡ old
 
 abbrev pub HearsFrom : {N : Type 0} → Steps N → Option NodeId → List ℕ → N → List ℕ → N → Type 0
 HearsFrom steps (Some node) arrived old bytes new = steps old (Datagram node bytes) arrived new
@@ -97,14 +111,21 @@ abbrev pub Polls : {N : Type 0} → Steps N → List ℕ → N → Option Peer �
 Polls steps frame old (Some peer) new = steps old (Poll peer.node) frame new
 Polls steps frame old None new = new ≡ old
 
-pub record Moves {N : Type 0} (steps : Steps N) (peers : List Peer) (polled : Option Peer) (t : Turn) (old new : N) : Type 0 where
+pub record Moves {N : Type 0} (steps : Steps N) (indexes : N → Indexes) (peers : List Peer) (polled : Option Peer) (t : Turn) (old new : N) : Type 0 where
+  pub after_reserve : N
   pub after_tick : N
   pub after_overlay : N
   pub after_client : N
-  pub tick : steps old (Tick t.now) t.ticked after_tick
+  -- it reserves exactly where few indexes are left, and the bound is the next
+  pub due : t.reserved ≡ reserved_by (indexes old)
+  pub reserve : Restocks steps t.reserved old after_reserve
+  pub tick : steps after_reserve (Tick t.now) t.ticked after_tick
   pub overlay : Hears steps peers t.arrived after_tick t.overlay after_overlay
   pub client : Replies steps t.reply after_overlay t.client after_client
   pub poll : Polls steps t.frame after_client polled new
+  -- what may sign is never asked for while an index is left that isn't reserved yet
+  pub tick_supplied : HaveLeft 1 (indexes after_reserve)
+  pub client_supplied : HaveLeft 1 (indexes after_overlay)
 
 -- ---- what is lost
 

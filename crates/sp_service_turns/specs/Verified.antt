@@ -6,6 +6,7 @@ use Rattle.sp_recording.specs.declared.line.Line.TheVariants as lines
 use Rattle.sp_service_turns.specs.Inputs.{Datagram, Input, Poll, Request, Reserve, Steps, Tick}
 use Rattle.sp_service_turns.specs.Runs.{MovesOn, all_lines}
 use Rattle.sp_service_turns.specs.Turns.{Turn, told}
+use Rattle.sp_service_turns.specs.declared.indexes.Indexes.{Indexes}
 use Rattle.sp_service_turns.specs.declared.peer.Peer.{Peer}
 
 -- what was asked of the node, and the digest of what it is told to have answered
@@ -57,7 +58,7 @@ pub record Differs {N : Type 0} (steps : Steps N) (first : N) (ls : List Line) (
   pub other : computed ≢ recorded
 
 -- whatever turns were made, their lines agree with the node's steps
-abbrev pub RecordingsAgree : {N : Type 0} → Steps N → Type 0
-RecordingsAgree {N} steps =
-    (peers : List Peer) (turns : List Turn) (old new : N) → MovesOn steps peers 0 turns old new
+abbrev pub RecordingsAgree : {N : Type 0} → Steps N → (N → Indexes) → Type 0
+RecordingsAgree {N} steps indexes =
+    (peers : List Peer) (turns : List Turn) (old new : N) → MovesOn steps indexes peers 0 turns old new
     → (count : ℕ) × Agrees steps old (all_lines peers 0 turns) new count

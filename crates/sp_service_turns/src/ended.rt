@@ -1,4 +1,5 @@
 // Why a daemon ends early.
+use sp_keystate::KeyRefused;
 
 /// What stopped a turn.
 #[derive(Clone, Copy, Debug, PartialEq, Eq)]
@@ -7,6 +8,8 @@ pub enum Ended {
     Sink,
     /// No memory was left.
     Memory,
+    /// No more indexes could be reserved.
+    Keys(KeyRefused),
 }
 
 /// What a receive gave. A datagram lies at the front of the buffer.

@@ -5,5 +5,5 @@ use crate::node::Core;
 
 /// A law: whatever turns a daemon made, the lines of them agree with the steps of its node.
 pub fn recordings_agree<N: Core>()
-    ensures { RecordingsAgree N.steps }
+    ensures { RecordingsAgree N.steps N.indexes }
 {}

@@ -3,25 +3,30 @@
 
 mod compared;
 mod ended;
+mod indexes;
 mod laws;
 mod many_turns;
 mod node;
 mod note;
 mod one_turn;
+mod opened;
 mod parts;
 mod peer;
 mod poll;
 mod recorded;
+mod restock;
 mod served;
 mod verified;
 
 pub use compared::{LinesRefused, VerifyRefused};
 pub use ended::Ended;
+pub use indexes::{Indexes, LEAST_LEFT, RESERVED};
 pub use laws::recordings_agree;
 pub use many_turns::serve;
 pub use node::Core;
 pub use one_turn::turn;
+pub use opened::{Ports, open, opening_of};
 pub use peer::Peer;
 pub use recorded::serve_recorded;
-pub use served::{Ports, Served, serve_from};
+pub use served::{Served, serve_opened, tell};
 pub use verified::verify;

@@ -5,6 +5,7 @@ ghost use Rattle.std.specs.String.{string_bytes};
 ghost use Rattle.sp_outside.specs.Causes.{Rose};
 ghost use Rattle.sp_outside.specs.Streams.{AppendsFront};
 ghost use Rattle.sp_recording.specs.RecordingText.{line_in, lines_text};
+ghost use Rattle.sp_service_turns.specs.Keys.{IfKeysEnd};
 ghost use Rattle.sp_service_turns.specs.Turns.{told};
 
 use crate::Ended;
@@ -38,6 +39,7 @@ pub fn note<K: Sink>(alloc: Global, sink: &mut K, line: &LineRef<'_>) -> Result<
     ensures front { AppendsFront (K.contents sink.old) (K.contents sink.new) (lines_text (line_in line.now ∷ [])) }
     ensures later { K.faults sink.old ≤ K.faults sink.new }
     ensures failed { IsErrOf result Ended.Sink → Rose (K.faults sink.old) (K.faults sink.new) }
+    ensures no_keys { IfKeysEnd result ⊥ }
 {
     let Ok(text) = text_of(alloc, line) else {
         return Err(Ended::Memory);

@@ -3,7 +3,9 @@ ghost use Rattle.std.specs.Prelude.{◌≡◌, ◌≤◌, ◌∷◌, [], IfOk, I
 ghost use Rattle.sp_outside.specs.declared.wire.TheConstants.{DATAGRAM_BYTES};
 ghost use Rattle.sp_outside.specs.Calls.{Received, Tells};
 ghost use Rattle.sp_outside.specs.Causes.{Rose};
+ghost use Rattle.sp_service_turns.specs.Keys.{IfKeysEnd};
 ghost use Rattle.sp_service_turns.specs.Done.{Came, Overheard, Replied, SentOne, Served, Ticked};
+ghost use Rattle.sp_service_turns.specs.Indexes.{UsesOne};
 ghost use Rattle.sp_service_turns.specs.Early.{EarlyCame, EarlyClient, EarlyOverlay, EarlyReply, EarlyTick};
 ghost use Rattle.sp_service_turns.specs.Hearing.{IsWithin, heard_in};
 ghost use Rattle.sp_service_turns.specs.Turns.{node_at};
@@ -24,10 +26,12 @@ pub fn tick<N: Core, C: Clock, K: Sink>(
     clock: &mut C,
     sink: &mut K,
 ) -> Result<(), Ended>
+    ensures uses { OnOk result (UsesOne (N.indexes node.old) (N.indexes node.new)) }
     ensures ticked { OnOk result (Ticked N.steps node.old node.new (C.told clock.old) (C.told clock.new) (K.contents sink.old) (K.contents sink.new)) }
     ensures early { OnErr result (EarlyTick (K.contents sink.old) (K.contents sink.new)) }
     ensures later { K.faults sink.old ≤ K.faults sink.new }
     ensures failed { IsErrOf result Ended.Sink → Rose (K.faults sink.old) (K.faults sink.new) }
+    ensures no_keys { IfKeysEnd result ⊥ }
 {
     let now = clock.now_ms();
     let Ok(answer) = node.tick(alloc, now) else {
@@ -68,11 +72,13 @@ pub fn overlay<N: Core, W: Wire, K: Sink>(
     buf: &mut [u8],
 ) -> Result<u32, Ended>
     requires { DATAGRAM_BYTES ≤ length buf.old }
+    ensures uses { IfOk result (λ _. UsesOne (N.indexes node.old) (N.indexes node.new)) }
     ensures heard { IfOk result (λ lost. Overheard N.steps peers.now node.old node.new (W.told wire.old) (W.told wire.new)
         (K.contents sink.old) (K.contents sink.new) lost) }
     ensures early { OnErr result (EarlyOverlay peers.now (W.told wire.old) (W.told wire.new) (K.contents sink.old) (K.contents sink.new)) }
     ensures later { K.faults sink.old ≤ K.faults sink.new }
     ensures failed { IsErrOf result Ended.Sink → Rose (K.faults sink.old) (K.faults sink.new) }
+    ensures no_keys { IfKeysEnd result ⊥ }
 {
     match hear(wire, Side::Overlay, buf) {
         Heard::Nothing => Ok(0),
@@ -93,10 +99,12 @@ fn came<N: Core, K: Sink>(
     bytes: &[u8],
     sink: &mut K,
 ) -> Result<(), Ended>
+    ensures uses { OnOk result (UsesOne (N.indexes node.old) (N.indexes node.new)) }
     ensures came { OnOk result (Came N.steps (node_at peers.now port) node.old port bytes.now node.new (K.contents sink.old) (K.contents sink.new)) }
     ensures early { OnErr result (EarlyCame (node_at peers.now port) port bytes.now (K.contents sink.old) (K.contents sink.new)) }
     ensures later { K.faults sink.old ≤ K.faults sink.new }
     ensures failed { IsErrOf result Ended.Sink → Rose (K.faults sink.old) (K.faults sink.new) }
+    ensures no_keys { IfKeysEnd result ⊥ }
 {
     match node_at(peers, port) {
         Some(from) => arrived(alloc, node, from, port, bytes, sink),
@@ -113,10 +121,12 @@ fn arrived<N: Core, K: Sink>(
     bytes: &[u8],
     sink: &mut K,
 ) -> Result<(), Ended>
+    ensures uses { OnOk result (UsesOne (N.indexes node.old) (N.indexes node.new)) }
     ensures came { OnOk result (Came N.steps (Some from) node.old port bytes.now node.new (K.contents sink.old) (K.contents sink.new)) }
     ensures early { OnErr result (EarlyCame (Some from) port bytes.now (K.contents sink.old) (K.contents sink.new)) }
     ensures later { K.faults sink.old ≤ K.faults sink.new }
     ensures failed { IsErrOf result Ended.Sink → Rose (K.faults sink.old) (K.faults sink.new) }
+    ensures no_keys { IfKeysEnd result ⊥ }
 {
     let Ok(answer) = node.datagram(alloc, from, bytes) else {
         return Err(Ended::Memory);
@@ -138,11 +148,13 @@ pub fn client<N: Core, W: Wire, K: Sink>(
     buf: &mut [u8],
 ) -> Result<u32, Ended>
     requires { DATAGRAM_BYTES ≤ length buf.old }
+    ensures uses { IfOk result (λ _. UsesOne (N.indexes node.old) (N.indexes node.new)) }
     ensures served { IfOk result (λ lost. Served N.steps node.old node.new (W.told wire.old) (W.told wire.new)
         (K.contents sink.old) (K.contents sink.new) lost) }
     ensures early { OnErr result (EarlyClient (W.told wire.old) (W.told wire.new) (K.contents sink.old) (K.contents sink.new)) }
     ensures later { K.faults sink.old ≤ K.faults sink.new }
     ensures failed { IsErrOf result Ended.Sink → Rose (K.faults sink.old) (K.faults sink.new) }
+    ensures no_keys { IfKeysEnd result ⊥ }
 {
     match hear(wire, Side::Client, buf) {
         Heard::Nothing => Ok(0),
@@ -160,12 +172,14 @@ fn answer<N: Core, W: Wire, K: Sink>(
     wire: &mut W,
     sink: &mut K,
 ) -> Result<u32, Ended>
+    ensures uses { IfOk result (λ _. UsesOne (N.indexes node.old) (N.indexes node.new)) }
     ensures replied { IfOk result (λ lost. Replied N.steps node.old port bytes.now node.new (W.told wire.old) (W.told wire.new)
         (K.contents sink.old) (K.contents sink.new) lost) }
     ensures silent { OnErr result (W.told wire.new ≡ W.told wire.old) }
     ensures early { OnErr result (EarlyReply port bytes.now (K.contents sink.old) (K.contents sink.new)) }
     ensures later { K.faults sink.old ≤ K.faults sink.new }
     ensures failed { IsErrOf result Ended.Sink → Rose (K.faults sink.old) (K.faults sink.new) }
+    ensures no_keys { IfKeysEnd result ⊥ }
 {
     let Ok(reply) = node.request(alloc, port, bytes) else {
         return Err(Ended::Memory);

@@ -1,7 +1,9 @@
 // The poll of the next neighbour, which ends a turn.
 ghost use Rattle.std.specs.Prelude.{◌≡◌, ◌≤◌, ◌<◌, ◌^◌, IfOk, IsErrOf, OnErr, Some, length};
 ghost use Rattle.sp_outside.specs.Causes.{Rose};
+ghost use Rattle.sp_service_turns.specs.Keys.{IfKeysEnd};
 ghost use Rattle.sp_service_turns.specs.Done.{Polled, PolledNext};
+ghost use Rattle.sp_service_turns.specs.Indexes.{UsesOne};
 ghost use Rattle.sp_service_turns.specs.Early.{EarlyPoll};
 ghost use Rattle.sp_service_turns.specs.Runs.{polled_by};
 
@@ -22,12 +24,14 @@ fn poll<N: Core, W: Wire, K: Sink>(
     wire: &mut W,
     sink: &mut K,
 ) -> Result<u32, Ended>
+    ensures uses { IfOk result (λ _. UsesOne (N.indexes node.old) (N.indexes node.new)) }
     ensures polled { IfOk result (λ lost. Polled N.steps node.old peer node.new (W.told wire.old) (W.told wire.new)
         (K.contents sink.old) (K.contents sink.new) lost) }
     ensures silent { OnErr result (W.told wire.new ≡ W.told wire.old) }
     ensures early { OnErr result (EarlyPoll (Some peer) (K.contents sink.old) (K.contents sink.new)) }
     ensures later { K.faults sink.old ≤ K.faults sink.new }
     ensures failed { IsErrOf result Ended.Sink → Rose (K.faults sink.old) (K.faults sink.new) }
+    ensures no_keys { IfKeysEnd result ⊥ }
 {
     let Ok(frame) = node.poll(alloc, peer.node) else {
         return Err(Ended::Memory);
@@ -48,12 +52,14 @@ pub fn poll_next<N: Core, W: Wire, K: Sink>(
     wire: &mut W,
     sink: &mut K,
 ) -> Result<u32, Ended>
+    ensures uses { IfOk result (λ _. UsesOne (N.indexes node.old) (N.indexes node.new)) }
     ensures polled { IfOk result (λ lost. PolledNext N.steps polled node.old node.new (W.told wire.old) (W.told wire.new)
         (K.contents sink.old) (K.contents sink.new) lost) }
     ensures silent { OnErr result (W.told wire.new ≡ W.told wire.old) }
     ensures early { OnErr result (EarlyPoll polled (K.contents sink.old) (K.contents sink.new)) }
     ensures later { K.faults sink.old ≤ K.faults sink.new }
     ensures failed { IsErrOf result Ended.Sink → Rose (K.faults sink.old) (K.faults sink.new) }
+    ensures no_keys { IfKeysEnd result ⊥ }
 {
     match polled {
         Some(peer) => poll(alloc, node, peer, wire, sink),

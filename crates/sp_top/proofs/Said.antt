@@ -1,5 +1,5 @@
 -- What words say that are no command, or a command line without a command.
-use Rattle.std.proofs.Common.{◌≡◌, ℕ, List, Option, Some, None, sym, ap, ◌∙◌, subst, get_or, arith}
+use Rattle.std.proofs.Common.{◌≡◌, ℕ, List, Option, Some, None, sym, ap, ◌∙◌, subst}
 use Rattle.sp_client.specs.Requests.{IsRequest}
 use Rattle.sp_client.specs.declared.request.Request.{Request}
 use Rattle.sp_words.specs.CommandLines.{IsCommandLine, texts_for}
@@ -17,31 +17,12 @@ no_line words none command are = none are.line are.said
 one_text : (words : List (List ℕ)) (a b : CommandLine) → IsCommandLine words a → IsCommandLine words b → texts_for a ≡ texts_for b
 one_text words a b p q = sym p.of_line.are ∙ p.given.texts_are ∙ sym q.given.texts_are ∙ q.of_line.are
 
--- the first byte of a command tells it from the others
-abbrev first : Option (List ℕ) → ℕ
-first None = 0
-first (Some text) = get_or text 0 0
-
-is_format : (line : CommandLine) (command : Command) → first (texts_for lines.Format).command ≡ first (texts_for line).command → IsMeant line command → ⊥
-is_format lines.Replay command same meant = let e : 102 ≡ 114 = same in absurd (omega (arith, e))
-is_format lines.Topology command same meant = let e : 102 ≡ 116 = same in absurd (omega (arith, e))
-is_format lines.Format command same meant = meant
-is_format lines.Verify command same meant = let e : 102 ≡ 118 = same in absurd (omega (arith, e))
-is_format (lines.Paths q) command same meant = let e : 102 ≡ 112 = same in absurd (omega (arith, e))
-is_format (lines.Generate seed) command same meant = let e : 102 ≡ 103 = same in absurd (omega (arith, e))
-is_format (lines.Daemon turns) command same meant = let e : 102 ≡ 100 = same in absurd (omega (arith, e))
-is_format (lines.Ask a) command same meant = let e : 102 ≡ 97 = same in absurd (omega (arith, e))
-
-pub of_format : (words : List (List ℕ)) → IsCommandLine words lines.Format → Says words None
-of_format words said command are =
-    is_format are.line command (ap (λ (t : Texts). first t.command) (one_text words lines.Format are.line said are.said)) are.meant
-
 -- whatever asks the same has the same request
 is_no_request : (request : List ℕ) (line : CommandLine) (command : Command) → ((r : Request) → IsRequest request r → ⊥) → Some request ≡ (texts_for line).request
     → IsMeant line command → ⊥
 is_no_request request lines.Replay command none same meant = cc
 is_no_request request lines.Topology command none same meant = cc
-is_no_request request lines.Format command none same meant = meant
+is_no_request request lines.Format command none same meant = cc
 is_no_request request lines.Verify command none same meant = cc
 is_no_request request (lines.Paths q) command none same meant = cc
 is_no_request request (lines.Generate seed) command none same meant = cc

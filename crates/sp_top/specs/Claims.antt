@@ -9,7 +9,7 @@ use Rattle.sp_top.specs.declared.command.Command.{Command}
 use Rattle.sp_top.specs.declared.ended.Status.{Status}
 use Rattle.sp_top.specs.declared.ended.Status.TheVariants as statuses
 use Rattle.sp_service_turns.specs.Served.{Outside}
-use Rattle.sp_top.specs.Complete.{GeneratesAll, IsComplete, calls_wire}
+use Rattle.sp_top.specs.Complete.{GeneratesAll, IsComplete, calls_keeper, calls_wire}
 use Rattle.sp_top.specs.Outputs.{IsOutput}
 use Rattle.sp_top.specs.Services.{ServiceEnds}
 
@@ -42,11 +42,11 @@ Wrote said left past status before after = IsWritten said left past status befor
 
 -- ---- what is claimed of each run, by what its words say
 
--- with what the source, the sink and the wire had before, the number of the status and the world
+-- with what the source, the sink, the wire and the key file had before, the number of the status and the world
 pub record SaidClaims (said : Option Command) (left : Option (List ℕ)) (past : Option Past) (status : Status) (before after : Outside) : Type 0 where
   -- what the sink got is the output that goes with the status, or on a fault of the sink a beginning of an output
-  pub wrote : calls_wire said ≡ false → Wrote said left past status before.text after.text
-  -- a daemon's calls, readings, steps and recording, and a question's calls and reply
+  pub wrote : calls_wire said ≡ false → calls_keeper said ≡ false → Wrote said left past status before.text after.text
+  -- a daemon's calls, readings, start, steps and recording, a question's calls and reply, and a key file that is made
   pub served : ServiceEnds said left status before after
   -- a schedule of which nothing is forged is run to its end, and a text with a bad line is refused, unless something outside fails
   pub complete : status ≢ statuses.Source → status ≢ statuses.Sink → IsComplete said left status

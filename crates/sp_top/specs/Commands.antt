@@ -2,7 +2,7 @@
 --
 --     replay    topology    verify                                 read standard input
 --     paths --from S --to D --paths K      daemon --turns N        read standard input
---     generate --seed N      ask --port P --local L --turns N --request LINE
+--     generate --seed N      ask --port P --local L --turns N --request LINE      format
 use Rattle.std.specs.Prelude.{ℕ, ◌≡◌, ◌⊎◌, List, Option, Some, None}
 use Rattle.sp_client.specs.Requests.{IsRequest}
 use Rattle.sp_client.specs.declared.request.Request.{Request}
@@ -14,11 +14,11 @@ use Rattle.sp_words.specs.declared.command_line.CommandLine.TheVariants as lines
 use Rattle.sp_top.specs.declared.command.Command.{Command}
 use Rattle.sp_top.specs.declared.command.Command.TheVariants as commands
 
--- the command of a command line. `ask` has to have a request, and `format` isn't there yet
+-- the command of a command line. `ask` has to have a request
 abbrev pub IsMeant : CommandLine → Command → Type 0
 IsMeant lines.Replay command = command ≡ commands.Replay
 IsMeant lines.Topology command = command ≡ commands.Offline offlines.Topology
-IsMeant lines.Format command = ⊥
+IsMeant lines.Format command = command ≡ commands.Format
 IsMeant lines.Verify command = command ≡ commands.Verify
 IsMeant (lines.Paths q) command = command ≡ commands.Offline (offlines.Paths (record { from = q.from; to = q.to; paths = q.paths }))
 IsMeant (lines.Generate seed) command = command ≡ commands.Generate seed

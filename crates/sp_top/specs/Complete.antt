@@ -69,11 +69,12 @@ GeneratesAll _ status = Unit {0}
 
 -- ---- which objects a command calls
 
--- `generate` and `ask` read no input, and neither do words that are no command
+-- `generate`, `ask` and `format` read no input, and neither do words that are no command
 abbrev pub reads : Option Command → Bool
 reads None = false
 reads (Some (commands.Generate number)) = false
 reads (Some (commands.Ask a)) = false
+reads (Some commands.Format) = false
 reads _ = true
 
 -- a daemon and a question call the wire
@@ -86,3 +87,9 @@ calls_wire _ = false
 abbrev pub calls_clock : Option Command → Bool
 calls_clock (Some (commands.Daemon turns)) = true
 calls_clock _ = false
+
+-- a daemon and `format` call the keeper
+abbrev pub calls_keeper : Option Command → Bool
+calls_keeper (Some (commands.Daemon turns)) = true
+calls_keeper (Some commands.Format) = true
+calls_keeper _ = false

@@ -1,9 +1,15 @@
--- How the commands end that call the wire: a daemon, and a question to one.
+-- How the commands end that call the wire or the key file: a daemon, a question to one, and the making of a key file.
 use Rattle.std.specs.Prelude.{ℕ, ◌≡◌, ◌⊎◌, Bool, List, [], ◌∷◌, ◌++◌, Option, Some, None, codes}
 use Rattle.std.specs.Fmt.{decimal}
 use Rattle.std.specs.Io.KnownBytes.{Appends}
 use Rattle.sp_base.specs.declared.limits.TheConstants.{MAX_INPUT_BYTES}
 use Rattle.sp_lines.specs.Rows.{line_text}
+use Rattle.sp_keystate.specs.RefusedLines.{refused_line}
+use Rattle.sp_keystate.specs.Starting.{KeepsAll}
+use Rattle.sp_keystate.specs.States.{Finds, FormatMoments, Formats}
+use Rattle.sp_keystate.specs.declared.refused.KeyRefused.TheVariants as keys
+use Rattle.sp_keystate.specs.declared.slot.InUse.{InUse}
+use Rattle.sp_outside.specs.Disk.{Disk}
 use Rattle.sp_outside.specs.Streams.{AppendsFront, IsInput}
 use Rattle.sp_service.specs.Served.{Ends, IsQuiet}
 use Rattle.sp_service_turns.specs.Served.{Outside, wire_line}
@@ -82,10 +88,35 @@ abbrev pub IsTold : Status → List ℕ → Status → Option (List ℕ) → Opt
 IsTold would line status before after =
     ((status ≡ would) × Appends before after line) ⊎ (((status ≡ statuses.Sink) × AppendsFront before after line) ⊎ ((status ≡ statuses.Memory) × (after ≡ before)))
 
+-- ---- a key file is made
+
+abbrev pub formatted_line : List ℕ
+formatted_line = codes "formatted\n"
+
+-- what comes of it: the file and its line
+pub data Makes (before after : Option Disk) : Status → List ℕ → Type 0 where
+  Made : Formats before after → Makes before after statuses.Done formatted_line
+  Was_formatted : (found : InUse) → Finds before after (Some found) → Makes before after statuses.KeyState (refused_line keys.Formatted)
+  Keeper_failed : Makes before after statuses.Keeper (refused_line keys.KeeperFault)
+
+-- the making of a key file ended so
+pub record FormatEnds (status : Status) (before after : Outside) : Type 0 where
+  pub would : Status
+  pub line : List ℕ
+  pub makes : Makes before.disk after.disk would line
+  pub told : IsTold would line status before.text after.text
+
+-- what a crash leaves of the key file meanwhile: a daemon takes no bound and no boot back, and a file that is made leaves what that change may leave
+abbrev pub KeepsFile : Option Command → Option Disk → Option (List Disk) → Option (List Disk) → Type 0
+KeepsFile (Some (commands.Daemon turns)) told past now = KeepsAll told past now
+KeepsFile (Some commands.Format) told past now = FormatMoments told past now
+KeepsFile _ told past now = now ≡ past
+
 -- ---- together
 
--- how what the words say ended, where it calls the wire
+-- how what the words say ended, where it calls the wire or the keeper
 abbrev pub ServiceEnds : Option Command → Option (List ℕ) → Status → Outside → Outside → Type 0
 ServiceEnds (Some (commands.Daemon turns)) left status before after = DaemonEnds left turns status before after
 ServiceEnds (Some (commands.Ask a)) left status before after = AskEnds a status before after
+ServiceEnds (Some commands.Format) left status before after = FormatEnds status before after
 ServiceEnds _ left status before after = Unit {0}

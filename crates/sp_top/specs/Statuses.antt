@@ -4,6 +4,8 @@ use Rattle.sp_offline.specs.declared.answered.Verdict.{Verdict}
 use Rattle.sp_offline.specs.declared.answered.Verdict.TheVariants as verdicts
 use Rattle.sp_service_turns.specs.declared.served.Served.{Served}
 use Rattle.sp_service_turns.specs.declared.served.Served.TheVariants as served
+use Rattle.sp_keystate.specs.declared.refused.KeyRefused.{KeyRefused}
+use Rattle.sp_keystate.specs.declared.refused.KeyRefused.TheVariants as keys
 use Rattle.sp_service.specs.declared.verdict.Verdict as verified
 use Rattle.sp_service.specs.declared.verdict.Verdict.TheVariants as judgements
 use Rattle.sp_top.specs.declared.ended.Status.{Status}
@@ -17,10 +19,12 @@ code_of statuses.Forged = 4
 code_of statuses.Source = 5
 code_of statuses.Sink = 6
 code_of statuses.Wire = 7
+code_of statuses.Keeper = 8
 code_of statuses.Memory = 9
 code_of statuses.Mismatch = 10
 code_of statuses.Unanswered = 11
 code_of statuses.Fewer = 12
+code_of statuses.KeyState = 13
 
 abbrev pub verdict_status : Verdict → Status
 verdict_status verdicts.Done = statuses.Done
@@ -32,6 +36,13 @@ verified_status judgements.Verified = statuses.Done
 verified_status judgements.Mismatch = statuses.Mismatch
 verified_status judgements.Refused = statuses.Refused
 
+-- why a call on a key file was refused
+abbrev pub key_status : KeyRefused → Status
+key_status keys.KeeperFault = statuses.Keeper
+key_status keys.Unformatted = statuses.KeyState
+key_status keys.Formatted = statuses.KeyState
+key_status (keys.Exhausted number) = statuses.KeyState
+
 -- how a daemon ended
 abbrev pub served_status : Served → Status
 served_status served.Done = statuses.Done
@@ -39,3 +50,4 @@ served_status served.Refused = statuses.Refused
 served_status served.Wire = statuses.Wire
 served_status served.Sink = statuses.Sink
 served_status served.Memory = statuses.Memory
+served_status (served.Keys refused) = key_status refused

@@ -23,6 +23,8 @@ pub enum Command<'a> {
     Verify,
     /// A daemon serves for so many turns.
     Daemon(u32),
+    /// The key file is made.
+    Format,
     /// A daemon of this machine is asked.
     Ask(Ask<'a>),
 }
@@ -41,7 +43,7 @@ pub fn command_of(alloc: Global, words: &[String]) -> Result<Option<Command<'_>>
 }
 
 /// The command of a command line.
-#[tactic(auto, using(crate::proofs::Said::of_format, crate::proofs::Said::of_no_request))]
+#[tactic(auto, using(crate::proofs::Said::of_no_request))]
 fn of_line<'a>(alloc: Global, line: CommandLine<'a>) -> Result<Option<Command<'a>>, Memory>
     requires { lines.IsInRange line }
     ensures said { (words : List (List ℕ)) → IsCommandLine words line.entry → IfOk result (Says words) }
@@ -50,7 +52,7 @@ fn of_line<'a>(alloc: Global, line: CommandLine<'a>) -> Result<Option<Command<'a
     match line {
         CommandLine::Replay => Ok(Some(Command::Replay)),
         CommandLine::Topology => Ok(Some(Command::Offline(Offline::Topology))),
-        CommandLine::Format => Ok(None),
+        CommandLine::Format => Ok(Some(Command::Format)),
         CommandLine::Verify => Ok(Some(Command::Verify)),
         CommandLine::Paths(query) => Ok(Some(Command::Offline(Offline::Paths(query_of(query))))),
         CommandLine::Generate { seed } => Ok(Some(Command::Generate(seed))),

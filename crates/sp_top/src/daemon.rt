@@ -1,35 +1,40 @@
 // The command `daemon`: the whole input is read as a configuration, and its daemon serves.
 ghost use Rattle.std.specs.Prelude.{◌≡◌, ◌≢◌, ◌⊎◌, None as Nothing};
+ghost use Rattle.sp_keystate.specs.Starting.{KeepsAll};
 ghost use Rattle.sp_outside.specs.Causes.{Rose};
 ghost use Rattle.sp_top.specs.Services.{DaemonEnds};
 ghost use Rattle.sp_top.specs.Statuses.{served_status};
 ghost use Rattle.sp_words.specs.CommandLines.{IsTurns};
 
+use crate::key_file::key_status;
 use crate::{Outcome, Status};
 use sp_base::MAX_INPUT_BYTES;
-use sp_outside::{Clock, ReadRefused, Sink, Source, Wire, read_up_to};
+use sp_outside::{Clock, Keeper, ReadRefused, Sink, Source, Wire, read_up_to};
 use sp_service::serve;
 use sp_service_turns::Served;
 use std::alloc::Global;
 
 /// Reads the whole input, and serves as its daemon for so many turns.
-#[tactic(auto, using(crate::proofs::Services::served, crate::proofs::Services::unread))]
-pub fn daemon<S: Source, W: Wire, C: Clock, K: Sink>(
+#[tactic(auto, using(crate::proofs::Services::served, crate::proofs::Services::unread, sp_service::proofs::Endings::kept_quiet))]
+pub fn daemon<S: Source, W: Wire, C: Clock, P: Keeper, K: Sink>(
     alloc: Global,
     turns: u32,
     source: &mut S,
     wire: &mut W,
     clock: &mut C,
+    keeper: &mut P,
     sink: &mut K,
 ) -> Outcome
     requires { IsTurns turns }
     ensures ends { DaemonEnds (S.left source.old) turns result.status
-        (record { wire = W.told wire.old; clock = C.told clock.old; text = K.contents sink.old })
-        (record { wire = W.told wire.new; clock = C.told clock.new; text = K.contents sink.new }) }
+        (record { wire = W.told wire.old; clock = C.told clock.old; disk = P.disk keeper.old; text = K.contents sink.old })
+        (record { wire = W.told wire.new; clock = C.told clock.new; disk = P.disk keeper.new; text = K.contents sink.new }) }
+    ensures kept { KeepsAll (P.disk keeper.old) (P.past keeper.old) (P.past keeper.new) }
     ensures worldless { result.world ≡ Nothing }
     ensures faultless { result.status ≢ Status.Source → S.faults source.new ≡ S.faults source.old }
     ensures read { result.status ≡ Status.Source → Rose (S.faults source.old) (S.faults source.new) }
     ensures write { result.status ≡ Status.Sink → Rose (K.faults sink.old) (K.faults sink.new) }
+    ensures keeper { result.status ≡ Status.Keeper → Rose (P.faults keeper.old) (P.faults keeper.new) }
     ensures open { result.status ≡ Status.Wire → Rose (W.failed_opens wire.old) (W.failed_opens wire.new) }
     ensures usage { result.status ≢ Status.Usage }
 {
@@ -45,6 +50,7 @@ pub fn daemon<S: Source, W: Wire, C: Clock, K: Sink>(
         turns,
         wire,
         clock,
+        keeper,
         sink,
     );
     ended(status_of(served))
@@ -59,6 +65,7 @@ fn status_of(served: Served) -> Status
         Served::Wire => Status::Wire,
         Served::Sink => Status::Sink,
         Served::Memory => Status::Memory,
+        Served::Keys(refused) => key_status(refused),
     }
 }
 

@@ -21,6 +21,8 @@ pub enum Status {
     Sink,
     /// 7: the wire couldn't be opened. The last line written is `wire`.
     Wire,
+    /// 8: the key file failed in this run. The last line written is `keeper`.
+    Keeper,
     /// 9: no memory was left.
     Memory,
     /// 10: a digest of a recording isn't that of the node's answer. The last line written has its line and both digests.
@@ -29,6 +31,8 @@ pub enum Status {
     Unanswered,
     /// 12: there are fewer disjoint paths than were asked for. The last line written has the parts of the smallest cut.
     Fewer,
+    /// 13: the key file gives no start or no more indexes, or is formatted already. The last line written is `keystate` with the word for it.
+    KeyState,
 }
 
 impl Status {
@@ -44,10 +48,12 @@ impl Status {
             Status::Source => 5,
             Status::Sink => 6,
             Status::Wire => 7,
+            Status::Keeper => 8,
             Status::Memory => 9,
             Status::Mismatch => 10,
             Status::Unanswered => 11,
             Status::Fewer => 12,
+            Status::KeyState => 13,
         }
     }
 }

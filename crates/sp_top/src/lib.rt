@@ -5,11 +5,13 @@ mod command;
 mod daemon;
 mod ended;
 mod generate;
+mod key_file;
 mod offline;
 mod output;
 mod play;
 mod question;
 mod replay;
+mod told;
 mod top;
 mod verification;
 

@@ -30,6 +30,7 @@ pub fn offline<S: Source, K: Sink>(
     ensures write { result.status ≡ Status.Sink → Rose (K.faults sink.old) (K.faults sink.new) }
     ensures usage { result.status ≢ Status.Usage }
     ensures unopened { result.status ≢ Status.Wire }
+    ensures unkept { result.status ≢ Status.Keeper }
 {
     let input = match read_up_to(alloc, source, MAX_INPUT_BYTES) {
         Ok(input) => input,

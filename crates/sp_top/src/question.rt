@@ -3,13 +3,15 @@ ghost use Rattle.std.specs.Prelude.{◌≡◌, ◌≢◌, IfOk, List, None as No
 ghost use Rattle.sp_client.specs.Requests.{IsRequest};
 ghost use Rattle.sp_client.specs.declared.request.Request.{Request};
 ghost use Rattle.sp_outside.specs.Causes.{Rose};
+ghost use Rattle.sp_outside.specs.Disk.{Disk};
 ghost use Rattle.std.specs.String.{string_bytes};
 ghost use Rattle.sp_top.specs.Services.{AskEnds, IsTold, reply_line, unanswered_line};
 
+use crate::told::tell;
 use crate::{Outcome, Status};
 use sp_base::{Bytes, Memory};
 use sp_lines::push_field;
-use sp_outside::{Sink, Wire, write_all};
+use sp_outside::{Sink, Wire};
 use sp_service_ask::{AskRefused, Question, ask};
 use sp_words::Ask;
 use std::alloc::Global;
@@ -23,14 +25,15 @@ pub fn question<W: Wire, K: Sink>(
     sink: &mut K,
 ) -> Outcome
     requires { (r : Request) × IsRequest asked.request.now r }
-    ensures ends { (clock : Option (List ℕ)) → AskEnds asked.entry result.status
-        (record { wire = W.told wire.old; clock = clock; text = K.contents sink.old })
-        (record { wire = W.told wire.new; clock = clock; text = K.contents sink.new }) }
+    ensures ends { (clock : Option (List ℕ)) (disk : Option Disk) → AskEnds asked.entry result.status
+        (record { wire = W.told wire.old; clock = clock; disk = disk; text = K.contents sink.old })
+        (record { wire = W.told wire.new; clock = clock; disk = disk; text = K.contents sink.new }) }
     ensures worldless { result.world ≡ Nothing }
     ensures write { result.status ≡ Status.Sink → Rose (K.faults sink.old) (K.faults sink.new) }
     ensures open { result.status ≡ Status.Wire → Rose (W.failed_opens wire.old) (W.failed_opens wire.new) }
     ensures usage { result.status ≢ Status.Usage }
     ensures source { result.status ≢ Status.Source }
+    ensures keeper { result.status ≢ Status.Keeper }
 {
     let question = Question {
         port: asked.port,
@@ -81,25 +84,6 @@ fn unanswered_line(alloc: Global, turns: u32) -> Result<String, Memory>
     push_field(&mut line, u64::from(turns))?;
     line.push_str("\n")?;
     Ok(line)
-}
-
-/// Writes a line, with which the run ends so.
-fn tell<K: Sink>(sink: &mut K, line: &[u8], status: Status) -> Outcome
-    requires { status ≢ Status.Sink }
-    ensures told { IsTold status line.now result.status (K.contents sink.old) (K.contents sink.new) }
-    ensures worldless { result.world ≡ Nothing }
-    ensures write { result.status ≡ Status.Sink → Rose (K.faults sink.old) (K.faults sink.new) }
-{
-    match write_all(sink, line) {
-        Ok(()) => Outcome {
-            status,
-            world: None,
-        },
-        Err(_) => Outcome {
-            status: Status::Sink,
-            world: None,
-        },
-    }
 }
 
 /// A run that found no memory.

@@ -39,6 +39,7 @@ pub fn replay<S: Source, K: Sink>(alloc: Global, source: &mut S, sink: &mut K) -
     ensures write { result.status ≡ Status.Sink → Rose (K.faults sink.old) (K.faults sink.new) }
     ensures usage { result.status ≢ Status.Usage }
     ensures unopened { result.status ≢ Status.Wire }
+    ensures unkept { result.status ≢ Status.Keeper }
     ensures complete { result.status ≢ Status.Source → result.status ≢ Status.Sink → IsCompleteReplay (S.left source.old) result.status }
 {
     a_reading_is_of_its_text();

@@ -7,11 +7,13 @@ ghost use Rattle.sp_outside.specs.Streams.{AppendsFront};
 ghost use Rattle.sp_top.specs.Outputs.{usage_line};
 ghost use Rattle.sp_top.specs.Claims.{SaidClaims, WorldClaims};
 ghost use Rattle.sp_top.specs.Commands.{BySaid, IsInRange};
-ghost use Rattle.sp_top.specs.Complete.{calls_clock, calls_wire, reads};
+ghost use Rattle.sp_top.specs.Complete.{calls_clock, calls_keeper, calls_wire, reads};
+ghost use Rattle.sp_top.specs.Services.{KeepsFile};
 
 use crate::command::{Command, command_of};
 use crate::daemon::daemon;
 use crate::generate::generate;
+use crate::key_file::format_key_file;
 use crate::offline::offline;
 use crate::question::question;
 use crate::replay::replay;
@@ -28,9 +30,9 @@ use std::alloc::Global;
 /// reads an administrator's draft, and writes its signed document and the administrator's key. `paths --from S --to D --paths K` reads a
 /// graph, and writes its cheapest disjoint paths, or how many there are. `daemon --turns T` reads a configuration, and serves as its daemon over
 /// the wire and the clock for so many turns, which it records. `verify` reads a configuration and a recording, and writes how many of its digests
-/// agree, or the first that doesn't. `ask --port P --local L --turns T --request LINE` asks a daemon over the wire, and writes its reply. All other
-/// words are refused as a usage fault. The keeper isn't called.
-#[tactic(auto, using(crate::proofs::SaidRuns::by_said, crate::proofs::SaidRuns::forgotten))]
+/// agree, or the first that doesn't. `ask --port P --local L --turns T --request LINE` asks a daemon over the wire, and writes its reply. `format` makes
+/// the key file of a daemon, once. All other words are refused as a usage fault.
+#[tactic(auto, using(crate::proofs::SaidRuns::by_said, crate::proofs::SaidRuns::forgotten, crate::proofs::SaidRuns::kept_by_said))]
 pub fn run<S: Source, K: Sink, W: Wire, C: Clock, P: Keeper>(
     alloc: Global,
     words: &[String],
@@ -38,12 +40,15 @@ pub fn run<S: Source, K: Sink, W: Wire, C: Clock, P: Keeper>(
     sink: &mut K,
     wire: &mut W,
     clock: &mut C,
-    _keeper: &mut P,
+    keeper: &mut P,
 ) -> Outcome
     // What the program does is what its words say: the output, the daemon's calls and recording, and which runs must be done.
     ensures said { BySaid (map string_bytes words.now) (λ said. SaidClaims said (S.left source.old) result.world result.status
-        (record { wire = W.told wire.old; clock = C.told clock.old; text = K.contents sink.old })
-        (record { wire = W.told wire.new; clock = C.told clock.new; text = K.contents sink.new })) }
+        (record { wire = W.told wire.old; clock = C.told clock.old; disk = P.disk keeper.old; text = K.contents sink.old })
+        (record { wire = W.told wire.new; clock = C.told clock.new; disk = P.disk keeper.new; text = K.contents sink.new })) }
+
+    // A crash at any moment leaves a key file that takes nothing back.
+    ensures kept { BySaid (map string_bytes words.now) (λ said. KeepsFile said (P.disk keeper.old) (P.past keeper.old) (P.past keeper.new)) }
 
     // The world is a run; after each of its events deliveries are a prefix of what was sent, each message once, and no
     // buffer is above its bound; each answer to a client has its cause.
@@ -53,7 +58,7 @@ pub fn run<S: Source, K: Sink, W: Wire, C: Clock, P: Keeper>(
     ensures unread { BySaid (map string_bytes words.now) (λ said. reads said ≡ false → source.new ≡ source.old) }
     ensures uncalled { BySaid (map string_bytes words.now) (λ said. calls_wire said ≡ false → wire.new ≡ wire.old) }
     ensures timeless { BySaid (map string_bytes words.now) (λ said. calls_clock said ≡ false → clock.new ≡ clock.old) }
-    ensures untouched { _keeper.new ≡ _keeper.old }
+    ensures untouched { BySaid (map string_bytes words.now) (λ said. calls_keeper said ≡ false → keeper.new ≡ keeper.old) }
     ensures quiet { BySaid (map string_bytes words.now) (λ said. calls_wire said ≡ false → (result.status ≡ Status.Source) ⊎ (result.status ≡ Status.Memory) → sink.new ≡ sink.old) }
 
     // A status that tells a fault comes only with one.
@@ -62,45 +67,51 @@ pub fn run<S: Source, K: Sink, W: Wire, C: Clock, P: Keeper>(
     ensures sunk { BySaid (map string_bytes words.now) (λ said. calls_wire said ≡ false → result.status ≢ Status.Sink → K.faults sink.new ≡ K.faults sink.old) }
     ensures write { result.status ≡ Status.Sink → Rose (K.faults sink.old) (K.faults sink.new) }
     ensures open { result.status ≡ Status.Wire → Rose (W.failed_opens wire.old) (W.failed_opens wire.new) }
+    ensures keeper { result.status ≡ Status.Keeper → Rose (P.faults keeper.old) (P.faults keeper.new) }
 {
     match command_of(alloc, words) {
-        Ok(said) => run_said(alloc, said, source, sink, wire, clock),
+        Ok(said) => run_said(alloc, said, source, sink, wire, clock, keeper),
         Err(Memory) => unsaid(),
     }
 }
 
 /// Does what the words say.
-#[tactic(auto, using(crate::proofs::SaidRuns::replayed, crate::proofs::SaidRuns::generated, crate::proofs::SaidRuns::answered, crate::proofs::SaidRuns::verified, crate::proofs::SaidRuns::served, crate::proofs::SaidRuns::asked, crate::proofs::SaidRuns::no_command))]
-fn run_said<S: Source, K: Sink, W: Wire, C: Clock>(
+#[tactic(auto, using(crate::proofs::SaidRuns::replayed, crate::proofs::SaidRuns::generated, crate::proofs::SaidRuns::answered, crate::proofs::SaidRuns::verified, crate::proofs::SaidRuns::served, crate::proofs::SaidRuns::asked, crate::proofs::SaidRuns::formatted, crate::proofs::SaidRuns::no_command))]
+fn run_said<S: Source, K: Sink, W: Wire, C: Clock, P: Keeper>(
     alloc: Global,
     said: Option<Command<'_>>,
     source: &mut S,
     sink: &mut K,
     wire: &mut W,
     clock: &mut C,
+    keeper: &mut P,
 ) -> Outcome
     requires { IfSome said IsInRange }
     ensures said { SaidClaims said.entry (S.left source.old) result.world result.status
-        (record { wire = W.told wire.old; clock = C.told clock.old; text = K.contents sink.old })
-        (record { wire = W.told wire.new; clock = C.told clock.new; text = K.contents sink.new }) }
+        (record { wire = W.told wire.old; clock = C.told clock.old; disk = P.disk keeper.old; text = K.contents sink.old })
+        (record { wire = W.told wire.new; clock = C.told clock.new; disk = P.disk keeper.new; text = K.contents sink.new }) }
     ensures claims { IfSome result.world WorldClaims }
     ensures unread { reads said.entry ≡ false → source.new ≡ source.old }
     ensures uncalled { calls_wire said.entry ≡ false → wire.new ≡ wire.old }
     ensures timeless { calls_clock said.entry ≡ false → clock.new ≡ clock.old }
+    ensures untouched { calls_keeper said.entry ≡ false → keeper.new ≡ keeper.old }
+    ensures kept { KeepsFile said.entry (P.disk keeper.old) (P.past keeper.old) (P.past keeper.new) }
     ensures quiet { calls_wire said.entry ≡ false → (result.status ≡ Status.Source) ⊎ (result.status ≡ Status.Memory) → sink.new ≡ sink.old }
     ensures faultless { result.status ≢ Status.Source → S.faults source.new ≡ S.faults source.old }
     ensures read { result.status ≡ Status.Source → Rose (S.faults source.old) (S.faults source.new) }
     ensures sunk { calls_wire said.entry ≡ false → result.status ≢ Status.Sink → K.faults sink.new ≡ K.faults sink.old }
     ensures write { result.status ≡ Status.Sink → Rose (K.faults sink.old) (K.faults sink.new) }
     ensures open { result.status ≡ Status.Wire → Rose (W.failed_opens wire.old) (W.failed_opens wire.new) }
+    ensures keeper { result.status ≡ Status.Keeper → Rose (P.faults keeper.old) (P.faults keeper.new) }
 {
     match said {
         Some(Command::Replay) => replay(alloc, source, sink),
         Some(Command::Generate(number)) => generate(alloc, number, sink),
         Some(Command::Offline(command)) => offline(alloc, &command, source, sink),
         Some(Command::Verify) => verification(alloc, source, sink),
-        Some(Command::Daemon(turns)) => daemon(alloc, turns, source, wire, clock, sink),
+        Some(Command::Daemon(turns)) => daemon(alloc, turns, source, wire, clock, keeper, sink),
         Some(Command::Ask(asked)) => question(alloc, asked, wire, sink),
+        Some(Command::Format) => format_key_file(keeper, sink),
         None => usage(sink),
     }
 }

@@ -2,6 +2,7 @@
 use Rattle.std.proofs.Common.{◌≡◌, ℕ, false, List, Option, inl, inr, refl, subst, arith}
 use Rattle.std.specs.Prelude.{◌⊎◌}
 use Rattle.sp_outside.specs.Calls.{Call}
+use Rattle.sp_outside.specs.Disk.{Disk}
 use Rattle.sp_service_turns.specs.Served.{Outside}
 use Rattle.sp_top.specs.Claims.{SaidClaims}
 use Rattle.sp_top.specs.Commands.{BySaid}
@@ -27,13 +28,13 @@ ended_of left past status before after said claims = record {
   only_usage = claims.only_usage;
 }
 
-pub ended : (words : List (List ℕ)) (left l : Option (List ℕ)) (past : Option Past) (status : Status) (w0 w1 : Option (List Call)) (k0 k1 : Option (List ℕ))
+pub ended : (words : List (List ℕ)) (left l : Option (List ℕ)) (past : Option Past) (status : Status) (w0 w1 : Option (List Call)) (k0 k1 : Option (List ℕ)) (d0 d1 : Option Disk)
     (b0 b1 t0 t1 : Option (List ℕ)) → l ≡ left → t0 ≡ b0 → t1 ≡ b1
-    → BySaid words (λ said. SaidClaims said l past status (record { wire = w0; clock = k0; text = t0 }) (record { wire = w1; clock = k1; text = t1 }))
+    → BySaid words (λ said. SaidClaims said l past status (record { wire = w0; clock = k0; disk = d0; text = t0 }) (record { wire = w1; clock = k1; disk = d1; text = t1 }))
     → BySaid words (λ said. SaidEnded said left past status b0 b1)
-ended words left l past status w0 w1 k0 k1 b0 b1 t0 t1 read before after is =
-    let o0 : Outside = record { wire = w0; clock = k0; text = t0 } in
-    let o1 : Outside = record { wire = w1; clock = k1; text = t1 } in
+ended words left l past status w0 w1 k0 k1 d0 d1 b0 b1 t0 t1 read before after is =
+    let o0 : Outside = record { wire = w0; clock = k0; disk = d0; text = t0 } in
+    let o1 : Outside = record { wire = w1; clock = k1; disk = d1; text = t1 } in
     let told : BySaid words (λ said. SaidEnded said l past status t0 t1) =
     lift words (λ said. SaidClaims said l past status o0 o1) (λ said. SaidEnded said l past status t0 t1) (ended_of l past status o0 o1) is in
     let P : Option (List ℕ) → Type 0 = λ x. BySaid words (λ said. SaidEnded said x past status t0 t1) in
@@ -64,12 +65,16 @@ source_or_memory statuses.Sink (inl is) = let e : 6 ≡ 5 = is in absurd (omega 
 source_or_memory statuses.Sink (inr is) = let e : 6 ≡ 9 = is in absurd (omega (arith, e))
 source_or_memory statuses.Wire (inl is) = let e : 7 ≡ 5 = is in absurd (omega (arith, e))
 source_or_memory statuses.Wire (inr is) = let e : 7 ≡ 9 = is in absurd (omega (arith, e))
+source_or_memory statuses.Keeper (inl is) = let e : 8 ≡ 5 = is in absurd (omega (arith, e))
+source_or_memory statuses.Keeper (inr is) = let e : 8 ≡ 9 = is in absurd (omega (arith, e))
 source_or_memory statuses.Mismatch (inl is) = let e : 10 ≡ 5 = is in absurd (omega (arith, e))
 source_or_memory statuses.Mismatch (inr is) = let e : 10 ≡ 9 = is in absurd (omega (arith, e))
 source_or_memory statuses.Unanswered (inl is) = let e : 11 ≡ 5 = is in absurd (omega (arith, e))
 source_or_memory statuses.Unanswered (inr is) = let e : 11 ≡ 9 = is in absurd (omega (arith, e))
 source_or_memory statuses.Fewer (inl is) = let e : 12 ≡ 5 = is in absurd (omega (arith, e))
 source_or_memory statuses.Fewer (inr is) = let e : 12 ≡ 9 = is in absurd (omega (arith, e))
+source_or_memory statuses.KeyState (inl is) = let e : 13 ≡ 5 = is in absurd (omega (arith, e))
+source_or_memory statuses.KeyState (inr is) = let e : 13 ≡ 9 = is in absurd (omega (arith, e))
 
 -- the number is that of the status
 abbrev IsQuietCode : ℕ → Type 0

@@ -7,12 +7,12 @@ use Rattle.sp_top.specs.declared.ended.Status.TheVariants as statuses
 use Rattle.sp_top.specs.Statuses.{code_of}
 use Rattle.sp_top.specs.Claims.{Wrote, WorldClaims}
 use Rattle.sp_top.specs.Commands.{BySaid}
-use Rattle.sp_top.specs.Complete.{GeneratesAll, IsComplete, calls_wire}
+use Rattle.sp_top.specs.Complete.{GeneratesAll, IsComplete, calls_keeper, calls_wire}
 
--- what is claimed by what the words say, where the wire and the clock tell nothing
+-- what is claimed by what the words say, where the wire, the clock and the key file tell nothing
 pub record SaidEnded (said : Option Command) (left : Option (List ℕ)) (past : Option Past) (status : Status) (before after : Option (List ℕ)) : Type 0 where
   -- what was written is the output that the words and the input have
-  pub wrote : calls_wire said ≡ false → Wrote said left past status before after
+  pub wrote : calls_wire said ≡ false → calls_keeper said ≡ false → Wrote said left past status before after
   -- a schedule of which nothing is forged is run to its end, and a text with a bad line is refused, unless something outside fails
   pub complete : status ≢ statuses.Source → status ≢ statuses.Sink → IsComplete said left status
   -- the schedule of a number never meets a forgery

@@ -1,13 +1,15 @@
-//! `spinesd`: hands the words of the command line, standard input and output, the sockets of this machine and its clock to the one call that
-//! does it all.
+//! `spinesd`: hands the words of the command line, standard input and output, the sockets of this machine, its clock and the key file to the one
+//! call that does it all.
 #![tactic(auto)]
 
+mod key_file;
 mod pace;
 mod program;
 mod standard;
 mod system_clock;
 mod udp_wire;
 
+use key_file::KeyFile;
 use program::program;
 use std::alloc::{AllocError, Global};
 use std::env;
@@ -26,6 +28,7 @@ fn main(rt: HostRuntime) -> ExitCode {
         rt.stdout(),
         UdpWire::new(&rt),
         SystemClock::new(&rt),
+        KeyFile::new(&rt),
     );
     ExitCode::from(finished.code)
 }

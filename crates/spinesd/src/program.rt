@@ -1,4 +1,4 @@
-// The whole program over any reader, writer, wire and clock: words and input go in, output and a number come out.
+// The whole program over any reader, writer, wire, clock and key file: words and input go in, output and a number come out.
 ghost use Rattle.std.specs.Prelude.{◌≡◌, ◌⊎◌, IfOk, OnErr, false, map};
 ghost use Rattle.std.specs.String.{string_bytes};
 ghost use Rattle.sp_top.specs.Commands.{BySaid};
@@ -6,7 +6,7 @@ ghost use Rattle.sp_top.specs.Complete.{calls_wire, reads};
 ghost use Rattle.spinesd.specs.Ended.{Ended};
 
 use crate::standard::{StandardSink, StandardSource};
-use sp_outside::{Clock, MemoryKeeper, Wire};
+use sp_outside::{Clock, Keeper, Wire};
 use sp_top::{Status, run};
 use std::alloc::{AllocError, Global};
 use std::io::{Read, Write};
@@ -14,20 +14,21 @@ use std::io::{Read, Write};
 /// What the program leaves: the number with which it ends, and the reader and the writer.
 #[derive(Drop)]
 pub struct Finished<R: Read, W: Write> {
-    /// 0 done, 2 usage, 3 refused, 4 forged, 5 source, 6 sink, 7 wire, 9 memory, 10 mismatch, 11 unanswered, 12 fewer paths.
+    /// 0 done, 2 usage, 3 refused, 4 forged, 5 source, 6 sink, 7 wire, 8 keeper, 9 memory, 10 mismatch, 11 unanswered, 12 fewer paths, 13 key state.
     pub code: u8,
     pub reader: R,
     pub writer: W,
 }
 
 /// Runs the words of a command line, where there was memory for them.
-pub fn program<R: Read, W: Write, N: Wire + Drop, C: Clock + Drop>(
+pub fn program<R: Read, W: Write, N: Wire + Drop, C: Clock + Drop, P: Keeper + Drop>(
     alloc: Global,
     words: Result<Vec<String>, AllocError>,
     reader: R,
     writer: W,
     mut wire: N,
     mut clock: C,
+    mut keeper: P,
 ) -> Finished<R, W>
     ensures ended { IfOk words (λ words. Ended (map string_bytes words.items) (R.remaining reader) (W.contents writer) (W.contents result.writer) result.code) }
 
@@ -52,7 +53,7 @@ pub fn program<R: Read, W: Write, N: Wire + Drop, C: Clock + Drop>(
         &mut sink,
         &mut wire,
         &mut clock,
-        &mut MemoryKeeper::new(),
+        &mut keeper,
     );
     Finished {
         code: outcome.into_code(),

@@ -4,7 +4,7 @@ use Rattle.sp_service.proofs.daemon.serve.Goals as goal
 
 pub returns-then-is_cut-clause-ends : goal.returns-then-is_cut-clause-ends
 returns-then-is_cut-clause-ends g c =
-    rw c.if-is_cut.true (told c.args.text.now true c.args.turns _ c.refuse.result _ _ _ _ refl c.refuse.ensures.told)
+    rw c.if-is_cut.true (told c.args.text.now true c.args.turns _ c.refuse.result _ _ _ _ _ refl c.refuse.ensures.told)
 
 pub returns-in-Ok-Fits-clause-ends : goal.returns-in-Ok-Fits-clause-ends
 returns-in-Ok-Fits-clause-ends g c =
@@ -14,5 +14,5 @@ returns-in-Ok-Fits-clause-ends g c =
 pub returns-in-Ok-Refused-clause-ends : goal.returns-in-Ok-Refused-clause-ends
 returns-in-Ok-Refused-clause-ends g c =
     rw c.if-is_cut.false
-    (told c.args.text.now false c.args.turns c.in-Ok-Refused.line c.refuse-in-Ok-Refused.result _ _ _ _
+    (told c.args.text.now false c.args.turns c.in-Ok-Refused.line c.refuse-in-Ok-Refused.result _ _ _ _ _
     (rw c.in-Ok-Refused.field-0-is at c.in-Ok-Refused.ensures) (rw c.as_slice.ensures at c.refuse-in-Ok-Refused.ensures.told))

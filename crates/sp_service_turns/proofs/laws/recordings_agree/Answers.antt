@@ -2,4 +2,4 @@ use Rattle.sp_service_turns.proofs.RecordedLemmas.{recorded}
 use Rattle.sp_service_turns.proofs.laws.recordings_agree.Goals as goal
 
 pub returns : goal.returns
-returns g c = recorded g.N.Core.steps
+returns g c = recorded g.N.Core.steps g.N.Core.indexes

@@ -1,11 +1,16 @@
-use Rattle.std.proofs.Common.{◌≤◌, ◌*◌}
+use Rattle.std.proofs.Common.{◌≡◌, ◌≤◌, ◌*◌}
+use Rattle.sp_service_turns.specs.Keys.{HoldsKeys, KeepsKeys, KeysGoOn}
 use Rattle.sp_service_turns.specs.Runs.{Ran}
 use Rattle.sp_service_turns.proofs.many_turns.serve.Given as goal
 
 abbrev pub invariant-turns : goal.invariant-turns
 invariant-turns g l = record {
-  ran : Ran g.N.Core.steps l.peers l.made l.fn.node l.node (g.W.Wire.told l.fn.wire) (g.W.Wire.told l.wire) (g.C.Clock.told l.fn.clock) (g.C.Clock.told l.clock) (g.K.Sink.contents l.fn.sink)
-      (g.K.Sink.contents l.sink) l.lost;
+  ran : Ran g.N.Core.steps g.N.Core.indexes l.peers l.made l.fn.node l.node (g.W.Wire.told l.fn.wire) (g.W.Wire.told l.wire) (g.C.Clock.told l.fn.clock) (g.C.Clock.told l.clock)
+      (g.K.Sink.contents l.fn.sink) (g.K.Sink.contents l.sink) l.lost;
   few : l.lost ≤ 4 * l.made;
   later : g.K.Sink.faults l.fn.sink ≤ g.K.Sink.faults l.sink;
+  held : HoldsKeys (g.P.Keeper.disk l.keeper) l.keys (g.N.Core.indexes l.node);
+  on : KeysGoOn l.fn.keys l.keys (g.P.Keeper.disk l.fn.keeper) (g.P.Keeper.disk l.keeper);
+  kept : KeepsKeys l.fn.keys (g.P.Keeper.disk l.fn.keeper) (g.P.Keeper.past l.fn.keeper) (g.P.Keeper.past l.keeper);
+  faultless : g.P.Keeper.faults l.keeper ≡ g.P.Keeper.faults l.fn.keeper;
 }

@@ -1,4 +1,4 @@
-use Rattle.std.proofs.Common.{◌≡◌, ◌+◌, ◌++◌, ◌∷◌, [], List, ℕ, arith, take, refl, sym, subst}
+use Rattle.std.proofs.Common.{◌+◌, List, ℕ, arith, take, refl, sym, subst}
 use Rattle.sp_recording.specs.declared.line.Line.{Line}
 use Rattle.sp_service_turns.specs.Compared.{counted}
 use Rattle.sp_service_turns.specs.Verified.{Agrees, Starts, asked}

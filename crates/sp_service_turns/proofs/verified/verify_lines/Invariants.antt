@@ -1,4 +1,4 @@
-use Rattle.std.proofs.Common.{◌≡◌, ◌≤◌, take}
+use Rattle.std.proofs.Common.{◌≤◌, take}
 use Rattle.sp_service_turns.specs.Verified.{Agrees}
 use Rattle.sp_service_turns.proofs.verified.verify_lines.Given as goal
 

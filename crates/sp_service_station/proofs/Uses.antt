@@ -1,0 +1,66 @@
+-- A step of a node uses one index of its key at most, and reserves none.
+use Rattle.std.proofs.Common.{◌≡◌, ◌≤◌, ◌+◌, ℕ, Bool, true, false, List, Option, None, Some, refl, sym, subst, ap, arith}
+use Rattle.std.specs.Prelude.{◌&&◌, if◌then◌else◌, nat_le}
+use Rattle.std.proofs.lemmas.Bool.Decides.{nat_tests}
+use Rattle.laws_node.proofs.Shapes.{shapes_stay}
+use Rattle.laws_node.specs.Shapes.{Shape}
+use Rattle.sp_msg.specs.declared.body.Ack.{Ack}
+use Rattle.sp_msg.specs.declared.refused.SendRefused.{SendRefused}
+use Rattle.sp_node_core.specs.Format.{format}
+use Rattle.sp_rules.specs.Link.{Link}
+use Rattle.sp_rules.specs.Node.{NodeState, called, extended, kept_or, signed_once}
+use Rattle.sp_rules.specs.Parts.{Parts}
+use Rattle.sp_rules.specs.Arrivals.{after_datagram}
+use Rattle.sp_rules.specs.Polls.{after_poll}
+use Rattle.sp_rules.specs.Rel.{due}
+use Rattle.sp_rules.specs.Sends.{after_send_prio, after_send_rel, after_set_weight, after_take_prio, after_take_rel, signer_refusal}
+use Rattle.sp_rules.specs.Steps.{Datagram, Input, NodeStep, Output, Poll, SendPrio, SendRel, SetWeight, TakePrio, TakeRel, Tick}
+use Rattle.sp_rules.specs.Ticks.{after_tick, at_time, settled_by}
+use Rattle.sp_service_turns.specs.Indexes.{AreReserved, UsesOne}
+use Rattle.sp_service_station.specs.Stations.{indexes_of, reserved}
+
+-- the index is the next at most
+abbrev IsNear : NodeState → NodeState → Type 0
+IsNear old new = new.signer.index ≤ old.signer.index + 1
+
+near_called : {X : Type 0} (refusal : Option X) (n : NodeState) (links : List Link) (parts : Parts) → IsNear n (kept_or refusal n (called n links parts))
+near_called None n links parts = omega arith
+near_called (Some refused) n links parts = omega arith
+
+near_signed : {X : Type 0} (refusal : Option X) (n : NodeState) (parts : Parts) → IsNear n (kept_or refusal n (signed_once n parts))
+near_signed None n parts = omega arith
+near_signed (Some refused) n parts = omega arith
+
+near_settled : (n : NodeState) (ack : Option Ack) (refusal : Option SendRefused) → IsNear n (settled_by format n ack refusal)
+near_settled n None refusal = omega arith
+near_settled n (Some ack) (Some refused) = omega arith
+near_settled n (Some ack) None = omega arith
+
+is_near : (old new made : NodeState) → new ≡ made → IsNear old made → IsNear old new
+is_near old new made is near = subst (IsNear old) (sym is) near
+
+rises : (old : NodeState) (input : Input) (output : Output) (new : NodeState) → NodeStep format old input output new → IsNear old new
+rises old (Poll to) output new step = is_near old new (after_poll old to) step.1 (near_called _ old _ _)
+rises old (Datagram from bytes) output new step = is_near old new (after_datagram format old from bytes) step.1 (near_called _ old _ _)
+rises old (Tick now) output new step = is_near old new (after_tick format old now) step.1 (near_settled (at_time old now) (due old.parts.rel) (signer_refusal old.signer))
+rises old (SendRel dst payload) output new step = is_near old new (after_send_rel format old dst payload) step.1 (near_signed _ old _)
+rises old (SendPrio message) output new step = is_near old new (after_send_prio format old message step.choice) step.new_is (near_signed _ old _)
+rises old (SetWeight peer weight) output new step = is_near old new (after_set_weight format old peer weight) step.1 (near_signed _ old _)
+rises old (TakeRel src) output new step = is_near old new (after_take_rel old src) step.1 (omega arith)
+rises old TakePrio output new step = is_near old new (after_take_prio old) step.1 (omega arith)
+
+pub uses_one : (old : NodeState) (input : Input) (output : Output) (new : NodeState) → NodeStep format old input output new → UsesOne (indexes_of old) (indexes_of new)
+uses_one old input output new step =
+    let shape = shapes_stay format old input output new step in
+    record { index = rises old input output new step; bound = ap (λ (s : Shape). s.bound) shape; total = ap (λ (s : Shape). s.total) shape }
+
+pub uses_none : (n : NodeState) → UsesOne (indexes_of n) (indexes_of n)
+uses_none n = record { index = omega arith; bound = refl; total = refl }
+
+pub are_reserved : (n : NodeState) (upto : ℕ) → AreReserved (indexes_of n) upto (indexes_of (reserved n upto))
+are_reserved n upto above within = go (nat_le n.signer.bound upto) (nat_le upto n.signer.total) (grind (arith, nat_tests)) (grind (arith, nat_tests))
+  where
+    go : (a b : Bool) → a ≡ true → b ≡ true → indexes_of (if a && b then extended n upto else n) ≡ record (indexes_of n) { bound = upto }
+    go true true p q = refl
+    go false b p q = absurd (cc)
+    go true false p q = absurd (cc)

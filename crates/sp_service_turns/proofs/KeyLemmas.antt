@@ -1,0 +1,158 @@
+-- Indexes and the key file over the parts of a turn, and over turns.
+use Rattle.std.proofs.Common.{◌≡◌, ℕ, ◌+◌, ◌-◌, ◌≤◌, ◌<◌, min, Bool, true, false, List, [], ◌∷◌, Option, None, Some, Err, refl, sym, ap, subst, ◌∙◌, arith, inl, inr}
+use Rattle.std.specs.Prelude.{◌&&◌, if◌then◌else◌, nat_lt, IfSome}
+use Rattle.std.proofs.lemmas.Bool.Decides.{nat_tests}
+use Rattle.std.proofs.lemmas.Option.{none-some}
+use Rattle.sp_keystate.proofs.Since.{since_none, since_on, since_weaker}
+use Rattle.sp_keystate.specs.Changes.{Changes}
+use Rattle.sp_keystate.specs.Soundness.{Keeps}
+use Rattle.sp_keystate.specs.States.{IsSoundAt, KeepsMeanwhile, SoundAs, StandsFor, changed_state}
+use Rattle.sp_keystate.specs.declared.key_state.KeyState.{KeyState}
+use Rattle.sp_keystate.specs.declared.numbers.Numbers.{Numbers}
+use Rattle.sp_outside.specs.Disk.{Disk}
+use Rattle.sp_recording.specs.declared.line.Line.TheVariants as lines
+use Rattle.sp_service_turns.specs.Done.{Gets, Restocked, Text}
+use Rattle.sp_service_turns.specs.Indexes.{AreReserved, HaveLeft, UsesOne, are_few, next_bound, reserved_by}
+use Rattle.sp_service_turns.specs.Inputs.{Reserve, Steps}
+use Rattle.sp_service_turns.specs.Keys.{HoldsKeys, IfKeysEnd, KeepsKeys, KeysGoOn}
+use Rattle.sp_service_turns.specs.declared.ended.Ended.{Ended}
+use Rattle.sp_service_turns.specs.declared.ended.Ended.TheVariants as ended
+use Rattle.sp_service_turns.specs.declared.indexes.Indexes.{Indexes}
+use Rattle.sp_service_turns.specs.declared.indexes.TheConstants.{RESERVED}
+use Rattle.sp_service_turns.proofs.TextLemmas.{gets_itself}
+
+-- ---- indexes
+
+enough : (i : Indexes) → are_few i ≡ false → HaveLeft 4 i
+enough i is = go (nat_lt (i.bound - i.index) 4) refl is
+  where
+    go : (t : Bool) → nat_lt (i.bound - i.index) 4 ≡ t → (t && nat_lt i.bound i.total) ≡ false → HaveLeft 4 i
+    go false many e = inl (grind (arith, nat_tests))
+    go true few e = inr (grind (arith, nat_tests))
+
+below : (i : Indexes) → are_few i ≡ true → i.bound < i.total
+below i is = go (nat_lt (i.bound - i.index) 4) is
+  where
+    go : (t : Bool) → (t && nat_lt i.bound i.total) ≡ true → i.bound < i.total
+    go true e = grind (arith, nat_tests)
+    go false e = absurd (cc)
+
+not_due : (i : Indexes) → are_few i ≡ false → None ≡ reserved_by i
+not_due i is = sym (ap (λ (t : Bool). if t then Some (next_bound i) else None) is)
+
+due : (i : Indexes) → are_few i ≡ true → Some (next_bound i) ≡ reserved_by i
+due i is = sym (ap (λ (t : Bool). if t then Some (next_bound i) else None) is)
+
+forward : (b n t : ℕ) → b < t → b ≤ min (b + n) t
+forward b n t less = grind (arith, less)
+
+capped : (b n t : ℕ) → min (b + n) t ≤ t
+capped b n t = grind arith
+
+stocked : (i j : Indexes) → i.index ≤ i.bound → i.bound < i.total → AreReserved i (next_bound i) j → HaveLeft 4 j
+stocked i j ordered less reserved =
+    let is : j ≡ record i { bound = next_bound i } = reserved (forward i.bound 32 i.total less) (capped i.bound 32 i.total) in
+    subst (HaveLeft 4) (sym is) (go (nat_lt (i.bound + 32) i.total) refl)
+  where
+    go : (t : Bool) → nat_lt (i.bound + 32) i.total ≡ t → HaveLeft 4 (record i { bound = next_bound i })
+    go true e = inl (grind (arith, nat_tests, ordered))
+    go false e = inr (grind (arith, nat_tests))
+
+pub left_after : (n : ℕ) (i j : Indexes) → UsesOne i j → HaveLeft (n + 1) i → HaveLeft n j
+left_after n i j uses (inl left) = inl (omega (arith, left, uses.index, uses.bound))
+left_after n i j uses (inr all) = inr (omega (arith, all, uses.bound, uses.total))
+
+pub left_less : (n : ℕ) (i : Indexes) → HaveLeft (n + 1) i → HaveLeft n i
+left_less n i (inl left) = inl (omega (arith, left))
+left_less n i (inr all) = inr all
+
+-- ---- a reserve, or none
+
+pub restocked_none : {N : Type 0} (steps : Steps N) (indexes : N → Indexes) (n : N) (b : Text) (i : Indexes) → i ≡ indexes n → are_few i ≡ false → Restocked steps indexes n n b b
+restocked_none steps indexes n b i is few =
+    let here : are_few (indexes n) ≡ false = subst (λ (j : Indexes). are_few j ≡ false) is few in
+    record { reserved = None; due = not_due (indexes n) here; step = refl; left = enough (indexes n) here; text = gets_itself b }
+
+pub restocked_some : {N : Type 0} (steps : Steps N) (indexes : N → Indexes) (old new : N) (b0 b1 : Text) (i : Indexes) (upto : ℕ) → i ≡ indexes old → i.index ≤ i.bound
+    → are_few i ≡ true → upto ≡ next_bound i → steps old (Reserve upto) [] new → AreReserved (indexes old) upto (indexes new) → Gets b0 b1 (lines.Reserve upto ∷ [])
+    → Restocked steps indexes old new b0 b1
+restocked_some steps indexes old new b0 b1 i upto is ordered few bound step reserved text =
+    let few_here : are_few (indexes old) ≡ true = subst (λ (j : Indexes). are_few j ≡ true) is few in
+    let bound_here : upto ≡ next_bound (indexes old) = bound ∙ ap next_bound is in
+    let ordered_here : (indexes old).index ≤ (indexes old).bound = subst (λ (j : Indexes). j.index ≤ j.bound) is ordered in
+    record {
+      reserved = Some upto;
+      due = ap (λ (u : ℕ). Some u) bound_here ∙ due (indexes old) few_here;
+      step = step;
+      left = stocked (indexes old) (indexes new) ordered_here (below (indexes old) few_here) (subst (λ (u : ℕ). AreReserved (indexes old) u (indexes new)) bound_here reserved);
+      text = text;
+    }
+
+-- ---- the key file
+
+pub unchanged : (told : Option Disk) (keys : KeyState) → KeysGoOn keys keys told told
+unchanged told keys = record { bound = omega arith; boot = omega arith; sound = λ s. s }
+
+pub kept_none : (keys : KeyState) (told : Option Disk) (past : Option (List Disk)) → KeepsKeys keys told past past
+kept_none keys told past sound = since_none past (Keeps keys.bound keys.boot)
+
+pub kept_by : (keys : KeyState) (told : Option Disk) (past now : Option (List Disk)) → KeepsMeanwhile told past now keys → KeepsKeys keys told past now
+kept_by keys None past now meanwhile sound = absurd sound
+kept_by keys (Some d) past now meanwhile sound = meanwhile sound.file (ap (λ (k : Disk). Some k) sound.still) sound.sound
+
+sound_after : (keys : KeyState) (before after : Option Disk) (at : ℕ) (next : Numbers) (old : KeyState) → Changes before after at next → IfSome after (SoundAs keys)
+    → IsSoundAt before old → IsSoundAt after keys
+sound_after keys None after at next old changes there sound = absurd sound
+sound_after keys (Some d) None at next old changes there sound = absurd (none-some _ changes)
+sound_after keys (Some d) (Some e) at next old changes there sound = there
+
+pub reserved_on : (old new : KeyState) (before after : Option Disk) (at n total : ℕ) (next : Numbers) → old.bound < total
+    → new ≡ changed_state old (min (old.bound + n) total) old.boot → Changes before after at next → IfSome after (SoundAs new) → KeysGoOn old new before after
+reserved_on old new before after at n total next less is changes there =
+    let bound : new.bound ≡ min (old.bound + n) total = ap (λ (s : KeyState). s.bound) is in
+    let boot : new.boot ≡ old.boot = ap (λ (s : KeyState). s.boot) is in
+    record {
+      bound = omega (arith, bound, forward old.bound n total less);
+      boot = omega (arith, boot);
+      sound = sound_after new before after at next old changes there;
+    }
+
+pub reserved_held : (told : Option Disk) (old new : KeyState) (i j : Indexes) (upto : ℕ) → StandsFor told new → old.bound ≡ i.bound → are_few i ≡ true
+    → upto ≡ min (old.bound + RESERVED) i.total → new ≡ changed_state old upto old.boot → AreReserved i upto j → HoldsKeys told new j
+reserved_held told old new i j upto stands same few upto_is is reserved =
+    let b : upto ≡ next_bound i = upto_is ∙ ap (λ (n : ℕ). min (n + RESERVED) i.total) same in
+    let less = below i few in
+    let at : j ≡ record i { bound = upto } = reserved (subst (λ (u : ℕ). i.bound ≤ u) (sym b) (forward i.bound RESERVED i.total less))
+    (subst (λ (u : ℕ). u ≤ i.total) (sym b) (capped i.bound RESERVED i.total)) in
+    record { stands = stands; bound = ap (λ (s : KeyState). s.bound) is ∙ sym (ap (λ (k : Indexes). k.bound) at) }
+
+pub less_than_total : (keys : KeyState) (i : Indexes) → keys.bound ≡ i.bound → are_few i ≡ true → keys.bound < i.total
+less_than_total keys i same few = let less = below i few in omega (arith, same, less)
+
+pub held_on : (told : Option Disk) (keys : KeyState) (i j : Indexes) → HoldsKeys told keys i → UsesOne i j → HoldsKeys told keys j
+held_on told keys i j held uses = record { stands = held.stands; bound = held.bound ∙ sym uses.bound }
+
+pub on_again : (a b c : KeyState) (t u v : Option Disk) → KeysGoOn a b t u → KeysGoOn b c u v → KeysGoOn a c t v
+on_again a b c t u v before after = record {
+  bound = omega (arith, before.bound, after.bound);
+  boot = omega (arith, before.boot, after.boot);
+  sound = λ s. after.sound (before.sound s);
+}
+
+pub kept_on : (a b : KeyState) (t u : Option Disk) (p q r : Option (List Disk)) → KeysGoOn a b t u → KeepsKeys a t p q → KeepsKeys b u q r → KeepsKeys a t p r
+kept_on a b t u p q r on before after sound =
+    since_on p q r (Keeps a.bound a.boot) (before sound)
+    (since_weaker q r (Keeps b.bound b.boot) (Keeps a.bound a.boot)
+    (λ c k. record {
+      slot = k.slot;
+      numbers = k.numbers;
+      sound = k.sound;
+      bound_kept = (let h = k.bound_kept in omega (arith, h, on.bound));
+      boot_kept = (let h = k.boot_kept in omega (arith, h, on.boot));
+    })
+    (after (on.sound sound)))
+
+pub keys_end_on : (T U : Type 0) (e : Ended) (P Q : Type 0) → (P → Q) → IfKeysEnd {T = T} (Err e) P → IfKeysEnd {T = U} (Err e) Q
+keys_end_on T U (ended.Keys refused) P Q go h = go h
+keys_end_on T U ended.Sink P Q go h = tt
+keys_end_on T U ended.Memory P Q go h = tt

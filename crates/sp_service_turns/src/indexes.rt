@@ -1,0 +1,29 @@
+// How far a node is with the indexes of its signing key, and when more of them are reserved.
+ghost use Rattle.std.specs.Prelude.{◌≡◌};
+ghost use Rattle.sp_service_turns.specs.Indexes.{are_few};
+
+/// How many indexes a turn reserves, where it reserves any.
+pub const RESERVED: u64 = 32;
+
+/// How many reserved indexes a turn begins with at least, while there are so many. A turn signs twice at most: at its tick, and for a client.
+pub const LEAST_LEFT: u64 = 4;
+
+/// How far a node is with the indexes of its signing key.
+#[derive(Clone, Copy, Debug, PartialEq, Eq)]
+pub struct Indexes {
+    /// The index of the next signature.
+    pub index: u64,
+    /// The indexes below this one are reserved.
+    pub bound: u64,
+    /// How many messages the key signs.
+    pub total: u64,
+}
+
+impl Indexes {
+    /// Whether a turn that begins so reserves more: fewer reserved indexes are left than `LEAST_LEFT`, and not all indexes are reserved.
+    pub fn are_few(self) -> bool
+        ensures { result ≡ are_few self }
+    {
+        self.bound.saturating_sub(self.index) < LEAST_LEFT && self.bound < self.total
+    }
+}
