@@ -54,8 +54,8 @@ class Faults:
         return overlay
 
     def run(self, words, given, **more):
-        """The status and the output of a run."""
-        ended = subprocess.run([self.program, *words], input=given, check=False, timeout=60, **{"stdout": subprocess.PIPE, **more})
+        """The status and the output of a run, in a folder without a key file if no other is said."""
+        ended = subprocess.run([self.program, *words], input=given, check=False, timeout=60, **{"stdout": subprocess.PIPE, "cwd": self.folder, **more})
         return ended.returncode, ended.stdout
 
 
@@ -71,7 +71,7 @@ def ports_in_use(faults):
     given = overlay.read("1.toml")
     for name, port in zip(("overlay", "client"), overlay.ports[1]):
         with held(port):
-            faults.equal(f"a daemon whose {name} port is in use", faults.run(["daemon", "--turns", "3"], given), (7, b"wire\n"))
+            faults.equal(f"a daemon whose {name} port is in use", faults.run(["daemon", "--turns", "3"], given, cwd=overlay.home(1)), (7, b"wire\n"))
     local, = free_ports(1)
     words = ["ask", "--port", str(overlay.ports[1][1]), "--local", str(local), "--turns", "3", "--request", "1 open"]
     with held(local):
@@ -81,16 +81,16 @@ def ports_in_use(faults):
 
 def full_disks(faults):
     overlay = faults.overlay("disks", line_of(2))
-    given, words = overlay.read("1.toml"), ["daemon", "--turns", str(MANY_TURNS)]
+    given, words, home = overlay.read("1.toml"), ["daemon", "--turns", str(MANY_TURNS)], overlay.home(1)
     with open("/dev/full", "wb") as full:
-        faults.equal("a recording on a full disk", faults.run(words, given, stdout=full)[0], 6)
+        faults.equal("a recording on a full disk", faults.run(words, given, stdout=full, cwd=home)[0], 6)
 
     def limited():
         signal.signal(signal.SIGXFSZ, signal.SIG_IGN)
         resource.setrlimit(resource.RLIMIT_FSIZE, (FULL_AT, FULL_AT))
 
     with open(overlay.path("1.recording"), "wb") as recording:
-        faults.equal("a disk that fills", faults.run(words, given, stdout=recording, preexec_fn=limited)[0], 6)
+        faults.equal("a disk that fills", faults.run(words, given, stdout=recording, preexec_fn=limited, cwd=home)[0], 6)
     faults.equal("the recording up to where the disk was full", len(overlay.read("1.recording")), FULL_AT)
     faults.equal("its whole lines are verified", overlay.verify(1)[0], 0)
 

@@ -83,7 +83,7 @@ def daemons_end(judge, folder, program):
         overlay.end_all()
     for node in overlay.ports:
         lines = overlay.recording(node).split(b"\n")
-        judge.equal(f"the first line of node {node}", lines[0], b"recording 1 1 0 1024")
+        judge.equal(f"the first line of node {node}", lines[0], b"recording 1 1 0 32")
         judge.equal(f"the last line of node {node}", lines[-2], b"end turns %d lost 0" % FEW_TURNS)
         judge.equal(f"the ticks of node {node}", sum(line.startswith(b"tick ") for line in lines), FEW_TURNS)
         judge.equal(f"the polls of node {node}", sum(line.startswith(b"poll ") for line in lines), FEW_TURNS)

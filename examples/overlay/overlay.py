@@ -1,7 +1,7 @@
 """An overlay of daemons on this machine: its keys and files, its processes, and the requests of its clients.
 
 Everything lies in one folder, which nobody else may read: NODE.toml is a configuration with its keys, NODE.recording what the daemon recorded,
-NODE.session the port and the last number of a client, and overlay.json the ports. The program is the environment's SPINESD, or the one that this
+NODE.keys the folder that it is started in, with its key file, NODE.session the port and the last number of a client, and overlay.json the ports. The program is the environment's SPINESD, or the one that this
 checkout built.
 """
 
@@ -85,7 +85,7 @@ class Overlay:
     # ---- keys and files
 
     def make(self, graph, height=10):
-        """Seeds, link keys, the signed topology, and a configuration for each node."""
+        """Seeds, link keys, the signed topology, and for each node a configuration and a key file."""
         os.umask(0o077)
         os.makedirs(self.folder, exist_ok=True)
         nodes, edges = graph
@@ -102,15 +102,21 @@ class Overlay:
         for node, seed in seeds.items():
             keys = {low if node == high else high: key for (low, high), key in links.items() if node in (low, high)}
             self.write(f"{node}.toml", self.configuration(node, seed, admin, document, keys))
+            os.makedirs(self.home(node))
+            subprocess.run([self.program, "format"], cwd=self.home(node), stdin=subprocess.DEVNULL, stdout=subprocess.DEVNULL, check=True)
 
     def configuration(self, node, seed, admin, document, keys):
-        """What an operator tells a daemon. Its first start has the number 1, and may sign from the index 0 on."""
+        """What an operator tells a daemon."""
         overlay, client = self.ports[node]
         text = f'node = {node}\nseed = "{seed}"\nadmin = "{admin}"\ntopology = "{document}"\n'
-        text += f"port = {overlay}\nclient_port = {client}\nboot = 1\nfirst_index = 0\nbuffer = 16\nstore = 64\n"
+        text += f"port = {overlay}\nclient_port = {client}\nbuffer = 16\nstore = 64\n"
         for peer in sorted(keys):
             text += f'\n[[peer]]\nid = {peer}\nport = {self.ports[peer][0]}\nkey = "{keys[peer]}"\n'
         return text
+
+    def home(self, node):
+        """The folder that a node's daemon is started in. Its key file lies there."""
+        return self.path(f"{node}.keys")
 
     # ---- daemons
 
@@ -119,7 +125,7 @@ class Overlay:
         with open(self.path(f"{node}.toml"), "rb") as given, open(self.path(f"{node}.recording"), "wb") as recording:
             words = [self.program, "daemon", "--turns", str(turns)]
             # it has no end of the caller's pipes, so who started it needn't wait for it
-            child = subprocess.Popen(words, stdin=given, stdout=recording, stderr=subprocess.DEVNULL, start_new_session=True)
+            child = subprocess.Popen(words, cwd=self.home(node), stdin=given, stdout=recording, stderr=subprocess.DEVNULL, start_new_session=True)
         self.children[node] = child
         self.write(f"{node}.pid", str(child.pid))
         return child
