@@ -24,3 +24,4 @@ pub mod Placed
 pub mod UsedArcs
 pub mod FitLemmas
 pub mod CheckLemmas
+pub mod PageLemmas

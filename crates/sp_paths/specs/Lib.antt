@@ -15,3 +15,4 @@ pub mod Fewer
 pub mod Checks
 pub mod Tests
 pub mod Laws
+pub mod Pages
