@@ -25,7 +25,8 @@
 //!
 //! # What it costs
 //! A datagram costs one tag where it is a frame for this node, and a signature check for each object that may be new when its turn comes: `datagram` promises
-//! that it is no more. A poll costs one tag, a send one signature, and a send over paths one search beside it.
+//! that it is no more. A poll costs one tag, and a send one signature. The first send to a node over so many paths costs one search beside it, and so
+//! does the first after a weight in effect changed; the node keeps what it finds until then.
 #![tactic(auto)]
 
 mod datagram;

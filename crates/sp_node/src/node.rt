@@ -23,6 +23,7 @@ use crate::tick::tick;
 use sp_base::{Bytes, Flow, Memory, NodeId};
 use sp_msg::SendRefused;
 use sp_node_state::{NodeConfig, State, send_prio, send_rel, set_weight};
+use sp_paths::PathBook;
 use sp_rules::{Entry, NodeRefused, Step, Taken, TickReply};
 use sp_sign::{Checker, NodeSigner};
 use std::alloc::Global;
@@ -36,6 +37,8 @@ use std::marker::Model;
 pub struct Node {
     state: State,
     checker: Checker,
+    /// The paths of what was sent before, until the weights in effect change.
+    book: PathBook,
     /// How many tags were checked.
     tags: u64,
 }
@@ -72,6 +75,7 @@ impl Node {
         Ok(Node {
             state,
             checker,
+            book: PathBook::new(alloc),
             tags: 0,
         })
     }
@@ -180,7 +184,7 @@ impl Node {
             paths,
             payload,
         };
-        send_prio(&mut self.state, alloc, &message)
+        send_prio(&mut self.state, &mut self.book, alloc, &message)
     }
 
     /// Signs what this node says of the weight of its link to a neighbour. Gives the number of the update.

@@ -9,7 +9,6 @@ use Rattle.sp_rules.specs.Prio.{is_node}
 use Rattle.sp_sign.specs.Heights.{param_of}
 use Rattle.sp_sign.specs.NodeSigner.{NodeSigner}
 use Rattle.sp_topology.specs.Keys.{key_of}
-use Rattle.sp_topology.specs.declared.topology.NodeKey.{NodeKey}
 
 -- the signer as the rules see it
 abbrev pub signer_in : NodeSigner → Signer

@@ -14,6 +14,7 @@ use crate::refused::NoMask;
 use crate::weighed::graph_of;
 use sp_base::NodeId;
 use sp_msg::Mask;
+use sp_paths::PathBook;
 use sp_topology::Topology;
 use sp_weights::Weights;
 use std::alloc::Global;
@@ -27,10 +28,11 @@ fn all_edges(count: usize) -> Mask
 }
 
 /// The edges that a message from one node to another takes under the weights that are in effect: those of so many paths that share no node,
-/// of which no others cost less. 0 paths mean all edges, and no memory is taken then.
+/// of which no others cost less. 0 paths mean all edges, and no memory is taken then. The book keeps the paths for the next call under these weights.
 ///
 /// `Fewer` only where there are no so many paths: how many there are. `Memory` may come in place of both.
 pub fn mask_to(
+    book: &mut PathBook,
     alloc: Global,
     topology: &Topology,
     weights: &Weights,
@@ -51,5 +53,5 @@ pub fn mask_to(
         return Ok(all_edges(topology.edges.as_slice().len()));
     }
     let graph = graph_of(alloc, topology, weights)?;
-    cheapest_mask(alloc, &graph, from, to, paths)
+    cheapest_mask(book, alloc, &graph, from, to, paths)
 }

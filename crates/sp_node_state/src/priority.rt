@@ -25,6 +25,7 @@ use crate::{NoMask, State, mask_to};
 use sp_base::{Bytes, Memory, NodeId};
 use sp_msg::{Body, Effect, Effects, Kept, Mask, Prio, SendRefused};
 use sp_node_core::{Core, Fixed};
+use sp_paths::PathBook;
 use sp_prio::Spare;
 use sp_rules::Step;
 use sp_sign::Blank;
@@ -48,9 +49,11 @@ pub struct ReadyPrio {
     pub effects: Effects,
 }
 
-/// A message of a client is signed and goes into its places, under the number of this node's next priority message.
+/// A message of a client is signed and goes into its places, under the number of this node's next priority message. Its paths are those of the book,
+/// which searches for them where the weights in effect changed.
 pub fn send_prio(
     state: &mut State,
+    book: &mut PathBook,
     alloc: Global,
     message: &PrioSend<'_>,
 ) -> Result<Step<u64>, SendRefused>
@@ -60,7 +63,7 @@ pub fn send_prio(
     ensures { Sends (SendPrio (as_send message.now)) (prio_refusal state.old (as_send message.now)) state.old result state.new }
 {
     may_send(state, message)?;
-    let mask = mask_for(state, alloc, message)?;
+    let mask = mask_for(state, book, alloc, message)?;
     let Ok(ready) = ready_prio(state, alloc, message, mask) else {
         return Err(SendRefused::Memory);
     };
@@ -91,13 +94,18 @@ fn may_send(state: &State, message: &PrioSend<'_>) -> Result<(), SendRefused>
 }
 
 /// The edges that the message takes.
-fn mask_for(state: &State, alloc: Global, message: &PrioSend<'_>) -> Result<Mask, SendRefused>
+fn mask_for(
+    state: &State,
+    book: &mut PathBook,
+    alloc: Global,
+    message: &PrioSend<'_>,
+) -> Result<Mask, SendRefused>
     requires kept { IsKept format state.now }
     requires few { message.now.paths ≤ MAX_PATHS }
     requires free { prio_refusal state.now (as_send message.now) ≡ Nothing }
     ensures { IsMaskFor state.entry.now (as_send message.now) result }
 {
-    match choose(alloc, &state.fixed, &state.core, message) {
+    match choose(book, alloc, &state.fixed, &state.core, message) {
         Ok(mask) => Ok(mask),
         Err(NoMask::Fewer { found }) => Err(SendRefused::NoPaths { found }),
         Err(NoMask::Memory) => Err(SendRefused::Memory),
@@ -177,7 +185,13 @@ fn admit_own(state: &mut State, ready: ReadyPrio) -> Effects
 }
 
 /// The edges that a message takes, by the weights in effect.
-fn choose(alloc: Global, fixed: &Fixed, core: &Core, message: &PrioSend<'_>) -> Result<Mask, NoMask>
+fn choose(
+    book: &mut PathBook,
+    alloc: Global,
+    fixed: &Fixed,
+    core: &Core,
+    message: &PrioSend<'_>,
+) -> Result<Mask, NoMask>
     requires topology { IsTopology fixed.now.topology }
     requires edges { core.now.weights.edges ≡ fixed.now.topology.edges }
     requires small { (edge : ℕ) → effective core.now.weights edge ≤ MAX_WEIGHT }
@@ -189,6 +203,7 @@ fn choose(alloc: Global, fixed: &Fixed, core: &Core, message: &PrioSend<'_>) -> 
     ensures fewer { IfErr result (SaysFewer (graph_of fixed.now.topology core.now.weights) fixed.now.me message.now.dst message.now.paths) }
 {
     mask_to(
+        book,
         alloc,
         &fixed.topology,
         &core.weights,
