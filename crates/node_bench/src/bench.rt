@@ -2,11 +2,10 @@
 use crate::arrivals::{Said, arrivals};
 use crate::checking::{checks, known_checks};
 use crate::frames::Frames;
-use crate::graph::dense;
 use crate::network::{TWO, document, make_signer};
 use crate::node::make_node;
-use crate::sends::{polls, send_prios, send_rels};
-use crate::signs::{signs, signs_in_turn};
+use crate::sends::{OTHERS, polls, send_prios, send_rels};
+use crate::signs::signs;
 use crate::tagging::{seals, tags};
 use crate::work::Work;
 use crate::writing::writes;
@@ -22,8 +21,6 @@ use std::alloc::Global;
 #[derive(Drop)]
 struct Given {
     document: Vec<u8>,
-    /// The graph of the network.
-    text: String,
     frames: Frames,
     /// One with all that a poll has.
     frame: Bytes,
@@ -68,7 +65,6 @@ pub fn make_bench(alloc: Global, count: u32) -> Option<Bench> {
 
 fn make_given(alloc: Global, count: u32) -> Option<Given> {
     let document = document(alloc)?;
-    let text = dense(alloc)?;
     let Some(frames) = Frames::make(alloc, count) else {
         return None;
     };
@@ -78,7 +74,6 @@ fn make_given(alloc: Global, count: u32) -> Option<Given> {
     match copy_of_first(alloc, &frames.first) {
         Some(frame) => Some(Given {
             document,
-            text,
             frames,
             frame,
             checker,
@@ -156,6 +151,18 @@ impl Bench {
         }
     }
 
+    /// Does what a work finds done, which isn't timed: a node knows the paths to each other node before its messages go over paths.
+    pub fn prepare(&mut self, work: Work) -> Option<()> {
+        match work {
+            Work::SendPrio => {
+                let mut first = room(self.alloc, OTHERS)?;
+                send_prios(self.alloc, &mut self.round.node, OTHERS, &mut first);
+                Some(())
+            }
+            _ => Some(()),
+        }
+    }
+
     /// Does a work, which comes after those before it in a round. The result depends on each time that it is done.
     pub fn run(&mut self, work: Work) -> u32 {
         match work {
@@ -191,12 +198,7 @@ impl Bench {
         let round = &mut self.round;
         match work {
             Work::SignRel => signs(self.alloc, &mut round.signer, &round.rels),
-            _ => signs_in_turn(
-                self.alloc,
-                &mut round.signer,
-                &self.given.text,
-                &round.prios,
-            ),
+            _ => signs(self.alloc, &mut round.signer, &round.prios),
         }
     }
 }

@@ -1,4 +1,4 @@
-//! Measures one node of 16 that are all joined: each call of it beside the tags, signatures and searches that it can't do without, and
+//! Measures one node of 16 that are all joined: each call of it beside the tags and signatures that it can't do without, and
 //! how many bytes it takes at its start.
 //!
 //! Without words each work is done once, and its result is printed. With the word COUNT each work is done that many times a round,
@@ -10,7 +10,6 @@ mod arrivals;
 mod bench;
 mod checking;
 mod frames;
-mod graph;
 mod measure;
 mod network;
 mod node;
@@ -46,6 +45,9 @@ fn count(rt: &(impl Env + Alloc)) -> io::Result<Option<u32>> {
 fn show_all(rt: &impl Print, bench: &mut Bench) -> io::Result<()> {
     for number in 0..WORKS {
         let (name, work) = row(number);
+        if bench.prepare(work).is_none() {
+            return Err(io::ErrorKind::OutOfMemory.into());
+        }
         let result = bench.run(work);
         println!(rt; "{name:<26} {result:>6}")?
     }

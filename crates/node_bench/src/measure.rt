@@ -51,6 +51,9 @@ pub fn measure(rt: &(impl Print + Clock), count: u32, bench: &mut Bench) -> io::
 fn time(rt: &impl Clock, bench: &mut Bench, times: &mut Times) -> io::Result<()> {
     for number in 0..WORKS {
         let (_, work) = row(number);
+        if bench.prepare(work).is_none() {
+            return Err(io::ErrorKind::OutOfMemory.into());
+        }
         let start = Instant::now(rt)?;
         times.results[number] = bench.run(work);
         let took = start.elapsed(rt)?.as_secs_f64();

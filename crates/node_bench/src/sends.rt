@@ -8,7 +8,7 @@ use sp_node::Node;
 use std::alloc::Global;
 
 /// How many paths a message takes.
-pub const PATHS: u8 = 8;
+const PATHS: u8 = 8;
 
 /// Node 3 is polled for so often. Gives the length of the last frame.
 pub fn polls(alloc: Global, node: &mut Node, count: u32) -> u32 {
@@ -26,9 +26,12 @@ fn poll(alloc: Global, node: &mut Node) -> u32 {
     }
 }
 
+/// How many other nodes there are.
+pub const OTHERS: u32 = 15;
+
 /// The destination of a message: each other node in turn.
-pub fn destination(place: u32) -> NodeId {
-    match place % 15 {
+fn destination(place: u32) -> NodeId {
+    match place % OTHERS {
         0 => NodeId(1),
         other => NodeId(other as u8 + 2),
     }

@@ -22,8 +22,9 @@ pub enum Work {
     SendRel,
     /// What was sent is signed again.
     SignRel,
+    /// Messages go over paths that the node knows already.
     SendPrio,
-    /// The paths of what was sent are searched for, and it is signed again.
+    /// What was sent is signed again.
     SignPrio,
 }
 
@@ -46,7 +47,7 @@ pub fn row(number: usize) -> (&'static str, Work) {
         10 => ("send_rel, 1,024 bytes", Work::SendRel),
         11 => ("signature of it", Work::SignRel),
         12 => ("send_prio, 8 paths", Work::SendPrio),
-        _ => ("signature and search", Work::SignPrio),
+        _ => ("signature of it", Work::SignPrio),
     }
 }
 
@@ -59,5 +60,5 @@ pub const RATIOS: [(&str, usize, usize, Option<usize>); 8] = [
     ("a changed bit by tag", 6, 1, None),
     ("poll by write and tag", 7, 8, Some(9)),
     ("send_rel by signature", 10, 11, None),
-    ("send_prio by signature and search", 12, 13, None),
+    ("send_prio by signature", 12, 13, None),
 ];
