@@ -6,7 +6,7 @@ use Rattle.sp_base.specs.Spelling.{AreBytes}
 use Rattle.sp_base.specs.declared.id.NodeId.{NodeId}
 use Rattle.sp_text.specs.Spelling.{Word, hex_word}
 use Rattle.sp_lines.specs.Answers.{Says}
-use Rattle.sp_lines.specs.Cells.{AreSoMany, bytes_at}
+use Rattle.sp_lines.specs.Cells.{bytes_at}
 use Rattle.sp_lines.specs.declared.fault.Fault.{Fault}
 use Rattle.sp_lines.proofs.PlaceLemmas.{bytes_at_back, bytes_at_read}
 use Rattle.sp_schedule.specs.Header.{next_after}

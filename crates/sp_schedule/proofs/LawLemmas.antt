@@ -1,14 +1,14 @@
 -- The laws of readings.
-use Rattle.std.proofs.Common.{◌≡◌, ℕ, ◌+◌, Bool, true, false, List, [], ◌∷◌, ◌++◌, length, Result, Ok, Err, refl, sym, ap, ◌∙◌, subst, append-nil, arith}
+use Rattle.std.proofs.Common.{◌≡◌, ℕ, ◌+◌, Bool, false, List, [], ◌∷◌, ◌++◌, length, take, Result, Ok, Err, refl, sym, ap, ◌∙◌, subst, append-nil}
 use Rattle.std.specs.Prelude.{IfOk}
 use Rattle.std.specs.List.{flat_map}
 use Rattle.sp_base.specs.declared.memory.Memory.{Memory}
-use Rattle.sp_text.specs.Spelling.{Word}
-use Rattle.sp_text.specs.declared.place.TextRefused.{TextRefused}
 use Rattle.sp_lines.specs.Rows.{line_text}
 use Rattle.sp_lines.specs.Texts.{At_end, Bad_words, Leads, No_words, Nothing_left, Stop, follow_all}
 use Rattle.sp_lines.proofs.LeadLemmas.{leads_on, led_by, one_lead, stops_there, whole_lines}
-use Rattle.sp_schedule.specs.Laws.{GoodTextsAreRead, NoOtherBeginsThere, OneReading, ReadingsAreOfTheirText}
+use Rattle.sp_schedule.specs.Feeds.{Fed, text_of, text_to}
+use Rattle.sp_schedule.specs.Laws.{GoodTextsAreRead, IsFedWith, NoOtherBeginsThere, OneReading, PiecesAreReadAsOne, Pushed, Read, ReadingsAreOfTheirText, Unfed}
+use Rattle.sp_schedule.proofs.FeedLemmas.{piece_taken, step}
 use Rattle.sp_schedule.specs.Lines.{says}
 use Rattle.sp_schedule.specs.Readings.{IsGoodStage, IsReading, ending_of}
 use Rattle.sp_schedule.specs.Scenarios.{IsSchedule}
@@ -22,7 +22,8 @@ use Rattle.sp_schedule.specs.declared.stage.Stage.{Stage}
 use Rattle.sp_schedule.specs.declared.stage.Stage.TheVariants as stages
 use Rattle.sp_schedule_events.specs.declared.scenario.Scenario.{Scenario}
 use Rattle.sp_schedule_events.specs.declared.event.Event.{Event}
-use Rattle.sp_schedule.proofs.StageLemmas.{all_lines, is_good_stage}
+use Rattle.sp_schedule.proofs.StageLemmas.{AreGood, all_lines, is_good_stage}
+use Rattle.std.proofs.lemmas.Grind.{flat_map-append}
 use Rattle.sp_schedule.proofs.WalkLemmas.{schedule_follows}
 
 -- the stage of a reading is good
@@ -87,3 +88,29 @@ no_other_begins_there s t es fs rest others good_s good_t same =
     let again = subst (λ (text : List ℕ). Leads says stages.Start 1 text (stages.End t fs) (1 + length (schedule_lines t fs)) after_t.stop) (sym same) second in
     let one : stages.End s es ≡ stages.End t fs = (one_lead says first again).stage in
     (cc, cc)
+
+-- a feed has the text of its pieces
+record IsJoined (pieces : List (List ℕ)) (fed : Fed) : Type 0 where
+  text : text_of fed ≡ flat_map (λ (piece : List ℕ). piece) pieces
+  good : AreGood fed.stage
+
+is_joined : (pieces : List (List ℕ)) (fed : Fed) → IsFedWith pieces fed → IsJoined pieces fed
+unfolding text_to
+is_joined pieces fed Unfed = record { text = refl; good = tt }
+is_joined pieces fed (Pushed {pieces = before} {old = old} piece count fed_so takes) =
+    let joined = is_joined before old fed_so in
+    record {
+      text = piece_taken old fed piece count takes ∙ ap (λ (xs : List ℕ). xs ++ take count piece) joined.text
+          ∙ sym (flat_map-append (λ (p : List ℕ). p) before (take count piece ∷ []) ∙ ap (λ (xs : List ℕ). flat_map (λ (p : List ℕ). p) before ++ xs) (append-nil (take count piece)));
+      good = subst AreGood (sym takes.stage) joined.good;
+    }
+is_joined pieces fed (Read {old = old} given fed_so takes) =
+    let joined = is_joined pieces old fed_so in
+    let stepped = step old fed given joined.good takes in
+    record { text = stepped.text ∙ joined.text; good = stepped.good }
+
+pub pieces_are_read_as_one : PiecesAreReadAsOne
+pieces_are_read_as_one pieces fed is_cut ending reading fed_so is whole =
+    let joined = is_joined pieces fed fed_so in
+    let same = subst (λ (text : List ℕ). IsReading text is_cut (record { stage = fed.stage; ending = ending })) joined.text is in
+    one_reading (flat_map (λ (piece : List ℕ). piece) pieces) is_cut reading (record { stage = fed.stage; ending = ending }) whole same

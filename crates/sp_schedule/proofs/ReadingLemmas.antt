@@ -1,5 +1,5 @@
 -- How a reading ends.
-use Rattle.std.proofs.Common.{◌≡◌, ◌≢◌, ◌≤◌, ◌+◌, ℕ, Bool, List, [], ◌∷◌, length, Result, Ok, Err, Option, refl, sym, subst}
+use Rattle.std.proofs.Common.{◌≡◌, ◌≢◌, ◌+◌, ℕ, Bool, List, [], Ok, Err, refl, sym, subst}
 use Rattle.sp_text.specs.Spelling.{Word}
 use Rattle.sp_text.specs.Unread.{Unread}
 use Rattle.sp_text.specs.declared.place.TextRefused.{TextRefused}
@@ -10,6 +10,7 @@ use Rattle.sp_schedule.specs.Lines.{IsLead, says}
 use Rattle.sp_schedule.specs.Readings.{IsReading, no_words, nothing_left}
 use Rattle.sp_schedule.specs.declared.lead.Lead.{Lead}
 use Rattle.sp_schedule.specs.declared.lead.Lead.TheVariants as leads
+use Rattle.sp_schedule.specs.declared.parsed.Parsed.{Parsed}
 use Rattle.sp_schedule.specs.declared.refused.Kind.{Kind}
 use Rattle.sp_schedule.specs.declared.stage.Ending.{Ending}
 use Rattle.sp_schedule.specs.declared.stage.Ending.TheVariants as endings
@@ -66,7 +67,8 @@ ends_at_words text is_cut stage back kind count old rest words lead so_far first
     })
 
 -- the next line is good
-pub leads_on_from : (text : List ℕ) (stage next : Stage) (count : ℕ) (old rest : List ℕ) (words : List Word) (lead : Lead) → SoFar text stage count old
-    → first_words (count + 1) old ≡ Ok (words, rest) → IsLead stage words lead → lead ≡ leads.To next → SoFar text next (count + 1) rest
-leads_on_from text stage next count old rest words lead so_far first judged is =
-    goes_on says stages.Start text stage next count old rest words so_far first (subst (IsLead stage words) is judged)
+pub leads_on_from : (text : List ℕ) (stage next : Stage) (count : ℕ) (old rest : List ℕ) (words : List Word) (lead : Lead) (parsed : Parsed) → SoFar text stage count old
+    → first_words (count + 1) old ≡ Ok (words, rest) → IsLead stage words lead → lead ≡ leads.To next parsed → SoFar text next (count + 1) rest
+leads_on_from text stage next count old rest words lead parsed so_far first judged is =
+    let good : IsLead stage words (leads.To next parsed) = subst (IsLead stage words) is judged in
+    goes_on says stages.Start text stage next count old rest words so_far first good.0

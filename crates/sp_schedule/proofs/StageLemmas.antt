@@ -1,53 +1,38 @@
 -- What holds at each stage of a schedule, and which lines led to it.
-use Rattle.std.proofs.Common.{◌≡◌, ◌≢◌, ◌≤◌, ◌<◌, ◌+◌, ◌-◌, ◌==◌, ◌&&◌, ◌||◌, ◌⊎◌, ℕ, inl, inr, Bool, true, false, List, [], ◌∷◌, ◌++◌, length, map, Option, Some, None, Result, Ok, Err, refl, sym, ap, ◌∙◌, subst, arith, append_assoc, append-nil, length-append, if◌then◌else◌}
+use Rattle.std.proofs.Common.{◌≡◌, ◌≤◌, ◌<◌, ◌+◌, ◌==◌, ◌&&◌, ◌⊎◌, ℕ, inl, inr, Bool, true, false, List, [], ◌∷◌, ◌++◌, length, map, Option, Some, None, Result, Ok, Err, refl, sym, ap, ◌∙◌, subst, arith, append_assoc, append-nil, length-append, if◌then◌else◌}
 use Rattle.std.specs.Prelude.{IfSome, nat_le, nat_lt}
 use Rattle.std.proofs.lemmas.Bool.{and_parts, cases_Bool, eqb-true}
 use Rattle.std.proofs.lemmas.Bool.Decides.{nat_tests}
 use Rattle.std.proofs.lemmas.List.{map-append}
-use Rattle.sp_base.specs.Refusals.{◌>>=◌}
 use Rattle.sp_base.proofs.RefusalLemmas.{then_ok}
-use Rattle.sp_base.specs.declared.limits.TheConstants.{MAX_EVENTS, MAX_NODES}
+use Rattle.sp_base.specs.declared.limits.TheConstants.{MAX_EVENTS}
 use Rattle.sp_base.specs.declared.id.NodeId.{NodeId}
 use Rattle.sp_text.specs.Spelling.{Word}
-use Rattle.sp_lines.specs.Cells.{Cell, Name, same}
-use Rattle.sp_lines.specs.Rows.{AreIn, Values, fits, line_of, spelled}
+use Rattle.sp_lines.specs.Cells.{Name, same}
+use Rattle.sp_lines.specs.Rows.{AreIn, fits, line_of, spelled}
 use Rattle.sp_lines.specs.Texts.{follow_all}
 use Rattle.sp_lines.specs.declared.fault.Fault.{Fault}
 use Rattle.sp_lines.specs.declared.fault.Fault.TheVariants as faults
 use Rattle.sp_lines.proofs.RowLemmas.{line_read}
 use Rattle.sp_lines.proofs.Words.{same_words}
-use Rattle.sp_graph.specs.Edges.{IsGraph, IsLower, IsNextEdge, last_edge}
+use Rattle.sp_graph.specs.Edges.{IsLower, IsNextEdge, last_edge}
 use Rattle.sp_graph.specs.declared.graph.Graph.{Graph}
 use Rattle.sp_graph.proofs.GraphLemmas.{graph_grows}
 use Rattle.sp_topology.specs.declared.topology.Edge.{Edge}
-use Rattle.sp_topology.specs.declared.topology.LmsHeight.TheVariants.{Five, Ten}
 use Rattle.sp_schedule_events.specs.Events.{event_words}
 use Rattle.sp_schedule_events.specs.EventLines.{read_event}
 use Rattle.sp_schedule_events.specs.declared.scenario.Scenario.{Scenario}
 use Rattle.sp_schedule_events.specs.declared.event.Event.{Event}
 use Rattle.sp_schedule_events.proofs.EventLemmas.{events_have_one_line}
+use Rattle.sp_schedule.specs.Feeds.{lines_to}
 use Rattle.sp_schedule.specs.Header.{bad_cells, begin_cells, bounds_cells, edge_cells, edge_of, end_cells, height_at, height_cells, height_number, is_height, limits_of, next_after, nodes_cells, seed_cells, version_cells}
 use Rattle.sp_schedule.specs.Lines.{bad_node, bare, event_more, header, if_next, is_above, is_lower, is_next_edge, next_edge, says, says_bad, says_edge, with_bad, with_edge}
 use Rattle.sp_schedule.specs.Readings.{IsGoodStage}
-use Rattle.sp_schedule.specs.Refusals.{kind_of}
-use Rattle.sp_schedule.specs.Scenarios.{AreBounds, AreInRange, Ascend, IsScenario, IsSchedule, IsSeed, None_yet, One_more}
-use Rattle.sp_schedule.specs.Spelling.{bad_words, begin_words, bounds_words, edge_words, end_words, front_lines, header_lines, height_words, nodes_words, scenario_lines, schedule_lines, seed_words, version_words}
-use Rattle.sp_schedule.specs.declared.refused.Kind.{Kind}
+use Rattle.sp_schedule.specs.Scenarios.{AreBounds, Ascend, IsScenario, IsSchedule, IsSeed, None_yet, One_more}
+use Rattle.sp_schedule.specs.Spelling.{bad_words, bounds_words, edge_words, end_words, front_lines, header_lines, height_words, scenario_lines, seed_words, version_words}
 use Rattle.sp_schedule.specs.declared.refused.Kind.TheVariants as kinds
 use Rattle.sp_schedule.specs.declared.stage.Stage.{Stage}
 use Rattle.sp_schedule.specs.declared.stage.Stage.TheVariants as stages
-
--- the lines that lead to a stage
-abbrev pub lines_to : Stage → List (List Word)
-lines_to stages.Start = []
-lines_to stages.Version = version_words ∷ []
-lines_to (stages.Seed seed) = version_words ∷ seed_words seed ∷ []
-lines_to (stages.Height seed height) = version_words ∷ seed_words seed ∷ height_words height ∷ []
-lines_to (stages.Bounds seed height limits) = version_words ∷ seed_words seed ∷ height_words height ∷ bounds_words limits ∷ []
-lines_to (stages.Edges s) = scenario_lines s
-lines_to (stages.Bads s) = scenario_lines s
-lines_to (stages.Events s es) = header_lines s ++ map (event_words s) es
-lines_to (stages.End s es) = schedule_lines s es
 
 -- all that was read is in its ranges
 abbrev pub AreGood : Stage → Type 0
@@ -87,7 +72,7 @@ name_line w (x ∷ y ∷ words) fit =
     let both = and_parts (1 == length (x ∷ y ∷ words)) (same x w && true) fit in
     absurd (let long : 1 ≡ length (x ∷ y ∷ words) = eqb-true 1 (length (x ∷ y ∷ words)) both.0 in omega (arith, long))
 
-if_cases : {A : Type 0} (t : Bool) (a b c : A) → (if t then a else b) ≡ c → ((t ≡ true) × (a ≡ c)) ⊎ ((t ≡ false) × (b ≡ c))
+pub if_cases : {A : Type 0} (t : Bool) (a b c : A) → (if t then a else b) ≡ c → ((t ≡ true) × (a ≡ c)) ⊎ ((t ≡ false) × (b ≡ c))
 if_cases true a b c is = inl (refl, is)
 if_cases false a b c is = inr (refl, is)
 

@@ -1,19 +1,16 @@
 -- The lines of a schedule lead to its end, each good in its place.
-use Rattle.std.proofs.Common.{◌≡◌, ◌≤◌, ◌<◌, ◌+◌, ◌&&◌, ℕ, Bool, true, false, List, [], ◌∷◌, ◌++◌, length, map, Option, Some, None, Result, Ok, Err, inl, inr, refl, sym, ap, ◌∙◌, subst, arith, append_assoc, append-nil, length-append, if◌then◌else◌}
-use Rattle.std.specs.Prelude.{All, IfSome, codes, nat_le, nat_lt, ◌==◌, ◌||◌, ◌^◌}
+use Rattle.std.proofs.Common.{◌≡◌, ◌≤◌, ◌<◌, ◌+◌, ℕ, Bool, true, false, List, [], ◌∷◌, ◌++◌, length, map, Option, Some, None, Result, Ok, Err, inl, inr, refl, sym, ap, ◌∙◌, subst, arith, append_assoc, append-nil, length-append, if◌then◌else◌}
+use Rattle.std.specs.Prelude.{All, IfSome, nat_le, nat_lt, ◌==◌, ◌^◌}
 use Rattle.std.proofs.lemmas.Bool.{and_from, cases_Bool, eq-eqb}
 use Rattle.std.proofs.lemmas.Bool.Decides.{nat_tests}
 use Rattle.std.proofs.lemmas.List.{map-append}
 use Rattle.std.proofs.lemmas.List.Elements.{All-append, All-cons, All-nil}
-use Rattle.sp_base.specs.Refusals.{◌>>=◌}
 use Rattle.sp_base.proofs.RefusalLemmas.{then_ok}
 use Rattle.sp_base.specs.declared.limits.TheConstants.{MAX_EVENTS, MAX_NODES}
 use Rattle.sp_base.specs.declared.id.NodeId.{NodeId}
 use Rattle.sp_text.specs.Spelling.{Word}
-use Rattle.sp_lines.specs.Cells.{same}
-use Rattle.sp_lines.specs.Rows.{AreIn, fits, line_of, spelled}
+use Rattle.sp_lines.specs.Rows.{AreIn, fits, line_of}
 use Rattle.sp_lines.specs.Texts.{follow_all}
-use Rattle.sp_lines.specs.Widths.{is_good_row}
 use Rattle.sp_lines.proofs.RowLemmas.{line_back}
 use Rattle.sp_lines.proofs.TextLemmas.{IsGoodLine}
 use Rattle.sp_lines.proofs.WidthLemmas.{good_row_line}
@@ -33,10 +30,9 @@ use Rattle.sp_lines.specs.declared.fault.Fault.{Fault}
 use Rattle.sp_schedule.specs.declared.refused.Kind.TheVariants as kinds
 use Rattle.sp_schedule_events.proofs.EventLemmas.{events_have_one_line, good_event_line}
 use Rattle.sp_schedule.specs.Header.{bad_cells, begin_cells, bounds_cells, bounds_values, edge_cells, edge_values, end_cells, height_cells, height_number, next_after, nodes_cells, seed_cells, version_cells}
-use Rattle.sp_schedule.specs.Lines.{bare, event_more, is_above, is_lower, is_next_edge, says, with_bad, with_edge}
+use Rattle.sp_schedule.specs.Lines.{bare, event_more, is_above, is_lower, is_next_edge, says}
 use Rattle.sp_schedule.specs.Scenarios.{AreInRange, Ascend, IsScenario, IsSchedule, None_yet, One_more}
-use Rattle.sp_schedule.specs.Spelling.{bad_words, begin_words, bounds_words, edge_words, end_words, front_lines, header_lines, height_words, nodes_words, scenario_lines, schedule_lines, seed_words, version_words}
-use Rattle.sp_schedule.specs.declared.refused.Kind.{Kind}
+use Rattle.sp_schedule.specs.Spelling.{bad_words, begin_words, bounds_words, edge_words, end_words, front_lines, header_lines, height_words, nodes_words, schedule_lines, seed_words, version_words}
 use Rattle.sp_schedule.specs.declared.stage.Stage.{Stage}
 use Rattle.sp_schedule.specs.declared.stage.Stage.TheVariants as stages
 

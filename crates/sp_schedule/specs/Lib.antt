@@ -4,4 +4,5 @@ pub mod Spelling
 pub mod Lines
 pub mod Refusals
 pub mod Readings
+pub mod Feeds
 pub mod Laws

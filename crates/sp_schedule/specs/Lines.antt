@@ -16,7 +16,7 @@
 --     End         none
 --
 -- Every bad line of the header is `Header`. After 16,384 events each line but `end` is `TooMany`, whatever else is wrong with it.
-use Rattle.std.specs.Prelude.{ℕ, ◌≡◌, ◌-◌, ◌&&◌, ◌||◌, ◌==◌, nat_le, nat_lt, Bool, true, List, [], ◌∷◌, ◌++◌, length, slice_get, Option, Some, None, Result, Ok, Err, if◌then◌else◌}
+use Rattle.std.specs.Prelude.{ℕ, ◌≡◌, ◌&&◌, ◌||◌, ◌==◌, nat_le, nat_lt, Bool, true, List, [], ◌∷◌, ◌++◌, length, Option, Some, None, Result, Ok, Err, if◌then◌else◌}
 use Rattle.sp_base.specs.Refusals.{◌>>=◌}
 use Rattle.sp_base.specs.declared.limits.TheConstants.{MAX_EVENTS}
 use Rattle.sp_base.specs.declared.id.NodeId.{NodeId}
@@ -36,6 +36,8 @@ use Rattle.sp_schedule.specs.Header.{bad_cells, begin_cells, bounds_cells, edge_
 use Rattle.sp_schedule.specs.Refusals.{kind_of}
 use Rattle.sp_schedule.specs.declared.lead.Lead.{Lead}
 use Rattle.sp_schedule.specs.declared.lead.Lead.TheVariants as leads
+use Rattle.sp_schedule.specs.declared.parsed.Parsed.{Parsed}
+use Rattle.sp_schedule.specs.declared.parsed.Parsed.TheVariants as parts
 use Rattle.sp_schedule.specs.declared.stage.Stage.{Stage}
 use Rattle.sp_schedule.specs.declared.stage.Stage.TheVariants as stages
 use Rattle.sp_schedule.specs.declared.refused.Kind.{Kind}
@@ -111,7 +113,23 @@ says (stages.Events s es) words =
     if fits end_cells words then Ok (stages.End s es) else (if nat_le MAX_EVENTS (length es) then Err kinds.TooMany else event_more s es (read_event s es words))
 says (stages.End s es) words = Err kinds.AfterEnd
 
+-- the header isn't whole
+abbrev pub IsInHeader : Stage → Type 0
+IsInHeader (stages.Events s es) = ⊥
+IsInHeader (stages.End s es) = ⊥
+IsInHeader _ = Unit {0}
+
+-- what a line gave on the way from one stage to the next
+abbrev pub IsParsed : Stage → Parsed → Stage → Type 0
+IsParsed stage parts.Header next = IsInHeader stage × IsInHeader next
+IsParsed stage (parts.Began s) next = IsInHeader stage × (next ≡ stages.Events s [])
+IsParsed (stages.Events s es) (parts.Event e) next = next ≡ stages.Events s (es ++ e ∷ [])
+IsParsed stage (parts.Event e) next = ⊥
+IsParsed (stages.Events s es) parts.Ended next = next ≡ stages.End s es
+IsParsed stage parts.Ended next = ⊥
+
 -- what came of a line: it leads on, or the stage comes back
 abbrev pub IsLead : Stage → List Word → Lead → Type 0
-IsLead stage words (leads.To next) = says stage words ≡ Ok next
+IsLead stage words (leads.To next parsed) = (says stage words ≡ Ok next) × IsParsed stage parsed next
 IsLead stage words (leads.Bad back kind) = (back ≡ stage) × (says stage words ≡ Err kind)
+IsLead stage words (leads.Unread back) = back ≡ stage

@@ -1,5 +1,5 @@
 // Laws of readings, each proved of all texts and schedules.
-ghost use Rattle.sp_schedule.specs.Laws.{GoodTextsAreRead, NoOtherBeginsThere, OneReading, ReadingsAreOfTheirText};
+ghost use Rattle.sp_schedule.specs.Laws.{GoodTextsAreRead, NoOtherBeginsThere, OneReading, PiecesAreReadAsOne, ReadingsAreOfTheirText};
 
 /// A law: what was read of a whole text is the schedule that the text spells.
 pub fn a_reading_is_of_its_text()
@@ -19,4 +19,9 @@ pub fn a_text_has_one_reading()
 /// A law: where a text begins with that of a schedule, it begins with that of no other, whatever follows.
 pub fn no_other_text_begins_there()
     ensures { NoOtherBeginsThere }
+{}
+
+/// A law: however a text is cut into pieces, what a feed of them reads is the reading of the whole.
+pub fn pieces_are_read_as_one()
+    ensures { PiecesAreReadAsOne }
 {}

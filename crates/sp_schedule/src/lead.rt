@@ -1,5 +1,6 @@
 // One line at its stage: where it leads, or why it is bad. The stage stays in its place where the line is bad.
-ghost use Rattle.std.specs.Prelude.{◌≡◌, IfOk, map};
+ghost use Rattle.std.specs.Prelude.{◌≡◌, ◌<◌, ◌∷◌, ◌++◌, [], IfErr, IfOk, OnErr, OnOk, length, map};
+ghost use Rattle.sp_base.specs.declared.limits.TheConstants.{MAX_EVENTS};
 ghost use Rattle.sp_lines.specs.Answers.{Says};
 ghost use Rattle.sp_lines.specs.Rows.{line_of};
 ghost use Rattle.sp_schedule.specs.Header.{bad_cells, next_after};
@@ -10,48 +11,56 @@ use crate::header::{
     nodes, seed,
 };
 use crate::refused::kind_of;
-use crate::{Edge, Graph, Kind, LineRefused, LmsHeight, Scenario, Stage, Timeline};
-use sp_base::{Limits, Listed, MAX_EVENTS, Memory, NodeId};
+use crate::scenario_copy::copy_of;
+use crate::{Edge, Event, Graph, Kind, LineRefused, LmsHeight, Parsed, Scenario, Stage, Timeline};
+use sp_base::{Limits, Listed, MAX_EVENTS, Memory, NodeId, push};
 use sp_schedule_events::read_event;
 use std::alloc::Global;
 
 /// What comes of a line.
 #[derive(Drop)]
 pub enum Lead {
-    /// The line is good, and the next one stands here.
-    To(Stage),
+    /// The line is good: the next one stands here, and this was given.
+    To(Stage, Parsed),
     /// The line is bad. The stage comes back unchanged.
     Bad(Stage, Kind),
+    /// No memory was left for what the line says. The stage comes back unchanged.
+    Unread(Stage),
 }
 
 /// Where the words of a line lead from the stage.
-pub fn follow(alloc: Global, stage: Stage, words: &[&[u8]]) -> Result<Lead, Memory>
-    ensures { IfOk result (IsLead stage (map (λ w. w.now) words.now)) }
+pub fn follow(alloc: Global, stage: Stage, words: &[&[u8]]) -> Lead
+    ensures { IsLead stage (map (λ w. w.now) words.now) result }
 {
     match stage {
-        Stage::Start => Ok(after_start(words)),
-        Stage::Version => Ok(after_version(words)),
-        Stage::Seed { seed } => Ok(after_seed(seed, words)),
-        Stage::Height { seed, height } => Ok(after_height(seed, height, words)),
+        Stage::Start => after_start(words),
+        Stage::Version => after_version(words),
+        Stage::Seed { seed } => after_seed(seed, words),
+        Stage::Height { seed, height } => after_height(seed, height, words),
         Stage::Bounds {
             seed,
             height,
             limits,
-        } => Ok(after_bounds(alloc, seed, height, limits, words)),
+        } => after_bounds(alloc, seed, height, limits, words),
         Stage::Edges(scenario) => after_edges(alloc, scenario, words),
         Stage::Bads(scenario) => after_bads(alloc, scenario, words),
         Stage::Events(scenario, events) => after_events(alloc, scenario, events, words),
-        Stage::End(scenario, events) => {
-            Ok(Lead::Bad(Stage::End(scenario, events), Kind::AfterEnd))
-        }
+        Stage::End(scenario, events) => Lead::Bad(Stage::End(scenario, events), Kind::AfterEnd),
     }
+}
+
+/// The next line of the header stands here.
+fn on(stage: Stage) -> Lead
+    ensures { result ≡ Lead.To stage Parsed.Header }
+{
+    Lead::To(stage, Parsed::Header)
 }
 
 fn after_start(words: &[&[u8]]) -> Lead
     ensures { IsLead Stage.Start (map (λ w. w.now) words.now) result }
 {
     if is_version(words) {
-        Lead::To(Stage::Version)
+        on(Stage::Version)
     } else {
         Lead::Bad(Stage::Start, Kind::Header)
     }
@@ -61,7 +70,7 @@ fn after_version(words: &[&[u8]]) -> Lead
     ensures { IsLead Stage.Version (map (λ w. w.now) words.now) result }
 {
     match seed(words) {
-        Some(seed) => Lead::To(Stage::Seed { seed }),
+        Some(seed) => on(Stage::Seed { seed }),
         None => Lead::Bad(Stage::Version, Kind::Header),
     }
 }
@@ -70,7 +79,7 @@ fn after_seed(seed: [u8; 32], words: &[&[u8]]) -> Lead
     ensures { IsLead (Stage.Seed seed) (map (λ w. w.now) words.now) result }
 {
     match height(words) {
-        Some(height) => Lead::To(Stage::Height { seed, height }),
+        Some(height) => on(Stage::Height { seed, height }),
         None => Lead::Bad(Stage::Seed { seed }, Kind::Header),
     }
 }
@@ -79,7 +88,7 @@ fn after_height(seed: [u8; 32], height: LmsHeight, words: &[&[u8]]) -> Lead
     ensures { IsLead (Stage.Height seed height) (map (λ w. w.now) words.now) result }
 {
     match bounds(words) {
-        Some(limits) => Lead::To(Stage::Bounds {
+        Some(limits) => on(Stage::Bounds {
             seed,
             height,
             limits,
@@ -98,7 +107,7 @@ fn after_bounds(
     ensures { IsLead (Stage.Bounds seed height limits) (map (λ w. w.now) words.now) result }
 {
     match nodes(words) {
-        Some(nodes) => Lead::To(Stage::Edges(Scenario {
+        Some(nodes) => on(Stage::Edges(Scenario {
             seed,
             height,
             limits,
@@ -119,34 +128,63 @@ fn after_bounds(
     }
 }
 
-fn after_edges(alloc: Global, scenario: Scenario, words: &[&[u8]]) -> Result<Lead, Memory>
-    ensures { IfOk result (IsLead (Stage.Edges scenario) (map (λ w. w.now) words.now)) }
+fn after_edges(alloc: Global, scenario: Scenario, words: &[&[u8]]) -> Lead
+    ensures { IsLead (Stage.Edges scenario) (map (λ w. w.now) words.now) result }
 {
     if is_begin(words) {
-        return Ok(Lead::To(Stage::Events(scenario, Timeline::new(alloc))));
+        return match begun(alloc, scenario) {
+            Ok(lead) => lead,
+            Err(scenario) => Lead::Unread(Stage::Edges(scenario)),
+        };
     }
     if is_bad_line(words) {
         let Some(id) = next_bad(&scenario, words) else {
-            return Ok(Lead::Bad(Stage::Edges(scenario), Kind::Header));
+            return Lead::Bad(Stage::Edges(scenario), Kind::Header);
         };
-        return Ok(Lead::To(Stage::Bads(with_bad(scenario, id)?)));
+        return match with_bad(scenario, id) {
+            Ok(more) => on(Stage::Bads(more)),
+            Err(scenario) => Lead::Unread(Stage::Edges(scenario)),
+        };
     }
-    match next_edge(&scenario, words) {
-        Some(edge) => Ok(Lead::To(Stage::Edges(with_edge(scenario, edge)?))),
-        None => Ok(Lead::Bad(Stage::Edges(scenario), Kind::Header)),
+    let Some(edge) = next_edge(&scenario, words) else {
+        return Lead::Bad(Stage::Edges(scenario), Kind::Header);
+    };
+    match with_edge(scenario, edge) {
+        Ok(more) => on(Stage::Edges(more)),
+        Err(scenario) => Lead::Unread(Stage::Edges(scenario)),
     }
 }
 
-fn after_bads(alloc: Global, scenario: Scenario, words: &[&[u8]]) -> Result<Lead, Memory>
-    ensures { IfOk result (IsLead (Stage.Bads scenario) (map (λ w. w.now) words.now)) }
+fn after_bads(alloc: Global, scenario: Scenario, words: &[&[u8]]) -> Lead
+    ensures { IsLead (Stage.Bads scenario) (map (λ w. w.now) words.now) result }
 {
     if is_begin(words) {
-        return Ok(Lead::To(Stage::Events(scenario, Timeline::new(alloc))));
+        return match begun(alloc, scenario) {
+            Ok(lead) => lead,
+            Err(scenario) => Lead::Unread(Stage::Bads(scenario)),
+        };
     }
     let Some(id) = next_bad(&scenario, words) else {
-        return Ok(Lead::Bad(Stage::Bads(scenario), Kind::Header));
+        return Lead::Bad(Stage::Bads(scenario), Kind::Header);
     };
-    Ok(Lead::To(Stage::Bads(with_bad(scenario, id)?)))
+    match with_bad(scenario, id) {
+        Ok(more) => on(Stage::Bads(more)),
+        Err(scenario) => Lead::Unread(Stage::Bads(scenario)),
+    }
+}
+
+/// The header is whole. Where no memory is left, the scenario comes back.
+fn begun(alloc: Global, scenario: Scenario) -> Result<Lead, Scenario>
+    ensures ok { IfOk result (λ lead. lead ≡ Lead.To (Stage.Events scenario []) (Parsed.Began scenario)) }
+    ensures err { IfErr result (λ back. back ≡ scenario) }
+{
+    match copy_of(alloc, &scenario) {
+        Ok(copied) => Ok(Lead::To(
+            Stage::Events(scenario, Timeline::new(alloc)),
+            Parsed::Began(copied),
+        )),
+        Err(Memory) => Err(scenario),
+    }
 }
 
 /// The edge of a line, where it may come next.
@@ -172,9 +210,10 @@ fn next_bad(scenario: &Scenario, words: &[&[u8]]) -> Option<NodeId>
     )
 }
 
-/// The scenario with one more edge.
-fn with_edge(scenario: Scenario, edge: Edge) -> Result<Scenario, Memory>
-    ensures { IfOk result (λ more. more ≡ with_edge scenario edge) }
+/// The scenario with one more edge. Where no memory is left, it comes back as it was.
+fn with_edge(scenario: Scenario, edge: Edge) -> Result<Scenario, Scenario>
+    ensures ok { IfOk result (λ more. more ≡ with_edge scenario edge) }
+    ensures err { IfErr result (λ back. back ≡ scenario) }
 {
     let Scenario {
         seed,
@@ -184,8 +223,8 @@ fn with_edge(scenario: Scenario, edge: Edge) -> Result<Scenario, Memory>
         bad,
     } = scenario;
     let mut edges = edges.into_vec();
-    edges.push(edge)?;
-    Ok(Scenario {
+    let pushed = push(&mut edges, edge);
+    let scenario = Scenario {
         seed,
         height,
         limits,
@@ -194,12 +233,17 @@ fn with_edge(scenario: Scenario, edge: Edge) -> Result<Scenario, Memory>
             edges: Listed::from_vec(edges),
         },
         bad,
-    })
+    };
+    match pushed {
+        Ok(()) => Ok(scenario),
+        Err(Memory) => Err(scenario),
+    }
 }
 
-/// The scenario with one more compromised node.
-fn with_bad(scenario: Scenario, id: NodeId) -> Result<Scenario, Memory>
-    ensures { IfOk result (λ more. more ≡ with_bad scenario id) }
+/// The scenario with one more compromised node. Where no memory is left, it comes back as it was.
+fn with_bad(scenario: Scenario, id: NodeId) -> Result<Scenario, Scenario>
+    ensures ok { IfOk result (λ more. more ≡ with_bad scenario id) }
+    ensures err { IfErr result (λ back. back ≡ scenario) }
 {
     let Scenario {
         seed,
@@ -209,38 +253,47 @@ fn with_bad(scenario: Scenario, id: NodeId) -> Result<Scenario, Memory>
         bad,
     } = scenario;
     let mut bad = bad.into_vec();
-    bad.push(id)?;
-    Ok(Scenario {
+    let pushed = push(&mut bad, id);
+    let scenario = Scenario {
         seed,
         height,
         limits,
         graph,
         bad: Listed::from_vec(bad),
-    })
+    };
+    match pushed {
+        Ok(()) => Ok(scenario),
+        Err(Memory) => Err(scenario),
+    }
 }
 
-fn after_events(
-    alloc: Global,
-    scenario: Scenario,
-    mut events: Timeline,
-    words: &[&[u8]],
-) -> Result<Lead, Memory>
-    ensures { IfOk result (IsLead (Stage.Events scenario events) (map (λ w. w.now) words.now)) }
+fn after_events(alloc: Global, scenario: Scenario, mut events: Timeline, words: &[&[u8]]) -> Lead
+    ensures { IsLead (Stage.Events scenario events) (map (λ w. w.now) words.now) result }
 {
     if is_end(words) {
-        return Ok(Lead::To(Stage::End(scenario, events)));
+        return Lead::To(Stage::End(scenario, events), Parsed::Ended);
     }
     if events.len() >= MAX_EVENTS {
-        return Ok(Lead::Bad(Stage::Events(scenario, events), Kind::TooMany));
+        return Lead::Bad(Stage::Events(scenario, events), Kind::TooMany);
     }
     match read_event(alloc, &scenario, &events, words) {
-        Ok(event) => {
-            events.push(event)?;
-            Ok(Lead::To(Stage::Events(scenario, events)))
-        }
-        Err(LineRefused::Bad(fault)) => {
-            Ok(Lead::Bad(Stage::Events(scenario, events), kind_of(fault)))
-        }
-        Err(LineRefused::Memory) => Err(Memory),
+        Ok(event) => match push_copied(alloc, &mut events, event) {
+            Ok(copied) => Lead::To(Stage::Events(scenario, events), Parsed::Event(copied)),
+            Err(Memory) => Lead::Unread(Stage::Events(scenario, events)),
+        },
+        Err(LineRefused::Bad(fault)) => Lead::Bad(Stage::Events(scenario, events), kind_of(fault)),
+        Err(LineRefused::Memory) => Lead::Unread(Stage::Events(scenario, events)),
     }
+}
+
+/// Appends an event, and gives a copy of it. Where no memory is left, the events are as before.
+fn push_copied(alloc: Global, events: &mut Timeline, event: Event) -> Result<Event, Memory>
+    requires { length events.old < MAX_EVENTS }
+    ensures copied { IfOk result (λ copied. copied ≡ event) }
+    ensures ok { OnOk result (events.new ≡ events.old ++ event ∷ []) }
+    ensures err { OnErr result (events.new ≡ events.old) }
+{
+    let copied = event.copy(alloc)?;
+    events.push(event)?;
+    Ok(copied)
 }

@@ -43,18 +43,19 @@ fn read_lines(alloc: Global, text: &[u8], is_cut: bool) -> Result<Reading, Memor
             }
         };
         count += 1;
-        match follow(alloc, stage, words.as_slice())? {
-            Lead::To(next) => stage = next,
+        match follow(alloc, stage, words.as_slice()) {
+            Lead::To(next, _) => stage = next,
             Lead::Bad(stage, kind) => {
                 let ending = Ending::Refused { line: count, kind };
                 return Ok(Reading { stage, ending });
             }
+            Lead::Unread(_) => return Err(Memory),
         }
     }
 }
 
 /// How a text ends before the line of this number, with nothing left.
-fn nothing_left(is_cut: bool, stage: &Stage, line: u32) -> Ending
+pub fn nothing_left(is_cut: bool, stage: &Stage, line: u32) -> Ending
     ensures { result ≡ nothing_left is_cut stage.now line }
 {
     if is_cut {

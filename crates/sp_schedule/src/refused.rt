@@ -36,6 +36,15 @@ pub enum Kind {
     TooBig,
 }
 
+/// Why a line that waits isn't read.
+#[derive(Clone, Copy, Debug, PartialEq, Eq)]
+pub enum ScheduleRefused {
+    /// The line, counted from 1, is the first bad one.
+    Bad { line: u32, kind: Kind },
+    /// No memory was left for what the line says.
+    Memory,
+}
+
 impl Kind {
     /// Its word.
     pub fn word(self) -> &'static str

@@ -15,8 +15,8 @@ returns-in-Err c =
 pub returns-in-Bad : goal.returns-in-Bad
 returns-in-Bad c =
     let takes = rw c.in-Ok-Some.field-0-is at c.in-Ok-Some.ensures in
-    ends_at_words c.args.text.now c.args.is_cut c.lines.stage c.in-Bad.stage c.in-Bad.kind c.lines.count c.lines.lines.rest c.next_words.new.lines.rest _ c.in_ok-next.field-0
-    c.lines.invariant.goes_on (rw c.lines.invariant.given at takes.2) (rw c.as_slice.ensures.value at c.in_ok-next.ensures) c.in-Bad.is
+    ends_at_words c.args.text.now c.args.is_cut c.lines.stage c.in-Bad.stage c.in-Bad.kind c.lines.count c.lines.lines.rest c.next_words.new.lines.rest _ c.follow.result
+    c.lines.invariant.goes_on (rw c.lines.invariant.given at takes.2) (rw c.as_slice.ensures.value at c.follow.ensures) c.in-Bad.is
 
 pub lines-preserved : goal.lines-preserved
 lines-preserved c =
@@ -24,6 +24,6 @@ lines-preserved c =
     record {
       given = takes.0 ∙ ap (λ (n : ℕ). n + 1) c.lines.invariant.given;
       fits = omega (arith, takes.1, c.lines.invariant.fits);
-      goes_on = leads_on_from c.args.text.now c.lines.stage c.in-To.next c.lines.count c.lines.lines.rest c.next_words.new.lines.rest _ c.in_ok-next.field-0 c.lines.invariant.goes_on
-          (rw c.lines.invariant.given at takes.2) (rw c.as_slice.ensures.value at c.in_ok-next.ensures) c.in-To.is;
+      goes_on = leads_on_from c.args.text.now c.lines.stage c.in-To.next c.lines.count c.lines.lines.rest c.next_words.new.lines.rest _ c.follow.result _ c.lines.invariant.goes_on
+          (rw c.lines.invariant.given at takes.2) (rw c.as_slice.ensures.value at c.follow.ensures) c.in-To.is;
     }
