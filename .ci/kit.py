@@ -1,0 +1,339 @@
+"""Tries each script of the operator's kit: python3 .ci/kit.py PATH/TO/spinesd
+
+What a script must say stands here and in kit_recording.py by hand. Keys, a status and a page are also made of three daemons that run. What needs
+chromium, mandoc, shellcheck or systemd-analyze is tried where that is installed, and left out with a word where not. Each difference is told, and
+the status is then 1.
+"""
+
+import glob
+import json
+import os
+import re
+import shutil
+import socket
+import stat
+import subprocess
+import sys
+import tempfile
+import time
+
+ROOT = os.path.dirname(os.path.dirname(os.path.abspath(__file__)))
+KIT = os.path.join(ROOT, "kit")
+sys.path[:0] = [os.path.join(ROOT, "examples", "overlay"), os.path.dirname(os.path.abspath(__file__))]
+
+import kit_recording  # noqa: E402
+from overlay import free_ports  # noqa: E402
+
+LINE = b"graph 1\nnodes 3\nedge 1 2 10\nedge 2 3 10\nend\n"
+SCRIPTS = ("spinesd-keys", "spinesd-status", "spinesd-explain", "spinesd-view")
+SAID = [
+    (["refused", "9", "Cut"], 0, "replay or paths, status 3, `refused LINE Cut`\n  Line 9 is the last and has no newline.\n"
+                                 "  Do: Add the newline; if the file was cut, take a whole one.\n"),
+    (["7"], 0, "daemon or ask, status 7, `wire`\n  A port of 127.0.0.1 couldn't be opened: another process has it, or it needs more rights.\n"
+               "  Do: `ss -ulnp` tells who has the ports of the configuration or of `--local`; end that one, or take another port.\n"),
+    (["--command", "paths", "refused 0 Range"], 0,
+     "paths, status 3, `refused 0 Range`\n  The graph is good, but an end that was asked for is none of its nodes.\n  Do: Ask for nodes of the graph.\n"),
+    (["refused", "0", "Missing", "seed"], 0, "topology or daemon or verify, status 3, `refused 0 Missing KEY`\n  The key seed must be there and isn't.\n"
+                                             "  Do: Add it; docs/FORMATS.md, \"Configurations and drafts\", has all keys.\n"),
+    (["refused", "0", "Cut"], 1, ""), (["keystate", "lost"], 1, ""), (["--command", "verify", "wire"], 1, ""), (["14"], 1, ""),
+]
+# what the words in capitals of an ending may stand for
+SAMPLE = {"DIGEST": "0" * 64, "RECORDED": "0" * 64, "COMPUTED": "0" * 64, "KEY120": "0" * 120, "HEX": "6869", "KEY": "port", "PARTS..": "1 2- 2+"}
+BROWSER = next((path for path in map(shutil.which, ("chromium", "chromium-browser", "google-chrome")) if path), None)
+
+
+class Kit:
+    """The program, a folder of its own, and how many looks differed."""
+
+    def __init__(self, program, folder):
+        self.program, self.folder, self.looks, self.wrong = program, folder, 0, 0
+
+    def equal(self, name, got, wanted):
+        self.holds(name, got == wanted, f"{got!r}, wanted {wanted!r}")
+
+    def holds(self, name, is_so, told):
+        self.looks += 1
+        if not is_so:
+            self.wrong += 1
+            print(f"{name}: {str(told)[:1500]}")
+
+    def path(self, name):
+        return os.path.join(self.folder, name)
+
+    def write(self, name, data):
+        with open(self.path(name), "wb") as file:
+            file.write(data)
+        return self.path(name)
+
+    def run(self, script, *words, given=b"", **more):
+        """The status, the output and what was said of a script's run."""
+        path = script if os.path.isabs(script) else os.path.join(KIT, script)
+        ended = subprocess.run([path, *words], input=given, stdout=subprocess.PIPE, stderr=subprocess.PIPE, check=False, timeout=60,
+                               env={**os.environ, "SPINESD": self.program}, **more)
+        return ended.returncode, ended.stdout.decode(), ended.stderr.decode()
+
+    def missing(self, tool):
+        """Whether a tool isn't installed, which is said."""
+        if tool and shutil.which(tool):
+            return False
+        print(f"{tool or 'a browser'} isn't installed: left out")
+        return True
+
+
+def read(path):
+    with open(path, "rb") as file:
+        return file.read()
+
+
+# ---- spinesd-explain
+
+def rows_of(text):
+    """The rows of a table of endings: commands, status, last line, sentence, what to do."""
+    rows = [line.strip("|").split(" | ") for line in text.splitlines() if re.match(r"\| [a-z, ]+ \| \d", line)]
+    return [[cell.strip() for cell in row] for row in rows]
+
+
+def explains(kit):
+    for words, status, wanted in SAID:
+        kit.equal(f"explain {' '.join(words)}", kit.run("spinesd-explain", *words)[:2], (status, wanted))
+    kit.equal("explain the last line of an output", kit.run("spinesd-explain", given=b"journal 1\n1 empty\nrefused 10 Event\n")[1].split("\n")[0],
+              "replay, status 3, `refused LINE Event`")
+    rows = rows_of(read(os.path.join(KIT, "endings.md")).decode())
+    formats = read(os.path.join(ROOT, "docs", "FORMATS.md")).decode()
+    in_formats = rows_of(formats[formats.index("## Endings, and what to do"):formats.index("## Messages\n")])
+    kit.holds("the table has all statuses", {row[1] for row in rows} == {*map(str, [0, *range(2, 14)]), "129 to 159"}, sorted({row[1] for row in rows}))
+    kit.equal("FORMATS has the same table", in_formats, rows)
+    for commands, _, line, means, _ in rows:
+        if line != "nothing":
+            sample = " ".join(SAMPLE.get(word, "7" if word.isupper() else word) for word in line.strip("`").split(" "))
+            status, said, _ = kit.run("spinesd-explain", *(["--command", commands.split(", ")[0]] if commands != "all" else []), "--", sample)
+            kit.holds(f"explain {sample}", status == 0 and line in said and "Do: " in said, said)
+
+
+def command_of(front):
+    """The command of a case of conformance/."""
+    if os.path.exists(front + ".words"):
+        return read(front + ".words").split(b"\n")[0].decode()
+    return next(command for end, command in (("schedule", "replay"), ("recording", "verify"), ("toml", "topology")) if os.path.exists(f"{front}.{end}"))
+
+
+def endings_of_conformance(kit):
+    """Each ending that a case of conformance/ has is explained under its own command."""
+    found = set()
+    for path in glob.glob(os.path.join(ROOT, "conformance", "*", "*.status")):
+        front, status = path.removesuffix(".status"), int(read(path))
+        if status and os.path.exists(front + ".out"):
+            last = read(front + ".out").decode().rstrip("\n").split("\n")[-1]
+            plain = re.sub(r"\b[1-9]\d*\b", "7", re.sub(r"object [0-9a-f]+", "object 00", last))
+            found.add(("replay" if status == 2 else command_of(front), status, plain))
+    kit.holds("there are endings in conformance/", len(found) > 40, len(found))
+    for command, status, last in sorted(found):
+        got, said, _ = kit.run("spinesd-explain", "--command", command, "--", last)
+        kit.holds(f"explain {command}, {last}", got == 0 and f", status {status}, " in said, said)
+
+
+# ---- spinesd-status
+
+def statuses(kit):
+    files = kit.write("by_hand.conf", kit_recording.CONFIGURATION), kit.write("by_hand.recording", kit_recording.RECORDING)
+    told = json.loads(kit.run("spinesd-status", "--json", *files)[1])
+    for name, wanted in kit_recording.TOLD.items():
+        kit.equal(f"status: {name}", told[name], wanted)
+    kit.equal("status: neighbour 1", told["neighbours"][0], kit_recording.NEIGHBOUR_1)
+    lines = kit.run("spinesd-status", "--prometheus", *files)[1].split("\n")
+    kit.equal("status: metrics that lack", [line for line in kit_recording.METRICS if line not in lines], [])
+    names = {re.match(r"[a-z_]+", line).group(0) for line in lines[:-1] if line[0] != "#"}
+    for kind in ("HELP", "TYPE"):
+        kit.equal(f"status: each metric has its {kind}", {line.split(" ")[2] for line in lines if line.startswith("# " + kind)}, names)
+    table = kit.run("spinesd-status", *files)[1]
+    kit.holds("status: the table", table.startswith(kit_recording.TABLE) and "\n   1-2     -          1      1             -              1: 0/1\n" in table, table)
+    changed = kit_recording.RECORDING.replace(b"client 9000 " + b"1 open".hex().encode(), b"client 9000 " + b"1 xxxx".hex().encode())
+    told = json.loads(kit.run("spinesd-status", "--json", files[0], "-", given=changed)[1])
+    kit.equal("status: a reply that fits nothing", told["requests"].get("untold"), 1)
+    changed = kit_recording.RECORDING.replace(b"overlay 1 53", b"overlay 1 54")
+    told = json.loads(kit.run("spinesd-status", "--json", files[0], "-", given=changed)[1])
+    kit.equal("status: answers that aren't those of the rules", told["checked"], {"right": 0, "different": 5})
+
+
+def cut_recordings(kit):
+    configuration, text = kit.path("by_hand.conf"), kit_recording.RECORDING
+    whole = text[:text.rindex(b"\nend") + 1]
+    told = json.loads(kit.run("spinesd-status", "--json", configuration, "-", given=whole + b"tick 60")[1])
+    kit.equal("status: a cut line", (told["turns"], told["recording"]["cut_bytes"], told["ended"]), (5, 7, None))
+    kit.equal("status: whole lines", kit.run("spinesd-status", "--whole", "-", given=whole + b"tick 60"),
+              (0, whole.decode(), "23 whole lines; 7 bytes after them were left out\n"))
+    for name, given in [("another first line", text[text.index(b"\n") + 1:]), ("a line of nothing", text.replace(b"stray", b"strange")), ("two ends", text * 2)]:
+        kit.equal(f"status: {name}", kit.run("spinesd-status", configuration, "-", given=given)[0], 1)
+    kit.equal("status: no configuration", kit.run("spinesd-status", kit.write("no.conf", b"node = 2\n"), "-", given=text)[0], 1)
+
+
+# ---- spinesd-view
+
+def film_of(page):
+    """The data that a page has."""
+    return json.loads(re.search(r"const film = (.*);\n", page).group(1))
+
+
+def shown(kit, page, step):
+    """What a browser without a window shows of a page at a step."""
+    with tempfile.TemporaryDirectory() as home:
+        words = ["--headless", "--no-sandbox", "--disable-gpu", f"--user-data-dir={home}", "--dump-dom", f"file://{page}#{step}"]
+        return subprocess.run([BROWSER, *words], stdout=subprocess.PIPE, stderr=subprocess.DEVNULL, check=False, timeout=60).stdout.decode()
+
+
+def views(kit):
+    schedule = os.path.join(ROOT, "examples", "round_a_compromised_node.schedule")
+    status, page, said = kit.run("spinesd-view", schedule)
+    kit.equal("view a schedule", (status, said), (0, ""))
+    film = film_of(page)
+    kit.equal("view: the overlay", (film["nodes"], film["bad"], film["edges"]), ([1, 2, 3, 4], [2], [[1, 2, 10], [1, 4, 10], [2, 3, 10], [3, 4, 10]]))
+    marks = {place + 1: step[7] for place, step in enumerate(film["steps"]) if step[7]}
+    kit.equal("view: the marks", (len(film["steps"]), marks[1], [step for step, mark in marks.items() if mark == "delivered"]), (58, "sent", [46]))
+    kit.equal("view: nothing is loaded", re.findall(r"(?:src|href)=|https?://(?!www\.w3\.org/2000/svg)|url\(|@import", page), [])
+    kit.equal("view: a journal of another schedule", kit.run("spinesd-view", schedule, kit.write("other.out", b"journal 1\n" + b"".join(
+        b"%d empty\n" % number for number in range(1, 60))))[0], 1)
+    forged = film_of(kit.run("spinesd-view", os.path.join(ROOT, "examples", "forged.schedule"))[1])
+    kit.equal("view: a forged event", (len(forged["steps"]), forged["steps"][0][7], forged["steps"][0][3][0][:15]), (1, "forged", "forged 1 object"))
+    evil = film_of(kit.run("spinesd-view", "--title", "</script><script>alert(1)</script>", schedule)[1])
+    kit.equal("view: a title that would end the script", evil["title"], "</script><script>alert(1)</script>")
+    if not kit.missing(BROWSER):
+        in_browser(kit, kit.write("page.html", page.encode()))
+
+
+def in_browser(kit, page):
+    """What the browser shows at the delivery of event 46."""
+    text = shown(kit, page, 46)
+    kit.holds("browser: the step", "step 46 of 58" in text and "+ delivered rel 1 1 6869" in text, text[-1500:])
+    kit.equal("browser: nodes", (text.count('class="node'), text.count('class="node bad"'), text.count('data-node="3"')), (4, 1, 1))
+    row = re.search(r'<tr class="changed" data-flow="rel 1 3">(.*?)</tr>', text)
+    kit.holds("browser: the flow", row and re.findall(r"<td>(.*?)</td>", row.group(1)) == ["reliable 1 \u2192 3", "1", "1", "0"], row and row.group(1))
+    kit.holds("browser: the mark at the node", re.search(r'class="pill".*?>delivered<', text), "no pill")
+    kit.holds("browser: what a frame carries", "Frame 1 from 4 to 3 arrives; it carries a reliable message." in text, "")
+
+
+# ---- spinesd-keys, and daemons with them
+
+def mode(path):
+    return stat.S_IMODE(os.stat(path).st_mode)
+
+
+def keys(kit):
+    graph, overlay = kit.write("line.graph", LINE), kit.path("overlay")
+    words = ["--height", "5", "--port", str(ports_for(3)), graph]
+    kit.equal("make keys", kit.run("spinesd-keys", "make", *words, overlay)[::2], (0, ""))
+    files = sorted(os.path.relpath(path, overlay) for path in glob.glob(overlay + "/**", recursive=True) if os.path.isfile(path))
+    kit.equal("keys: the files", files, sorted(["draft.toml", "topology", *(f"{node}/spinesd.{end}" for node in (1, 2, 3) for end in ("conf", "keys"))]))
+    kit.equal("keys: nobody else reads them", {mode(os.path.join(overlay, name)) for name in files if not name.endswith(".keys")}, {0o600})
+    kit.equal("keys: nor their folders", {mode(os.path.join(overlay, name)) for name in ("", "1", "2", "3")}, {0o700})
+    texts = [read(os.path.join(overlay, str(node), "spinesd.conf")).decode() for node in (1, 2, 3)]
+    seeds = [re.search(r'^seed = "([0-9a-f]{64})"$', text, re.MULTILINE).group(1) for text in texts]
+    kit.equal("keys: each node has its own", len({*seeds}), 3)
+    links = [re.findall(r'^key = "([0-9a-f]{64})"$', text, re.MULTILINE) for text in texts]
+    kit.holds("keys: each link has one", links[0][0] == links[1][0] != links[1][1] == links[2][0], links)
+    for node, text in enumerate(texts, 1):
+        kit.equal(f"keys: the configuration of node {node} is good", kit.run(kit.program, "verify", given=text.encode() + b"recording 1 1 0 32\n")[:2],
+                  (0, "verified 0\n"))
+    refusals(kit, overlay, words, seeds)
+
+
+def refusals(kit, overlay, words, seeds):
+    """What would use a key twice, or write over a file, isn't done, and leaves all as it was."""
+    before = {path: read(path) for path in glob.glob(kit.folder + "/**", recursive=True) if os.path.isfile(path)}
+    again = kit.path("again")
+    rows = [
+        ("a folder that is there", [*words, overlay], "give a folder that isn't"),
+        ("a seed that was used", ["--seeds", "-", *words, again], "used at height 5 by 1 of "),
+        ("a seed at another height", ["--seeds", "-", *words[2:], again], "a seed has one height for ever"),
+        ("one seed for two nodes", ["--seeds", "-", "--ledger", kit.path("new.ledger"), *words, again], "1 and 2 have one seed"),
+        ("ports beyond the last", [*words[:2], "--port", "65500", words[4], again], "ports from 65501 to 65603"),
+        ("a ledger that is none", ["--ledger", kit.write("no.ledger", b"x\n"), *words, again], "no ledger"),
+    ]
+    for name, said, reason in rows:
+        given = f"1 {seeds[0]}\n" + (f"2 {seeds[0]}\n" if "two nodes" in name else "")
+        status, output, why = kit.run("spinesd-keys", "make", *said, given=given.encode())
+        kit.holds(f"keys: {name}", (status, output) == (1, "") and reason in why, why)
+    bad = kit.write("loop.graph", b"graph 1\nnodes 2\nedge 1 1 10\nend\n")
+    status, _, why = kit.run("spinesd-keys", "make", bad, again)
+    kit.holds("keys: a graph with a loop", status == 1 and "refused 0 Topology Loop" in why, why)
+    kit.equal("keys: a refusal makes nothing", (os.path.exists(again), {path: read(path) for path in before}), (False, before))
+
+
+def ports_for(nodes):
+    """A first port after which all ports of an overlay are free."""
+    while True:
+        first = free_ports(1)[0] - 1
+        try:
+            taken = [free_at(first + more + node) for more in (0, 100) for node in range(1, nodes + 1)]
+        except (OSError, OverflowError):
+            continue
+        for each in taken:
+            each.close()
+        return first
+
+
+def free_at(port):
+    held = socket.socket(socket.AF_INET, socket.SOCK_DGRAM)
+    held.bind(("127.0.0.1", port))
+    return held
+
+
+def ask(kit, port, local, request):
+    """The reply of a daemon, which is asked until it comes."""
+    for _ in range(50):
+        status, reply, _ = kit.run(kit.program, "ask", "--port", str(port), "--local", str(local), "--turns", "20", "--request", request)
+        if status == 0:
+            return reply.rstrip("\n")
+    return None
+
+
+def daemons(kit):
+    """Three daemons with the keys that were made: a message arrives, and status and page tell it."""
+    overlay, children = kit.path("overlay"), []
+    places = [os.path.join(overlay, str(node)) for node in (1, 2, 3)]
+    ports = [int(re.search(r"^client_port = (\d+)$", read(place + "/spinesd.conf").decode(), re.MULTILINE).group(1)) for place in places]
+    try:
+        for place in places:
+            with open(place + "/spinesd.conf", "rb") as given, open(place + "/first.recording", "wb") as recording:
+                children.append(subprocess.Popen([kit.program, "daemon", "--turns", "100000"], stdin=given, stdout=recording, cwd=place))
+        locals_ = free_ports(2)
+        replies = [ask(kit, ports[2], locals_[1], "1 open"), ask(kit, ports[2], locals_[1], "2 listen")]
+        replies += [ask(kit, ports[0], locals_[0], "1 open"), ask(kit, ports[0], locals_[0], "2 send 3 6869")]
+        for number in range(3, 60):
+            if (taken := ask(kit, ports[2], locals_[1], f"{number} take 1")) != f"{number} empty":
+                break
+            time.sleep(0.05)
+        replies.append((taken or "").split(" ", 1)[-1])
+        kit.equal("daemons: a message arrives", replies, ["1 opened", "2 listening", "1 opened", "2 accepted 1", "payload 6869"])
+    finally:
+        for child in children:
+            child.terminate()
+            child.wait()
+    told_of_daemons(kit, places)
+
+
+def told_of_daemons(kit, places):
+    told = [json.loads(kit.run("spinesd-status", "--json", place)[1]) for place in places]
+    kit.equal("daemons: nothing differs", [each["checked"]["different"] for each in told], [0, 0, 0])
+    kit.holds("daemons: frames were fresh", all(n["answers"]["fresh"] > 0 for each in told for n in each["neighbours"]), told)
+    flows = [next(flow for flow in each["flows"] if (flow["source"], flow["destination"]) == (1, 3)) for each in (told[0], told[2])]
+    kit.equal("daemons: the flow at its ends", (flows[0]["sent"], flows[1]["delivered"], flows[1]["taken"]), (1, 1, 1))
+    status, page, said = kit.run("spinesd-view", *places)
+    kit.equal("daemons: the page", (status, said), (0, ""))
+    seen = [(step[0], what) for step in film_of(page)["steps"] for what in step[6] if what in ("sent", "delivered")]
+    kit.equal("daemons: on the page", seen, [(1, "sent"), (3, "delivered")])
+    kit.equal("daemons: the first line", {read(place + "/first.recording").split(b"\n")[0] for place in places}, {b"recording 1 1 0 32"})
+
+
+def main():
+    if len(sys.argv) != 2:
+        sys.exit("usage: python3 .ci/kit.py PATH/TO/spinesd")
+    with tempfile.TemporaryDirectory() as folder:
+        kit = Kit(os.path.abspath(sys.argv[1]), folder)
+        for look in (explains, endings_of_conformance, statuses, cut_recordings, views, keys, daemons):
+            look(kit)
+    print(f"{kit.looks - kit.wrong} looks at the operator's kit as wanted, {kit.wrong} not")
+    sys.exit(1 if kit.wrong else 0)
+
+
+if __name__ == "__main__":
+    main()

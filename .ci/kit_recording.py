@@ -1,0 +1,84 @@
+"""A configuration and a recording made by hand, with what `spinesd-status` must tell of them.
+
+Node 2 of the line 1-2-3, start 4, topology version 7, height 5. Nothing here is computed by the kit: frames, tags and digests are made anew.
+"""
+
+import hashlib
+import hmac
+import struct
+
+KEY_1, KEY_3 = bytes(range(32)), bytes(range(32, 64))
+SIGNATURE = bytes(4_756)
+DOCUMENT = (b"MTMW\x01" + struct.pack(">IBB", 7, 5, 3) + b"".join(bytes([node]) + bytes(60) for node in (1, 2, 3))
+            + struct.pack(">H", 2) + struct.pack(">BBI", 1, 2, 10) + struct.pack(">BBI", 2, 3, 20))
+CONFIGURATION = (f'node = 2\nseed = "{"22" * 32}"\nadmin = "{"00" * 60}"\ntopology = "{(DOCUMENT + SIGNATURE).hex()}"\nport = 7002\nclient_port = 7102\n'
+                 f'\n[[peer]]\nid = 1\nport = 7001\nkey = "{KEY_1.hex()}"\n\n[[peer]]\nid = 3\nport = 7003\nkey = "{KEY_3.hex()}"\n').encode()
+MESSAGE = b"\x02\x01\x02" + struct.pack(">QH", 1, 2) + b"hi"
+ACKNOWLEDGEMENT = b"\x03\x02\x03" + struct.pack(">Q", 1)
+
+
+def signed(body):
+    return struct.pack(">H", len(body)) + body + struct.pack(">H", len(SIGNATURE)) + SIGNATURE
+
+
+def slot(source, destination, base, have, acknowledgements=b"\0", messages=b"\0"):
+    return b"\1" + struct.pack(">BBQQ", source, destination, base, have) + acknowledgements + messages
+
+
+def frame(echo, counter, reliable=b"\0", key=KEY_1):
+    """A frame of node 1, whose boot is 9, to node 2."""
+    text = b"SI\x01\x01\x02" + struct.pack(">QQQI", 9, echo, counter, 7) + b"\0" + bytes(8) + b"\0" + reliable
+    return (text + hmac.new(key, text, hashlib.sha256).digest()).hex()
+
+
+def digest(text):
+    return hashlib.sha256(text).hexdigest()
+
+
+def turn(clock, datagram, answer, request, reply, polled):
+    """A turn's lines: a datagram of node 1 and a request from port 9000."""
+    return (f"tick {clock} {digest(b'ticked' + NEWLINE)}\noverlay 1 {datagram} {digest(answer)}\n"
+            f"client 9000 {request.hex()} {digest(reply)}\npoll {polled} {digest(b'a frame')}\n")
+
+
+NEWLINE = b"\n"
+CARRIES = frame(4, 1, slot(1, 2, 0, 1, messages=b"\1" + signed(MESSAGE)))
+LIES = frame(4, 5, slot(2, 3, 1, 1, acknowledgements=b"\1" + signed(ACKNOWLEDGEMENT)))
+RECORDING = ("recording 1 4 32 64\n"
+             + turn(1_000, frame(0, 7), b"learned 9\n", b"1 open", b"1 opened", 1)
+             + "stray 5000\n"
+             + turn(2_000, CARRIES, b"fresh rel:new\n+ delivered rel 1 1 6869\n", b"2 listen", b"2 listening", 3)
+             + turn(3_000, CARRIES, b"stale 9 1\n", b"3 take 1", b"3 payload 6869", 1)
+             + "reserve 96\n"
+             + turn(4_000, frame(4, 4, key=KEY_3), b"badtag\n", b"4 send 3 00", b"4 accepted 1", 3)
+             + turn(5_000, LIES, b"fresh ack:badsig\n", b"4 send 3 00", b"4 accepted 1", 1)
+             + "end turns 5 lost 1\n").encode()
+
+# what is told of it, by hand
+NEIGHBOUR_1 = {
+    "node": 1, "port": 7001, "frames_sent": 3, "lost": 3, "bad_signatures": 1, "untold": 0, "last_fresh_ms": 5_000, "boot": 9,
+    "answers": {"fresh": 2, "learned": 1, "stale": 1, "badtag": 1, "notforme": 0, "malformed": 0, "topology": 0, "section": 0},
+}
+FLOWS = [
+    {"source": 1, "destination": 2, "sent": None, "delivered": 1, "taken": 1, "acknowledged": 0, "reported": {"1": {"base": 0, "have": 1}}},
+    {"source": 2, "destination": 3, "sent": 1, "delivered": None, "taken": None, "acknowledged": 0, "reported": {"1": {"base": 1, "have": 1}}},
+]
+TOLD = {
+    "node": 2, "boot": 4, "topology_version": 7, "turns": 5, "first_turn_ms": 1_000, "last_turn_ms": 5_000, "ended": {"turns": 5, "lost": 1},
+    "indexes": {"first": 32, "reserved": 96, "limit": 1_024, "left": 928}, "strays": {"5000": 1}, "checked": {"right": 5, "different": 0},
+    "requests": {"accepted": 1, "listening": 1, "opened": 1, "payload": 1, "repeated": 1}, "flows": FLOWS,
+}
+METRICS = [
+    'spinesd_info{node="2",boot="4",topology_version="7",height="5"} 1', "spinesd_turns_total 5", "spinesd_last_turn_timestamp_seconds 5.0",
+    "spinesd_ended 1", "spinesd_failed_calls 1", "spinesd_indexes_reserved 96", "spinesd_stray_datagrams_total 1", "spinesd_answers_different_total 0",
+    'spinesd_neighbour_datagrams_total{neighbour="1",answer="badtag"} 1', 'spinesd_neighbour_frames_lost_total{neighbour="1"} 3',
+    'spinesd_neighbour_bad_signatures_total{neighbour="1"} 1', 'spinesd_neighbour_last_fresh_timestamp_seconds{neighbour="1"} 5.0',
+    'spinesd_flow_delivered_total{source="1",destination="2"} 1', 'spinesd_flow_sent_total{source="2",destination="3"} 1',
+    'spinesd_flow_reported_have{source="1",destination="2",neighbour="1"} 1', "# TYPE spinesd_turns_total counter", "# TYPE spinesd_ended gauge",
+]
+TABLE = """\
+node 2, start 4, topology version 7: ended after 5 turns, 1 receives and sends failed
+turns 5, 1 a second, the first 1970-01-01 00:00:01, the last 1970-01-01 00:00:05 UTC
+indexes 928 of 1024 left to reserve; this start began at 32
+strays 1; requests 1 accepted, 1 listening, 1 opened, 1 payload, 1 repeated
+"""

@@ -1,0 +1,67 @@
+"""A film is what the page of `spinesd-view` shows: the overlay, and one step after another with all that can be seen of it.
+
+A step has the fields of STEP. A frame that a step makes or brings is named by its direction and a number or digest, so that its way can be followed.
+"""
+
+import re
+
+# the node that acts, its kind, the line that says what happens, the lines that say what came of it, the frame that is made or arrives,
+# changes of flows, what is seen at a node, and a word for the time line
+STEP = ("node", "kind", "line", "said", "frame", "flows", "seen", "mark")
+REFUSED = {
+    "full", "spent", "expired", "nopaths", "tickspent", "ticknotreserved", "low", "toolong", "short", "magic", "version", "notforme", "badtag",
+    "stale", "topology", "section", "badend", "notreserved", "badrequest", "sessionsfull",
+}
+REFUSED_OBJECTS = {"badsig", "badend", "foreign", "low", "ahead", "gap", "full", "inboxfull", "expired"}
+OBJECT = re.compile(r"(weight|prio|ack|rel):(\w+|\?)")
+
+
+def objects_of(reply):
+    """The kinds of the objects that a frame carried, by the words of its answer."""
+    return [kind for kind, _ in OBJECT.findall(reply)]
+
+
+def is_refused(reply):
+    """Whether an answer says that something wasn't taken. Repeats that are `old` or `seen` are none."""
+    return reply.split(" ")[0] in REFUSED or any(word in REFUSED_OBJECTS for _, word in OBJECT.findall(reply))
+
+
+def of_signed(body):
+    """What a signature does to the tables: a kind, two nodes, and a number."""
+    kind, source, destination, number = body[0], body[1], body[2], int.from_bytes(body[3:11], "big")
+    if kind == 2:
+        return ["rel", source, destination, "sent", number]
+    if kind == 1:
+        return ["prio", source, destination, "sent", number]
+    return ["rel", source, destination, "acknowledged", number] if kind == 3 else None
+
+
+def of_effects(node, said):
+    """What the effects of a step do to the tables, what is seen of them at the node, and the greatest of them for the time line."""
+    flows, seen = [], []
+    for line in said:
+        words = line.split(" ")
+        if words[:2] == ["+", "signed"] and (change := of_signed(bytes.fromhex(words[2]))):
+            flows.append(change)
+            seen.append("acknowledged" if change[3] == "acknowledged" else "sent")
+        elif words[:2] == ["+", "delivered"]:
+            flows.append([words[2], int(words[3]), node, "delivered", int(words[4])])
+            seen.append("delivered")
+        elif words[:2] == ["+", "gone"] and words[4] in ("evicted", "expired"):
+            seen.append(words[4])
+    return flows, seen
+
+
+def mark_of(said, seen):
+    """The word of a step for the time line; an empty one where nothing is to be marked."""
+    for word in ("delivered", "evicted", "expired"):
+        if word in seen:
+            return word
+    if said and is_refused(re.sub(r"^\d+ ", "", said[0])):
+        return "refused"
+    return next((word for word in ("sent", "acknowledged") if word in seen), "")
+
+
+def film(title, nodes, bad, edges, steps, last, left_out=0):
+    """The film as data for the page."""
+    return {"title": title, "nodes": nodes, "bad": bad, "edges": edges, "fields": STEP, "steps": steps, "last": last, "left_out": left_out}

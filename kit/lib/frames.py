@@ -1,0 +1,122 @@
+"""What a datagram says, and what a link answers it: the head, the tag and the sections of a frame, as docs/FORMATS.md and docs/RULES.md have them."""
+
+import collections
+import hashlib
+import hmac
+
+HEAD, TAG, LEAST, MOST = 33, 32, 65, 65_507
+KINDS = {1: "prio", 2: "rel", 3: "ack", 4: "weight"}
+# how many bytes a body has before its payload
+FIXED = {"prio": 38, "rel": 13, "ack": 11, "weight": 16}
+
+Head = collections.namedtuple("Head", "sender to boot echo counter topology")
+Item = collections.namedtuple("Item", "section kind source destination number payload")
+Slot = collections.namedtuple("Slot", "source destination base have")
+Sections = collections.namedtuple("Sections", "items slot")
+
+
+class Bad(Exception):
+    """A section that isn't right; the text is the journal's word."""
+
+
+def number(data):
+    return int.from_bytes(data, "big")
+
+
+def head_of(frame):
+    """The head of a frame."""
+    return Head(frame[3], frame[4], number(frame[5:13]), number(frame[13:21]), number(frame[21:29]), number(frame[29:33]))
+
+
+def fault_of(datagram):
+    """The word for a datagram that is no frame; None for a frame."""
+    if len(datagram) > MOST:
+        return "toolong"
+    if len(datagram) < LEAST:
+        return f"short {LEAST} {len(datagram)}"
+    if datagram[:2] != b"SI":
+        return "magic"
+    return None if datagram[2] == 1 else "version"
+
+
+def has_right_tag(frame, key):
+    return hmac.compare_digest(hmac.new(key, frame[:-TAG], hashlib.sha256).digest(), frame[-TAG:])
+
+
+class Pieces:
+    """The bytes of the sections, read from the left."""
+
+    def __init__(self, data):
+        self.data, self.at = data, 0
+
+    def take(self, count):
+        if len(self.data) - self.at < count:
+            raise Bad("cut")
+        self.at += count
+        return self.data[self.at - count:self.at]
+
+    def flag(self):
+        value = self.take(1)[0]
+        if value > 1:
+            raise Bad("count")
+        return value == 1
+
+    def item(self, section, signature):
+        """One signed message of a section; its ranges aren't judged."""
+        body = self.take(number(self.take(2)))
+        kind = KINDS.get(body[0]) if body else None
+        if kind != section or len(body) < FIXED[kind]:
+            raise Bad("object")
+        if number(self.take(2)) != signature:
+            raise Bad("object")
+        self.take(signature)
+        if kind == "weight":
+            return Item(section, kind, body[1], number(body[2:4]), number(body[4:12]), body[12:])
+        return Item(section, kind, body[1], body[2], number(body[3:11]), body[FIXED[kind]:])
+
+
+def sections_of(frame, signature):
+    """The objects of a frame in their order, and its slot; `signature` is how many bytes one has."""
+    pieces, items, slot = Pieces(frame[HEAD:-TAG]), [], None
+    if pieces.flag():
+        items.append(pieces.item("weight", signature))
+    pieces.take(8)
+    if pieces.flag():
+        pieces.take(8)
+        items.append(pieces.item("prio", signature))
+    if pieces.flag():
+        ends = pieces.take(2)
+        slot = Slot(ends[0], ends[1], number(pieces.take(8)), number(pieces.take(8)))
+        for section in ("ack", "rel"):
+            if pieces.flag():
+                items.append(pieces.item(section, signature))
+    if pieces.at < len(pieces.data):
+        raise Bad("tail")
+    return Sections(items, slot)
+
+
+class Link:
+    """A link to a neighbour, as a node keeps it: the boot that is known of the neighbour, and the pair above which its frames are fresh."""
+
+    def __init__(self, me, peer, boot, key):
+        self.me, self.peer, self.boot, self.key = me, peer, boot, key
+        self.peer_boot, self.seen = 0, (0, 0)
+
+    def answer(self, frame):
+        """The journal's words of what the link answers a frame, which moves the link."""
+        head = head_of(frame)
+        if (head.sender, head.to) != (self.peer, self.me):
+            return "notforme"
+        if not has_right_tag(frame, self.key):
+            return "badtag"
+        if head.echo != self.boot:
+            return self.learned(head.boot)
+        if (head.boot, head.counter) <= self.seen:
+            return "stale %d %d" % self.seen
+        self.peer_boot, self.seen = head.boot, (head.boot, head.counter)
+        return "fresh"
+
+    def learned(self, boot):
+        if boot > self.peer_boot:
+            self.peer_boot, self.seen = boot, (boot, 0)
+        return f"learned {self.peer_boot}"

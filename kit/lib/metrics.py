@@ -1,0 +1,77 @@
+"""The numbers of a watch as Prometheus reads them: each with its help and its type, in the text format 0.0.4."""
+
+from watching import ANSWERS
+
+
+def of_daemon(watch, size):
+    """Rows of one daemon: a name, a type, a help, and the samples, each labels and a value."""
+    configuration, seconds = watch.configuration, lambda milliseconds: (milliseconds or 0) / 1000
+    labels = {"node": configuration.node, "boot": watch.boot, "topology_version": configuration.topology.version, "height": configuration.topology.height}
+    return [
+        ("info", "gauge", "What the daemon is; the value is 1.", [(labels, 1)]),
+        ("turns_total", "counter", "Turns that the daemon made.", [({}, watch.turns)]),
+        ("start_timestamp_seconds", "gauge", "Clock of the first turn.", [({}, seconds(watch.first_tick))]),
+        ("last_turn_timestamp_seconds", "gauge", "Clock of the last turn.", [({}, seconds(watch.now))]),
+        ("ended", "gauge", "Whether the recording has its end line.", [({}, int(watch.ended is not None))]),
+        ("failed_calls", "gauge", "Receives and sends that failed, which only the end line tells.", [({}, watch.ended[1])] if watch.ended else []),
+        ("recording_bytes", "gauge", "Bytes of the recording that were read.", [({}, size)]),
+        ("indexes_limit", "gauge", "One-time indexes that the seed has.", [({}, watch.total)]),
+        ("indexes_reserved", "gauge", "One-time indexes that are reserved, and never given again.", [({}, watch.bound)]),
+        ("stray_datagrams_total", "counter", "Datagrams from a port that is no neighbour's.", [({}, watch.strays.total())]),
+        ("client_requests_total", "counter", "Requests of clients by the first word of the reply; untold where the digest fits none that was tried.",
+         [({"reply": word}, count) for word, count in sorted(watch.requests.items())]),
+        ("answers_checked_total", "counter", "Answers to datagrams that were computed and had the recorded digest.", [({}, watch.right)]),
+        ("answers_different_total", "counter", "Answers to datagrams that were computed and had another digest: run spinesd verify.", [({}, watch.wrong)]),
+    ]
+
+
+def of_neighbours(watch):
+    """Rows of the neighbours."""
+    near = sorted(watch.neighbours.items())
+    heard = [(node, neighbour) for node, neighbour in near if neighbour.last_fresh is not None]
+    return [
+        ("neighbour_frames_sent_total", "counter", "Frames that were made for a neighbour.", [({"neighbour": node}, n.polls) for node, n in near]),
+        ("neighbour_datagrams_total", "counter", "Datagrams of a neighbour's port by their answer.",
+         [({"neighbour": node, "answer": answer}, n.answers[answer]) for node, n in near for answer in ANSWERS]),
+        ("neighbour_frames_lost_total", "counter", "Frames that a neighbour counted and that never came, or came too late.",
+         [({"neighbour": node}, n.lost) for node, n in near]),
+        ("neighbour_bad_signatures_total", "counter", "Messages with a wrong signature that a neighbour passed on, where the digest tells it.",
+         [({"neighbour": node}, n.bad_signatures) for node, n in near]),
+        ("neighbour_frames_untold_total", "counter", "Fresh frames of which no digest tells what became of their messages.",
+         [({"neighbour": node}, n.untold) for node, n in near]),
+        ("neighbour_last_fresh_timestamp_seconds", "gauge", "Clock of the turn in which a neighbour's last fresh frame came.",
+         [({"neighbour": node}, n.last_fresh / 1000) for node, n in heard]),
+    ]
+
+
+def of_flows(watch):
+    """Rows of the flows."""
+    me, clients = watch.configuration.node, watch.clients
+    flow = lambda source, destination: {"source": source, "destination": destination}
+    reports = [({**flow(*ends), "neighbour": node}, report)
+               for node, n in sorted(watch.neighbours.items()) for ends, report in sorted(n.reports.items())]
+    return [
+        ("flow_sent_total", "counter", "Reliable messages that this node accepted of its clients.",
+         [(flow(me, to), n) for to, n in sorted(clients.sent.items())]),
+        ("flow_delivered_total", "counter", "Reliable messages that were delivered at this node.",
+         [(flow(*ends), n) for ends, n in sorted(watch.delivered.items())]),
+        ("flow_taken_total", "counter", "Reliable messages that a client took here.", [(flow(source, me), n) for source, n in sorted(clients.taken.items())]),
+        ("flow_acknowledged", "gauge", "Number up to which a flow is acknowledged, by the last acknowledgement that was new here.",
+         [(flow(*ends), n) for ends, n in sorted(watch.acknowledged.items())]),
+        ("flow_reported_base", "gauge", "Number up to which a flow is acknowledged at a neighbour, as it reported last.",
+         [(labels, report[0]) for labels, report in reports]),
+        ("flow_reported_have", "gauge", "Number up to which a neighbour has a flow's messages, as it reported last.",
+         [(labels, report[1]) for labels, report in reports]),
+    ]
+
+
+def text_of(watch, size):
+    """All rows that have a sample."""
+    text = ""
+    for name, kind, told, samples in of_daemon(watch, size) + of_neighbours(watch) + of_flows(watch):
+        if samples:
+            text += f"# HELP spinesd_{name} {told}\n# TYPE spinesd_{name} {kind}\n"
+        for labels, value in samples:
+            inner = ",".join(f'{label}="{word}"' for label, word in labels.items())
+            text += f"spinesd_{name}" + (f"{{{inner}}}" if inner else "") + f" {value}\n"
+    return text

@@ -1,0 +1,53 @@
+"""The lines of a recording, also of one that grows: a cut last line is left out, and a line that isn't right is told by its number."""
+
+import collections
+import re
+
+MARK = b"recording 1"
+DIGEST = rb"([0-9a-f]{64})"
+HEX = rb"(-|(?:[0-9a-f]{2})+)"
+FORMS = {
+    "recording": re.compile(rb"recording 1 (\d+) (\d+) (\d+)"),
+    "tick": re.compile(rb"tick (\d+) " + DIGEST),
+    "overlay": re.compile(rb"overlay (\d+) " + HEX + b" " + DIGEST),
+    "stray": re.compile(rb"stray (\d+)"),
+    "client": re.compile(rb"client (\d+) " + HEX + b" " + DIGEST),
+    "poll": re.compile(rb"poll (\d+) " + DIGEST),
+    "reserve": re.compile(rb"reserve (\d+)"),
+    "end": re.compile(rb"end turns (\d+) lost (\d+)"),
+}
+Line = collections.namedtuple("Line", "place name numbers data digest")
+
+
+class BadLine(Exception):
+    """A line that no recording has; the text says where."""
+
+
+def line_of(place, text):
+    """One line: its numbers, its bytes where it has some, and its digest where it has one."""
+    name = text.split(b" ", 1)[0].decode("ascii", "replace")
+    found = FORMS[name].fullmatch(text) if name in FORMS else None
+    if found is None:
+        raise BadLine(f"line {place} isn't a line of a recording: {text[:60].decode('ascii', 'replace')}")
+    words = list(found.groups())
+    digest = words.pop() if name in ("tick", "overlay", "client", "poll") else None
+    data = words.pop() if name in ("overlay", "client") else None
+    return Line(place, name, [int(word) for word in words], None if data is None else bytes.fromhex(data.decode().strip("-")), digest)
+
+
+def lines_of(text, first=1):
+    """The whole lines of a recording, and how many bytes of a line that isn't whole yet stand after them."""
+    whole = text.rfind(b"\n") + 1
+    lines = [line_of(first + place, line) for place, line in enumerate(text[:whole].split(b"\n")[:-1])]
+    if lines and lines[0].name != "recording":
+        raise BadLine(f"line {first} isn't the first line of a recording")
+    for line in lines[1:]:
+        if line.name == "recording" or (line.name == "end" and line is not lines[-1]):
+            raise BadLine(f"line {line.place} can't stand there")
+    return lines, len(text) - whole
+
+
+def split(text):
+    """A configuration and the recording after it, as `spinesd verify` reads them; the recording is empty where none begins."""
+    at = 0 if text.startswith(MARK) else text.find(b"\n" + MARK) + 1
+    return (text[:at], text[at:]) if at or text.startswith(MARK) else (text, b"")

@@ -1,0 +1,189 @@
+"""What a recording tells of its daemon, line by line: neighbours, flows, clients, indexes.
+
+The answers to datagrams are computed from the recording's inputs and the configuration's link keys, by the rules of docs/RULES.md, and each is compared
+with its digest: so the counts of fresh, stale and wrongly tagged frames are exact. Signatures aren't checked here: what became of a signed message is
+found by its digest, since an answer is one of a few. It stays untold where a priority message was new, whose effects have numbers that no line tells.
+"""
+
+import collections
+import hashlib
+import itertools
+
+import frames
+from clients import Clients
+from configurations import SIGNATURES, TOTALS
+
+# what a signed message may be answered, by its kind
+WORDS = {
+    "weight": ("new", "old", "badsig", "foreign", "low"),
+    "prio": ("seen", "badsig", "expired", "badend"),
+    "ack": ("new", "old", "badsig", "ahead", "badend"),
+    "rel": ("new", "old", "badsig", "gap", "full", "inboxfull", "ahead", "badend"),
+}
+ANSWERS = ("fresh", "learned", "stale", "badtag", "notforme", "malformed", "topology", "section")
+NO_FRAME = ("toolong", "short", "magic", "version")
+TICKED = hashlib.sha256(b"ticked\n").hexdigest().encode()
+
+
+class Neighbour:
+    """What came from a neighbour, and what was made for it."""
+
+    def __init__(self, link, port):
+        self.link, self.port = link, port
+        self.polls, self.lost, self.bad_signatures, self.untold = 0, 0, 0, 0
+        self.answers = collections.Counter()
+        self.last_fresh = None
+        self.reports = {}
+
+    def fresh(self, now, before, head):
+        """A fresh frame, with the pair that was kept before it: the counters between them never came, or come too late."""
+        if before[0] == head.boot:
+            self.lost += head.counter - before[1] - 1
+        self.last_fresh = now
+
+
+class Watch:
+    """All that the lines so far tell."""
+
+    def __init__(self, configuration):
+        self.configuration = configuration
+        self.signature = SIGNATURES[configuration.topology.height]
+        self.total = TOTALS[configuration.topology.height]
+        self.boot = self.index = self.bound = self.first_tick = self.now = self.ended = None
+        self.turns, self.quiet_ticks, self.lines, self.strays = 0, 0, 0, collections.Counter()
+        self.right, self.wrong = 0, 0
+        self.requests = collections.Counter()
+        self.clients = Clients(self.minimum_of)
+        self.told = []                                  # of the last line, its answer and effects as far as they are found
+        self.acknowledged, self.delivered = collections.Counter(), collections.Counter()
+        self.neighbours = {}
+
+    def minimum_of(self, peer):
+        """The least weight of the link to this neighbour, as the administrator says."""
+        ends = sorted([str(self.configuration.node), peer])
+        return next((weight for low, high, weight in self.configuration.topology.edges if sorted([str(low), str(high)]) == ends), None)
+
+    def feed(self, line):
+        """One line more."""
+        self.lines += 1
+        self.told = []
+        getattr(self, "feed_" + line.name)(line)
+
+    def feed_recording(self, line):
+        self.boot, self.index, self.bound = line.numbers
+        for peer in self.configuration.peers:
+            self.neighbours[peer.node] = Neighbour(frames.Link(self.configuration.node, peer.node, self.boot, peer.key), peer.port)
+
+    def feed_reserve(self, line):
+        self.bound = line.numbers[0]
+
+    def feed_tick(self, line):
+        self.now = self.clients.now = line.numbers[0] if self.now is None else max(self.now, line.numbers[0])
+        self.first_tick = self.now if self.first_tick is None else self.first_tick
+        self.turns += 1
+        self.told = ["ticked" if line.digest == TICKED else "ticked, and something was signed or expired"]
+        self.quiet_ticks += line.digest == TICKED
+
+    def feed_stray(self, line):
+        self.strays[line.numbers[0]] += 1
+
+    def feed_poll(self, line):
+        if line.numbers[0] in self.neighbours:
+            self.neighbours[line.numbers[0]].polls += 1
+
+    def feed_end(self, line):
+        self.ended = tuple(line.numbers)
+
+    def feed_client(self, line):
+        reply = self.clients.reply(line.numbers[0], line.data, line.digest)
+        self.told = [reply.words or "an answer that only its digest tells"]
+        self.requests["untold" if reply.words is None else "repeated" if reply.is_repeat else reply.words.split(" ")[0]] += 1
+
+    # ---- datagrams of neighbours
+
+    def feed_overlay(self, line):
+        neighbour = self.neighbours.get(line.numbers[0])
+        if neighbour is None:
+            return
+        before = neighbour.link.seen
+        answer = frames.fault_of(line.data) or neighbour.link.answer(line.data)
+        if answer == "fresh":
+            neighbour.fresh(self.now, before, frames.head_of(line.data))
+            answer, items = self.of_fresh(neighbour, line.data)
+            self.of_items(neighbour, answer, items, line.digest)
+        else:
+            self.compare(answer, line.digest)
+        name = answer.split(" ")[0]
+        neighbour.answers["malformed" if name in NO_FRAME else name] += 1
+
+    def of_fresh(self, neighbour, frame):
+        """What a fresh frame is answered but for the words of its objects, and these."""
+        theirs = frames.head_of(frame).topology
+        if theirs != self.configuration.topology.version:
+            return f"topology {theirs}", []
+        try:
+            sections = frames.sections_of(frame, self.signature)
+        except frames.Bad as bad:
+            return f"section {bad}", []
+        if sections.slot:
+            neighbour.reports[sections.slot[:2]] = sections.slot[2:]
+        return "fresh", sections.items
+
+    def compare(self, answer, digest):
+        """Counts whether the answer that was computed is the recorded one."""
+        self.told = [answer]
+        if hashlib.sha256(answer.encode() + b"\n").hexdigest().encode() == digest:
+            self.right += 1
+        else:
+            self.wrong += 1
+
+    def effect_of(self, item, word):
+        """What a journal says of an object after its answer; of a priority message that is new it can't be known."""
+        if word != "new":
+            return ""
+        if item.kind == "weight":
+            return f"+ weight {item.source} {item.destination} {item.number} {int.from_bytes(item.payload, 'big')}\n"
+        if item.kind == "rel" and item.destination == self.configuration.node:
+            return f"+ delivered rel {item.source} {item.number} {item.payload.hex() or '-'}\n"
+        return ""
+
+    def of_items(self, neighbour, answer, items, digest):
+        """Finds the words of a frame's objects by the digest of the answer."""
+        if not items:
+            self.compare(answer, digest)
+            return
+        for words in itertools.product(*(WORDS[item.kind] for item in items)):
+            told = answer + "".join(f" {item.kind}:{word}" for item, word in zip(items, words)) + "\n"
+            told += "".join(self.effect_of(item, word) for item, word in zip(items, words))
+            if hashlib.sha256(told.encode()).hexdigest().encode() == digest:
+                self.right += 1
+                self.told = told.split("\n")[:-1]
+                for item, word in zip(items, words):
+                    self.of_item(neighbour, item, word)
+                return
+        neighbour.untold += 1
+        self.told = [answer + "".join(f" {item.kind}:?" for item in items)]
+        for item in items:
+            self.of_item(neighbour, item, None)
+
+    def of_item(self, neighbour, item, word):
+        """Counts one object by its word; None is one that isn't told, which may be new."""
+        neighbour.bad_signatures += word == "badsig"
+        if word not in ("new", None):
+            return
+        flow = (item.source, item.destination)
+        if item.kind == "ack" and word == "new":
+            self.acknowledged[flow] = item.number
+        elif item.kind in ("rel", "prio") and item.destination == self.configuration.node:
+            self.clients.arrives(item)
+            if (item.kind, word) == ("rel", "new"):
+                self.delivered[flow] += 1
+
+    # ---- what is asked of all lines together
+
+    def flows(self):
+        """All flows that were heard of, ascending."""
+        found = {flow for neighbour in self.neighbours.values() for flow in neighbour.reports} | set(self.acknowledged)
+        found |= {(self.configuration.node, destination) for destination in self.clients.sent}
+        found |= set(self.delivered)
+        return sorted(found)
