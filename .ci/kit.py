@@ -1,8 +1,8 @@
 """Tries each script of the operator's kit: python3 .ci/kit.py PATH/TO/spinesd
 
-What a script must say stands here and in kit_recording.py by hand. Keys, a status and a page are also made of three daemons that run. What needs
-chromium, mandoc, shellcheck or systemd-analyze is tried where that is installed, and left out with a word where not. Each difference is told, and
-the status is then 1.
+What a script must say stands here, in kit_recording.py and in kit_house.py, by hand. Keys, a status and a page are also made of three daemons that
+run. What needs chromium, mandoc, shellcheck or systemd-analyze is tried where that is installed, and left out with a word where not. Each difference
+is told, and the status is then 1.
 """
 
 import glob
@@ -21,11 +21,11 @@ ROOT = os.path.dirname(os.path.dirname(os.path.abspath(__file__)))
 KIT = os.path.join(ROOT, "kit")
 sys.path[:0] = [os.path.join(ROOT, "examples", "overlay"), os.path.dirname(os.path.abspath(__file__))]
 
+import kit_house  # noqa: E402
 import kit_recording  # noqa: E402
 from overlay import free_ports  # noqa: E402
 
 LINE = b"graph 1\nnodes 3\nedge 1 2 10\nedge 2 3 10\nend\n"
-SCRIPTS = ("spinesd-keys", "spinesd-status", "spinesd-explain", "spinesd-view")
 SAID = [
     (["refused", "9", "Cut"], 0, "replay or paths, status 3, `refused LINE Cut`\n  Line 9 is the last and has no newline.\n"
                                  "  Do: Add the newline; if the file was cut, take a whole one.\n"),
@@ -146,7 +146,7 @@ def statuses(kit):
     for kind in ("HELP", "TYPE"):
         kit.equal(f"status: each metric has its {kind}", {line.split(" ")[2] for line in lines if line.startswith("# " + kind)}, names)
     table = kit.run("spinesd-status", *files)[1]
-    kit.holds("status: the table", table.startswith(kit_recording.TABLE) and "\n   1-2     -          1      1             -              1: 0/1\n" in table, table)
+    kit.holds("status: the table", table.startswith(kit_recording.TABLE) and kit_recording.FLOW_ROW in table, table)
     changed = kit_recording.RECORDING.replace(b"client 9000 " + b"1 open".hex().encode(), b"client 9000 " + b"1 xxxx".hex().encode())
     told = json.loads(kit.run("spinesd-status", "--json", files[0], "-", given=changed)[1])
     kit.equal("status: a reply that fits nothing", told["requests"].get("untold"), 1)
@@ -162,7 +162,8 @@ def cut_recordings(kit):
     kit.equal("status: a cut line", (told["turns"], told["recording"]["cut_bytes"], told["ended"]), (5, 7, None))
     kit.equal("status: whole lines", kit.run("spinesd-status", "--whole", "-", given=whole + b"tick 60"),
               (0, whole.decode(), "23 whole lines; 7 bytes after them were left out\n"))
-    for name, given in [("another first line", text[text.index(b"\n") + 1:]), ("a line of nothing", text.replace(b"stray", b"strange")), ("two ends", text * 2)]:
+    rows = [("another first line", text[text.index(b"\n") + 1:]), ("a line of nothing", text.replace(b"stray", b"strange")), ("two ends", text * 2)]
+    for name, given in rows:
         kit.equal(f"status: {name}", kit.run("spinesd-status", configuration, "-", given=given)[0], 1)
     kit.equal("status: no configuration", kit.run("spinesd-status", kit.write("no.conf", b"node = 2\n"), "-", given=text)[0], 1)
 
@@ -329,7 +330,7 @@ def main():
         sys.exit("usage: python3 .ci/kit.py PATH/TO/spinesd")
     with tempfile.TemporaryDirectory() as folder:
         kit = Kit(os.path.abspath(sys.argv[1]), folder)
-        for look in (explains, endings_of_conformance, statuses, cut_recordings, views, keys, daemons):
+        for look in (explains, endings_of_conformance, statuses, cut_recordings, views, keys, kit_house.look, daemons):
             look(kit)
     print(f"{kit.looks - kit.wrong} looks at the operator's kit as wanted, {kit.wrong} not")
     sys.exit(1 if kit.wrong else 0)

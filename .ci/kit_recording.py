@@ -82,3 +82,4 @@ turns 5, 1 a second, the first 1970-01-01 00:00:01, the last 1970-01-01 00:00:05
 indexes 928 of 1024 left to reserve; this start began at 32
 strays 1; requests 1 accepted, 1 listening, 1 opened, 1 payload, 1 repeated
 """
+FLOW_ROW = "\n   1-2     -          1      1             -              1: 0/1\n"

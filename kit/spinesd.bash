@@ -1,0 +1,39 @@
+# Completes the words of spinesd and its kit in bash.
+_spinesd_options() {
+    case $1 in
+        daemon) echo --turns ;;
+        generate) echo --seed ;;
+        paths) echo --from --to --paths ;;
+        ask) echo --port --local --turns --request ;;
+    esac
+}
+
+_spinesd() {
+    local now=${COMP_WORDS[COMP_CWORD]} before=${COMP_WORDS[COMP_CWORD - 1]} word command=
+    for word in "${COMP_WORDS[@]:1:COMP_CWORD-1}"; do
+        case $word in
+            daemon | format | verify | ask | topology | paths | replay | generate) command=$word ;;
+        esac
+    done
+    if [ -z "$command" ]; then
+        mapfile -t COMPREPLY < <(compgen -W "daemon format verify ask topology paths replay generate" -- "$now")
+    elif [[ $before != --* ]]; then
+        mapfile -t COMPREPLY < <(compgen -W "$(_spinesd_options "$command")" -- "$now")
+    fi
+}
+
+_spinesd_kit() {
+    local now=${COMP_WORDS[COMP_CWORD]} options
+    case $1 in
+        *-keys) options="seed make --height --version --port --buffer --store --seeds --ledger --program --help" ;;
+        *-status) options="--json --prometheus --whole --every --out --help" ;;
+        *-explain) options="--command --help" ;;
+        *-view) options="--title --idle --most --program --help" ;;
+        *-node) options="judge run --help" ;;
+    esac
+    mapfile -t COMPREPLY < <(compgen -W "$options" -- "$now")
+    [ ${#COMPREPLY[@]} -gt 0 ] || mapfile -t COMPREPLY < <(compgen -f -- "$now")
+}
+
+complete -F _spinesd spinesd
+complete -F _spinesd_kit -o filenames spinesd-keys spinesd-status spinesd-explain spinesd-view spinesd-node
