@@ -75,7 +75,8 @@ def installs(kit):
     kit.equal("uninstall", tool(install, "--prefix", prefix, "--uninstall")[0], 0)
     kit.equal("uninstall leaves what is another's", files_in(prefix), ["bin/another"])
     kit.holds("uninstall takes its folder", not os.path.exists(prefix + "/lib/spinesd"), files_in(prefix))
-    kit.equal("install of no program", tool(install, "--prefix", prefix, "--program", kit.path("none"))[0], 1)
+    none = kit.path("none")
+    kit.equal("install of no program", tool(install, "--prefix", prefix, "--program", none), (1, f"install: {none} is no program\n"))
 
 
 def units(kit, unit, prefix):
