@@ -76,7 +76,8 @@ def of_replay(given, status, output, words):
     elif status == 3:
         place = int(journal.last.split()[1])
         events = lines[begin:place - 1]
-        need(journal.entries == (events.index(b"end") if b"end" in events else len(events)), "the events before the bad line and the entries differ in number")
+        need(b"end" not in events[:-1], "the line after `end` is the first bad one")
+        need(journal.entries == len(events) - (events[-1:] == [b"end"]), "the events before the bad line and the entries differ in number")
     else:
         need(journal.entries == int(journal.last.split()[1]) - 1, "the events before the forged one and the entries differ in number")
 
