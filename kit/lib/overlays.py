@@ -109,7 +109,7 @@ def arrivals(daemons):
 
 
 def step_of(time, watch, line, arrived):
-    """One step, and whether nothing came of it."""
+    """One step, TIME milliseconds after the first, and whether nothing came of it."""
     before = watch.clients.sent.copy(), watch.clients.own["sendprio"], watch.acknowledged.copy()
     watch.feed(line)
     node, said = watch.configuration.node, list(watch.told)
@@ -117,8 +117,8 @@ def step_of(time, watch, line, arrived):
     flows, seen = films.of_effects(node, said)
     flows += flows_of(watch, line, before)
     seen += sorted({change[3] for change in flows} - set(seen))
-    shown = f"node {node}, {time} ms: {told_as(line)}"
-    idle = line.name in ("tick", "poll", "overlay", "reserve") and (said[:1] in ([], ["fresh"], ["ticked"])) and not (frame and frame[4])
+    shown = f"node {node}, {time / 1000:.3f} s: {told_as(line)}"
+    idle = line.name in ("tick", "poll", "overlay", "reserve") and said in ([], ["fresh"], ["ticked"]) and not (frame and frame[4])
     return [node, line.name, shown, said, frame, flows, seen, films.mark_of(said, seen)], idle
 
 
@@ -127,8 +127,9 @@ def film_of(title, daemons, with_idle, most):
     watches = {d.configuration.node: Watch(d.configuration) for d in daemons}
     topology = daemons[0].configuration.topology
     arrived, steps, left_out = arrivals(daemons), collections.deque(maxlen=most), 0
+    begin = min((line.numbers[0] for d in daemons for line in d.lines[:2] if line.name == "tick"), default=0)
     for time, node, line in in_order(daemons):
-        step, idle = step_of(time, watches[node], line, arrived)
+        step, idle = step_of(max(0, time - begin), watches[node], line, arrived)
         if idle and not with_idle:
             left_out += 1
             continue

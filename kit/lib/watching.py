@@ -54,6 +54,7 @@ class Watch:
         self.right, self.wrong = 0, 0
         self.requests = collections.Counter()
         self.clients = Clients(self.minimum_of)
+        self.latest = {}                                # the number of the message that was delivered last, by flow
         self.told = []                                  # of the last line, its answer and effects as far as they are found
         self.acknowledged, self.delivered = collections.Counter(), collections.Counter()
         self.neighbours = {}
@@ -81,8 +82,18 @@ class Watch:
         self.now = self.clients.now = line.numbers[0] if self.now is None else max(self.now, line.numbers[0])
         self.first_tick = self.now if self.first_tick is None else self.first_tick
         self.turns += 1
-        self.told = ["ticked" if line.digest == TICKED else "ticked, and something was signed or expired"]
+        self.told = self.of_tick(line.digest)
         self.quiet_ticks += line.digest == TICKED
+
+    def of_tick(self, digest):
+        """The answer to a tick: nothing, or the acknowledgement that was signed; what expired can't be known."""
+        if digest == TICKED:
+            return ["ticked"]
+        for (source, me), number in self.latest.items():
+            signed = f"+ signed 03{source:02x}{me:02x}{number:016x}"
+            if hashlib.sha256(f"ticked\n{signed}\n".encode()).hexdigest().encode() == digest:
+                return ["ticked", signed]
+        return ["ticked", "and something was signed or expired, which only the digest tells"]
 
     def feed_stray(self, line):
         self.strays[line.numbers[0]] += 1
@@ -178,6 +189,7 @@ class Watch:
             self.clients.arrives(item)
             if (item.kind, word) == ("rel", "new"):
                 self.delivered[flow] += 1
+                self.latest[flow] = item.number
 
     # ---- what is asked of all lines together
 
