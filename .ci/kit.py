@@ -5,6 +5,7 @@ run. What needs chromium, mandoc, shellcheck or systemd-analyze is tried where t
 is told, and the status is then 1.
 """
 
+import concurrent.futures
 import glob
 import json
 import os
@@ -103,11 +104,17 @@ def explains(kit):
     in_formats = rows_of(formats[formats.index("## Endings, and what to do"):formats.index("## Messages\n")])
     kit.holds("the table has all statuses", {row[1] for row in rows} == {*map(str, [0, *range(2, 14)]), "129 to 159"}, sorted({row[1] for row in rows}))
     kit.equal("FORMATS has the same table", in_formats, rows)
-    for commands, _, line, means, _ in rows:
-        if line != "nothing":
-            sample = " ".join(SAMPLE.get(word, "7" if word.isupper() else word) for word in line.strip("`").split(" "))
-            status, said, _ = kit.run("spinesd-explain", *(["--command", commands.split(", ")[0]] if commands != "all" else []), "--", sample)
-            kit.holds(f"explain {sample}", status == 0 and line in said and "Do: " in said, said)
+    told = [row for row in rows if row[2] != "nothing"]
+    samples = [" ".join(SAMPLE.get(word, "7" if word.isupper() else word) for word in row[2].strip("`").split(" ")) for row in told]
+    for row, sample, (status, said, _) in zip(told, samples, explained(kit, [(row[0].split(", ")[0], sample) for row, sample in zip(told, samples)])):
+        kit.holds(f"explain {sample}", status == 0 and row[2] in said and "Do: " in said, said)
+
+
+def explained(kit, pairs):
+    """What is said of each last line, by its command; several at once, since each is a start of python."""
+    words = [(["--command", command] if command != "all" else []) + ["--", line] for command, line in pairs]
+    with concurrent.futures.ThreadPoolExecutor(4) as pool:
+        return list(pool.map(lambda each: kit.run("spinesd-explain", *each), words))
 
 
 def command_of(front):
@@ -127,8 +134,8 @@ def endings_of_conformance(kit):
             plain = re.sub(r"\b[1-9]\d*\b", "7", re.sub(r"object [0-9a-f]+", "object 00", last))
             found.add(("replay" if status == 2 else command_of(front), status, plain))
     kit.holds("there are endings in conformance/", len(found) > 40, len(found))
-    for command, status, last in sorted(found):
-        got, said, _ = kit.run("spinesd-explain", "--command", command, "--", last)
+    rows = sorted(found)
+    for (command, status, last), (got, said, _) in zip(rows, explained(kit, [(command, last) for command, _, last in rows])):
         kit.holds(f"explain {command}, {last}", got == 0 and f", status {status}, " in said, said)
 
 

@@ -79,6 +79,19 @@ def installs(kit):
     kit.equal("install of no program", tool(install, "--prefix", prefix, "--program", none), (1, f"install: {none} is no program\n"))
 
 
+def wide(kit):
+    """The program for eight lanes is what is installed where it is asked for and the processor has them; a stand-in makes it here."""
+    prefix, tools = kit.path("wide"), kit.path("tools")
+    os.mkdir(tools)
+    kit.write("tools/rt", b"#!/bin/sh\n[ \"$2\" = --cpu=x86-64-v3 ] || exit 1\nmkdir -p out\npwd > out/spinesd\nchmod 755 out/spinesd\n")
+    os.chmod(tools + "/rt", 0o755)
+    status, said = tool(os.path.join(KIT, "install"), "--prefix", prefix, "--wide", env={**os.environ, "PATH": tools + ":" + os.environ["PATH"]})
+    if b" avx2 " in open("/proc/cpuinfo", "rb").read():
+        kit.equal("install the wide program", (status, said), (0, f"installed under {prefix}\n"))
+        made = open(prefix + "/bin/spinesd", encoding="utf-8").read()
+        kit.holds("install: which program is the wide one", made.endswith("/wide/crates/spinesd\n") and not os.path.exists(made[:-1]), made)
+
+
 def units(kit, unit, prefix):
     text = open(unit, encoding="utf-8").read()
     kit.holds("unit: what isn't restarted", RESTART in text.split("\n") and f"ExecStartPre={prefix}/bin/spinesd-node judge" in text, text)
@@ -115,5 +128,5 @@ def nodes(kit):
 
 
 def look(kit):
-    for each in (man_pages, shells, installs, nodes):
+    for each in (man_pages, shells, installs, wide, nodes):
         each(kit)

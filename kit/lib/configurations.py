@@ -1,7 +1,12 @@
 """What a daemon was told: a configuration with its signed topology, as docs/FORMATS.md has them. Nothing is judged here that `spinesd` judges."""
 
 import collections
-import tomllib
+import sys
+
+try:
+    import tomllib
+except ImportError:
+    sys.exit("the operator's kit of spinesd needs python 3.11 or later")
 
 # how many indexes a seed has, by its height
 TOTALS = {5: 1_024, 10: 1_048_576}
