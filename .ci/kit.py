@@ -323,8 +323,19 @@ def ask(kit, port, local, request):
     return None
 
 
+def awaited(kit, port, local, command):
+    """What a client that listens takes, which is waited for; its session goes on from the number that it is told."""
+    for _ in range(100):
+        last = ask(kit, port, local, "9000000000000000000 " + command).split(" ")[-1]
+        answer = (ask(kit, port, local, f"{int(last) + 1} {command}") or "none").split(" ", 1)[1]
+        if answer != "empty":
+            return answer
+        time.sleep(0.05)
+    return None
+
+
 def daemons(kit):
-    """Three daemons with the keys that were made: a message arrives, and status and page tell it."""
+    """Three daemons with the keys that were made: a message of each kind arrives, and status and page tell it."""
     overlay, children = kit.path("overlay"), []
     places = [os.path.join(overlay, str(node)) for node in (1, 2, 3)]
     ports = [int(re.search(r"^client_port = (\d+)$", read(place + "/spinesd.conf").decode(), re.MULTILINE).group(1)) for place in places]
@@ -335,12 +346,10 @@ def daemons(kit):
         locals_ = free_ports(2)
         replies = [ask(kit, ports[2], locals_[1], "1 open"), ask(kit, ports[2], locals_[1], "2 listen")]
         replies += [ask(kit, ports[0], locals_[0], "1 open"), ask(kit, ports[0], locals_[0], "2 send 3 6869")]
-        for number in range(3, 60):
-            if (taken := ask(kit, ports[2], locals_[1], f"{number} take 1")) != f"{number} empty":
-                break
-            time.sleep(0.05)
-        replies.append((taken or "").split(" ", 1)[-1])
+        replies.append(awaited(kit, ports[2], locals_[1], "take 1"))
         kit.equal("daemons: a message arrives", replies, ["1 opened", "2 listening", "1 opened", "2 accepted 1", "payload 6869"])
+        urgent = [ask(kit, ports[0], locals_[0], "3 sendprio 3 5 18446744073709551615 0 6a"), awaited(kit, ports[2], locals_[1], "takeprio")]
+        kit.equal("daemons: a priority message arrives", urgent, ["3 accepted 1", "payload 1 1 6a"])
     finally:
         for child in children:
             child.terminate()
@@ -351,13 +360,15 @@ def daemons(kit):
 def told_of_daemons(kit, places):
     told = [json.loads(kit.run("spinesd-status", "--json", place)[1]) for place in places]
     kit.equal("daemons: nothing differs", [each["checked"]["different"] for each in told], [0, 0, 0])
+    kit.equal("daemons: nothing is untold", [n["untold"] for each in told for n in each["neighbours"]], [0, 0, 0, 0])
     kit.holds("daemons: frames were fresh", all(n["answers"]["fresh"] > 0 for each in told for n in each["neighbours"]), told)
     flows = [next(flow for flow in each["flows"] if (flow["source"], flow["destination"]) == (1, 3)) for each in (told[0], told[2])]
     kit.equal("daemons: the flow at its ends", (flows[0]["sent"], flows[1]["delivered"], flows[1]["taken"]), (1, 1, 1))
     status, page, said = kit.run("spinesd-view", *places)
     kit.equal("daemons: the page", (status, said), (0, ""))
-    seen = [(step[0], what) for step in film_of(page)["steps"] for what in step[6] if what in ("sent", "delivered")]
-    kit.equal("daemons: on the page", seen, [(1, "sent"), (3, "delivered")])
+    flows = [(step[0], change) for step in film_of(page)["steps"] for change in step[5] if change[3] != "acknowledged"]
+    kit.equal("daemons: on the page", sorted(flows), [(1, ["prio", 1, 3, "sent", 1]), (1, ["rel", 1, 3, "sent", 1]),
+                                                      (3, ["prio", 1, 3, "delivered", 1]), (3, ["rel", 1, 3, "delivered", 1])])
     kit.equal("daemons: the first line", {read(place + "/first.recording").split(b"\n")[0] for place in places}, {b"recording 1 1 0 32"})
 
 

@@ -17,7 +17,7 @@ COMPLETED = [
 INSTALLED = sorted([
     "bin/spinesd", *("bin/" + name for name in SCRIPTS), *("lib/spinesd/kit/" + name for name in SCRIPTS), "lib/spinesd/kit/endings.md",
     "lib/spinesd/kit/page.html", *(f"lib/spinesd/kit/lib/{name}.py" for name in (
-        "clients", "configurations", "endings", "films", "frames", "journals", "metrics", "overlays", "recordings", "scripts", "watching")),
+        "clients", "configurations", "endings", "films", "frames", "journals", "metrics", "overlays", "recordings", "scripts", "tellings", "watching")),
     "share/man/man1/spinesd.1", "share/man/man5/spinesd-recording.5", "share/man/man5/spinesd-schedule.5", "share/man/man5/spinesd.conf.5",
     "share/bash-completion/completions/spinesd", "share/spinesd/spinesd.default", "lib/systemd/system/spinesd@.service",
 ])

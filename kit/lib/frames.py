@@ -10,9 +10,11 @@ KINDS = {1: "prio", 2: "rel", 3: "ack", 4: "weight"}
 FIXED = {"prio": 38, "rel": 13, "ack": 11, "weight": 16}
 
 Head = collections.namedtuple("Head", "sender to boot echo counter topology")
-Item = collections.namedtuple("Item", "section kind source destination number payload")
+# of a weight the source is the origin and the destination the edge's number; rank and mask are of a priority message
+Item = collections.namedtuple("Item", "kind source destination number payload rank mask", defaults=(0, 0))
 Slot = collections.namedtuple("Slot", "source destination base have")
-Sections = collections.namedtuple("Sections", "items slot")
+# the objects in their order, the link number that the neighbour acknowledges, and what it reports of a flow
+Sections = collections.namedtuple("Sections", "items heard slot")
 
 
 class Bad(Exception):
@@ -71,8 +73,9 @@ class Pieces:
             raise Bad("object")
         self.take(signature)
         if kind == "weight":
-            return Item(section, kind, body[1], number(body[2:4]), number(body[4:12]), body[12:])
-        return Item(section, kind, body[1], body[2], number(body[3:11]), body[FIXED[kind]:])
+            return Item(kind, body[1], number(body[2:4]), number(body[4:12]), body[12:])
+        more = (body[11], number(body[20:36])) if kind == "prio" else ()
+        return Item(kind, body[1], body[2], number(body[3:11]), body[FIXED[kind]:], *more)
 
 
 def sections_of(frame, signature):
@@ -80,7 +83,7 @@ def sections_of(frame, signature):
     pieces, items, slot = Pieces(frame[HEAD:-TAG]), [], None
     if pieces.flag():
         items.append(pieces.item("weight", signature))
-    pieces.take(8)
+    heard = number(pieces.take(8))
     if pieces.flag():
         pieces.take(8)
         items.append(pieces.item("prio", signature))
@@ -92,7 +95,7 @@ def sections_of(frame, signature):
                 items.append(pieces.item(section, signature))
     if pieces.at < len(pieces.data):
         raise Bad("tail")
-    return Sections(items, slot)
+    return Sections(items, heard, slot)
 
 
 class Link:

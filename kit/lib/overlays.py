@@ -80,9 +80,9 @@ def told_as(line):
 
 
 def frame_of(node, line, arrived, said):
-    """The frame that a line makes or brings."""
-    if line.name == "poll":
-        carried = arrived.get((node, line.numbers[0], line.digest))
+    """The frame that a line makes or brings; none where no recording tells whether it arrived."""
+    if line.name == "poll" and line.numbers[0] in arrived:
+        carried = arrived[line.numbers[0]].get((node, line.digest))
         return ["lost" if carried is None else "made", node, line.numbers[0], line.digest[:8].decode(), carried or []]
     if line.name == "overlay":
         return ["arrives", line.numbers[0], node, digest_of(line)[:8].decode(), films.objects_of(said[0] if said else "")]
@@ -98,13 +98,11 @@ def carried_by(line, signature):
 
 
 def arrivals(daemons):
-    """What each frame carried that arrived anywhere, by direction and digest."""
+    """What each frame carried that arrived, by its receiver, and then by its sender and digest."""
     found = {}
     for d in daemons:
         signature = configurations.SIGNATURES[d.configuration.topology.height]
-        for line in d.lines:
-            if line.name == "overlay":
-                found[line.numbers[0], d.configuration.node, digest_of(line)] = carried_by(line, signature)
+        found[d.configuration.node] = {(line.numbers[0], digest_of(line)): carried_by(line, signature) for line in d.lines if line.name == "overlay"}
     return found
 
 

@@ -2,24 +2,17 @@
 
 The answers to datagrams are computed from the recording's inputs and the configuration's link keys, by the rules of docs/RULES.md, and each is compared
 with its digest: so the counts of fresh, stale and wrongly tagged frames are exact. Signatures aren't checked here: what became of a signed message is
-found by its digest, since an answer is one of a few. It stays untold where a priority message was new, whose effects have numbers that no line tells.
+found by its digest (tellings.py). It stays untold where more was evicted or expired than can be guessed.
 """
 
 import collections
 import hashlib
-import itertools
 
 import frames
+import tellings
 from clients import Clients
 from configurations import SIGNATURES, TOTALS
 
-# what a signed message may be answered, by its kind
-WORDS = {
-    "weight": ("new", "old", "badsig", "foreign", "low"),
-    "prio": ("seen", "badsig", "expired", "badend"),
-    "ack": ("new", "old", "badsig", "ahead", "badend"),
-    "rel": ("new", "old", "badsig", "gap", "full", "inboxfull", "ahead", "badend"),
-}
 ANSWERS = ("fresh", "learned", "stale", "badtag", "notforme", "malformed", "topology", "section")
 NO_FRAME = ("toolong", "short", "magic", "version")
 TICKED = hashlib.sha256(b"ticked\n").hexdigest().encode()
@@ -32,6 +25,7 @@ class Neighbour:
         self.link, self.port = link, port
         self.polls, self.lost, self.bad_signatures, self.untold = 0, 0, 0, 0
         self.answers = collections.Counter()
+        self.heard = 0                                  # the greatest link number that it acknowledged
         self.last_fresh = None
         self.reports = {}
 
@@ -54,6 +48,7 @@ class Watch:
         self.right, self.wrong = 0, 0
         self.requests = collections.Counter()
         self.clients = Clients(self.minimum_of)
+        self.stores = tellings.Stores(configuration)
         self.latest = {}                                # the number of the message that was delivered last, by flow
         self.told = []                                  # of the last line, its answer and effects as far as they are found
         self.acknowledged, self.delivered = collections.Counter(), collections.Counter()
@@ -108,6 +103,9 @@ class Watch:
     def feed_client(self, line):
         reply = self.clients.reply(line.numbers[0], line.data, line.digest)
         self.told = [reply.words or "an answer that only its digest tells"]
+        words = line.data.split(b" ")
+        if words[1:2] == [b"sendprio"] and (reply.words or "").startswith("accepted ") and not reply.is_repeat:
+            self.stores.sent(int(words[5]))
         self.requests["untold" if reply.words is None else "repeated" if reply.is_repeat else reply.words.split(" ")[0]] += 1
 
     # ---- datagrams of neighbours
@@ -120,25 +118,28 @@ class Watch:
         answer = frames.fault_of(line.data) or neighbour.link.answer(line.data)
         if answer == "fresh":
             neighbour.fresh(self.now, before, frames.head_of(line.data))
-            answer, items = self.of_fresh(neighbour, line.data)
-            self.of_items(neighbour, answer, items, line.digest)
+            answer, sections = self.of_fresh(neighbour, line.data)
+            if sections:
+                self.of_sections(neighbour, sections, line.digest)
+            else:
+                self.compare(answer, line.digest)
         else:
             self.compare(answer, line.digest)
         name = answer.split(" ")[0]
         neighbour.answers["malformed" if name in NO_FRAME else name] += 1
 
     def of_fresh(self, neighbour, frame):
-        """What a fresh frame is answered but for the words of its objects, and these."""
+        """The first word that a fresh frame is answered, and its sections where they are read."""
         theirs = frames.head_of(frame).topology
         if theirs != self.configuration.topology.version:
-            return f"topology {theirs}", []
+            return f"topology {theirs}", None
         try:
             sections = frames.sections_of(frame, self.signature)
         except frames.Bad as bad:
-            return f"section {bad}", []
+            return f"section {bad}", None
         if sections.slot:
             neighbour.reports[sections.slot[:2]] = sections.slot[2:]
-        return "fresh", sections.items
+        return "fresh", sections
 
     def compare(self, answer, digest):
         """Counts whether the answer that was computed is the recorded one."""
@@ -148,38 +149,32 @@ class Watch:
         else:
             self.wrong += 1
 
-    def effect_of(self, item, word):
-        """What a journal says of an object after its answer; of a priority message that is new it can't be known."""
-        if word != "new":
-            return ""
-        if item.kind == "weight":
-            return f"+ weight {item.source} {item.destination} {item.number} {int.from_bytes(item.payload, 'big')}\n"
-        if item.kind == "rel" and item.destination == self.configuration.node:
-            return f"+ delivered rel {item.source} {item.number} {item.payload.hex() or '-'}\n"
-        return ""
-
-    def of_items(self, neighbour, answer, items, digest):
-        """Finds the words of a frame's objects by the digest of the answer."""
-        if not items:
-            self.compare(answer, digest)
-            return
-        for words in itertools.product(*(WORDS[item.kind] for item in items)):
-            told = answer + "".join(f" {item.kind}:{word}" for item, word in zip(items, words)) + "\n"
-            told += "".join(self.effect_of(item, word) for item, word in zip(items, words))
-            if hashlib.sha256(told.encode()).hexdigest().encode() == digest:
+    def of_sections(self, neighbour, sections, digest):
+        """Finds what became of a fresh frame by the digest of the answer."""
+        is_acknowledged = sections.heard > neighbour.heard
+        neighbour.heard = max(neighbour.heard, sections.heard)
+        sender = neighbour.link.peer
+        for words, text, numbers in tellings.answers(self.stores, sender, sections, is_acknowledged):
+            if hashlib.sha256(text.encode()).hexdigest().encode() == digest:
                 self.right += 1
-                self.told = told.split("\n")[:-1]
-                for item, word in zip(items, words):
+                self.told = text.split("\n")[:-1]
+                self.stores.last.update(numbers)
+                for item, word in zip(sections.items, words):
                     self.of_item(neighbour, item, word)
                 return
+        if not sections.items and not is_acknowledged:
+            self.wrong += 1
+            return
         neighbour.untold += 1
-        self.told = [answer + "".join(f" {item.kind}:?" for item in items)]
-        for item in items:
+        self.told = ["fresh" + "".join(f" {item.kind}:?" for item in sections.items)]
+        for item in sections.items:
             self.of_item(neighbour, item, None)
 
     def of_item(self, neighbour, item, word):
         """Counts one object by its word; None is one that isn't told, which may be new."""
         neighbour.bad_signatures += word == "badsig"
+        if item.kind == "prio" and word is None:
+            self.stores.untold()
         if word not in ("new", None):
             return
         flow = (item.source, item.destination)
