@@ -22,15 +22,15 @@ from promises import Broken, command_of, cut_keeps, keeps
 
 ROOT = os.path.dirname(os.path.dirname(os.path.abspath(__file__)))
 PLAIN = {"schedule": ["replay"], "toml": ["topology"], "recording": ["verify"], "graph": None}
-# how often a kind is taken, and the largest file that is
+# how often a kind is taken, how much more often a good input is than one that is refused as it stands, and the largest file that is
 SHARES = {"schedule": 48, "graph": 16, "toml": 12, "recording": 20, "daemon": 4}
-LARGEST = 120_000
+GOOD, LARGEST = 12, 120_000
 MEMORY, SECONDS = 512 << 20, 20
 AGAIN, CUTS = 0.2, 2
 # a key file that is just formatted: docs/FORMATS.md, "The key file"
 KEY_FILE = bytes([0xA5]) + (1).to_bytes(8, "big") + bytes(16)
 
-Case = collections.namedtuple("Case", "name words text")
+Case = collections.namedtuple("Case", "name words text share")
 Answer = collections.namedtuple("Answer", "status output said")
 
 
@@ -49,11 +49,12 @@ def cases():
                 words = read(front + ".words").decode("ascii").split("\n")[:-1] if os.path.exists(front + ".words") else plain
             except UnicodeDecodeError:
                 continue
-            if int(read(front + ".status")) != 2 and words and os.path.getsize(path) <= LARGEST:
-                found[kind].append(Case(os.path.relpath(path, ROOT), words, read(path)))
+            status = int(read(front + ".status"))
+            if status != 2 and words and os.path.getsize(path) <= LARGEST:
+                found[kind].append(Case(os.path.relpath(path, ROOT), words, read(path), GOOD if status == 0 else 1))
     for case in found["recording"]:
         configuration = case.text[:case.text.find(b"\nrecording 1") + 1]
-        found["daemon"].append(Case(case.name, ["daemon", "--turns", "1"], configuration))
+        found["daemon"].append(Case(case.name, ["daemon", "--turns", "1"], configuration, case.share))
     return found
 
 
@@ -105,7 +106,7 @@ def try_one(program, found, seed, number, keep):
     """One input: its command and status, how often the program ran, and what was wrong with it or None."""
     dice = random.Random(f"{seed} {number}")
     kind = dice.choices(list(SHARES), list(SHARES.values()))[0]
-    case, other = dice.choice(found[kind]), dice.choice(found[kind])
+    case, other = dice.choices(found[kind], [case.share for case in found[kind]], k=2)
     given = changed(dice, case.text, other.text)
     try:
         status, runs = judge(program, dice, case.words, given)

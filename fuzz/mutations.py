@@ -54,6 +54,18 @@ def change_number(dice, lines):
             return
 
 
+def nudge(dice, lines):
+    """A number becomes the one beside it, or one of the same text: what may still be a good line."""
+    for _ in range(8):
+        at, from_line = place_of(dice, lines), place_of(dice, lines)
+        found, others = list(NUMBER.finditer(lines[at])), NUMBER.findall(lines[from_line])
+        if found and others:
+            one = dice.choice(found)
+            number = dice.choice([b"%d" % (int(one.group(0)) + 1), b"%d" % max(0, int(one.group(0)) - 1), dice.choice(others)])
+            lines[at] = lines[at][:one.start()] + number + lines[at][one.end():]
+            return
+
+
 def swap_words(dice, lines):
     first, second = place_of(dice, lines), place_of(dice, lines)
     one, other = lines[first].split(b" "), lines[second].split(b" ")
@@ -83,19 +95,22 @@ def change_hex(dice, lines):
         lines[at] = lines[at][:one.start()] + other + lines[at][one.end():]
 
 
+# changes after which a text is often still a good one, and all
+GENTLE = [double, drop, move, nudge, nudge]
 LINE_CHANGES = [double, drop, move, cut_line, change_byte, change_number, change_number, swap_words, copy_word, change_hex]
 
 
 def changed(dice, text, other):
     """This text with one to four changes; `other` is a text of the same kind, of which a line may come in."""
     lines = text.split(b"\n")
+    changes = GENTLE if dice.random() < 0.5 else LINE_CHANGES
     for _ in range(dice.choice([1, 1, 1, 2, 3, 4])):
         if not lines:
             break
         if dice.random() < 0.06:
             lines.insert(place_of(dice, lines), dice.choice(other.split(b"\n")))
         else:
-            dice.choice(LINE_CHANGES)(dice, lines)
+            dice.choice(changes)(dice, lines)
     result = b"\n".join(lines)
     if dice.random() < 0.05:
         result = result[:dice.randrange(len(result) + 1)]
