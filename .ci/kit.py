@@ -1,8 +1,8 @@
 """Tries each script of the operator's kit: python3 .ci/kit.py PATH/TO/spinesd
 
-What a script must say stands here, in kit_recording.py and in kit_house.py, by hand. Keys, a status and a page are also made of three daemons that
-run. What needs chromium, mandoc, shellcheck or systemd-analyze is tried where that is installed, and left out with a word where not. Each difference
-is told, and the status is then 1.
+What a script must say stands here and in kit_recording.py, kit_house.py and kit_daemons.py, by hand. Keys, a status and a page are also made of three daemons
+that run. What needs chromium, mandoc, shellcheck or systemd-analyze is tried where that is installed, and left out with a word where not. Each difference is
+told, and the status is then 1.
 """
 
 import concurrent.futures
@@ -22,6 +22,7 @@ ROOT = os.path.dirname(os.path.dirname(os.path.abspath(__file__)))
 KIT = os.path.join(ROOT, "kit")
 sys.path[:0] = [os.path.join(ROOT, "examples", "overlay"), os.path.dirname(os.path.abspath(__file__))]
 
+import kit_daemons  # noqa: E402
 import kit_house  # noqa: E402
 import kit_recording  # noqa: E402
 from overlay import free_ports  # noqa: E402
@@ -248,7 +249,7 @@ def in_browser(kit, page):
     kit.holds("browser: what a frame carries", "Frame 1 from 4 to 3 arrives; it carries a reliable message." in text, "")
 
 
-# ---- spinesd-keys, and daemons with them
+# ---- spinesd-keys
 
 def mode(path):
     return stat.S_IMODE(os.stat(path).st_mode)
@@ -314,70 +315,12 @@ def free_at(port):
     return held
 
 
-def ask(kit, port, local, request):
-    """The reply of a daemon, which is asked until it comes."""
-    for _ in range(50):
-        status, reply, _ = kit.run(kit.program, "ask", "--port", str(port), "--local", str(local), "--turns", "20", "--request", request)
-        if status == 0:
-            return reply.rstrip("\n")
-    return None
-
-
-def awaited(kit, port, local, command):
-    """What a client that listens takes, which is waited for; its session goes on from the number that it is told."""
-    for _ in range(100):
-        last = ask(kit, port, local, "9000000000000000000 " + command).split(" ")[-1]
-        answer = (ask(kit, port, local, f"{int(last) + 1} {command}") or "none").split(" ", 1)[1]
-        if answer != "empty":
-            return answer
-        time.sleep(0.05)
-    return None
-
-
-def daemons(kit):
-    """Three daemons with the keys that were made: a message of each kind arrives, and status and page tell it."""
-    overlay, children = kit.path("overlay"), []
-    places = [os.path.join(overlay, str(node)) for node in (1, 2, 3)]
-    ports = [int(re.search(r"^client_port = (\d+)$", read(place + "/spinesd.conf").decode(), re.MULTILINE).group(1)) for place in places]
-    try:
-        for place in places:
-            with open(place + "/spinesd.conf", "rb") as given, open(place + "/first.recording", "wb") as recording:
-                children.append(subprocess.Popen([kit.program, "daemon", "--turns", "100000"], stdin=given, stdout=recording, cwd=place))
-        locals_ = free_ports(2)
-        replies = [ask(kit, ports[2], locals_[1], "1 open"), ask(kit, ports[2], locals_[1], "2 listen")]
-        replies += [ask(kit, ports[0], locals_[0], "1 open"), ask(kit, ports[0], locals_[0], "2 send 3 6869")]
-        replies.append(awaited(kit, ports[2], locals_[1], "take 1"))
-        kit.equal("daemons: a message arrives", replies, ["1 opened", "2 listening", "1 opened", "2 accepted 1", "payload 6869"])
-        urgent = [ask(kit, ports[0], locals_[0], "3 sendprio 3 5 18446744073709551615 0 6a"), awaited(kit, ports[2], locals_[1], "takeprio")]
-        kit.equal("daemons: a priority message arrives", urgent, ["3 accepted 1", "payload 1 1 6a"])
-    finally:
-        for child in children:
-            child.terminate()
-            child.wait()
-    told_of_daemons(kit, places)
-
-
-def told_of_daemons(kit, places):
-    told = [json.loads(kit.run("spinesd-status", "--json", place)[1]) for place in places]
-    kit.equal("daemons: nothing differs", [each["checked"]["different"] for each in told], [0, 0, 0])
-    kit.equal("daemons: nothing is untold", [n["untold"] for each in told for n in each["neighbours"]], [0, 0, 0, 0])
-    kit.holds("daemons: frames were fresh", all(n["answers"]["fresh"] > 0 for each in told for n in each["neighbours"]), told)
-    flows = [next(flow for flow in each["flows"] if (flow["source"], flow["destination"]) == (1, 3)) for each in (told[0], told[2])]
-    kit.equal("daemons: the flow at its ends", (flows[0]["sent"], flows[1]["delivered"], flows[1]["taken"]), (1, 1, 1))
-    status, page, said = kit.run("spinesd-view", *places)
-    kit.equal("daemons: the page", (status, said), (0, ""))
-    flows = [(step[0], change) for step in film_of(page)["steps"] for change in step[5] if change[3] != "acknowledged"]
-    kit.equal("daemons: on the page", sorted(flows), [(1, ["prio", 1, 3, "sent", 1]), (1, ["rel", 1, 3, "sent", 1]),
-                                                      (3, ["prio", 1, 3, "delivered", 1]), (3, ["rel", 1, 3, "delivered", 1])])
-    kit.equal("daemons: the first line", {read(place + "/first.recording").split(b"\n")[0] for place in places}, {b"recording 1 1 0 32"})
-
-
 def main():
     if len(sys.argv) != 2:
         sys.exit("usage: python3 .ci/kit.py PATH/TO/spinesd")
     with tempfile.TemporaryDirectory() as folder:
         kit = Kit(os.path.abspath(sys.argv[1]), folder)
-        for look in (explains, endings_of_conformance, statuses, cut_recordings, follows, views, keys, kit_house.look, daemons):
+        for look in (explains, endings_of_conformance, statuses, cut_recordings, follows, views, keys, kit_house.look, kit_daemons.daemons):
             look(kit)
     print(f"{kit.looks - kit.wrong} looks at the operator's kit as wanted, {kit.wrong} not")
     sys.exit(1 if kit.wrong else 0)

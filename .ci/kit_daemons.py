@@ -1,0 +1,86 @@
+"""Three daemons with the keys of spinesd-keys: what status and page tell of them. Used by kit.py, which has the judge."""
+
+import json
+import os
+import re
+import subprocess
+import time
+
+from overlay import free_ports
+
+
+def read(path):
+    with open(path, "rb") as file:
+        return file.read()
+
+
+def ask(kit, port, local, request):
+    """The reply of a daemon, which is asked until it comes."""
+    for _ in range(50):
+        status, reply, _ = kit.run(kit.program, "ask", "--port", str(port), "--local", str(local), "--turns", "20", "--request", request)
+        if status == 0:
+            return reply.rstrip("\n")
+    return None
+
+
+def awaited(kit, port, local, command):
+    """What a client that listens takes, which is waited for; its session goes on from the number that it is told."""
+    for _ in range(100):
+        last = ask(kit, port, local, "9000000000000000000 " + command).split(" ")[-1]
+        answer = (ask(kit, port, local, f"{int(last) + 1} {command}") or "none").split(" ", 1)[1]
+        if answer != "empty":
+            return answer
+        time.sleep(0.05)
+    return None
+
+
+def daemons(kit):
+    """Three daemons with the keys that were made: a message of each kind arrives, and status and page tell it."""
+    overlay, children = kit.path("overlay"), []
+    places = [os.path.join(overlay, str(node)) for node in (1, 2, 3)]
+    ports = [int(re.search(r"^client_port = (\d+)$", read(place + "/spinesd.conf").decode(), re.MULTILINE).group(1)) for place in places]
+    try:
+        for place in places:
+            with open(place + "/spinesd.conf", "rb") as given, open(place + "/first.recording", "wb") as recording:
+                children.append(subprocess.Popen([kit.program, "daemon", "--turns", "100000"], stdin=given, stdout=recording, cwd=place))
+        locals_ = free_ports(2)
+        replies = [ask(kit, ports[2], locals_[1], "1 open"), ask(kit, ports[2], locals_[1], "2 listen")]
+        replies += [ask(kit, ports[0], locals_[0], "1 open"), ask(kit, ports[0], locals_[0], "2 send 3 6869")]
+        replies.append(awaited(kit, ports[2], locals_[1], "take 1"))
+        kit.equal("daemons: a message arrives", replies, ["1 opened", "2 listening", "1 opened", "2 accepted 1", "payload 6869"])
+        urgent = []
+        for number, payload in ((3, "6a"), (4, "6b")):
+            urgent.append(ask(kit, ports[0], locals_[0], f"{number} sendprio 3 5 18446744073709551615 0 {payload}"))
+            urgent.append(awaited(kit, ports[2], locals_[1], "takeprio"))
+        kit.equal("daemons: priority messages arrive", urgent, ["3 accepted 1", "payload 1 1 6a", "4 accepted 2", "payload 1 2 6b"])
+        time.sleep(0.3)  # for the last acknowledgement
+    finally:
+        for child in children:
+            child.terminate()
+            child.wait()
+    told_of_daemons(kit, places)
+
+
+def is_in_order(steps):
+    """Whether each frame of these steps that arrives and was made among them was made before."""
+    made = {tuple(step[4][1:4]): place for place, step in enumerate(steps) if step[4] and step[4][0] == "made"}
+    return all(made.get(tuple(step[4][1:4]), -1) < place for place, step in enumerate(steps) if step[4] and step[4][0] == "arrives")
+
+
+def told_of_daemons(kit, places):
+    told = [json.loads(kit.run("spinesd-status", "--json", place)[1]) for place in places]
+    kit.equal("daemons: nothing differs", [each["checked"]["different"] for each in told], [0, 0, 0])
+    untold = [n["untold"] for each in told for n in each["neighbours"]] + [each["requests"].get("untold", 0) for each in told]
+    kit.equal("daemons: nothing is untold", untold, [0] * 7)
+    kit.holds("daemons: frames were fresh", all(n["answers"]["fresh"] > 0 for each in told for n in each["neighbours"]), told)
+    flows = [next(flow for flow in each["flows"] if (flow["source"], flow["destination"]) == (1, 3)) for each in (told[0], told[2])]
+    kit.equal("daemons: the flow at its ends", (flows[0]["sent"], flows[1]["delivered"], flows[1]["taken"]), (1, 1, 1))
+    status, page, said = kit.run("spinesd-view", *places)
+    kit.equal("daemons: the page", (status, said), (0, ""))
+    steps = json.loads(re.search(r"const film = (.*);\n", page).group(1))["steps"]
+    flows = [(step[0], *change) for step in steps for change in step[5] if change[3] != "acknowledged"]
+    kit.equal("daemons: on the page", sorted(flows), [(1, "prio", 1, 3, "sent", 1), (1, "prio", 1, 3, "sent", 2), (1, "rel", 1, 3, "sent", 1),
+                                                      (3, "prio", 1, 3, "delivered", 1), (3, "prio", 1, 3, "delivered", 2), (3, "rel", 1, 3, "delivered", 1)])
+    kit.equal("daemons: the acknowledgement on the page", [step[7] for step in steps if "+ signed 0301030000000000000001" in step[3]], ["acknowledged"])
+    kit.holds("daemons: a page tells no arrival before the frame was made", is_in_order(steps), "")
+    kit.equal("daemons: the first line", {read(place + "/first.recording").split(b"\n")[0] for place in places}, {b"recording 1 1 0 32"})
