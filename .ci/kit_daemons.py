@@ -53,6 +53,9 @@ def daemons(kit):
             urgent.append(ask(kit, ports[0], locals_[0], f"{number} sendprio 3 5 18446744073709551615 0 {payload}"))
             urgent.append(awaited(kit, ports[2], locals_[1], "takeprio"))
         kit.equal("daemons: priority messages arrive", urgent, ["3 accepted 1", "payload 1 1 6a", "4 accepted 2", "payload 1 2 6b"])
+        second = kit.run(kit.program, "daemon", "--turns", "1", given=read(places[0] + "/spinesd.conf"), cwd=places[0])
+        kit.equal("daemons: a second one in a folder", second[:2], (8, "keeper\n"))
+        kit.holds("daemons: what that means", "Look for another daemon of this folder" in kit.run("spinesd-explain", given=second[1].encode())[1], "")
         time.sleep(0.3)  # for the last acknowledgement
     finally:
         for child in children:
