@@ -13,6 +13,7 @@ import glob
 import os
 import random
 import resource
+import signal
 import subprocess
 import sys
 import tempfile
@@ -119,6 +120,27 @@ def try_one(program, found, seed, number, keep):
         return f"{command_of(case.words)} broken", 1, f"{path}, made of {case.name}, words {case.words}: {broken}"
 
 
+def try_all(said, program, found):
+    """All inputs; how many weren't answered as promised. Who stops it is told of those up to there."""
+    counts, runs, wrong = collections.Counter(), 0, 0
+    pool = concurrent.futures.ThreadPoolExecutor(said.jobs)
+    signal.signal(signal.SIGTERM, signal.default_int_handler)
+    try:
+        one = lambda number: try_one(program, found, said.seed, number, said.found)
+        for name, count, told in pool.map(one, range(said.first, said.first + said.runs)):
+            counts[name] += 1
+            runs += count
+            if told:
+                wrong += 1
+                print(told, flush=True)
+    except KeyboardInterrupt:
+        print("stopped")
+    pool.shutdown(cancel_futures=True)
+    print(f"{counts.total()} inputs of seed {said.seed}, {runs} runs: " + ", ".join(f"{name}: {count}" for name, count in sorted(counts.items())))
+    print(f"{wrong} answers aren't as promised")
+    return wrong
+
+
 def main():
     parser = argparse.ArgumentParser(description=__doc__.partition("\n\n")[0])
     parser.add_argument("program")
@@ -128,19 +150,7 @@ def main():
     parser.add_argument("--jobs", type=int, default=1, help="how many programs run at once (default 1)")
     parser.add_argument("--found", default=os.path.join(tempfile.gettempdir(), "spinesd_fuzz"), help="where inputs are kept that were answered wrongly")
     said = parser.parse_args()
-    program, found = os.path.abspath(said.program), cases()
-    counts, runs, wrong = collections.Counter(), 0, 0
-    with concurrent.futures.ThreadPoolExecutor(said.jobs) as pool:
-        one = lambda number: try_one(program, found, said.seed, number, said.found)
-        for name, count, told in pool.map(one, range(said.first, said.first + said.runs)):
-            counts[name] += 1
-            runs += count
-            if told:
-                wrong += 1
-                print(told, flush=True)
-    print(f"{said.runs} inputs of seed {said.seed}, {runs} runs: " + ", ".join(f"{name}: {count}" for name, count in sorted(counts.items())))
-    print(f"{wrong} answers aren't as promised")
-    sys.exit(1 if wrong else 0)
+    sys.exit(1 if try_all(said, os.path.abspath(said.program), cases()) else 0)
 
 
 if __name__ == "__main__":
