@@ -5,6 +5,7 @@
 2. Want of memory is told only where an allocation was refused. One place turns an allocator's error into `Memory` (sp_base); all others hand
    on what a call said that takes memory: the arm of a `match` over such a call whose pattern is `Memory`, `_` or a name, the `else` of a
    `let Ok(..)` over such a call, a sum that no memory could hold, or a conversion of `Memory` into a refusal that has it.
+   The answer `Unread` of a line of a schedule tells it too: it is judged where it is made, and handed on where it is read.
 
 Each line that breaks a rule is told, and the status is then 1.
 """
@@ -16,8 +17,8 @@ import sys
 
 ROOT = os.path.dirname(os.path.dirname(os.path.abspath(__file__)))
 SECRET = re.compile(r"^\s*(pub(\(\w+\))? )?(seed|admin_seed|key|keys)\s*:\s*(&\w* )?(\[u8; 32\]|Listed<\(\w+, \[u8; 32\]\)>|Listed<DraftNode>|Listed<Peer>)")
-WRITES = re.compile(r"(?:\bErr\(|\bended\(|\bok_or\(|=>\s*)(\w+::)?Memory\b(?!\s*(?:=>|::|\{))|\|_\|\s*(\w+::)?Memory\b|^\s*code: Status::Memory")
-TAKES = re.compile(r"alloc|reserve|\.push\(|push_\w+\(|write!|read_up_to|extend|sign|make\(|grow|encode|decode|collect|public_key|with_room|is_memory|replay|offline|program")
+WRITES = re.compile(r"=>\s*Lead::Unread\(|(?:\bErr\(|\bended\(|\bok_or\(|=>\s*)(\w+::)?Memory\b(?!\s*(?:=>|::|\{))|\|_\|\s*(\w+::)?Memory\b|^\s*code: Status::Memory")
+TAKES = re.compile(r"with_edge|with_bad|alloc|reserve|\.push\(|push_\w+\(|write!|read_up_to|extend|sign|make\(|grow|encode|decode|collect|public_key|with_room|is_memory|replay|offline|program")
 
 
 def product():
@@ -59,6 +60,8 @@ def hands_on(lines, at):
     line = lines[at]
     indent = len(line) - len(line.lstrip())
     arm = re.match(r"^\s*(?:Err\((?P<err>[^)]*(?:\([^)]*\))?)\)|(?P<plain>[\w:]+)(?:\(_\))?)\s*(?P<guard>if [^=]*)?=>", line)
+    if re.match(r"^\s*Lead::Unread\(\w+\) =>", line) or "Lead::Unread(" in opens(lines, at, indent):
+        return True
     if arm:
         pattern = arm.group("err") or arm.group("plain") or ""
         if "Memory" in pattern:

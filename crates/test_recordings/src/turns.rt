@@ -1,10 +1,12 @@
 // Three turns of a daemon over a wire and a clock in memory, with a node that answers "abc" or nothing. The digests are those of FIPS 180-4's examples.
 use sp_base::{Bytes, Memory, NodeId};
+use sp_keystate::{format as format_keys, start};
 use sp_outside::{
-    Coming, DATAGRAM_BYTES, MemoryClock, MemorySink, MemoryWire, PlannedSink, Sink, WirePlan,
+    Coming, DATAGRAM_BYTES, MemoryClock, MemoryKeeper, MemorySink, MemoryWire, PlannedSink, Sink,
+    WirePlan,
 };
 use sp_recording::read;
-use sp_service_turns::{Core, Ended, Peer, VerifyRefused, serve, verify};
+use sp_service_turns::{Core, Ended, Indexes, Peer, RESERVED, VerifyRefused, serve, verify};
 use std::alloc::Global;
 use std::process::Abort;
 use std::test::Fail;
@@ -36,12 +38,22 @@ const PEERS: [Peer; 2] = [
     },
 ];
 
-/// A node of fixed answers.
+/// A node of fixed answers, which signs nothing. All its indexes are reserved at its start.
 #[derive(Drop)]
 struct Fixed;
 
 impl Core for Fixed {
     ghost steps = { λ _ _ _ _. Unit {0} };
+
+    ghost indexes = { λ _. record { index = 0; bound = 32; total = 32 } };
+
+    fn indexes(&self) -> Indexes {
+        Indexes {
+            index: 0,
+            bound: RESERVED,
+            total: RESERVED,
+        }
+    }
 
     fn reserve(&mut self, _upto: u64) {}
 
@@ -87,8 +99,27 @@ fn three_turns<K: Sink>(alloc: Global, sink: &mut K) -> Result<Result<u32, Ended
     let mut wire = MemoryWire::new(alloc, &overlay, &client, plan);
     let mut clock = MemoryClock::planned(&[1_000], 1_006);
     let mut buf = vec![in alloc; 0u8; DATAGRAM_BYTES]?;
+    let mut keeper = MemoryKeeper::new();
+    let Ok(_) = format_keys(&mut keeper) else {
+        return Err("no key file".into());
+    };
+    let Ok(mut started) = start(&mut keeper, RESERVED, RESERVED) else {
+        return Err("no start".into());
+    };
+    if started.state.bound != RESERVED {
+        return Err("another bound".into());
+    }
     let answer = serve(
-        alloc, &mut Fixed, &PEERS, 3, &mut wire, &mut clock, sink, &mut buf,
+        alloc,
+        &mut Fixed,
+        &mut started.state,
+        &PEERS,
+        3,
+        &mut wire,
+        &mut clock,
+        &mut keeper,
+        sink,
+        &mut buf,
     );
     Ok(answer)
 }
