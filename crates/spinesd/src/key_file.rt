@@ -1,5 +1,5 @@
 // The key file of a daemon: a small file of the folder that the program is started in. It tells nothing of its bytes.
-ghost use Rattle.std.specs.Prelude.{◌≡◌, ◌+◌, ◌-◌, ◌^◌, None, min};
+ghost use Rattle.std.specs.Prelude.{◌≡◌, None};
 ghost use Rattle.std.specs.Io.{ReadsAtMost};
 
 use sp_outside::{Failed, Keeper};
@@ -75,14 +75,6 @@ impl<'r, R: Files<File = File>> KeyFile<'r, R> {
             None => Ok(()),
         }
     }
-
-    /// A call failed, and is counted.
-    fn failed(&mut self) -> Failed
-        ensures { self.new.faults ≡ min (self.old.faults + 1) (2 ^ 64 - 1) }
-    {
-        self.faults = self.faults.saturating_add(1);
-        Failed
-    }
 }
 
 /// The file, locked for this process. None where there is none and none is to be made. Its folder is on the disk too once it is made.
@@ -133,21 +125,30 @@ impl<R: Files<File = File>> Keeper for KeyFile<'_, R> {
     fn read(&mut self, at: u64, buf: &mut [u8]) -> Result<usize, Failed> {
         match self.try_read(at, buf) {
             Ok(count) => Ok(count),
-            Err(_) => Err(self.failed()),
+            Err(_) => {
+                self.faults = self.faults.saturating_add(1);
+                Err(Failed)
+            }
         }
     }
 
     fn write_at(&mut self, at: u64, bytes: &[u8]) -> Result<(), Failed> {
         match self.try_write(at, bytes) {
             Ok(()) => Ok(()),
-            Err(_) => Err(self.failed()),
+            Err(_) => {
+                self.faults = self.faults.saturating_add(1);
+                Err(Failed)
+            }
         }
     }
 
     fn sync(&mut self) -> Result<(), Failed> {
         match self.try_sync() {
             Ok(()) => Ok(()),
-            Err(_) => Err(self.failed()),
+            Err(_) => {
+                self.faults = self.faults.saturating_add(1);
+                Err(Failed)
+            }
         }
     }
 }
