@@ -7,6 +7,9 @@ use Rattle.std.specs.Result.{result_unwrap_or}
 use Rattle.std.proofs.lemmas.Bool.{and_parts, not-true, or_parts}
 use Rattle.std.proofs.lemmas.List.{append-nil, take_more}
 use Rattle.std.proofs.lemmas.List.Elements.{All-cons, All-nil}
+use Rattle.sp_base.specs.Spelling.{AreBytes}
+use Rattle.sp_text.specs.Spelling.{is_digit}
+use Rattle.std.proofs.lemmas.Bool.Decides.{nat_tests}
 use Rattle.hex.specs.Hex.{decode_of, decode_pairs, digit_or_error, encode_lower, encode_with, hex_digit_value, lower_digits, ◌>>=◌}
 use Rattle.hex.specs.declared.error.FromHexError.{FromHexError}
 use Rattle.hex.proofs.HexLemmas.{IsDigits-lower_digits, decode_of-even, decode_of-ok}
@@ -151,3 +154,43 @@ pairs_are_bytes i (a ∷ b ∷ rest) bytes reads =
 pub read_are_bytes : (text bytes : List ℕ) → decode_of text ≡ Ok bytes → All (λ b. b < 256) bytes
 read_are_bytes text bytes reads =
     pairs_are_bytes 0 text bytes (sym (decode_of-even text (decode_of-ok text bytes reads).0) ∙ reads)
+
+-- ---- the sixteen digits alone
+
+digit_there : (k : ℕ) → k < 16 → is_digit (slice_index lower_digits k) ≡ true
+digit_there k small =
+    let places = digit_places (slice_index lower_digits k) k (IsDigits-lower_digits k small) (no_capital_at k) in
+    grind (arith, nat_tests, places)
+
+-- a text in lower case is of digits
+pub digits_spelled : (bytes : List ℕ) → AreBytes bytes → list_all is_digit (encode_lower bytes) ≡ true
+unfolding encode_with
+digits_spelled [] are = refl
+digits_spelled (b ∷ bytes) are =
+    let first : b < 256 = are 0 0 (omega arith) in
+    rw (digit_there (b / 16) (omega arith), digit_there (b % 16) (omega arith)) (digits_spelled bytes (λ k d inside. are (suc k) d (omega arith)))
+
+-- no pair is read yet
+pub nothing_read : (out : List ℕ) → out ≡ [] → encode_lower out ≡ []
+unfolding encode_with
+nothing_read out none = rw none refl
+
+-- one pair of digits more
+pub pair_more : (digits out after : List ℕ) (place high low : ℕ) → 2 * place + 1 < length digits → encode_lower out ≡ take (2 * place) digits
+    → slice_index lower_digits high ≡ get_or digits (2 * place) 0 → slice_index lower_digits low ≡ get_or digits (2 * place + 1) 0 → low < 16
+    → after ≡ out ++ (high * 16 + low) ∷ [] → encode_lower after ≡ take (2 * (place + 1)) digits
+unfolding encode_with
+pair_more digits out after place high low inside so_far first second small more =
+    let twice : 2 * (place + 1) ≡ 2 * place + 1 + 1 = omega arith in
+    rw (
+      more,
+      encode_lower-append,
+      so_far,
+      encode_lower-pair high low [] small,
+      first,
+      second,
+      twice,
+      take_more digits (2 * place + 1) 0 inside,
+      take_more digits (2 * place) 0 (omega arith),
+      append_assoc,
+    ) refl

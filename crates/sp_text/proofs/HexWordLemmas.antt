@@ -1,17 +1,17 @@
 -- Words in hexadecimal: which are bytes, and that each byte string has a word of its own.
-use Rattle.std.proofs.Common.{◌≡◌, ◌≢◌, ℕ, ◌<◌, true, false, inl, inr, List, [], ◌∷◌, length, Result, Ok, Err, refl, sym, ap, ◌∙◌, arith}
+use Rattle.std.proofs.Common.{◌≡◌, ◌≢◌, ℕ, ◌%◌, ◌<◌, true, false, inl, inr, List, [], ◌∷◌, length, Result, Ok, Err, refl, sym, ap, ◌∙◌, arith}
 use Rattle.std.specs.Prelude.{IfSome, IfNone, codes}
 use Rattle.std.specs.Char.{is_ascii_uppercase}
-use Rattle.std.specs.List.{list_any}
+use Rattle.std.specs.List.{list_all, list_any}
 use Rattle.std.specs.Result.{result_ok}
 use Rattle.std.proofs.lemmas.Bool.{both_ways, cases_lt}
 use Rattle.std.proofs.lemmas.List.{get_or_past}
-use Rattle.hex.specs.Hex.{IsBytes, decode_of, decode_sized, encode_lower, encode_with}
+use Rattle.hex.specs.Hex.{IsBytes, decode_sized, encode_lower, encode_with, lower_digits}
 use Rattle.hex.specs.declared.error.FromHexError.{FromHexError}
-use Rattle.hex.proofs.HexLemmas.{IsOk-decode_sized, decode_of-encode_lower, decode_of-same, decode_sized-encode_lower, decode_sized-ok, decode_sized-twice}
+use Rattle.hex.proofs.HexLemmas.{IsOk-decode_sized, decode_of-encode_lower, decode_of-same, decode_sized-encode_lower, decode_sized-ok, decode_sized-twice, length-encode_with}
 use Rattle.sp_base.specs.Spelling.{AreBytes}
-use Rattle.sp_text.specs.Spelling.{hex_word}
-use Rattle.sp_text.proofs.Digits.{list_any-encode_lower, read_are_bytes, text_again}
+use Rattle.sp_text.specs.Spelling.{hex_word, is_digit}
+use Rattle.sp_text.proofs.Digits.{digits_spelled, list_any-encode_lower, read_are_bytes, text_again}
 
 -- bytes in the words of the crate that encodes
 are_bytes : (bs : List ℕ) → AreBytes bs → IsBytes bs
@@ -80,19 +80,20 @@ SpellsNoBytes word = (bytes : List ℕ) → AreBytes bytes → word ≢ hex_word
 pub empty_spells_none : (word : List ℕ) → length word ≡ 0 → SpellsNoBytes word
 empty_spells_none word empty bytes are same = let full = hex_word_nonempty bytes in absurd (omega (arith, ap length same))
 
--- nor does a word with a capital
-pub capital_spells_none : (word : List ℕ) → list_any is_ascii_uppercase word ≡ true → SpellsNoBytes word
-capital_spells_none word capital [] are same = both_ways _ refl (rw same at capital)
-capital_spells_none word capital (b ∷ bytes) are same = capital_encodes_none word (b ∷ bytes) capital same
+-- nor does one of another length
+pub odd_spells_none : (word : List ℕ) → length word % 2 ≢ 0 → word ≢ codes "-" → SpellsNoBytes word
+odd_spells_none word odd no_dash [] are same = no_dash same
+odd_spells_none word odd no_dash (b ∷ bytes) are same =
+    let long = length-encode_with lower_digits (b ∷ bytes) in
+    absurd (odd (omega (arith, ap length same, long)))
 
--- what can't be decoded spells none, if it is no dash
-pub refused_spells_none : (word : List ℕ) (e : FromHexError) → word ≢ codes "-" → decode_of word ≡ Err e → SpellsNoBytes word
-refused_spells_none word e no_dash refused [] are same = no_dash same
-refused_spells_none word e no_dash refused (b ∷ bytes) are same =
-    cc (sym refused ∙ ap decode_of same ∙ decode_of-encode_lower (b ∷ bytes) (are_bytes (b ∷ bytes) are))
+-- nor one with what is no digit
+pub other_spells_none : (word : List ℕ) → list_all is_digit word ≡ false → word ≢ codes "-" → SpellsNoBytes word
+other_spells_none word other no_dash [] are same = no_dash same
+other_spells_none word other no_dash (b ∷ bytes) are same = both_ways _ (rw same at other) (digits_spelled (b ∷ bytes) are)
 
--- what is decoded of a word that isn't empty and has no capital is what it spells
-pub decoded_is_spelled : (word bytes : List ℕ) → length word ≢ 0 → list_any is_ascii_uppercase word ≡ false → decode_of word ≡ Ok bytes → word ≡ hex_word bytes
+-- what isn't empty and spells bytes is their word
+pub pairs_spelled : (word bytes : List ℕ) → length word ≢ 0 → encode_lower bytes ≡ word → word ≡ hex_word bytes
 unfolding encode_with
-decoded_is_spelled word [] full small decoded = absurd (full (ap length (text_again word [] decoded small)))
-decoded_is_spelled word (b ∷ bytes) full small decoded = text_again word (b ∷ bytes) decoded small
+pairs_spelled word [] full same = absurd (full (ap length (sym same)))
+pairs_spelled word (b ∷ bytes) full same = sym same

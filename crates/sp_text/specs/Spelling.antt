@@ -1,10 +1,14 @@
 -- How values are spelled in a line: numbers in decimal, bytes in hexadecimal, words one space apart.
-use Rattle.std.specs.Prelude.{ℕ, ◌≡◌, ◌≢◌, ◌<◌, ◌⊎◌, ◌==◌, List, [], ◌∷◌, length, slice_index, All, codes}
+use Rattle.std.specs.Prelude.{ℕ, ◌≡◌, ◌≢◌, ◌<◌, ◌⊎◌, ◌==◌, ◌&&◌, ◌||◌, nat_le, Bool, List, [], ◌∷◌, length, slice_index, All, codes}
 use Rattle.std.specs.List.{join_with_byte, slice_split}
 use Rattle.hex.specs.Hex.{encode_lower}
 
 abbrev pub Word : Type 0
 Word = List ℕ
+
+-- a digit of a byte, in lower case
+abbrev pub is_digit : ℕ → Bool
+is_digit c = (nat_le 48 c && nat_le c 57) || (nat_le 97 c && nat_le c 102)
 
 -- bytes in lower case, two digits each, and a dash for none
 abbrev pub hex_word : List ℕ → List ℕ

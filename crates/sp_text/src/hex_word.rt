@@ -1,15 +1,15 @@
 // Bytes in a line: two digits for each (RFC 4648, section 8, in lower case), and a dash for none.
-ghost use Rattle.std.specs.Prelude.{ℕ, ◌≡◌, ◌≢◌, ◌<◌, ◌++◌, List, [], ◌∷◌, length, slice_index, IfNone, IfOk, IfSome, OnOk};
+ghost use Rattle.std.specs.Prelude.{ℕ, ◌≡◌, ◌≢◌, ◌<◌, ◌++◌, ◌%◌, List, [], ◌∷◌, length, slice_index, true, IfNone, IfOk, IfSome, OnOk};
 ghost use Rattle.std.specs.Char.{is_ascii_uppercase};
-ghost use Rattle.std.specs.List.{list_any};
+ghost use Rattle.std.specs.List.{list_all, list_any};
 ghost use Rattle.std.specs.String.{string_bytes};
 ghost use Rattle.hex.specs.Hex.{encode_lower, lower_digits};
 ghost use Rattle.sp_base.specs.Spelling.{AreBytes};
-ghost use Rattle.sp_text.specs.Spelling.{hex_word};
+ghost use Rattle.sp_text.specs.Spelling.{hex_word, is_digit};
 ghost use Rattle.sp_text.specs.Texts.{ReadsHex};
 
 use crate::{At, TextRefused};
-use hex::{FromHex, FromHexError};
+use hex::FromHex;
 use sp_base::{Bytes, Memory};
 use std::alloc::Global;
 
@@ -30,16 +30,51 @@ pub fn hex_word_bytes(alloc: Global, word: &[u8]) -> Result<Option<Bytes>, Memor
     if word == b"-".as_slice() {
         return Ok(Some(Bytes::from_vec(Vec::new(alloc))));
     }
-    if word.is_empty() || has_capital(word) {
+    if word.is_empty() || word.len() % 2 != 0 || !are_digits(word) {
         return Ok(None);
     }
-    match hex::decode(alloc, word) {
-        Ok(bytes) => Ok(Some(Bytes::from_vec(bytes))),
-        Err(error) => match error {
-            FromHexError::OutOfMemory => Err(Memory),
-            _ => Ok(None),
-        },
+    Ok(Some(Bytes::from_vec(of_pairs(alloc, word)?)))
+}
+
+/// Whether each byte is a digit. All are looked at, whatever they are: so the processor has no branch to guess.
+fn are_digits(word: &[u8]) -> bool
+    ensures { result ≡ list_all is_digit word.now }
+{
+    let mut all = true;
+    'bytes: for byte in word {
+        all &= is_digit(*byte);
     }
+    all
+}
+
+/// Whether the byte is a digit in lower case.
+fn is_digit(byte: u8) -> bool
+    ensures { result ≡ is_digit byte }
+{
+    matches!(byte, b'0'..=b'9' | b'a'..=b'f')
+}
+
+/// The bytes whose digits these are.
+fn of_pairs(alloc: Global, digits: &[u8]) -> Result<Vec<u8>, Memory>
+    requires even { length digits.now % 2 ≡ 0 }
+    requires digits { list_all is_digit digits.now ≡ true }
+    ensures spelled { IfOk result (λ bytes. encode_lower bytes.items ≡ digits.now) }
+    ensures bytes { IfOk result (λ bytes. AreBytes bytes.items) }
+{
+    let mut bytes = vec![in alloc; 0u8; digits.len() / 2]?;
+    'pairs: for place in 0..bytes.len() {
+        bytes[place] = value(digits[2 * place]) * 16 + value(digits[2 * place + 1]);
+    }
+    Ok(bytes)
+}
+
+/// The value of a digit: its last four bits, which count the letters from 1, and 9 more for a letter, which alone isn't below 64. It has no branch.
+fn value(digit: u8) -> u8
+    requires { is_digit digit ≡ true }
+    ensures spelled { slice_index lower_digits result ≡ digit }
+    ensures small { result < 16 }
+{
+    digit % 16 + 9 * (digit / 64)
 }
 
 /// The 32 bytes of 64 lower-case digits. None exactly where the word isn't so.
