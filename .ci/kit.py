@@ -190,6 +190,8 @@ def follows(kit):
         time.sleep(0.05)
         kit.write("follow/2.recording", text[:text.index(b"stray")].replace(b"recording 1 4 32 64", b"recording 1 5 96 128"))
         kit.holds("status: told of the next start", wait_for_line(out, b'boot="5"'), "the next start isn't told")
+        kit.write("follow/3.recording", b"keeper\n")
+        kit.holds("status: a start that failed is no recording", kit.run("spinesd-status", folder)[1].startswith("node 2, start 5,"), "")
     finally:
         child.terminate()
         child.wait()

@@ -1,6 +1,8 @@
 """The lines of a recording, also of one that grows: a cut last line is left out, and a line that isn't right is told by its number."""
 
 import collections
+import glob
+import os
 import re
 
 MARK = b"recording 1"
@@ -45,6 +47,18 @@ def lines_of(text, first=1):
         if line.name == "recording" or (line.name == "end" and line is not lines[-1]):
             raise BadLine(f"line {line.place} can't stand there")
     return lines, len(text) - whole
+
+
+def begins(path):
+    """Whether a file begins as a recording. One of a daemon that couldn't start has its last line alone, as `keeper`."""
+    with open(path, "rb") as file:
+        return file.read(len(MARK)) == MARK
+
+
+def newest_in(folder):
+    """The newest recording of a node's folder; None where it has none."""
+    found = [path for path in glob.glob(os.path.join(glob.escape(folder), "*.recording")) if begins(path)]
+    return max(found, key=os.path.getmtime, default=None)
 
 
 def split(text):
