@@ -26,8 +26,10 @@ MANY_TURNS = 100_000
 OPEN, CLOSED = 0xA5, 0
 SECOND_SLOT = 64
 TOTAL = 1_024
-# a signature of two levels: so many bytes stand before the lower one's leaf, 4 + an upper signature + the lower key
+# a frame has so many bytes between a payload and its signature, their length; a signature of two levels so many before its upper leaf; a key has so many
+LENGTH_BYTES = 2
 UPPER_LEAF = 4
+PUBLIC_KEY_BYTES = 56
 
 
 def signature_bytes(height):
@@ -38,7 +40,7 @@ def signature_bytes(height):
 def index_of(signature, height):
     """Which of the key's signatures this is: the upper leaf says which lower tree, the lower leaf where in it."""
     upper, = struct.unpack_from(">I", signature, UPPER_LEAF)
-    lower, = struct.unpack_from(">I", signature, UPPER_LEAF + signature_bytes(height) + 56)
+    lower, = struct.unpack_from(">I", signature, UPPER_LEAF + signature_bytes(height) + PUBLIC_KEY_BYTES)
     return (upper << height) + lower
 
 
@@ -210,7 +212,7 @@ def signed_in(frame, payloads, height):
     for payload in payloads:
         place = frame.find(payload)
         if place >= 0:
-            yield payload, index_of(frame[place + len(payload):], height)
+            yield payload, index_of(frame[place + len(payload) + LENGTH_BYTES:], height)
 
 
 def killed(judge, starts, height):

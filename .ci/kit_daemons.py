@@ -34,6 +34,17 @@ def awaited(kit, port, local, command):
     return None
 
 
+def seconds(kit, place):
+    """A second daemon of a folder ends at once, and the explanation says what to look for."""
+    config = read(place + "/spinesd.conf")
+    ports = [b"%d" % port for port in free_ports(2)]
+    elsewhere = re.sub(rb"^(client_)?port = \d+$", lambda found: (found.group(1) or b"") + b"port = " + ports.pop(), config, count=2, flags=re.MULTILINE)
+    for given, wanted, told in ((config, (7, "wire\n"), "another process has it"), (elsewhere, (8, "keeper\n"), "Look for another daemon of this folder")):
+        second = kit.run(kit.program, "daemon", "--turns", "1", given=given, cwd=place)
+        kit.equal("daemons: a second one in a folder", second[:2], wanted)
+        kit.holds("daemons: what that means", told in kit.run("spinesd-explain", given=second[1].encode())[1], "")
+
+
 def daemons(kit):
     """Three daemons with the keys that were made: a message of each kind arrives, and status and page tell it."""
     overlay, children = kit.path("overlay"), []
@@ -53,9 +64,7 @@ def daemons(kit):
             urgent.append(ask(kit, ports[0], locals_[0], f"{number} sendprio 3 5 18446744073709551615 0 {payload}"))
             urgent.append(awaited(kit, ports[2], locals_[1], "takeprio"))
         kit.equal("daemons: priority messages arrive", urgent, ["3 accepted 1", "payload 1 1 6a", "4 accepted 2", "payload 1 2 6b"])
-        second = kit.run(kit.program, "daemon", "--turns", "1", given=read(places[0] + "/spinesd.conf"), cwd=places[0])
-        kit.equal("daemons: a second one in a folder", second[:2], (8, "keeper\n"))
-        kit.holds("daemons: what that means", "Look for another daemon of this folder" in kit.run("spinesd-explain", given=second[1].encode())[1], "")
+        seconds(kit, places[0])
         time.sleep(0.3)  # for the last acknowledgement
     finally:
         for child in children:
