@@ -18,9 +18,12 @@ MANY, SOME = 1_000, 60
 # the words of a command, the file of its input, if it reads any, and that of its output or of the output's first line, or the output itself
 RUNS = [
     (["replay"], "crates/spinesd/stdin", "crates/spinesd/stdout"),
+    (["replay"], "conformance/schedules/acknowledgement.schedule", "conformance/schedules/acknowledgement.out"),
+    (["replay"], "conformance/schedules/expiry.schedule", "conformance/schedules/expiry.out"),
     (["generate", "--seed", "7"], None, "conformance/generated/seed_7.summary"),
     (["paths", "--from", "1", "--to", "4", "--paths", "2"], "examples/trap.graph", b"path 1 2 4\npath 1 3 4\ncost 10\n"),
     (["topology"], "examples/two_nodes.toml", "examples/two_nodes.topology"),
+    (["verify"], "conformance/recordings/whole_1.recording", "conformance/recordings/whole_1.out"),
 ]
 
 
@@ -38,8 +41,10 @@ def tried(count):
 class Failing:
     """A command that runs with one of its calls failing."""
 
-    def __init__(self, program, library, words, text, wanted):
-        self.program, self.library, self.words, self.text, self.wanted = program, library, words, text, wanted
+    def __init__(self, program, library, words, path, wanted):
+        self.program, self.library, self.words, self.wanted = program, library, words, wanted
+        self.text = path and stored(path)
+        self.name = words[0] + (f" of {os.path.basename(path)}" if path else "")
 
     def run(self, **variables):
         """The status, the output, and how many allocations, reads and writes there were."""
@@ -52,7 +57,7 @@ class Failing:
         for number in tried(count):
             status, output, _ = self.run(**variables, **{name: str(number)})
             if not is_right(status, output):
-                sys.exit(f"{self.words[0]}, {name} {number}: status {status}, output {output[:200]!r}")
+                sys.exit(f"{self.name}, {name} {number}: status {status}, output {output[:200]!r}")
             ends[status] = ends.get(status, 0) + 1
         return ends
 
@@ -61,28 +66,34 @@ class Failing:
         if self.text is None and output.startswith(self.wanted):
             self.wanted = output
         if (status, output) != (0, self.wanted):
-            sys.exit(f"{self.words[0]} with no failure: status {status}, output {output[:200]!r}")
+            sys.exit(f"{self.name} with no failure: status {status}, output {output[:200]!r}")
         allocations, reads, writes = counts
         if 0 in (allocations, writes) or (reads == 0) != (self.text is None):
-            sys.exit(f"{self.words[0]}: {counts} allocations, reads and writes were counted, so nothing would be tried, or what reads nothing read")
+            sys.exit(f"{self.name}: {counts} allocations, reads and writes were counted, so nothing would be tried, or what reads nothing read")
         in_memory = lambda status, output: (status, output) in ((0, self.wanted), (9, b""))
         for rest in ({}, {"FAIL_REST": "1"}):
             ends = self.each("FAIL_ALLOC", allocations, in_memory, **rest)
             which = "it and all later ones fail" if rest else "it alone fails"
-            print(f"{self.words[0]}: {allocations} allocations, {which}: {ends.get(0, 0)} whole outputs, {ends.get(9, 0)} times status 9")
+            print(f"{self.name}: {allocations} allocations, {which}: {ends.get(0, 0)} whole outputs, {ends.get(9, 0)} times status 9")
         self.each("FAIL_READ", reads, lambda status, output: (status, output) == (5, b""))
         self.each("FAIL_WRITE", writes, lambda status, output: status == 6 and self.wanted.startswith(output) and output != self.wanted)
-        print(f"{self.words[0]}: {reads} reads and {writes} writes, of which one fails: status 5 and 6")
+        print(f"{self.name}: {reads} reads and {writes} writes, of which one fails: status 5 and 6")
+
+
+def library_in(folder):
+    """The library that lets calls fail, compiled into this folder."""
+    library = os.path.join(folder, "fail_calls.so")
+    subprocess.run(["cc", "-O1", "-shared", "-fPIC", "-o", library, os.path.join(ROOT, "bench", "fail_calls.c"), "-ldl"], check=True)
+    return library
 
 
 def main():
     if len(sys.argv) != 2:
         sys.exit("usage: python3 bench/fail_calls.py PATH/TO/spinesd")
     with tempfile.TemporaryDirectory() as folder:
-        library = os.path.join(folder, "fail_calls.so")
-        subprocess.run(["cc", "-O1", "-shared", "-fPIC", "-o", library, os.path.join(ROOT, "bench", "fail_calls.c"), "-ldl"], check=True)
-        for words, text, wanted in RUNS:
-            Failing(os.path.abspath(sys.argv[1]), library, words, text and stored(text), wanted if isinstance(wanted, bytes) else stored(wanted)).all()
+        library = library_in(folder)
+        for words, path, wanted in RUNS:
+            Failing(os.path.abspath(sys.argv[1]), library, words, path, wanted if isinstance(wanted, bytes) else stored(wanted)).all()
 
 
 if __name__ == "__main__":
