@@ -1,11 +1,13 @@
-//! What no file of inputs and outputs can show of the program: an outside that fails or gives pieces, the world that is left, bits of a
-//! signature, certificates of paths.
+//! What no file of inputs and outputs can show of the program: an outside that fails or gives pieces, the world that is left, a daemon over memory,
+//! bits of a signature, certificates of paths.
 #![tactic(auto)]
 
 #[cfg(test)]
 mod asked;
 #[cfg(test)]
 mod certificates;
+#[cfg(test)]
+mod daemons;
 #[cfg(test)]
 mod ends;
 #[cfg(test)]

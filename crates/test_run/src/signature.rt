@@ -31,7 +31,7 @@ weight = 10
 const DOCUMENT: usize = 141;
 
 /// What `topology` writes for the draft.
-fn output(alloc: Global) -> Result<Vec<u8>, Fail> {
+pub(crate) fn output(alloc: Global) -> Result<Vec<u8>, Fail> {
     let mut source = PlannedSource::new(DRAFT.as_bytes(), 1_000, &[]);
     let mut sink = PlannedSink::new(alloc, 100_000, &[]);
     run_over(alloc, "topology", &mut source, &mut sink)?;
