@@ -1,0 +1,130 @@
+"""What daemons of the built program cost and carry on this machine: python3 bench/daemons.py PATH/TO/spinesd [SECONDS]
+
+Two idle daemons: the share of a core and the memory of each. Then a line of three, whose client at one end sends messages of 64 bytes as fast as they
+are accepted, and one at the other end takes them: how many arrive in a second, with their acknowledgements back, and how much of a core each daemon
+takes. Then a hub of five leaves, each of which sends to the next over the hub: the same, and how many datagrams the system dropped at the hub. Each
+runs for SECONDS, 10 if not said. Figures depend on the machine, and nothing is judged.
+"""
+
+import os
+import socket
+import sys
+import tempfile
+import threading
+import time
+
+ROOT = os.path.dirname(os.path.dirname(os.path.abspath(__file__)))
+sys.path.insert(0, os.path.join(ROOT, "examples", "overlay"))
+
+from overlay import Overlay, line_of  # noqa: E402
+
+MANY_TURNS = 1_000_000
+PAYLOAD = "5a" * 64
+TICKS = os.sysconf("SC_CLK_TCK")
+
+
+class Client:
+    """A session at a daemon, which asks one request after another."""
+
+    def __init__(self, port):
+        self.socket, self.last = socket.socket(socket.AF_INET, socket.SOCK_DGRAM), 0
+        self.socket.bind(("127.0.0.1", 0))
+        self.socket.connect(("127.0.0.1", port))
+        self.socket.settimeout(0.2)
+        self.ask("open")
+
+    def ask(self, command):
+        """The answer. The request is sent again until its reply comes, so it runs once."""
+        front = b"%d " % (self.last + 1)
+        while True:
+            try:
+                self.socket.send(front + command.encode())
+                reply = self.socket.recv(65_535)
+            except (TimeoutError, ConnectionRefusedError):
+                continue
+            if reply.startswith(front):
+                self.last += 1
+                return reply[len(front):].decode().split(" ")
+
+
+def seconds_of(pid):
+    """The processor seconds that a process has taken."""
+    with open(f"/proc/{pid}/stat", encoding="ascii") as file:
+        cells = file.read().rsplit(") ", 1)[1].split(" ")
+    return (int(cells[11]) + int(cells[12])) / TICKS
+
+
+def memory_of(pid):
+    """The most memory that a process has held, in kilobytes."""
+    with open(f"/proc/{pid}/status", encoding="ascii") as file:
+        return next(int(line.split()[1]) for line in file if line.startswith("VmHWM"))
+
+
+def drops_of(port):
+    """How many datagrams the system dropped at a port, since nobody had taken those before."""
+    with open("/proc/net/udp", encoding="ascii") as file:
+        return sum(int(line.split()[-1]) for line in file if line.split()[1].endswith(f":{port:04X}"))
+
+
+def carried(overlay, ways, seconds):
+    """Messages go these ways for so long. Gives how many arrived."""
+    arrived, until = [], time.monotonic() + seconds
+    clients = {node: Client(overlay.ports[node][1]) for way in ways for node in way}
+    for _, target in ways:
+        clients[target].ask("listen")
+    locks = {node: threading.Lock() for node in clients}
+
+    def ask(node, command):
+        with locks[node]:
+            return clients[node].ask(command)
+
+    def send(source, target):
+        while time.monotonic() < until:
+            ask(source, f"send {target} {PAYLOAD}")
+
+    def take(source, target):
+        while time.monotonic() < until:
+            if ask(target, f"take {source}")[0] == "payload":
+                arrived.append(target)
+
+    threads = [threading.Thread(target=each, args=way) for way in ways for each in (send, take)]
+    for thread in threads:
+        thread.start()
+    for thread in threads:
+        thread.join()
+    return len(arrived)
+
+
+def measured(program, name, graph, ways, seconds):
+    """Runs an overlay, and tells what its daemons carried and took."""
+    with tempfile.TemporaryDirectory() as folder:
+        overlay = Overlay(folder, program)
+        overlay.make(graph)
+        try:
+            pids = {node: overlay.start(node, MANY_TURNS).pid for node in overlay.ports}
+            time.sleep(2)
+            before = {node: seconds_of(pid) for node, pid in pids.items()}
+            if ways:
+                arrived = carried(overlay, ways, seconds)
+                print(f"{name}: {arrived / seconds:.0f} messages a second arrived")
+            else:
+                time.sleep(seconds)
+            for node, pid in pids.items():
+                share = (seconds_of(pid) - before[node]) / seconds
+                print(f"{name}, node {node}: {100 * share:.1f} % of a core, {memory_of(pid)} KB, {drops_of(overlay.ports[node][0])} datagrams dropped")
+        finally:
+            overlay.end_all()
+
+
+def main():
+    if not 2 <= len(sys.argv) <= 3:
+        sys.exit("usage: python3 bench/daemons.py PATH/TO/spinesd [SECONDS]")
+    program, seconds = os.path.abspath(sys.argv[1]), float(sys.argv[2] if len(sys.argv) == 3 else 10)
+    hub = (6, [(1, leaf, 10) for leaf in range(2, 7)])
+    measured(program, "two idle daemons", line_of(2), [], seconds)
+    measured(program, "a line of three", line_of(3), [(1, 3)], seconds)
+    measured(program, "a hub of five leaves", hub, [(leaf, leaf % 5 + 2 if leaf < 6 else 2) for leaf in range(2, 7)], seconds)
+
+
+if __name__ == "__main__":
+    main()
