@@ -2,8 +2,7 @@
 
 Copies the crates into FOLDER/wide, sets the number of lanes to eight in the two places that say it, and proves, builds and runs the
 program CRATE there for the processor level x86-64-v3, with the words after it. Nothing here changes: for the level of the gate four
-lanes are better. No proof speaks of the number, so each holds as it stands. Libraries that were proved here are taken along: `rt` keeps those
-that nothing changed beneath, and makes the others anew.
+lanes are better. No proof speaks of the number, so each holds as it stands.
 """
 
 import os
@@ -18,16 +17,12 @@ PLACES = (
 
 
 def copy_to(top):
-    """The sources at the top, and of what was built from them the libraries."""
+    """The sources at the top, without what was built from them."""
     here = os.path.dirname(os.path.dirname(os.path.abspath(__file__)))
     for name in ("crates.txt", "HANDLES"):
         os.makedirs(top, exist_ok=True)
         shutil.copy(os.path.join(here, name), top)
     shutil.copytree(os.path.join(here, "crates"), os.path.join(top, "crates"), ignore=shutil.ignore_patterns("out"))
-    for name in os.listdir(os.path.join(here, "crates")):
-        library = os.path.join(here, "crates", name, "out", "rlib")
-        if os.path.isdir(library):
-            shutil.copytree(library, os.path.join(top, "crates", name, "out", "rlib"))
 
 
 def widen(top):
