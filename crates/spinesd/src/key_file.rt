@@ -77,7 +77,8 @@ impl<'r, R: Files<File = File>> KeyFile<'r, R> {
     }
 }
 
-/// The file, locked for this process. None where there is none and none is to be made. Its folder is on the disk too once it is made.
+/// The file, locked for this process. None where there is none and none is to be made. Its folder is synced before it is used, whoever made it: so
+/// no loss of power takes the file away that a daemon signed by.
 fn opened<R: Files<File = File>>(rt: &R, makes: bool) -> io::Result<Option<File>> {
     let found = OpenOptions::new()
         .read(true)
@@ -89,10 +90,8 @@ fn opened<R: Files<File = File>>(rt: &R, makes: bool) -> io::Result<Option<File>
             if file.try_lock().is_err() {
                 return Err(io::Error::from(ErrorKind::WouldBlock));
             }
-            if makes {
-                let folder = fs::open(rt, FOLDER)?;
-                folder.sync_all()?;
-            }
+            let folder = fs::open(rt, FOLDER)?;
+            folder.sync_all()?;
             Ok(Some(file))
         }
         Err(error) if error.kind() == ErrorKind::NotFound => Ok(None),
