@@ -1,9 +1,10 @@
 // The messages base + 1 to have of a flow, in order, whatever a message is. All memory is taken at the start.
-ghost use Rattle.std.specs.Prelude.{◌≡◌, ◌==◌, ◌+◌, ◌-◌, ◌^◌, ◌<◌, ◌≤◌, ◌↔◌, List, IfOk, OnOk, OnErr, IfErr, IsErr, drop, length, vec_capacity};
+ghost use Rattle.std.specs.Prelude.{◌≡◌, ◌==◌, ◌+◌, ◌-◌, ◌^◌, ◌<◌, ◌≤◌, ◌↔◌, List, IfOk, OnOk, OnErr, IfErr, IsErr, drop, length};
 ghost use Rattle.std.specs.Option.{option_copied};
 ghost use Rattle.sp_base.specs.Position.{IsPosition, kept, acknowledged, message_of, empty_buffer};
 
-use sp_base::{Memory, push_in_room};
+use circular_buffer::HeapCircularBuffer;
+use sp_base::Memory;
 use sp_msg::Kept;
 use std::alloc::Global;
 use std::marker::Model;
@@ -13,7 +14,7 @@ use std::marker::Model;
 pub struct FlowBuffer<T> {
     bound: u16,
     base: u64,
-    items: Vec<T>,
+    items: HeapCircularBuffer<T>,
 }
 
 /// The same, of signed messages.
@@ -31,7 +32,7 @@ pub struct Full<T> {
 }
 
 impl<T> Model for FlowBuffer<T> {
-    ghost use Rattle.std.specs.Prelude.{◌+◌, length, vec_capacity};
+    ghost use Rattle.std.specs.Prelude.{◌+◌, length};
     ghost use Rattle.sp_base.specs.Position.{Buffer};
     ghost use Rattle.sp_flow.specs.Sound.{IsSound};
 
@@ -39,7 +40,7 @@ impl<T> Model for FlowBuffer<T> {
 
     ghost view = { λ b. record { bound = b.bound; at = record { base = b.base; have = b.base + length b.items.items; list = b.items.items } } };
 
-    ghost invariant = { λ b. IsSound b.bound b.base (length b.items.items) (vec_capacity b.items) };
+    ghost invariant = { λ b. IsSound b.bound b.base (length b.items.items) b.items.capacity };
 }
 
 impl<T: Drop> FlowBuffer<T> {
@@ -50,7 +51,7 @@ impl<T: Drop> FlowBuffer<T> {
         Ok(FlowBuffer {
             bound,
             base: 0,
-            items: Vec::with_capacity(alloc, bound as usize)?,
+            items: HeapCircularBuffer::with_capacity(alloc, bound as usize)?,
         })
     }
 
@@ -92,15 +93,12 @@ impl<T: Drop> FlowBuffer<T> {
         ensures back { IfErr result (λ full. full ≡ record { base = self.old.at.base; have = self.old.at.have; back = message }) }
         ensures err { OnErr result (self.new ≡ self.old) }
     {
-        if self.is_full() {
-            return Err(Full {
-                base: self.base(),
-                have: self.have(),
-                back: message,
-            });
+        let base = self.base();
+        let have = self.have();
+        match self.items.try_push_back(message) {
+            Ok(()) => Ok(()),
+            Err(back) => Err(Full { base, have, back }),
         }
-        push_in_room(&mut self.items, message);
-        Ok(())
     }
 
     /// All messages up to this number are acknowledged, and are dropped here.
@@ -111,7 +109,8 @@ impl<T: Drop> FlowBuffer<T> {
             return;
         }
         let count = (seq - self.base).min(self.items.len() as u64);
-        drop_first(&mut self.items, count as usize);
+        let left = self.items.len() - count as usize;
+        self.items.truncate_front(left);
         self.base = seq;
     }
 
@@ -124,15 +123,4 @@ impl<T: Drop> FlowBuffer<T> {
         }
         self.items.get((seq - self.base - 1) as usize)
     }
-}
-
-/// Drops so many items from the front, and moves the others once.
-fn drop_first<T: Drop>(items: &mut Vec<T>, count: usize)
-    requires { count ≤ length items.old.items }
-    ensures items { items.new.items ≡ drop count items.old.items }
-    ensures capacity { vec_capacity items.new ≡ vec_capacity items.old }
-{
-    let left = items.len() - count;
-    items.rotate_left(count);
-    items.truncate(left);
 }

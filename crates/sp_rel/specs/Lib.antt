@@ -1,7 +1,6 @@
 pub mod Seated
 -- ---- one flow at one node
 pub mod Changes
-pub mod Inboxes
 pub mod Rows
 pub mod Seats
 -- ---- what the parts of this crate use among themselves

@@ -4,7 +4,7 @@ use Rattle.sp_base.specs.Position.{Position, start, empty_buffer}
 use Rattle.sp_base.specs.declared.id.Flow.{Flow}
 use Rattle.sp_base.specs.declared.id.NodeId.{NodeId}
 use Rattle.sp_msg.specs.declared.kept.Kept.{Kept}
-use Rattle.sp_rel.specs.Inboxes.{empty_inbox}
+use Rattle.sp_flow.specs.Inboxes.{empty_inbox}
 use Rattle.sp_rel.specs.Rows.{RowState}
 use Rattle.sp_rel.specs.Seats.{SeatState}
 use Rattle.sp_rel.specs.declared.held.Held.{Held}

@@ -1,6 +1,5 @@
 // Where the messages of a flow lie at a node.
-use crate::inbox::Inbox;
-use sp_flow::FlowBuf;
+use sp_flow::{FlowBuf, Inbox};
 
 /// The memory of a flow at a node.
 #[derive(Debug, Drop)]

@@ -5,7 +5,6 @@
 mod change;
 mod flows;
 mod held;
-mod inbox;
 mod pairs;
 mod peers;
 mod row;

@@ -2,9 +2,8 @@
 ghost use Rattle.std.specs.Prelude.{◌≡◌, IfOk, true, false};
 
 use crate::held::Held;
-use crate::inbox::Inbox;
 use sp_base::{Flow, Memory, NodeId};
-use sp_flow::FlowBuf;
+use sp_flow::{FlowBuf, Inbox};
 use std::alloc::Global;
 use std::marker::Model;
 

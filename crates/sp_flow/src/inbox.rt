@@ -1,9 +1,10 @@
 // A flow at its destination: what was delivered and not yet taken, at most so many. All memory is taken at the start.
 ghost use Rattle.std.specs.Prelude.{◌≡◌, ◌==◌, ◌+◌, ◌<◌, ◌∷◌, ◌++◌, [], false, IfOk, drop, length, slice_get};
 ghost use Rattle.sp_base.specs.declared.limits.TheConstants.{MAX_SEQ};
-ghost use Rattle.sp_rel.specs.Inboxes.{empty_inbox};
+ghost use Rattle.sp_flow.specs.Inboxes.{empty_inbox};
 
-use sp_base::{Bytes, Memory, push_in_room};
+use circular_buffer::HeapCircularBuffer;
+use sp_base::{Bytes, Memory};
 use std::alloc::Global;
 use std::marker::Model;
 
@@ -13,18 +14,18 @@ pub struct Inbox {
     bound: u16,
     base: u64,
     have: u64,
-    items: Vec<Bytes>,
+    items: HeapCircularBuffer<Bytes>,
 }
 
 impl Model for Inbox {
-    ghost use Rattle.std.specs.Prelude.{length, vec_capacity};
-    ghost use Rattle.sp_rel.specs.Inboxes.{InboxState, IsSoundInbox};
+    ghost use Rattle.std.specs.Prelude.{length};
+    ghost use Rattle.sp_flow.specs.Inboxes.{InboxState, IsSoundInbox};
 
     ghost Value = { InboxState };
 
     ghost view = { λ i. record { bound = i.bound; base = i.base; have = i.have; items = i.items.items } };
 
-    ghost invariant = { λ i. IsSoundInbox i.bound (length i.items.items) (vec_capacity i.items) };
+    ghost invariant = { λ i. IsSoundInbox i.bound (length i.items.items) i.items.capacity };
 }
 
 impl Inbox {
@@ -36,7 +37,7 @@ impl Inbox {
             bound,
             base: 0,
             have: 0,
-            items: Vec::with_capacity(alloc, bound as usize)?,
+            items: HeapCircularBuffer::with_capacity(alloc, bound as usize)?,
         })
     }
 
@@ -68,7 +69,9 @@ impl Inbox {
         ensures { self.new ≡ record self.old { have = self.old.have + 1; items = self.old.items ++ payload ∷ [] } }
     {
         self.have += 1;
-        push_in_room(&mut self.items, payload);
+        let Ok(()) = self.items.try_push_back(payload) else {
+            unreachable!()
+        };
     }
 
     /// All that was delivered is acknowledged.
@@ -83,10 +86,6 @@ impl Inbox {
         ensures taken { result ≡ slice_get self.old.items 0 }
         ensures rest { self.new ≡ record self.old { items = drop 1 self.old.items } }
     {
-        if self.items.is_empty() {
-            None
-        } else {
-            Some(self.items.remove(0))
-        }
+        self.items.pop_front()
     }
 }
