@@ -7,6 +7,7 @@ use Rattle.std.proofs.Math.Seq.{take-append-add}
 use Rattle.std.proofs.lemmas.List.{take-append-le}
 use Rattle.std.proofs.lemmas.Grind.{flat_map-append}
 use Rattle.sp_lines.specs.Rows.{line_text}
+use Rattle.sp_keystate.specs.declared.refused.KeyRefused.{KeyRefused}
 use Rattle.sp_outside.specs.Calls.{Call}
 use Rattle.sp_outside.specs.Streams.{AppendsFront}
 use Rattle.sp_recording.specs.RecordingText.{closing_words, line_words, lines_text, opening_words, recording_text}
@@ -15,6 +16,7 @@ use Rattle.sp_recording.specs.declared.line.Line.{Line}
 use Rattle.sp_recording.specs.declared.line.Opening.{Opening}
 use Rattle.sp_service_turns.specs.Done.{Text}
 use Rattle.sp_service_turns.specs.Inputs.{Steps}
+use Rattle.sp_service_turns.specs.Keys.{NoMore}
 use Rattle.sp_service_turns.specs.Recorded.{Recorded, RecordedEarly, RecordedFewer, closing_of}
 use Rattle.sp_service_turns.specs.declared.indexes.Indexes.{Indexes}
 use Rattle.sp_service_turns.specs.Runs.{Ran, RanEarly, RanFewer, all_lines}
@@ -61,9 +63,9 @@ parts o ls c =
 -- ---- the whole
 
 pub recorded_whole : {N : Type 0} (steps : Steps N) (indexes : N → Indexes) (peers : List Peer) (o : Opening) (count lost : ℕ) (old new : N) (w0 w1 : Option (List Call))
-    (c0 c1 : Option (List ℕ)) (b0 b1 b2 b3 : Text) → Appends b0 b1 (first o) → Ran steps indexes peers count old new w0 w1 c0 c1 b1 b2 lost
-    → Appends b2 b3 (last (record { turns = count; lost = lost })) → Recorded steps indexes peers o count old new w0 w1 c0 c1 b0 b3
-recorded_whole steps indexes peers o count lost old new w0 w1 c0 c1 b0 b1 b2 b3 begun r ended =
+    (c0 c1 : Option (List ℕ)) (b0 b1 b2 b3 : Text) (s0 s1 : ℕ) → Appends b0 b1 (first o) → Ran steps indexes peers count old new w0 w1 c0 c1 b1 b2 s0 s1 lost
+    → Appends b2 b3 (last (record { turns = count; lost = lost })) → Recorded steps indexes peers o count old new w0 w1 c0 c1 b0 b3 s0 s1
+recorded_whole steps indexes peers o count lost old new w0 w1 c0 c1 b0 b1 b2 b3 s0 s1 begun r ended =
     let ls = all_lines peers 0 r.turns in
     let same : record { turns = count; lost = lost } ≡ closing_of peers r.turns =
     ap (λ n. record { turns = n; lost = lost }) (sym r.counted) ∙ ap (λ n. record { turns = length r.turns; lost = n }) r.lost_are in
@@ -76,6 +78,7 @@ recorded_whole steps indexes peers o count lost old new w0 w1 c0 c1 b0 b1 b2 b3 
       calls = r.calls;
       readings = r.readings;
       text = subst (Appends b0 b3) (sym (parts o ls (closing_of peers r.turns))) (Appends-trans b0 b1 b3 (first o) (lines_text ls ++ last (closing_of peers r.turns)) begun rest);
+      serial = r.serial;
     }
 
 -- ---- early ends
@@ -110,9 +113,9 @@ early_turns peers o count w0 w1 b0 b1 b2 begun r =
     }
 
 pub early_last : {N : Type 0} (steps : Steps N) (indexes : N → Indexes) (peers : List Peer) (o : Opening) (count lost : ℕ) (old new : N) (w0 w1 : Option (List Call))
-    (c0 c1 : Option (List ℕ)) (b0 b1 b2 b3 : Text) → Appends b0 b1 (first o) → Ran steps indexes peers count old new w0 w1 c0 c1 b1 b2 lost
+    (c0 c1 : Option (List ℕ)) (b0 b1 b2 b3 : Text) (s0 s1 : ℕ) → Appends b0 b1 (first o) → Ran steps indexes peers count old new w0 w1 c0 c1 b1 b2 s0 s1 lost
     → AppendsFront b2 b3 (last (record { turns = count; lost = lost })) → RecordedEarly peers o count w0 w1 b0 b3
-early_last steps indexes peers o count lost old new w0 w1 c0 c1 b0 b1 b2 b3 begun r ended =
+early_last steps indexes peers o count lost old new w0 w1 c0 c1 b0 b1 b2 b3 s0 s1 begun r ended =
     let ls = all_lines peers 0 r.turns in
     let c = closing_of peers r.turns in
     let same : record { turns = count; lost = lost } ≡ c =
@@ -137,9 +140,9 @@ unfolding recording_text
 parts_open o ls = ap (λ (rest : List ℕ). first o ++ rest) (flat_of_map ls)
 
 pub fewer_turns : {N : Type 0} (steps : Steps N) (indexes : N → Indexes) (peers : List Peer) (o : Opening) (count : ℕ) (old : N) (w0 w1 : Option (List Call))
-    (c0 c1 : Option (List ℕ)) (b0 b1 b2 : Text) → Appends b0 b1 (first o) → RanFewer steps indexes peers count old w0 w1 c0 c1 b1 b2
-    → RecordedFewer steps indexes peers o count old w0 w1 c0 c1 b0 b2
-fewer_turns steps indexes peers o count old w0 w1 c0 c1 b0 b1 b2 begun f =
+    (c0 c1 : Option (List ℕ)) (b0 b1 b2 : Text) (s0 : ℕ) (refused : KeyRefused) → Appends b0 b1 (first o)
+    → RanFewer steps indexes peers count old w0 w1 c0 c1 b1 b2 s0 refused → RecordedFewer steps indexes peers o count old w0 w1 c0 c1 b0 b2 s0 refused
+fewer_turns steps indexes peers o count old w0 w1 c0 c1 b0 b1 b2 s0 refused begun f =
     let ls = all_lines peers 0 f.ran.turns in
     record {
       turns = f.ran.turns;
@@ -149,4 +152,5 @@ fewer_turns steps indexes peers o count old w0 w1 c0 c1 b0 b1 b2 begun f =
       calls = f.ran.calls;
       readings = f.ran.readings;
       text = subst (Appends b0 b2) (sym (parts_open o ls)) (Appends-trans b0 b1 b2 (first o) (lines_text ls) begun f.ran.text);
+      spent = subst (λ (n : ℕ). NoMore (indexes f.last) n refused) f.ran.serial f.spent;
     }

@@ -8,7 +8,7 @@ ghost use Rattle.sp_outside.specs.Causes.{Rose};
 ghost use Rattle.sp_outside.specs.Streams.{AppendsFront};
 ghost use Rattle.sp_recording.specs.RecordingText.{closing_words, opening_words};
 ghost use Rattle.sp_recording.specs.declared.line.TheConstants.{MAX_TURNS};
-ghost use Rattle.sp_service_turns.specs.Keys.{HoldsKeys, IfKeysEnd, KeepsKeys};
+ghost use Rattle.sp_service_turns.specs.Keys.{HoldsKeys, IfKeysEnd, IfKeysEndBy, KeepsKeys};
 ghost use Rattle.sp_keystate.specs.declared.refused.KeyRefused.TheVariants.{KeeperFault};
 ghost use Rattle.sp_service_turns.specs.Recorded.{Recorded, RecordedEarly, RecordedFewer};
 
@@ -43,10 +43,10 @@ pub fn serve_recorded<N: Core, W: Wire, C: Clock, P: Keeper, K: Sink>(
     requires buffer { DATAGRAM_BYTES ≤ length buf.old }
     requires held { HoldsKeys (P.disk keeper.old) keys.old (N.indexes node.old) }
     ensures recorded { OnOk result (Recorded N.steps N.indexes peers.now opening.now turns node.old node.new (W.told wire.old) (W.told wire.new)
-        (C.told clock.old) (C.told clock.new) (K.contents sink.old) (K.contents sink.new)) }
+        (C.told clock.old) (C.told clock.new) (K.contents sink.old) (K.contents sink.new) keys.old.serial keys.new.serial) }
     ensures early { OnErr result (RecordedEarly peers.now opening.now turns (W.told wire.old) (W.told wire.new) (K.contents sink.old) (K.contents sink.new)) }
-    ensures fewer { IfKeysEnd result (RecordedFewer N.steps N.indexes peers.now opening.now turns node.old (W.told wire.old) (W.told wire.new)
-        (C.told clock.old) (C.told clock.new) (K.contents sink.old) (K.contents sink.new)) }
+    ensures fewer { IfKeysEndBy result (RecordedFewer N.steps N.indexes peers.now opening.now turns node.old (W.told wire.old) (W.told wire.new)
+        (C.told clock.old) (C.told clock.new) (K.contents sink.old) (K.contents sink.new) keys.old.serial) }
     ensures held { OnOk result (HoldsKeys (P.disk keeper.new) keys.new (N.indexes node.new)) }
     ensures kept { KeepsKeys keys.old (P.disk keeper.old) (P.past keeper.old) (P.past keeper.new) }
     ensures later { K.faults sink.old ≤ K.faults sink.new }

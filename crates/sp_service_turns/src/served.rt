@@ -66,7 +66,7 @@ pub fn serve_opened<N: Core, W: Wire, C: Clock, P: Keeper, K: Sink>(
     requires turns { turns ≤ MAX_TURNS }
     requires buffer { DATAGRAM_BYTES ≤ length buf.old }
     requires held { HoldsKeys (P.disk keeper.old) keys.old (N.indexes node.old) }
-    ensures ends { EndsTurns N.steps N.indexes peers.now opening.now turns node.old
+    ensures ends { EndsTurns N.steps N.indexes peers.now opening.now turns node.old keys.old.serial
         (record { wire = W.told wire.old; clock = C.told clock.old; disk = P.disk keeper.old; text = K.contents sink.old })
         (record { wire = W.told wire.new; clock = C.told clock.new; disk = P.disk keeper.new; text = K.contents sink.new }) result }
     ensures kept { KeepsKeys keys.old (P.disk keeper.old) (P.past keeper.old) (P.past keeper.new) }

@@ -6,7 +6,7 @@ use Rattle.sp_service_turns.proofs.many_turns.serve.Given as goal
 abbrev pub invariant-turns : goal.invariant-turns
 invariant-turns g l = record {
   ran : Ran g.N.Core.steps g.N.Core.indexes l.peers l.made l.fn.node l.node (g.W.Wire.told l.fn.wire) (g.W.Wire.told l.wire) (g.C.Clock.told l.fn.clock) (g.C.Clock.told l.clock)
-      (g.K.Sink.contents l.fn.sink) (g.K.Sink.contents l.sink) l.lost;
+      (g.K.Sink.contents l.fn.sink) (g.K.Sink.contents l.sink) l.fn.keys.serial l.keys.serial l.lost;
   few : l.lost ≤ 4 * l.made;
   later : g.K.Sink.faults l.fn.sink ≤ g.K.Sink.faults l.sink;
   held : HoldsKeys (g.P.Keeper.disk l.keeper) l.keys (g.N.Core.indexes l.node);
