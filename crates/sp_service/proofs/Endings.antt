@@ -37,10 +37,10 @@ seen wire clock disk text = record { wire = wire; clock = clock; disk = disk; te
 
 pub node_ends : (c : Config) (t : Topology) (count : ℕ) (started : Started) (peers : List Peer) (start : Station) (o : Opening) (ended : Served) (before after : Outside)
     → IsStarted c t o start → o ≡ opening_of started → peers ≡ peers_of c
-    → EndsTurns StationStep indexes_in peers o count start before after ended → EndsStarted c t count started ended before after
+    → EndsTurns StationStep indexes_in peers o count start started.state.serial before after ended → EndsStarted c t count started ended before after
 node_ends c t count started peers start o ended before after begun opens near ends =
-    let P : List Peer → Type 0 = λ ps. EndsTurns StationStep indexes_in ps (opening_of started) count start before after ended in
-    let Q : Opening → Type 0 = λ p. EndsTurns StationStep indexes_in peers p count start before after ended in
+    let P : List Peer → Type 0 = λ ps. EndsTurns StationStep indexes_in ps (opening_of started) count start started.state.serial before after ended in
+    let Q : Opening → Type 0 = λ p. EndsTurns StationStep indexes_in peers p count start started.state.serial before after ended in
     inl (start, subst (λ (p : Opening). IsStarted c t p start) opens begun, subst P near (subst Q opens ends))
 
 pub no_node : (c : Config) (t : Topology) (count : ℕ) (started : Started) (before : Outside) → EndsStarted c t count started served.Memory before before

@@ -37,7 +37,7 @@ pub data EndsConfigured (c : Config) (t : Topology) (count : ℕ) (before after 
 -- how it ended once its wire was open and its start was taken
 abbrev pub EndsStarted : Config → Topology → ℕ → Started → Served → Outside → Outside → Type 0
 EndsStarted c t count started ended before after =
-    ((start : Station) × IsStarted c t (opening_of started) start × EndsTurns StationStep indexes_in (peers_of c) (opening_of started) count start before after ended)
+    ((start : Station) × IsStarted c t (opening_of started) start × EndsTurns StationStep indexes_in (peers_of c) (opening_of started) count start started.state.serial before after ended)
     ⊎ ((ended ≡ served.Memory) × (after ≡ before))
 
 -- ---- verification

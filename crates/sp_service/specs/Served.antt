@@ -19,14 +19,14 @@ abbrev pub ports_of : Config → Ports
 ports_of c = record { overlay = c.port; client = c.client_port }
 
 -- The daemon of a configuration that fits: its wire was opened and a start taken from its key file, and then its node, which has the indexes of that
--- start, made its turns
+-- start, made its turns, from the serial of the file after that start on
 pub record EndsOpened (c : Config) (t : Topology) (count : ℕ) (ended : Served) (before after : Outside) : Type 0 where
   pub started : Started
   pub between : Outside
   pub opened : IsOpened (ports_of c) (total_of t) started before between
   pub start : Station
   pub is_start : IsStarted c t (opening_of started) start
-  pub ends : EndsTurns StationStep indexes_in (peers_of c) (opening_of started) count start between after ended
+  pub ends : EndsTurns StationStep indexes_in (peers_of c) (opening_of started) count start started.state.serial between after ended
 
 abbrev pub IsQuiet : Outside → Outside → Type 0
 IsQuiet before after = (after.wire ≡ before.wire) × (after.clock ≡ before.clock) × (after.disk ≡ before.disk)

@@ -132,6 +132,7 @@ fn serve_started<W: Wire, C: Clock, P: Keeper, K: Sink>(
     requires topology { IsTopology topology }
     requires opening { IsOpening topology (opening_of started) }
     requires stands { StandsFor (P.disk keeper.old) started.state }
+    requires serial { started.state.serial < 2 ^ 64 }
     requires peers { peers.items ≡ peers_of config.now }
     requires few { length peers.items < 2 ^ 16 }
     requires room { DATAGRAM_BYTES ≤ length buffer.items }
@@ -180,7 +181,7 @@ fn serve_station<W: Wire, C: Clock, P: Keeper, K: Sink>(
     requires held { HoldsKeys (P.disk keeper.old) keys (indexes_in station) }
     requires few { length peers.items < 2 ^ 16 }
     requires room { DATAGRAM_BYTES ≤ length buffer.items }
-    ensures ends { EndsTurns StationStep indexes_in peers.items opening.now turns station
+    ensures ends { EndsTurns StationStep indexes_in peers.items opening.now turns station keys.serial
         (record { wire = W.told wire.old; clock = C.told clock.old; disk = P.disk keeper.old; text = K.contents sink.old })
         (record { wire = W.told wire.new; clock = C.told clock.new; disk = P.disk keeper.new; text = K.contents sink.new }) result }
     ensures kept { KeepsKeys keys (P.disk keeper.old) (P.past keeper.old) (P.past keeper.new) }

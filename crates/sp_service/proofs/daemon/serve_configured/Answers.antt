@@ -15,6 +15,9 @@ serve_started-requires-clause-opening g c =
 pub serve_started-requires-clause-stands : goal.serve_started-requires-clause-stands
 serve_started-requires-clause-stands g c = let opened = c.in-Ok-open.ensures.opened None in opened.stands
 
+pub serve_started-requires-clause-serial : goal.serve_started-requires-clause-serial
+serve_started-requires-clause-serial g c = let opened = c.in-Ok-open.ensures.opened None in opened.starts.serial
+
 pub returns-in-Ok-open-clause-ends : goal.returns-in-Ok-open-clause-ends
 returns-in-Ok-open-clause-ends g c =
     opened_ends c.args.config.now c.args.topology c.args.turns c.in-Ok-open.started c.serve_started.result _ _ _
