@@ -2,3 +2,4 @@ pub mod Bootable
 pub mod Openings
 pub mod Endings
 pub mod Judging
+pub mod OneInput
