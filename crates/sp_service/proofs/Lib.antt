@@ -3,3 +3,4 @@ pub mod Openings
 pub mod Endings
 pub mod Judging
 pub mod OneInput
+pub mod Tellings

@@ -1,6 +1,5 @@
 -- A text says one configuration at most, which fits one topology at most; and a text that is refused says none that fits.
 use Rattle.std.proofs.Common.{◌≡◌, ℕ, List, Ok, Err, refl, sym, ap, subst, ◌∙◌, inl, inr}
-use Rattle.sp_config.specs.Readings.{config_of}
 use Rattle.sp_config.specs.declared.config.Config.{Config}
 use Rattle.sp_config.specs.declared.refused.ConfigRefused.{ConfigRefused}
 use Rattle.sp_service_setup.specs.Fits.{Fails, Fits, IsSigned, Misfits}

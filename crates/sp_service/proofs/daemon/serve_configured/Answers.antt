@@ -1,6 +1,5 @@
-use Rattle.std.proofs.Common.{◌≡◌, ℕ, None, subst}
+use Rattle.std.proofs.Common.{ℕ, None, subst}
 use Rattle.sp_keystate.specs.Starting.{Starts}
-use Rattle.sp_service.specs.Starts.{total_of}
 use Rattle.sp_service_turns.specs.declared.indexes.TheConstants.{RESERVED}
 use Rattle.sp_service.proofs.Endings.{kept_on, opened_ends}
 use Rattle.sp_service.proofs.Openings.{is_opening}
