@@ -1,6 +1,6 @@
 -- How a daemon ends, from what it did.
 use Rattle.std.proofs.Common.{◌≡◌, ℕ, ◌≤◌, Bool, false, List, length, Option, Some, None, refl, sym, subst, ◌∙◌, arith, inl, inr}
-use Rattle.std.specs.Prelude.{◌⊎◌, IfSome, nat_lt}
+use Rattle.std.specs.Prelude.{◌⊎◌, nat_lt}
 use Rattle.std.proofs.Math.Seq.{take_all}
 use Rattle.std.proofs.lemmas.Bool.Decides.{nat_tests}
 use Rattle.sp_base.specs.declared.limits.TheConstants.{MAX_INPUT_BYTES}
@@ -12,7 +12,6 @@ use Rattle.sp_service.proofs.Tellings.{By_keeper, By_keys, By_memory, By_refusal
 use Rattle.sp_service.specs.Complete.{GivesNoStart, IsAtEnd, IsConfiguredFor}
 use Rattle.sp_service_turns.specs.Served.{Outside}
 use Rattle.sp_service_turns.specs.declared.served.Served.{Served}
-use Rattle.sp_service_turns.specs.declared.served.Served.TheVariants as served
 use Rattle.sp_top.specs.Daemons.{AreTold, As_wanted, CanServe, CannotStart, DaemonEnds, DaemonRuns, EndsUnlessFailed, IsInputFor, MayEndByKeys, No_keeper, No_memory, No_sink, No_source, No_wire, ServedFrom}
 use Rattle.sp_top.specs.Statuses.{key_status, served_status}
 use Rattle.sp_top.specs.declared.ended.Status.{Status}
@@ -33,7 +32,6 @@ whole_input text bytes is_cut input short = record {
 
 short_input : (text bytes : List ℕ) (is_cut : Bool) → IsInput (Some text) MAX_INPUT_BYTES bytes is_cut → is_cut ≡ false → length text ≤ MAX_INPUT_BYTES
 short_input text bytes is_cut input whole = let few : nat_lt MAX_INPUT_BYTES (length text) ≡ false = sym input.1 ∙ whole in grind (arith, nat_tests, few)
-
 
 module _ (text bytes : List ℕ) (is_cut : Bool) (turns : ℕ) (disk : Disk) (input : IsInput (Some text) MAX_INPUT_BYTES bytes is_cut) where
   -- what was read says what the text does
