@@ -1,18 +1,15 @@
 -- One turn more.
-use Rattle.std.proofs.Common.{◌≡◌, ◌≤◌, ◌<◌, ℕ, ◌+◌, Bool, true, false, List, [], ◌∷◌, ◌++◌, length, map, Option, Some, None, refl, sym, ap, subst, ◌∙◌, append_assoc, append-nil, arith}
+use Rattle.std.proofs.Common.{◌≡◌, ◌≤◌, ℕ, ◌+◌, Bool, true, false, List, [], ◌∷◌, ◌++◌, length, map, Option, Some, None, refl, sym, ap, subst, ◌∙◌, append_assoc, append-nil, arith}
 use Rattle.std.proofs.lemmas.List.{length_push}
 use Rattle.sp_outside.specs.Calls.{Call, Came, Got, Lost, Nothing, Tells}
-use Rattle.sp_keystate.specs.declared.refused.KeyRefused.{KeyRefused}
 use Rattle.sp_recording.specs.declared.line.Line.{Line}
 use Rattle.sp_service_turns.specs.Done.{Done, Gets, Text}
-use Rattle.sp_service_turns.specs.Early.{Early, GetsFront}
 use Rattle.sp_service_turns.specs.Inputs.{Steps}
-use Rattle.sp_service_turns.specs.Keys.{NoMore}
-use Rattle.sp_service_turns.specs.Runs.{MovesOn, Ran, RanEarly, RanFewer, all_calls, all_changes, all_lines, all_lost, polled_by}
+use Rattle.sp_service_turns.specs.Runs.{MovesOn, Ran, all_calls, all_changes, all_lines, all_lost, polled_by}
 use Rattle.sp_service_turns.specs.Turns.{Moves, Turn, calls_of, changes_by, lines_of, lost_in, lost_of, lost_poll, lost_reply, unless}
 use Rattle.sp_service_turns.specs.declared.indexes.Indexes.{Indexes}
 use Rattle.sp_service_turns.specs.declared.peer.Peer.{Peer}
-use Rattle.sp_service_turns.proofs.TextLemmas.{front_on, gets_itself, gets_on, tells_itself, tells_on}
+use Rattle.sp_service_turns.proofs.TextLemmas.{gets_itself, gets_on, tells_itself, tells_on}
 
 moves_on : {N : Type 0} (steps : Steps N) (indexes : N → Indexes) (peers : List Peer) (turn : ℕ) (ts : List Turn) (t : Turn) (a b c : N) → MovesOn steps indexes peers turn ts a b
     → Moves steps indexes peers (polled_by peers (turn + length ts)) t b c → MovesOn steps indexes peers turn (ts ++ t ∷ []) a c
@@ -21,14 +18,14 @@ moves_on steps indexes peers turn [] t a b c h m =
 moves_on steps indexes peers turn (x ∷ ts) t a b c h m =
     (h.0, h.1, moves_on steps indexes peers (turn + 1) ts t h.0 b c h.2 (subst (λ (n : ℕ). Moves steps indexes peers (polled_by peers n) t b c) (omega arith) m))
 
-calls_on : (peers : List Peer) (turn : ℕ) (ts : List Turn) (t : Turn) → all_calls peers turn (ts ++ t ∷ []) ≡ all_calls peers turn ts ++ calls_of (polled_by peers (turn + length ts)) t
+pub calls_on : (peers : List Peer) (turn : ℕ) (ts : List Turn) (t : Turn) → all_calls peers turn (ts ++ t ∷ []) ≡ all_calls peers turn ts ++ calls_of (polled_by peers (turn + length ts)) t
 calls_on peers turn [] t = append-nil (calls_of (polled_by peers turn) t) ∙ ap (λ (n : ℕ). calls_of (polled_by peers n) t) (let e : turn ≡ turn + 0 = omega arith in e)
 calls_on peers turn (x ∷ ts) t =
     ap (λ (l : List Call). calls_of (polled_by peers turn) x ++ l) (calls_on peers (turn + 1) ts t)
     ∙ sym (append_assoc (calls_of (polled_by peers turn) x) (all_calls peers (turn + 1) ts) (calls_of (polled_by peers (turn + 1 + length ts)) t))
     ∙ ap (λ (n : ℕ). (calls_of (polled_by peers turn) x ++ all_calls peers (turn + 1) ts) ++ calls_of (polled_by peers n) t) (let e : turn + 1 + length ts ≡ turn + length (x ∷ ts) = omega arith in e)
 
-lines_on : (peers : List Peer) (turn : ℕ) (ts : List Turn) (t : Turn) → all_lines peers turn (ts ++ t ∷ []) ≡ all_lines peers turn ts ++ lines_of peers (polled_by peers (turn + length ts)) t
+pub lines_on : (peers : List Peer) (turn : ℕ) (ts : List Turn) (t : Turn) → all_lines peers turn (ts ++ t ∷ []) ≡ all_lines peers turn ts ++ lines_of peers (polled_by peers (turn + length ts)) t
 lines_on peers turn [] t = append-nil (lines_of peers (polled_by peers turn) t) ∙ ap (λ (n : ℕ). lines_of peers (polled_by peers n) t) (let e : turn ≡ turn + 0 = omega arith in e)
 lines_on peers turn (x ∷ ts) t =
     ap (λ (l : List Line). lines_of peers (polled_by peers turn) x ++ l) (lines_on peers (turn + 1) ts t)
@@ -78,40 +75,6 @@ ran_on steps indexes peers count n0 n1 n2 w0 w1 w2 c0 c1 c2 b0 b1 b2 s0 s1 s2 x 
       serial = omega (arith, changes, r.serial, d.serial);
       lost_are = omega (arith, lost, same, r.lost_are, d.lost_are);
     }
-
-pub ran_early : {N : Type 0} (steps : Steps N) (indexes : N → Indexes) (peers : List Peer) (count asked : ℕ) (n0 n1 : N) (w0 w1 w2 : Option (List Call)) (c0 c1 : Option (List ℕ)) (b0 b1 b2 : Text) (s0 s1 x : ℕ)
-    → count < asked → Ran steps indexes peers count n0 n1 w0 w1 c0 c1 b0 b1 s0 s1 x → Early peers (polled_by peers count) w1 w2 b1 b2 → RanEarly peers asked w0 w2 b0 b2
-ran_early steps indexes peers count asked n0 n1 w0 w1 w2 c0 c1 b0 b1 b2 s0 s1 x few r e =
-    let ts = r.turns in
-    let t = e.t in
-    let p : polled_by peers count ≡ polled_by peers (0 + length ts) = ap (polled_by peers) (let n : count ≡ 0 + length ts = omega (arith, r.counted) in n) in
-    let text : GetsFront b1 b2 (lines_of peers (polled_by peers (0 + length ts)) t) = subst (λ (o : Option Peer). GetsFront b1 b2 (lines_of peers o t)) p e.text in
-    record {
-      turns = ts ++ t ∷ [];
-      few = omega (arith, length_push ts t, r.counted, few);
-      calls = all_calls peers 0 ts ++ e.calls;
-      rest = e.rest;
-      front = append_assoc (all_calls peers 0 ts) e.calls e.rest ∙ ap (λ (l : List Call). all_calls peers 0 ts ++ l) (e.front ∙ ap (λ (o : Option Peer). calls_of o t) p) ∙ sym (calls_on peers 0 ts t);
-      made = tells_on w0 w1 w2 (all_calls peers 0 ts) e.calls r.calls e.made;
-      text = subst (λ (l : List Line). GetsFront b0 b2 l) (sym (lines_on peers 0 ts t)) (front_on b0 b1 b2 (all_lines peers 0 ts) (lines_of peers (polled_by peers (0 + length ts)) t) r.text text);
-    }
-
--- turns that were made are fewer than were asked for, where nothing else was done since no more indexes could be reserved
-pub ran_fewer : {N : Type 0} (steps : Steps N) (indexes : N → Indexes) (peers : List Peer) (count asked : ℕ) (n0 n1 : N) (w0 w1 w2 : Option (List Call))
-    (c0 c1 c2 : Option (List ℕ)) (b0 b1 b2 : Text) (s0 s1 x : ℕ) (refused : KeyRefused) → count < asked
-    → Ran steps indexes peers count n0 n1 w0 w1 c0 c1 b0 b1 s0 s1 x → w2 ≡ w1 → c2 ≡ c1 → b2 ≡ b1 → NoMore (indexes n1) s1 refused
-    → RanFewer steps indexes peers asked n0 w0 w2 c0 c2 b0 b2 s0 refused
-ran_fewer steps indexes peers count asked n0 n1 w0 w1 w2 c0 c1 c2 b0 b1 b2 s0 s1 x refused fewer r wire clock text spent = record {
-  made = count;
-  fewer = fewer;
-  last = n1;
-  serial = s1;
-  lost = x;
-  ran = subst (λ (w : Option (List Call)). Ran steps indexes peers count n0 n1 w0 w c0 c2 b0 b2 s0 s1 x) (sym wire)
-      (subst (λ (c : Option (List ℕ)). Ran steps indexes peers count n0 n1 w0 w1 c0 c b0 b2 s0 s1 x) (sym clock)
-      (subst (λ (b : Text). Ran steps indexes peers count n0 n1 w0 w1 c0 c1 b0 b s0 s1 x) (sym text) r));
-  spent = spent;
-}
 
 -- ---- how many are lost
 
