@@ -23,7 +23,7 @@ use Rattle.sp_service_turns.specs.declared.served.Served.TheVariants as served
 use Rattle.sp_topology.specs.declared.topology.Topology.{Topology}
 use Rattle.sp_service.specs.Complete.{GivesNoStart, IsAtEnd, IsConfiguredFor}
 use Rattle.sp_service.specs.Configured.{IsConfigured}
-use Rattle.sp_service.specs.Served.{Daemon, Ends, IsRefusal, No_memory, No_node, Refusal, Refusal_begun, Unopened, ports_of}
+use Rattle.sp_service.specs.Served.{Ends, IsRefusal, Is_served, No_memory, No_node, Refusal, Refusal_begun, Unopened, ports_of}
 use Rattle.sp_service.specs.Starts.{total_of}
 use Rattle.sp_service.proofs.OneInput.{not_refused, same_topology}
 
@@ -133,6 +133,6 @@ told text is_cut turns before after _ (Refusal out is quiet written) = By_refusa
 told text is_cut turns before after _ (Refusal_begun out is quiet begun) = By_sink
 told text is_cut turns before after _ (Unopened ended c t whole configured fails) = unopened text is_cut turns c t whole configured before after ended fails
 told text is_cut turns before after _ (No_node c t started whole configured opened) = By_memory
-told text is_cut turns before after _ (Daemon ended c t whole configured ends) =
+told text is_cut turns before after _ (Is_served ended c t whole configured ends) =
     turned text is_cut turns c t whole configured _ _ ends.start before.disk ends.started ends.between after ended ends.opened.starts ends.ends
 told text is_cut turns before after _ (No_memory quiet unwritten) = By_memory

@@ -56,6 +56,7 @@ impl<N: Core + Drop> Daemon<N> {
         ensures begun { IfOk result (λ daemon. (daemon.node ≡ node) × (daemon.keys ≡ keys) × (daemon.peers ≡ peers) × (daemon.turns ≡ 0) × (daemon.lost ≡ 0)) }
         ensures written { OnOk result (Appends (K.contents sink.old) (K.contents sink.new) (first_text opening.now)) }
         ensures failed { IfErr result (FailsToWrite (first_text opening.now) (K.contents sink.old) (K.contents sink.new)) }
+        ensures later { K.faults sink.old ≤ K.faults sink.new }
         ensures write { result ≡ Err Served.Sink → Rose (K.faults sink.old) (K.faults sink.new) }
     {
         let Ok(text) = first_line(alloc, opening) else {
