@@ -117,9 +117,7 @@ fn three_turns<K: Sink>(alloc: Global, sink: &mut K) -> Result<Served, Fail> {
     let peers = Vec::from_slice(alloc, &PEERS)?;
     let buffer = vec![in alloc; 0u8; DATAGRAM_BYTES]?;
     match Daemon::begin(alloc, Fixed, started.state, peers, buffer, &opening, sink) {
-        Ok(daemon) => Ok(serve(
-            alloc, daemon, 3, &mut wire, &mut clock, &mut keeper, sink,
-        )),
+        Ok(daemon) => Ok(serve(alloc, daemon, 3, &mut wire, &mut clock, &mut keeper, sink)),
         Err(ended) => Ok(ended),
     }
 }
