@@ -43,23 +43,27 @@ no_last opened is = go (nat_le (2 ^ 63 - 1) opened.boot) refl is
     go false less e = grind (arith, nat_tests)
 
 begins_at : (d e : Option Disk) (opened last : KeyState) (first : ℕ) → Finds d e (Some (in_slot opened.slot (numbers_of opened))) → first ≡ opened.bound → last.boot ≡ opened.boot + 1
-    → IfSome d (BeginsAt (record { state = last; first = first }))
-begins_at None e opened last first finds is boot = tt
-begins_at (Some d) e opened last first finds is boot = record { found = in_slot opened.slot (numbers_of opened); stood = sym finds.1; first = is; boot = boot }
+    → last.serial ≡ opened.serial + 2 → IfSome d (BeginsAt (record { state = last; first = first }))
+begins_at None e opened last first finds is boot serial = tt
+begins_at (Some d) e opened last first finds is boot serial =
+    record { found = in_slot opened.slot (numbers_of opened); stood = sym finds.1; first = is; boot = boot; serial = serial }
 
 pub starts : (d e : Option Disk) (opened booted last : KeyState) (n total : ℕ) → Finds d e (Some (in_slot opened.slot (numbers_of opened)))
     → boot_end opened ≡ None → booted ≡ changed_state opened opened.bound (opened.boot + 1) → reserve_end booted total ≡ None
-    → last ≡ changed_state booted (min (booted.bound + n) total) booted.boot → Starts d n total (record { state = last; first = opened.bound })
-starts d e opened booted last n total finds another boot room is =
+    → last ≡ changed_state booted (min (booted.bound + n) total) booted.boot → last.serial < 2 ^ 64 → Starts d n total (record { state = last; first = opened.bound })
+starts d e opened booted last n total finds another boot room is numbered =
     let bound : booted.bound ≡ opened.bound = ap (λ (s : KeyState). s.bound) boot in
     let last_bound : last.bound ≡ min (booted.bound + n) total = ap (λ (s : KeyState). s.bound) is in
     let last_boot : last.boot ≡ opened.boot + 1 = ap (λ (s : KeyState). s.boot) is ∙ ap (λ (s : KeyState). s.boot) boot in
+    let booted_serial : booted.serial ≡ opened.serial + 1 = ap (λ (s : KeyState). s.serial) boot in
+    let last_serial_is : last.serial ≡ booted.serial + 1 = ap (λ (s : KeyState). s.serial) is in
     let some : booted.bound < total = no_end total booted.bound (serial_end booted) room in
     record {
-      begins = begins_at d e opened last opened.bound finds refl last_boot;
+      begins = begins_at d e opened last opened.bound finds refl last_boot (omega (arith, booted_serial, last_serial_is));
       some = omega (arith, some, bound);
       bound = last_bound ∙ ap (λ (b : ℕ). min (b + n) total) bound;
       boot = (omega (arith, last_boot), (let few = no_last opened another in omega (arith, last_boot, few)));
+      serial = numbered;
     }
 
 -- a call that changes the file leaves one that is told, where one was
@@ -157,7 +161,7 @@ spent : (d e : Option Disk) (total : ℕ) (opened : KeyState) → Finds d e (Som
 spent None e total opened finds is = tt
 spent (Some d) e total opened finds is = record { found = in_slot opened.slot (numbers_of opened); stood = sym finds.1; spent = is }
 
-last_serial : (serial number : ℕ) → (if serial == 2 ^ 64 - 1 then Some serial else None) ≡ Some number → serial ≡ 2 ^ 64 - 1
+pub last_serial : (serial number : ℕ) → (if serial == 2 ^ 64 - 1 then Some serial else None) ≡ Some number → serial ≡ 2 ^ 64 - 1
 last_serial serial number is = go (serial == 2 ^ 64 - 1) refl is
   where
     go : (t : Bool) → (serial == 2 ^ 64 - 1) ≡ t → (if t then Some serial else None) ≡ Some number → serial ≡ 2 ^ 64 - 1

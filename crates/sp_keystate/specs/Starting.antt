@@ -12,12 +12,13 @@ use Rattle.sp_keystate.specs.Slots.{in_use}
 use Rattle.sp_keystate.specs.Soundness.{IsSound, Keeps}
 use Rattle.sp_keystate.specs.States.{IsSoundAt}
 
--- the file stood for these numbers: the first index is their bound, and the boot is the next
+-- the file stood for these numbers: the first index is their bound, and the boot is the next. It was changed twice
 pub record BeginsAt (started : Started) (disk : Disk) : Type 0 where
   pub found : InUse
   pub stood : in_use (bytes_of disk) ≡ Some found
   pub first : started.first ≡ found.numbers.bound
   pub boot : started.state.boot ≡ found.numbers.boot + 1
+  pub serial : started.state.serial ≡ found.numbers.serial + 2
 
 pub record Starts (told : Option Disk) (n total : ℕ) (started : Started) : Type 0 where
   pub begins : IfSome told (BeginsAt started)
@@ -26,6 +27,8 @@ pub record Starts (told : Option Disk) (n total : ℕ) (started : Started) : Typ
   pub bound : started.state.bound ≡ min (started.first + n) total
   -- it isn't start 0, and no start has a number of 64 bits
   pub boot : (1 ≤ started.state.boot) × (started.state.boot < 2 ^ 63)
+  -- the serial is a number of 64 bits
+  pub serial : started.state.serial < 2 ^ 64
 
 -- the numbers of a file have no start left: no boot, no index of this total, or no serial for two changes
 abbrev pub AreSpent : ℕ → Numbers → Type 0

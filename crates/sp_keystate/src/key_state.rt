@@ -58,6 +58,7 @@ impl KeyState {
         ensures answer { IsChangeAnswer (reserve_end self.old total) result }
         ensures state { IsChangedState self.old (changed_state self.old (min (self.old.bound + n) total) self.old.boot) self.new result }
         ensures stands { OnOk result (StandsFor (P.disk keeper.new) self.new) }
+        ensures serial { OnOk result (self.new.serial < 2 ^ 64) }
         ensures untouched { (number : ℕ) → IsErrOf result (KeyRefused.Exhausted number) → P.disk keeper.new ≡ P.disk keeper.old }
         ensures file { OnOk result (Changes (P.disk keeper.old) (P.disk keeper.new) (place (other self.old.slot))
             (next_numbers self.old (min (self.old.bound + n) total) self.old.boot)) }

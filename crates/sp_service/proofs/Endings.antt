@@ -27,7 +27,7 @@ use Rattle.sp_service_turns.specs.declared.served.Served.TheVariants as served
 use Rattle.sp_topology.specs.declared.topology.Topology.{Topology}
 use Rattle.sp_service.specs.Configured.{IsConfigured}
 use Rattle.sp_service.specs.Parts.{EndsConfigured, EndsStarted, IsTold, Is_daemon, Is_forgotten, Is_nodeless, Is_unopened}
-use Rattle.sp_service.specs.Served.{Daemon, Ends, IsRefusal, No_memory, No_node, Refusal, Refusal_begun, Unopened, ports_of}
+use Rattle.sp_service.specs.Served.{Ends, Is_served, IsRefusal, No_memory, No_node, Refusal, Refusal_begun, Unopened, ports_of}
 use Rattle.sp_service.specs.Starts.{IsStarted, total_of}
 
 abbrev seen : Option (List Call) → Option (List ℕ) → Option Disk → Text → Outside
@@ -37,10 +37,10 @@ seen wire clock disk text = record { wire = wire; clock = clock; disk = disk; te
 
 pub node_ends : (c : Config) (t : Topology) (count : ℕ) (started : Started) (peers : List Peer) (start : Station) (o : Opening) (ended : Served) (before after : Outside)
     → IsStarted c t o start → o ≡ opening_of started → peers ≡ peers_of c
-    → EndsTurns StationStep indexes_in peers o count start before after ended → EndsStarted c t count started ended before after
+    → EndsTurns StationStep indexes_in peers o count start started.state.serial before after ended → EndsStarted c t count started ended before after
 node_ends c t count started peers start o ended before after begun opens near ends =
-    let P : List Peer → Type 0 = λ ps. EndsTurns StationStep indexes_in ps (opening_of started) count start before after ended in
-    let Q : Opening → Type 0 = λ p. EndsTurns StationStep indexes_in peers p count start before after ended in
+    let P : List Peer → Type 0 = λ ps. EndsTurns StationStep indexes_in ps (opening_of started) count start started.state.serial before after ended in
+    let Q : Opening → Type 0 = λ p. EndsTurns StationStep indexes_in peers p count start started.state.serial before after ended in
     inl (start, subst (λ (p : Opening). IsStarted c t p start) opens begun, subst P near (subst Q opens ends))
 
 pub no_node : (c : Config) (t : Topology) (count : ℕ) (started : Started) (before : Outside) → EndsStarted c t count started served.Memory before before
@@ -122,7 +122,7 @@ pub daemon : (text : List ℕ) (is_cut : Bool) (count : ℕ) (c : Config) (t : T
     → IsConfigured text c t → EndsConfigured c t count before after ended → Ends text is_cut count before after ended
 daemon text is_cut count c t _ before after whole configured (Is_unopened ended fails) = Unopened ended c t whole configured fails
 daemon text is_cut count c t _ before after whole configured (Is_nodeless started opened) = No_node c t started whole configured opened
-daemon text is_cut count c t _ before after whole configured (Is_daemon ended ends) = Daemon ended c t whole configured ends
+daemon text is_cut count c t _ before after whole configured (Is_daemon ended ends) = Is_served ended c t whole configured ends
 daemon text is_cut count c t _ before after whole configured (Is_forgotten quiet unwritten) = No_memory quiet unwritten
 
 pub no_memory : (text : List ℕ) (is_cut : Bool) (count : ℕ) (before : Outside) → Ends text is_cut count before before served.Memory

@@ -1,5 +1,5 @@
 -- How a daemon starts is in its ranges, and its neighbours are few.
-use Rattle.std.proofs.Common.{◌≡◌, ◌≤◌, ◌<◌, ◌+◌, ◌^◌, min, ℕ, List, [], ◌∷◌, length, map, Option, Some, None, Ok, refl, sym, ap, length-append, arith}
+use Rattle.std.proofs.Common.{◌≡◌, ◌≤◌, ◌<◌, ◌+◌, ◌^◌, min, ℕ, List, [], ◌∷◌, length, map, Option, Some, None, refl, sym, ap, length-append, arith}
 use Rattle.sp_base.specs.declared.id.EdgeId.{EdgeId}
 use Rattle.sp_base.specs.declared.id.NodeId.{NodeId}
 use Rattle.sp_base.specs.declared.limits.TheConstants.{MAX_EDGES}
@@ -42,9 +42,11 @@ is_opening t told started starts = record {
     capped first total = grind arith
 
 -- the node that starts has the bound of the start
-pub held_at_start : (c : Config) (t : Topology) (started : Started) (told : Option Disk) (start : Station) → StandsFor told started.state → IsStarted c t (opening_of started) start
+pub held_at_start : (c : Config) (t : Topology) (started : Started) (told : Option Disk) (start : Station) → StandsFor told started.state → started.state.serial < 2 ^ 64
+    → IsStarted c t (opening_of started) start
     → HoldsKeys told started.state (indexes_in start)
-held_at_start c t started told start stands begun = record { stands = stands; bound = sym (ap (λ (n : _). n.signer.bound) begun.node) }
+held_at_start c t started told start stands numbered begun =
+    record { stands = stands; bound = sym (ap (λ (n : _). n.signer.bound) begun.node); serial = numbered }
 
 one : (place : ℕ) (o : Option NodeId) → length (neighbour place o) ≤ 1
 one place None = omega arith

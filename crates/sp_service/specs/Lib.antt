@@ -3,6 +3,7 @@ pub mod Configured
 pub mod Starts
 -- ---- the daemon
 pub mod Served
+pub mod Complete
 -- ---- verification
 pub mod Splits
 pub mod Verdicts

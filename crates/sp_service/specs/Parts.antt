@@ -8,7 +8,9 @@ use Rattle.sp_recording.specs.declared.line.Opening.{Opening}
 use Rattle.sp_recording.specs.declared.stage.Reading.{Reading}
 use Rattle.sp_service_station.specs.Stations.{Station, StationStep, indexes_in}
 use Rattle.sp_service_turns.specs.Compared.{AgreesWhole, DiffersAt, IsBadAfter}
+use Rattle.sp_service_turns.specs.Daemons.{first_text}
 use Rattle.sp_service_turns.specs.Done.{Text}
+use Rattle.sp_service_turns.specs.declared.daemon.Daemon.{Daemon}
 use Rattle.sp_keystate.specs.declared.starts.Started.{Started}
 use Rattle.sp_service_setup.specs.NodeParts.{peers_of}
 use Rattle.sp_service_turns.specs.Served.{EndsTurns, FailsToOpen, IsOpened, Outside, opening_of}
@@ -37,8 +39,16 @@ pub data EndsConfigured (c : Config) (t : Topology) (count : ℕ) (before after 
 -- how it ended once its wire was open and its start was taken
 abbrev pub EndsStarted : Config → Topology → ℕ → Started → Served → Outside → Outside → Type 0
 EndsStarted c t count started ended before after =
-    ((start : Station) × IsStarted c t (opening_of started) start × EndsTurns StationStep indexes_in (peers_of c) (opening_of started) count start before after ended)
+    ((start : Station) × IsStarted c t (opening_of started) start × EndsTurns StationStep indexes_in (peers_of c) (opening_of started) count start started.state.serial before after ended)
     ⊎ ((ended ≡ served.Memory) × (after ≡ before))
+
+-- the daemon whose wire was open and whose start was taken: what its recording got is its first line
+pub record BeginsStarted (c : Config) (t : Topology) (started : Started) (before after : Text) (daemon : Daemon Station) : Type 0 where
+  pub is_start : IsStarted c t (opening_of started) daemon.node
+  pub keys : daemon.keys ≡ started.state
+  pub peers : daemon.peers.items ≡ peers_of c
+  pub fresh : (daemon.turns ≡ 0) × (daemon.lost ≡ 0)
+  pub first : Appends before after (first_text (opening_of started))
 
 -- ---- verification
 

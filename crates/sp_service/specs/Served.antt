@@ -3,11 +3,15 @@ use Rattle.std.specs.Prelude.{ℕ, ◌≡◌, Bool, true, false, List}
 use Rattle.std.specs.Io.KnownBytes.{Appends}
 use Rattle.sp_config.specs.RefusedLines.{too_big_line}
 use Rattle.sp_config.specs.declared.config.Config.{Config}
+use Rattle.sp_keystate.specs.Starting.{StartsSafely}
 use Rattle.sp_keystate.specs.declared.starts.Started.{Started}
 use Rattle.sp_outside.specs.Streams.{AppendsFront}
 use Rattle.sp_service_setup.specs.NodeParts.{peers_of}
 use Rattle.sp_service_station.specs.Stations.{Station, StationStep, indexes_in}
+use Rattle.sp_service_turns.specs.Daemons.{first_text}
+use Rattle.sp_service_turns.specs.Keys.{HoldsKeys}
 use Rattle.sp_service_turns.specs.Served.{EndsTurns, FailsToOpen, IsOpened, Outside, opening_of}
+use Rattle.sp_service_turns.specs.declared.daemon.Daemon.{Daemon}
 use Rattle.sp_service_turns.specs.declared.opened.Ports.{Ports}
 use Rattle.sp_service_turns.specs.declared.served.Served.{Served}
 use Rattle.sp_service_turns.specs.declared.served.Served.TheVariants as served
@@ -19,14 +23,35 @@ abbrev pub ports_of : Config → Ports
 ports_of c = record { overlay = c.port; client = c.client_port }
 
 -- The daemon of a configuration that fits: its wire was opened and a start taken from its key file, and then its node, which has the indexes of that
--- start, made its turns
+-- start, made its turns, from the serial of the file after that start on
 pub record EndsOpened (c : Config) (t : Topology) (count : ℕ) (ended : Served) (before after : Outside) : Type 0 where
   pub started : Started
   pub between : Outside
   pub opened : IsOpened (ports_of c) (total_of t) started before between
   pub start : Station
   pub is_start : IsStarted c t (opening_of started) start
-  pub ends : EndsTurns StationStep indexes_in (peers_of c) (opening_of started) count start between after ended
+  pub ends : EndsTurns StationStep indexes_in (peers_of c) (opening_of started) count start started.state.serial between after ended
+
+-- The daemon of a configuration that fits, at its start: its wire was opened and a start taken from its key file, its node has the indexes of that start,
+-- and its first line is written
+pub record BeginsConfigured (c : Config) (t : Topology) (before after : Outside) (daemon : Daemon Station) : Type 0 where
+  pub started : Started
+  pub opened : IsOpened (ports_of c) (total_of t) started before (record { wire = after.wire; clock = after.clock; disk = after.disk; text = before.text })
+  pub safe : StartsSafely before.disk after.disk started
+  pub is_start : IsStarted c t (opening_of started) daemon.node
+  pub keys : daemon.keys ≡ started.state
+  pub held : HoldsKeys after.disk daemon.keys (indexes_in daemon.node)
+  pub peers : daemon.peers.items ≡ peers_of c
+  pub fresh : (daemon.turns ≡ 0) × (daemon.lost ≡ 0)
+  pub first : Appends before.text after.text (first_text (opening_of started))
+
+-- the daemon of this input, of which there was no more, at its start
+pub record Begins (text : List ℕ) (is_cut : Bool) (before after : Outside) (daemon : Daemon Station) : Type 0 where
+  pub config : Config
+  pub topology : Topology
+  pub whole : is_cut ≡ false
+  pub configured : IsConfigured text config topology
+  pub begins : BeginsConfigured config topology before after daemon
 
 abbrev pub IsQuiet : Outside → Outside → Type 0
 IsQuiet before after = (after.wire ≡ before.wire) × (after.clock ≡ before.clock) × (after.disk ≡ before.disk)
@@ -49,7 +74,7 @@ pub data Ends (text : List ℕ) (is_cut : Bool) (count : ℕ) (before after : Ou
   No_node : (c : Config) (t : Topology) (started : Started) → is_cut ≡ false → IsConfigured text c t → IsOpened (ports_of c) (total_of t) started before after
       → Ends text is_cut count before after served.Memory
   -- its daemon ended so
-  Daemon : (ended : Served) (c : Config) (t : Topology) → is_cut ≡ false → IsConfigured text c t → EndsOpened c t count ended before after
+  Is_served : (ended : Served) (c : Config) (t : Topology) → is_cut ≡ false → IsConfigured text c t → EndsOpened c t count ended before after
       → Ends text is_cut count before after ended
   -- there was no memory before anything was opened or written
   No_memory : IsQuiet before after → after.text ≡ before.text → Ends text is_cut count before after served.Memory

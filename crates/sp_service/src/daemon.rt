@@ -1,38 +1,35 @@
 // A daemon: its configuration comes in, its turns are made over the outside, and its recording goes out.
-ghost use Rattle.std.specs.Prelude.{◌≡◌, ◌≢◌, ◌≤◌, ◌<◌, ◌^◌, length};
+ghost use Rattle.std.specs.Prelude.{◌≡◌, ◌≢◌, ◌≤◌, ◌<◌, ◌^◌, Err, IfErr, IfOk, List, OnOk, Option, ℕ, length};
 ghost use Rattle.sp_keystate.specs.Starting.{KeepsAll};
-ghost use Rattle.sp_keystate.specs.States.{StandsFor};
 ghost use Rattle.sp_keystate.specs.declared.refused.KeyRefused.TheVariants.{KeeperFault};
 ghost use Rattle.sp_outside.specs.declared.wire.TheConstants.{DATAGRAM_BYTES};
+ghost use Rattle.sp_outside.specs.Disk.{Disk};
+ghost use Rattle.sp_outside.specs.Calls.{Call};
 ghost use Rattle.sp_outside.specs.Causes.{Rose};
 ghost use Rattle.sp_recording.specs.declared.line.TheConstants.{MAX_TURNS};
-ghost use Rattle.sp_service.specs.Parts.{EndsConfigured, EndsStarted, IsTold};
-ghost use Rattle.sp_service.specs.Served.{Ends, ports_of};
+ghost use Rattle.sp_service.specs.Parts.{BeginsStarted, EndsConfigured, EndsStarted, IsTold};
+ghost use Rattle.sp_service.specs.Served.{Begins, BeginsConfigured, Ends, ports_of};
 ghost use Rattle.sp_service.specs.Starts.{IsOpening};
 ghost use Rattle.sp_service_setup.specs.Fits.{Fits};
 ghost use Rattle.sp_service_setup.specs.NodeParts.{peers_of};
-ghost use Rattle.sp_service_station.specs.Stations.{StationStep, indexes_in};
-ghost use Rattle.sp_service_turns.specs.Keys.{HoldsKeys, KeepsKeys};
-ghost use Rattle.sp_service_turns.specs.Served.{EndsTurns, opening_of};
+ghost use Rattle.sp_service_turns.specs.Served.{opening_of};
 ghost use Rattle.sp_topology.specs.Ranges.{IsTopology};
 
 use crate::configured::{Configured, configure};
 use crate::ready::{neighbours_at, ports_of, room, total};
-use crate::starts::start;
+use crate::starts::station_at;
 use sp_config::Config;
-use sp_keystate::{KeyState, Started};
+use sp_keystate::Started;
 use sp_outside::{Clock, Keeper, Sink, Wire, write_all};
-use sp_recording::Opening;
 use sp_service_station::Station;
-use sp_service_turns::{Peer, Served, open, opening_of, serve_opened};
+use sp_service_turns::{Daemon, Peer, Served, open, opening_of, serve as make_turns};
 use sp_topology::Topology;
 use std::alloc::Global;
 
 /// Serves as the daemon of a configuration for so many turns. A text that `is_cut` had more bytes than may be read, and is refused for that.
 ///
-/// First the configuration is judged, then the wire is opened, then a start is taken from the key file, and then the first line is written: the first
-/// of these that fails ends it. A failed receive or send is a lost datagram, which the end line counts.
-#[tactic(auto, using(crate::proofs::Endings::told, crate::proofs::Endings::daemon, crate::proofs::Endings::no_memory, crate::proofs::Endings::kept_quiet))]
+/// A failed receive or send is a lost datagram, which the end line counts.
+#[tactic(auto, using(crate::proofs::Beginnings::served))]
 pub fn serve<W: Wire, C: Clock, P: Keeper, K: Sink>(
     alloc: Global,
     text: &[u8],
@@ -52,15 +49,47 @@ pub fn serve<W: Wire, C: Clock, P: Keeper, K: Sink>(
     ensures keeper { result ≡ Served.Keys KeeperFault → Rose (P.faults keeper.old) (P.faults keeper.new) }
     ensures write { result ≡ Served.Sink → Rose (K.faults sink.old) (K.faults sink.new) }
 {
+    match start(alloc, text, is_cut, wire, keeper, sink) {
+        Ok(daemon) => make_turns(alloc, daemon, turns, wire, clock, keeper, sink),
+        Err(ended) => ended,
+    }
+}
+
+/// The daemon of a configuration, at its start.
+///
+/// First the configuration is judged, then the wire is opened, then a start is taken from the key file, and then the first line is written: the first
+/// of these that fails ends it.
+#[tactic(auto, using(crate::proofs::Endings::told, crate::proofs::Endings::daemon, crate::proofs::Endings::no_memory, crate::proofs::Endings::kept_quiet, crate::proofs::Beginnings::begins))]
+pub fn start<W: Wire, P: Keeper, K: Sink>(
+    alloc: Global,
+    text: &[u8],
+    is_cut: bool,
+    wire: &mut W,
+    keeper: &mut P,
+    sink: &mut K,
+) -> Result<Daemon<Station>, Served>
+    ensures begins { (clock : Option (List ℕ)) → IfOk result (Begins text.now is_cut
+        (record { wire = W.told wire.old; clock = clock; disk = P.disk keeper.old; text = K.contents sink.old })
+        (record { wire = W.told wire.new; clock = clock; disk = P.disk keeper.new; text = K.contents sink.new })) }
+    ensures ended { (clock : Option (List ℕ)) (turns : ℕ) → IfErr result (Ends text.now is_cut turns
+        (record { wire = W.told wire.old; clock = clock; disk = P.disk keeper.old; text = K.contents sink.old })
+        (record { wire = W.told wire.new; clock = clock; disk = P.disk keeper.new; text = K.contents sink.new })) }
+    ensures kept { KeepsAll (P.disk keeper.old) (P.past keeper.old) (P.past keeper.new) }
+    ensures faultless { OnOk result (P.faults keeper.new ≡ P.faults keeper.old) }
+    ensures open { result ≡ Err Served.Wire → Rose (W.failed_opens wire.old) (W.failed_opens wire.new) }
+    ensures keeper { result ≡ Err (Served.Keys KeeperFault) → Rose (P.faults keeper.old) (P.faults keeper.new) }
+    ensures later { OnOk result (K.faults sink.old ≤ K.faults sink.new) }
+    ensures write { result ≡ Err Served.Sink → Rose (K.faults sink.old) (K.faults sink.new) }
+{
     if is_cut {
-        return refuse(b"refused 0 TooBig\n", sink);
+        return Err(refuse(b"refused 0 TooBig\n", sink));
     }
     match configure(alloc, text) {
-        Ok(Configured::Fits(config, topology)) => serve_configured(
-            alloc, &config, topology, turns, wire, clock, keeper, sink,
-        ),
-        Ok(Configured::Refused(line)) => refuse(line.as_slice(), sink),
-        Err(_) => Served::Memory,
+        Ok(Configured::Fits(config, topology)) => {
+            start_configured(alloc, &config, topology, wire, keeper, sink)
+        }
+        Ok(Configured::Refused(line)) => Err(refuse(line.as_slice(), sink)),
+        Err(_) => Err(Served::Memory),
     }
 }
 
@@ -75,130 +104,71 @@ fn refuse<K: Sink>(line: &[u8], sink: &mut K) -> Served
     }
 }
 
-/// The daemon of a configuration that fits its topology.
-#[tactic(auto, using(crate::proofs::Endings::unopened, crate::proofs::Endings::opened_ends, crate::proofs::Endings::forgotten, crate::proofs::Endings::kept_on, crate::proofs::Endings::kept_quiet))]
-fn serve_configured<W: Wire, C: Clock, P: Keeper, K: Sink>(
+/// The daemon of a configuration that fits its topology, at its start.
+#[tactic(auto, using(crate::proofs::Endings::unopened, crate::proofs::Endings::forgotten, crate::proofs::Endings::kept_quiet))]
+fn start_configured<W: Wire, P: Keeper, K: Sink>(
     alloc: Global,
     config: &Config,
     topology: Topology,
-    turns: u32,
     wire: &mut W,
-    clock: &mut C,
     keeper: &mut P,
     sink: &mut K,
-) -> Served
-    requires turns { turns ≤ MAX_TURNS }
+) -> Result<Daemon<Station>, Served>
     requires fits { Fits config.now topology }
     requires topology { IsTopology topology }
-    ensures ends { EndsConfigured config.now topology turns
-        (record { wire = W.told wire.old; clock = C.told clock.old; disk = P.disk keeper.old; text = K.contents sink.old })
-        (record { wire = W.told wire.new; clock = C.told clock.new; disk = P.disk keeper.new; text = K.contents sink.new }) result }
+    ensures begins { (clock : Option (List ℕ)) → IfOk result (BeginsConfigured config.now topology
+        (record { wire = W.told wire.old; clock = clock; disk = P.disk keeper.old; text = K.contents sink.old })
+        (record { wire = W.told wire.new; clock = clock; disk = P.disk keeper.new; text = K.contents sink.new })) }
+    ensures ended { (clock : Option (List ℕ)) (turns : ℕ) → IfErr result (EndsConfigured config.now topology turns
+        (record { wire = W.told wire.old; clock = clock; disk = P.disk keeper.old; text = K.contents sink.old })
+        (record { wire = W.told wire.new; clock = clock; disk = P.disk keeper.new; text = K.contents sink.new })) }
     ensures kept { KeepsAll (P.disk keeper.old) (P.past keeper.old) (P.past keeper.new) }
-    ensures open { result ≡ Served.Wire → Rose (W.failed_opens wire.old) (W.failed_opens wire.new) }
-    ensures keeper { result ≡ Served.Keys KeeperFault → Rose (P.faults keeper.old) (P.faults keeper.new) }
-    ensures write { result ≡ Served.Sink → Rose (K.faults sink.old) (K.faults sink.new) }
+    ensures faultless { OnOk result (P.faults keeper.new ≡ P.faults keeper.old) }
+    ensures open { result ≡ Err Served.Wire → Rose (W.failed_opens wire.old) (W.failed_opens wire.new) }
+    ensures keeper { result ≡ Err (Served.Keys KeeperFault) → Rose (P.faults keeper.old) (P.faults keeper.new) }
+    ensures later { OnOk result (K.faults sink.old ≤ K.faults sink.new) }
+    ensures write { result ≡ Err Served.Sink → Rose (K.faults sink.old) (K.faults sink.new) }
 {
     let Ok(peers) = neighbours_at(alloc, config, &topology) else {
-        return Served::Memory;
+        return Err(Served::Memory);
     };
     let Ok(buffer) = room(alloc) else {
-        return Served::Memory;
+        return Err(Served::Memory);
     };
     match open(ports_of(config), total(topology.height), wire, keeper, sink) {
-        Ok(started) => serve_started(
-            alloc, config, topology, started, peers, buffer, turns, wire, clock, keeper, sink,
-        ),
-        Err(ended) => ended,
+        Ok(started) => start_node(alloc, config, topology, started, peers, buffer, sink),
+        Err(ended) => Err(ended),
     }
 }
 
 /// The daemon whose wire is open, and whose start was taken.
-#[tactic(auto, using(crate::proofs::Endings::node_ends, crate::proofs::Endings::no_node, crate::proofs::Openings::is_opening, crate::proofs::Openings::held_at_start))]
-fn serve_started<W: Wire, C: Clock, P: Keeper, K: Sink>(
+fn start_node<K: Sink>(
     alloc: Global,
     config: &Config,
     topology: Topology,
     started: Started,
     peers: Vec<Peer>,
     buffer: Vec<u8>,
-    turns: u32,
-    wire: &mut W,
-    clock: &mut C,
-    keeper: &mut P,
     sink: &mut K,
-) -> Served
-    requires turns { turns ≤ MAX_TURNS }
+) -> Result<Daemon<Station>, Served>
     requires fits { Fits config.now topology }
     requires topology { IsTopology topology }
     requires opening { IsOpening topology (opening_of started) }
-    requires stands { StandsFor (P.disk keeper.old) started.state }
     requires peers { peers.items ≡ peers_of config.now }
     requires few { length peers.items < 2 ^ 16 }
     requires room { DATAGRAM_BYTES ≤ length buffer.items }
-    ensures ends { EndsStarted config.now topology turns started result
-        (record { wire = W.told wire.old; clock = C.told clock.old; disk = P.disk keeper.old; text = K.contents sink.old })
-        (record { wire = W.told wire.new; clock = C.told clock.new; disk = P.disk keeper.new; text = K.contents sink.new }) }
-    ensures kept { KeepsKeys started.state (P.disk keeper.old) (P.past keeper.old) (P.past keeper.new) }
-    ensures keeper { result ≡ Served.Keys KeeperFault → Rose (P.faults keeper.old) (P.faults keeper.new) }
-    ensures write { result ≡ Served.Sink → Rose (K.faults sink.old) (K.faults sink.new) }
-    ensures unopened { result ≢ Served.Wire }
+    ensures begins { IfOk result (BeginsStarted config.now topology started (K.contents sink.old) (K.contents sink.new)) }
+    ensures ended { (wire : Option (List Call)) (clock : Option (List ℕ)) (disk : Option Disk) (turns : ℕ) → IfErr result (λ ended. EndsStarted config.now topology turns started ended
+        (record { wire = wire; clock = clock; disk = disk; text = K.contents sink.old })
+        (record { wire = wire; clock = clock; disk = disk; text = K.contents sink.new })) }
+    ensures unopened { result ≢ Err Served.Wire }
+    ensures unkept { result ≢ Err (Served.Keys KeeperFault) }
+    ensures later { OnOk result (K.faults sink.old ≤ K.faults sink.new) }
+    ensures write { result ≡ Err Served.Sink → Rose (K.faults sink.old) (K.faults sink.new) }
 {
     let opening = opening_of(&started);
-    match start(alloc, config, topology, opening) {
-        Ok(station) => serve_station(
-            alloc,
-            station,
-            started.state,
-            peers,
-            buffer,
-            &opening,
-            turns,
-            wire,
-            clock,
-            keeper,
-            sink,
-        ),
-        Err(_) => Served::Memory,
+    match station_at(alloc, config, topology, opening) {
+        Ok(station) => Daemon::begin(alloc, station, started.state, peers, buffer, &opening, sink),
+        Err(_) => Err(Served::Memory),
     }
-}
-
-/// The turns of a station that has started.
-fn serve_station<W: Wire, C: Clock, P: Keeper, K: Sink>(
-    alloc: Global,
-    mut station: Station,
-    mut keys: KeyState,
-    peers: Vec<Peer>,
-    mut buffer: Vec<u8>,
-    opening: &Opening,
-    turns: u32,
-    wire: &mut W,
-    clock: &mut C,
-    keeper: &mut P,
-    sink: &mut K,
-) -> Served
-    requires turns { turns ≤ MAX_TURNS }
-    requires held { HoldsKeys (P.disk keeper.old) keys (indexes_in station) }
-    requires few { length peers.items < 2 ^ 16 }
-    requires room { DATAGRAM_BYTES ≤ length buffer.items }
-    ensures ends { EndsTurns StationStep indexes_in peers.items opening.now turns station
-        (record { wire = W.told wire.old; clock = C.told clock.old; disk = P.disk keeper.old; text = K.contents sink.old })
-        (record { wire = W.told wire.new; clock = C.told clock.new; disk = P.disk keeper.new; text = K.contents sink.new }) result }
-    ensures kept { KeepsKeys keys (P.disk keeper.old) (P.past keeper.old) (P.past keeper.new) }
-    ensures keeper { result ≡ Served.Keys KeeperFault → Rose (P.faults keeper.old) (P.faults keeper.new) }
-    ensures write { result ≡ Served.Sink → Rose (K.faults sink.old) (K.faults sink.new) }
-    ensures unopened { result ≢ Served.Wire }
-{
-    serve_opened(
-        alloc,
-        &mut station,
-        &mut keys,
-        peers.as_slice(),
-        opening,
-        turns,
-        wire,
-        clock,
-        keeper,
-        sink,
-        &mut buffer,
-    )
 }

@@ -11,8 +11,7 @@ mod verdict_lines;
 mod verifying;
 
 pub use configured::{Configured, configure};
-pub use daemon::serve;
+pub use daemon::{serve, start};
 pub use sp_service_turns::Served;
-pub use starts::start;
 pub use verdict::{Judged, Verdict};
 pub use verifying::verify;

@@ -15,7 +15,7 @@ use std::alloc::Global;
 
 /// The station of a configuration that fits its topology, at the start that the first line of a recording says.
 #[tactic(auto, using(crate::proofs::Bootable::bootable))]
-pub fn start(
+pub fn station_at(
     alloc: Global,
     config: &Config,
     topology: Topology,

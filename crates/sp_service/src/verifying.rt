@@ -11,7 +11,7 @@ ghost use Rattle.sp_topology.specs.Ranges.{IsTopology};
 use crate::configured::{Configured, configure};
 use crate::ready::total;
 use crate::split::{line_count, split};
-use crate::starts::start;
+use crate::starts::station_at;
 use crate::verdict::{Judged, Verdict};
 use crate::verdict_lines::{form_line, mismatch_line, verified_line};
 use sp_base::{Memory, NodeId};
@@ -96,7 +96,7 @@ fn verify_opened(
     requires within { before + length (lines_in reading.now.stage) ≤ MAX_INPUT_BYTES }
     ensures { IfOk result (λ judged. ComesFrom config.now topology opening before reading.now judged.verdict judged.line) }
 {
-    let mut station = start(alloc, config, topology, opening)?;
+    let mut station = station_at(alloc, config, topology, opening)?;
     let judged = verify_lines(alloc, &mut station, before, reading)?;
     Ok(judged)
 }

@@ -31,8 +31,8 @@ at_restock peers polled w b0 b1 early =
     let t = so_far early.0 0 [] Nothing [] Nothing [] true [] in
     record { t = t; calls = []; rest = calls_of polled t; front = refl; made = tells_no_more w w refl; text = front_more b0 b1 (reserve_lines early.0) _ early.1 }
 
-pub at_tick : {N : Type 0} (steps : Steps N) (indexes : N → Indexes) (peers : List Peer) (polled : Option Peer) (n n0 : N) (w : Option (List Call)) (b b0 b1 : Text)
-    → Restocked steps indexes n n0 b b0 → EarlyTick b0 b1 → Early peers polled w w b b1
+pub at_tick : {N : Type 0} {s0 s1 : ℕ} (steps : Steps N) (indexes : N → Indexes) (peers : List Peer) (polled : Option Peer) (n n0 : N) (w : Option (List Call)) (b b0 b1 : Text)
+    → Restocked steps indexes n n0 b b0 s0 s1 → EarlyTick b0 b1 → Early peers polled w w b b1
 at_tick steps indexes peers polled n n0 w b b0 b1 restock early =
     let t = so_far restock.reserved early.0 early.1 Nothing [] Nothing [] true [] in
     record {
@@ -44,9 +44,9 @@ at_tick steps indexes peers polled n n0 w b b0 b1 restock early =
       text = front_on b b0 b1 (reserve_lines restock.reserved) _ restock.text (front_more b0 b1 (tick_line early.0 early.1 ∷ []) _ early.2);
     }
 
-pub at_overlay : {N : Type 0} (steps : Steps N) (indexes : N → Indexes) (peers : List Peer) (polled : Option Peer) (n n0 n1 : N) (c0 c1 : Option (List ℕ))
+pub at_overlay : {N : Type 0} {s0 s1 : ℕ} (steps : Steps N) (indexes : N → Indexes) (peers : List Peer) (polled : Option Peer) (n n0 n1 : N) (c0 c1 : Option (List ℕ))
     (w0 w1 : Option (List Call)) (b b0 b1 b2 : Text)
-    → Restocked steps indexes n n0 b b0 → Ticked steps n0 n1 c0 c1 b0 b1 → EarlyOverlay peers w0 w1 b1 b2 → Early peers polled w0 w1 b b2
+    → Restocked steps indexes n n0 b b0 s0 s1 → Ticked steps n0 n1 c0 c1 b0 b1 → EarlyOverlay peers w0 w1 b1 b2 → Early peers polled w0 w1 b b2
 at_overlay steps indexes peers polled n n0 n1 c0 c1 w0 w1 b b0 b1 b2 restock tick early =
     let t = so_far restock.reserved tick.now tick.answer early.got early.answer Nothing [] true [] in
     record {
@@ -59,9 +59,9 @@ at_overlay steps indexes peers polled n n0 n1 c0 c1 w0 w1 b b0 b1 b2 restock tic
           (front_on b0 b1 b2 (tick_line tick.now tick.answer ∷ []) _ tick.text (front_more b1 b2 (overlay_lines peers early.answer early.got) _ early.text));
     }
 
-pub at_client : {N : Type 0} (steps : Steps N) (indexes : N → Indexes) (peers : List Peer) (polled : Option Peer) (n n0 n1 n2 : N) (c0 c1 : Option (List ℕ))
+pub at_client : {N : Type 0} {s0 s1 : ℕ} (steps : Steps N) (indexes : N → Indexes) (peers : List Peer) (polled : Option Peer) (n n0 n1 n2 : N) (c0 c1 : Option (List ℕ))
     (w0 w1 w2 : Option (List Call)) (b b0 b1 b2 b3 : Text) (x : ℕ)
-    → Restocked steps indexes n n0 b b0 → Ticked steps n0 n1 c0 c1 b0 b1 → Overheard steps peers n1 n2 w0 w1 b1 b2 x → EarlyClient w1 w2 b2 b3
+    → Restocked steps indexes n n0 b b0 s0 s1 → Ticked steps n0 n1 c0 c1 b0 b1 → Overheard steps peers n1 n2 w0 w1 b1 b2 x → EarlyClient w1 w2 b2 b3
     → Early peers polled w0 w2 b b3
 at_client steps indexes peers polled n n0 n1 n2 c0 c1 w0 w1 w2 b b0 b1 b2 b3 x restock tick o early =
     let a = arrives steps peers o.got n1 n2 b1 b2 x o.heard in
@@ -77,9 +77,9 @@ at_client steps indexes peers polled n n0 n1 n2 c0 c1 w0 w1 w2 b b0 b1 b2 b3 x r
           (front_on b1 b2 b3 (overlay_lines peers a.arrived o.got) _ a.text (front_more b2 b3 (client_lines early.reply early.got) _ early.text)));
     }
 
-pub at_poll : {N : Type 0} (steps : Steps N) (indexes : N → Indexes) (peers : List Peer) (polled : Option Peer) (n n0 n1 n2 n3 : N) (c0 c1 : Option (List ℕ))
+pub at_poll : {N : Type 0} {s0 s1 : ℕ} (steps : Steps N) (indexes : N → Indexes) (peers : List Peer) (polled : Option Peer) (n n0 n1 n2 n3 : N) (c0 c1 : Option (List ℕ))
     (w0 w1 w2 w3 : Option (List Call)) (b b0 b1 b2 b3 b4 : Text) (x y : ℕ)
-    → Restocked steps indexes n n0 b b0 → Ticked steps n0 n1 c0 c1 b0 b1 → Overheard steps peers n1 n2 w0 w1 b1 b2 x → Served steps n2 n3 w1 w2 b2 b3 y → w3 ≡ w2
+    → Restocked steps indexes n n0 b b0 s0 s1 → Ticked steps n0 n1 c0 c1 b0 b1 → Overheard steps peers n1 n2 w0 w1 b1 b2 x → Served steps n2 n3 w1 w2 b2 b3 y → w3 ≡ w2
     → EarlyPoll polled b3 b4 → Early peers polled w0 w3 b b4
 at_poll steps indexes peers polled n n0 n1 n2 n3 c0 c1 w0 w1 w2 w3 b b0 b1 b2 b3 b4 x y restock tick o s silent early =
     let a = arrives steps peers o.got n1 n2 b1 b2 x o.heard in

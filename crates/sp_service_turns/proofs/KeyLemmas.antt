@@ -1,20 +1,23 @@
 -- Indexes and the key file over the parts of a turn, and over turns.
 use Rattle.std.proofs.Common.{◌≡◌, ℕ, ◌+◌, ◌-◌, ◌≤◌, ◌<◌, min, Bool, true, false, List, [], ◌∷◌, Option, None, Some, Err, refl, sym, ap, subst, ◌∙◌, arith, inl, inr}
-use Rattle.std.specs.Prelude.{◌&&◌, if◌then◌else◌, nat_lt, IfSome}
+use Rattle.std.specs.Prelude.{◌&&◌, ◌^◌, if◌then◌else◌, nat_lt, nat_le, IfSome}
 use Rattle.std.proofs.lemmas.Bool.Decides.{nat_tests}
 use Rattle.std.proofs.lemmas.Option.{none-some}
+use Rattle.sp_keystate.proofs.StartingLemmas.{last_serial}
 use Rattle.sp_keystate.proofs.Since.{since_none, since_on, since_weaker}
 use Rattle.sp_keystate.specs.Changes.{Changes}
 use Rattle.sp_keystate.specs.Soundness.{Keeps}
-use Rattle.sp_keystate.specs.States.{IsSoundAt, KeepsMeanwhile, SoundAs, StandsFor, changed_state}
+use Rattle.sp_keystate.specs.States.{IsChangeAnswer, IsSoundAt, KeepsMeanwhile, SoundAs, StandsFor, changed_state, reserve_end, serial_end}
 use Rattle.sp_keystate.specs.declared.key_state.KeyState.{KeyState}
+use Rattle.sp_keystate.specs.declared.refused.KeyRefused.{KeyRefused}
+use Rattle.sp_keystate.specs.declared.refused.KeyRefused.TheVariants.{KeeperFault, Unformatted, Formatted, Exhausted}
 use Rattle.sp_keystate.specs.declared.numbers.Numbers.{Numbers}
 use Rattle.sp_outside.specs.Disk.{Disk}
 use Rattle.sp_recording.specs.declared.line.Line.TheVariants as lines
 use Rattle.sp_service_turns.specs.Done.{Gets, Restocked, Text}
 use Rattle.sp_service_turns.specs.Indexes.{AreReserved, HaveLeft, UsesOne, are_few, next_bound, reserved_by}
 use Rattle.sp_service_turns.specs.Inputs.{Reserve, Steps}
-use Rattle.sp_service_turns.specs.Keys.{HoldsKeys, IfKeysEnd, KeepsKeys, KeysGoOn}
+use Rattle.sp_service_turns.specs.Keys.{HoldsKeys, IfKeysEnd, IfKeysEndBy, IsEnd, KeepsKeys, KeysGoOn, NoMore}
 use Rattle.sp_service_turns.specs.declared.ended.Ended.{Ended}
 use Rattle.sp_service_turns.specs.declared.ended.Ended.TheVariants as ended
 use Rattle.sp_service_turns.specs.declared.indexes.Indexes.{Indexes}
@@ -68,15 +71,15 @@ left_less n i (inr all) = inr all
 
 -- ---- a reserve, or none
 
-pub restocked_none : {N : Type 0} (steps : Steps N) (indexes : N → Indexes) (n : N) (b : Text) (i : Indexes) → i ≡ indexes n → are_few i ≡ false → Restocked steps indexes n n b b
-restocked_none steps indexes n b i is few =
+pub restocked_none : {N : Type 0} (steps : Steps N) (indexes : N → Indexes) (n : N) (b : Text) (s : ℕ) (i : Indexes) → i ≡ indexes n → are_few i ≡ false → Restocked steps indexes n n b b s s
+restocked_none steps indexes n b s i is few =
     let here : are_few (indexes n) ≡ false = subst (λ (j : Indexes). are_few j ≡ false) is few in
-    record { reserved = None; due = not_due (indexes n) here; step = refl; left = enough (indexes n) here; text = gets_itself b }
+    record { reserved = None; due = not_due (indexes n) here; step = refl; left = enough (indexes n) here; text = gets_itself b; serial = omega arith }
 
-pub restocked_some : {N : Type 0} (steps : Steps N) (indexes : N → Indexes) (old new : N) (b0 b1 : Text) (i : Indexes) (upto : ℕ) → i ≡ indexes old → i.index ≤ i.bound
+pub restocked_some : {N : Type 0} (steps : Steps N) (indexes : N → Indexes) (old new : N) (b0 b1 : Text) (before after : KeyState) (i : Indexes) (upto : ℕ) → i ≡ indexes old → i.index ≤ i.bound
     → are_few i ≡ true → upto ≡ next_bound i → steps old (Reserve upto) [] new → AreReserved (indexes old) upto (indexes new) → Gets b0 b1 (lines.Reserve upto ∷ [])
-    → Restocked steps indexes old new b0 b1
-restocked_some steps indexes old new b0 b1 i upto is ordered few bound step reserved text =
+    → after ≡ changed_state before upto before.boot → Restocked steps indexes old new b0 b1 before.serial after.serial
+restocked_some steps indexes old new b0 b1 before after i upto is ordered few bound step reserved text changed =
     let few_here : are_few (indexes old) ≡ true = subst (λ (j : Indexes). are_few j ≡ true) is few in
     let bound_here : upto ≡ next_bound (indexes old) = bound ∙ ap next_bound is in
     let ordered_here : (indexes old).index ≤ (indexes old).bound = subst (λ (j : Indexes). j.index ≤ j.bound) is ordered in
@@ -86,6 +89,7 @@ restocked_some steps indexes old new b0 b1 i upto is ordered few bound step rese
       step = step;
       left = stocked (indexes old) (indexes new) ordered_here (below (indexes old) few_here) (subst (λ (u : ℕ). AreReserved (indexes old) u (indexes new)) bound_here reserved);
       text = text;
+      serial = ap (λ (s : KeyState). s.serial) changed;
     }
 
 -- ---- the key file
@@ -118,19 +122,19 @@ reserved_on old new before after at n total next less is changes there =
     }
 
 pub reserved_held : (told : Option Disk) (old new : KeyState) (i j : Indexes) (upto : ℕ) → StandsFor told new → old.bound ≡ i.bound → are_few i ≡ true
-    → upto ≡ min (old.bound + RESERVED) i.total → new ≡ changed_state old upto old.boot → AreReserved i upto j → HoldsKeys told new j
-reserved_held told old new i j upto stands same few upto_is is reserved =
+    → upto ≡ min (old.bound + RESERVED) i.total → new ≡ changed_state old upto old.boot → new.serial < 2 ^ 64 → AreReserved i upto j → HoldsKeys told new j
+reserved_held told old new i j upto stands same few upto_is is numbered reserved =
     let b : upto ≡ next_bound i = upto_is ∙ ap (λ (n : ℕ). min (n + RESERVED) i.total) same in
     let less = below i few in
     let at : j ≡ record i { bound = upto } = reserved (subst (λ (u : ℕ). i.bound ≤ u) (sym b) (forward i.bound RESERVED i.total less))
     (subst (λ (u : ℕ). u ≤ i.total) (sym b) (capped i.bound RESERVED i.total)) in
-    record { stands = stands; bound = ap (λ (s : KeyState). s.bound) is ∙ sym (ap (λ (k : Indexes). k.bound) at) }
+    record { stands = stands; bound = ap (λ (s : KeyState). s.bound) is ∙ sym (ap (λ (k : Indexes). k.bound) at); serial = numbered }
 
 pub less_than_total : (keys : KeyState) (i : Indexes) → keys.bound ≡ i.bound → are_few i ≡ true → keys.bound < i.total
 less_than_total keys i same few = let less = below i few in omega (arith, same, less)
 
 pub held_on : (told : Option Disk) (keys : KeyState) (i j : Indexes) → HoldsKeys told keys i → UsesOne i j → HoldsKeys told keys j
-held_on told keys i j held uses = record { stands = held.stands; bound = held.bound ∙ sym uses.bound }
+held_on told keys i j held uses = record { stands = held.stands; bound = held.bound ∙ sym uses.bound; serial = held.serial }
 
 pub on_again : (a b c : KeyState) (t u v : Option Disk) → KeysGoOn a b t u → KeysGoOn b c u v → KeysGoOn a c t v
 on_again a b c t u v before after = record {
@@ -152,7 +156,27 @@ kept_on a b t u p q r on before after sound =
     })
     (after (on.sound sound)))
 
-pub keys_end_on : (T U : Type 0) (e : Ended) (P Q : Type 0) → (P → Q) → IfKeysEnd {T = T} (Err e) P → IfKeysEnd {T = U} (Err e) Q
-keys_end_on T U (ended.Keys refused) P Q go h = go h
-keys_end_on T U ended.Sink P Q go h = tt
-keys_end_on T U ended.Memory P Q go h = tt
+pub keys_end_on : (T U : Type 0) (e : Ended) (P : Type 0) (Q R : KeyRefused → Type 0) → ((refused : KeyRefused) → P → Q refused → R refused)
+    → IfKeysEnd {T = T} (Err e) P → IfKeysEndBy {T = T} (Err e) Q → IfKeysEndBy {T = U} (Err e) R
+keys_end_on T U (ended.Keys refused) P Q R go h by = go refused h by
+keys_end_on T U ended.Sink P Q R go h by = tt
+keys_end_on T U ended.Memory P Q R go h by = tt
+
+-- ---- why there are no more indexes
+
+at_end : (keys : KeyState) (total : ℕ) (refused : KeyRefused) → keys.bound < total → IsChangeAnswer {T = Unit {0}} (reserve_end keys total) (Err refused) → IsEnd keys.serial refused
+at_end keys total KeeperFault less answer = tt
+at_end keys total Unformatted less answer = absurd answer
+at_end keys total Formatted less answer = absurd answer
+at_end keys total (Exhausted number) less answer = go (nat_le total keys.bound) refl answer
+  where
+    go : (t : Bool) → nat_le total keys.bound ≡ t → (if t then Some keys.bound else serial_end keys) ≡ Some number → keys.serial ≡ 2 ^ 64 - 1
+    go true most e = let least : total ≤ keys.bound = grind (arith, nat_tests) in absurd (omega (arith, less, least))
+    go false few e = last_serial keys.serial number e
+
+pub no_more : (keys : KeyState) (i at : Indexes) (refused : KeyRefused) → i ≡ at → keys.bound ≡ at.bound → are_few i ≡ true
+    → IsChangeAnswer {T = Unit {0}} (reserve_end keys i.total) (Err refused) → NoMore at keys.serial refused
+no_more keys i at refused is same few answer = record {
+  due = subst (λ (j : Indexes). are_few j ≡ true) is few;
+  end = at_end keys i.total refused (less_than_total keys i (same ∙ sym (ap (λ (j : Indexes). j.bound) is)) few) answer;
+}

@@ -5,6 +5,5 @@ pub mod EarlyLemmas
 pub mod RunLemmas
 pub mod RecordedLemmas
 pub mod VerifiedLemmas
-pub mod WholeLemmas
-pub mod ServedLemmas
+pub mod EndingLemmas
 pub mod OpenLemmas

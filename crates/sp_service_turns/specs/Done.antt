@@ -1,5 +1,5 @@
 -- What each part of a turn promises, and the whole turn. The text is what the recording got.
-use Rattle.std.specs.Prelude.{ℕ, ◌≡◌, Bool, List, [], ◌∷◌, Option, None, Some}
+use Rattle.std.specs.Prelude.{ℕ, ◌≡◌, ◌+◌, Bool, List, [], ◌∷◌, Option, None, Some}
 use Rattle.std.specs.Io.KnownBytes.{Appends}
 use Rattle.sp_base.specs.declared.id.NodeId.{NodeId}
 use Rattle.sp_outside.specs.declared.side.Side.TheVariants.{Overlay, Client}
@@ -10,7 +10,7 @@ use Rattle.sp_recording.specs.declared.line.Line.{Line}
 use Rattle.sp_recording.specs.declared.line.Line.TheVariants as lines
 use Rattle.sp_service_turns.specs.Indexes.{HaveLeft, reserved_by}
 use Rattle.sp_service_turns.specs.Inputs.{Datagram, Poll, Request, Steps, Tick}
-use Rattle.sp_service_turns.specs.Turns.{Moves, Restocks, Turn, calls_of, lines_of, lost_of, node_at, reserve_lines, tick_line, told, unless}
+use Rattle.sp_service_turns.specs.Turns.{Moves, Restocks, Turn, calls_of, changes_by, lines_of, lost_of, node_at, reserve_lines, tick_line, told, unless}
 use Rattle.sp_service_turns.specs.declared.indexes.Indexes.{Indexes}
 use Rattle.sp_service_turns.specs.declared.indexes.TheConstants.{LEAST_LEFT}
 use Rattle.sp_service_turns.specs.declared.peer.Peer.{Peer}
@@ -23,25 +23,29 @@ Text = Option (List ℕ)
 abbrev pub Gets : Text → Text → List Line → Type 0
 Gets before after ls = Appends before after (lines_text ls)
 
--- a turn was made: the node took its steps, the recording got its lines, and what tells its calls tells just those of the turn
+-- a turn was made: the node took its steps, the recording got its lines, what tells its calls tells just those of the turn, and the serial of the key file
+-- rose with its reserve
 pub record Done {N : Type 0} (steps : Steps N) (indexes : N → Indexes) (peers : List Peer) (polled : Option Peer) (old new : N)
-    (wire_before wire_after : Option (List Call)) (clock_before clock_after : Option (List ℕ)) (text_before text_after : Text) (lost : ℕ) : Type 0 where
+    (wire_before wire_after : Option (List Call)) (clock_before clock_after : Option (List ℕ)) (text_before text_after : Text)
+    (serial_before serial_after lost : ℕ) : Type 0 where
   pub t : Turn
   pub moves : Moves steps indexes peers polled t old new
   pub calls : Tells wire_before wire_after (calls_of polled t)
   pub reading : Tells clock_before clock_after (t.now ∷ [])
   pub text : Gets text_before text_after (lines_of peers polled t)
+  pub serial : serial_after ≡ serial_before + changes_by t.reserved
   pub lost_are : lost ≡ lost_of polled t
 
 -- ---- the parts
 
 -- indexes were reserved where few were left, and so many are left now
-pub record Restocked {N : Type 0} (steps : Steps N) (indexes : N → Indexes) (old new : N) (text_before text_after : Text) : Type 0 where
+pub record Restocked {N : Type 0} (steps : Steps N) (indexes : N → Indexes) (old new : N) (text_before text_after : Text) (serial_before serial_after : ℕ) : Type 0 where
   pub reserved : Option ℕ
   pub due : reserved ≡ reserved_by (indexes old)
   pub step : Restocks steps reserved old new
   pub left : HaveLeft LEAST_LEFT (indexes new)
   pub text : Gets text_before text_after (reserve_lines reserved)
+  pub serial : serial_after ≡ serial_before + changes_by reserved
 
 pub record Ticked {N : Type 0} (steps : Steps N) (old new : N) (clock_before clock_after : Option (List ℕ)) (text_before text_after : Text) : Type 0 where
   pub now : ℕ

@@ -9,5 +9,6 @@ pub mod Runs
 pub mod Recorded
 pub mod Served
 pub mod Told
+pub mod Daemons
 pub mod Verified
 pub mod Compared

@@ -1,11 +1,10 @@
 -- Many turns, one after another.
-use Rattle.std.specs.Prelude.{ℕ, ◌≡◌, ◌≤◌, ◌<◌, ◌+◌, ◌%◌, List, [], ◌∷◌, ◌++◌, length, map, slice_get, Option, None}
+use Rattle.std.specs.Prelude.{ℕ, ◌≡◌, ◌+◌, ◌%◌, List, [], ◌∷◌, ◌++◌, length, map, slice_get, Option, None}
 use Rattle.sp_outside.specs.Calls.{Call, Tells}
 use Rattle.sp_recording.specs.declared.line.Line.{Line}
 use Rattle.sp_service_turns.specs.Done.{Gets, Text}
-use Rattle.sp_service_turns.specs.Early.{GetsFront}
 use Rattle.sp_service_turns.specs.Inputs.{Steps}
-use Rattle.sp_service_turns.specs.Turns.{Moves, Turn, calls_of, lines_of, lost_of}
+use Rattle.sp_service_turns.specs.Turns.{Moves, Turn, calls_of, changes_by, lines_of, lost_of}
 use Rattle.sp_service_turns.specs.declared.indexes.Indexes.{Indexes}
 use Rattle.sp_service_turns.specs.declared.peer.Peer.{Peer}
 
@@ -32,32 +31,20 @@ abbrev pub all_lost : List Peer → ℕ → List Turn → ℕ
 all_lost peers turn [] = 0
 all_lost peers turn (t ∷ ts) = lost_of (polled_by peers turn) t + all_lost peers (turn + 1) ts
 
+-- how many changes of the key file these turns made
+abbrev pub all_changes : List Turn → ℕ
+all_changes [] = 0
+all_changes (t ∷ ts) = changes_by t.reserved + all_changes ts
+
 -- so many turns were made
 pub record Ran {N : Type 0} (steps : Steps N) (indexes : N → Indexes) (peers : List Peer) (count : ℕ) (old new : N)
-    (wire_before wire_after : Option (List Call)) (clock_before clock_after : Option (List ℕ)) (text_before text_after : Text) (lost : ℕ) : Type 0 where
+    (wire_before wire_after : Option (List Call)) (clock_before clock_after : Option (List ℕ)) (text_before text_after : Text) (serial_before serial_after : ℕ)
+    (lost : ℕ) : Type 0 where
   pub turns : List Turn
   pub counted : length turns ≡ count
   pub moves : MovesOn steps indexes peers 0 turns old new
   pub calls : Tells wire_before wire_after (all_calls peers 0 turns)
   pub readings : Tells clock_before clock_after (map (λ t. t.now) turns)
   pub text : Gets text_before text_after (all_lines peers 0 turns)
+  pub serial : serial_after ≡ serial_before + all_changes turns
   pub lost_are : lost ≡ all_lost peers 0 turns
-
--- a run that ended early made the first calls of some turns, not more than were asked for, and the recording got a beginning of their lines
-pub record RanEarly (peers : List Peer) (count : ℕ) (wire_before wire_after : Option (List Call)) (text_before text_after : Text) : Type 0 where
-  pub turns : List Turn
-  pub few : length turns ≤ count
-  pub calls : List Call
-  pub rest : List Call
-  pub front : calls ++ rest ≡ all_calls peers 0 turns
-  pub made : Tells wire_before wire_after calls
-  pub text : GetsFront text_before text_after (all_lines peers 0 turns)
-
--- fewer turns were made than were asked for, each of them whole
-pub record RanFewer {N : Type 0} (steps : Steps N) (indexes : N → Indexes) (peers : List Peer) (count : ℕ) (old : N)
-    (wire_before wire_after : Option (List Call)) (clock_before clock_after : Option (List ℕ)) (text_before text_after : Text) : Type 0 where
-  pub made : ℕ
-  pub fewer : made < count
-  pub last : N
-  pub lost : ℕ
-  pub ran : Ran steps indexes peers made old last wire_before wire_after clock_before clock_after text_before text_after lost

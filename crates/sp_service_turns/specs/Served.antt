@@ -1,6 +1,6 @@
 -- What a daemon does from the opening of its wire and its key file to its end line: the wire tells the calls of its turns, the clock their readings, and
 -- the recording gets their lines, where the node takes their steps.
-use Rattle.std.specs.Prelude.{ℕ, ◌≡◌, ◌≤◌, ◌<◌, true, false, List, [], ◌∷◌, ◌++◌, length, map, Option, codes}
+use Rattle.std.specs.Prelude.{ℕ, ◌≡◌, ◌+◌, ◌≤◌, ◌<◌, true, false, List, [], ◌∷◌, ◌++◌, length, map, Option, codes}
 use Rattle.std.specs.Io.KnownBytes.{Appends}
 use Rattle.sp_keystate.specs.RefusedLines.{refused_line}
 use Rattle.sp_keystate.specs.Starting.{NoStart, Starts}
@@ -14,9 +14,9 @@ use Rattle.sp_outside.specs.Streams.{AppendsFront}
 use Rattle.sp_recording.specs.declared.line.Opening.{Opening}
 use Rattle.sp_service_turns.specs.Done.{Text}
 use Rattle.sp_service_turns.specs.Inputs.{Steps}
-use Rattle.sp_service_turns.specs.Keys.{HoldsKeys}
+use Rattle.sp_service_turns.specs.Keys.{HoldsKeys, NoMore}
 use Rattle.sp_service_turns.specs.Recorded.{open_text, whole_text}
-use Rattle.sp_service_turns.specs.Runs.{MovesOn, all_calls}
+use Rattle.sp_service_turns.specs.Runs.{MovesOn, all_calls, all_changes}
 use Rattle.sp_service_turns.specs.Turns.{Turn}
 use Rattle.sp_service_turns.specs.declared.indexes.Indexes.{Indexes}
 use Rattle.sp_service_turns.specs.declared.indexes.TheConstants.{RESERVED}
@@ -72,8 +72,8 @@ opening_of started = record { boot = started.state.boot; index = started.first; 
 
 -- ---- the turns
 
--- The daemon made these turns, from this state of its node on. At their end the key file stands for the bound that the node has
-pub record ServesTurns {N : Type 0} (steps : Steps N) (indexes : N → Indexes) (peers : List Peer) (o : Opening) (start : N) (turns : List Turn)
+-- The daemon made these turns, from this state of its node and this serial of its key file on. At their end the file stands for the bound that the node has
+pub record ServesTurns {N : Type 0} (steps : Steps N) (indexes : N → Indexes) (peers : List Peer) (o : Opening) (start : N) (serial : ℕ) (turns : List Turn)
     (before after : Outside) : Type 0 where
   pub last : N
   pub keys : KeyState
@@ -82,24 +82,27 @@ pub record ServesTurns {N : Type 0} (steps : Steps N) (indexes : N → Indexes) 
   pub readings : Tells before.clock after.clock (map (λ t. t.now) turns)
   pub text : Appends before.text after.text (whole_text peers o turns)
   pub held : HoldsKeys after.disk keys (indexes last)
+  pub serial_is : keys.serial ≡ serial + all_changes turns
 
 -- The daemon made these turns whole, and in the next one no more indexes could be reserved
-pub record StopsAfter {N : Type 0} (steps : Steps N) (indexes : N → Indexes) (peers : List Peer) (o : Opening) (start : N) (turns : List Turn)
+pub record StopsAfter {N : Type 0} (steps : Steps N) (indexes : N → Indexes) (peers : List Peer) (o : Opening) (start : N) (serial : ℕ) (turns : List Turn)
     (refused : KeyRefused) (before after : Outside) : Type 0 where
   pub last : N
   pub moves : MovesOn steps indexes peers 0 turns start last
   pub calls : Tells before.wire after.wire (all_calls peers 0 turns)
   pub readings : Tells before.clock after.clock (map (λ t. t.now) turns)
   pub text : Appends before.text after.text (open_text peers o turns ++ refused_line refused)
+  pub spent : NoMore (indexes last) (serial + all_changes turns) refused
 
 -- the same, but the sink took a beginning of what was to be written
-pub record StopsUntold {N : Type 0} (steps : Steps N) (indexes : N → Indexes) (peers : List Peer) (o : Opening) (start : N) (turns : List Turn)
+pub record StopsUntold {N : Type 0} (steps : Steps N) (indexes : N → Indexes) (peers : List Peer) (o : Opening) (start : N) (serial : ℕ) (turns : List Turn)
     (refused : KeyRefused) (before after : Outside) : Type 0 where
   pub last : N
   pub moves : MovesOn steps indexes peers 0 turns start last
   pub calls : Tells before.wire after.wire (all_calls peers 0 turns)
   pub readings : Tells before.clock after.clock (map (λ t. t.now) turns)
   pub text : AppendsFront before.text after.text (open_text peers o turns ++ refused_line refused)
+  pub spent : NoMore (indexes last) (serial + all_changes turns) refused
 
 -- the first calls of some turns were made, no more than were asked for, and the recording got a beginning of theirs
 pub record BreaksOff (peers : List Peer) (o : Opening) (count : ℕ) (before after : Outside) : Type 0 where
@@ -112,13 +115,13 @@ pub record BreaksOff (peers : List Peer) (o : Opening) (count : ℕ) (before aft
   pub text : AppendsFront before.text after.text (whole_text peers o turns)
 
 -- how a daemon ended that was opened, and was to make so many turns
-pub data EndsTurns {N : Type 0} (steps : Steps N) (indexes : N → Indexes) (peers : List Peer) (o : Opening) (count : ℕ) (start : N) (before after : Outside)
-    : Served → Type 0 where
-  Whole : (turns : List Turn) → length turns ≡ count → ServesTurns steps indexes peers o start turns before after
-      → EndsTurns steps indexes peers o count start before after served.Done
-  Stopped : (turns : List Turn) (refused : KeyRefused) → length turns < count → StopsAfter steps indexes peers o start turns refused before after
-      → EndsTurns steps indexes peers o count start before after (served.Keys refused)
-  Stopped_untold : (turns : List Turn) (refused : KeyRefused) → length turns < count → StopsUntold steps indexes peers o start turns refused before after
-      → EndsTurns steps indexes peers o count start before after served.Sink
-  Unwritten : BreaksOff peers o count before after → EndsTurns steps indexes peers o count start before after served.Sink
-  Forgotten : BreaksOff peers o count before after → EndsTurns steps indexes peers o count start before after served.Memory
+pub data EndsTurns {N : Type 0} (steps : Steps N) (indexes : N → Indexes) (peers : List Peer) (o : Opening) (count : ℕ) (start : N) (serial : ℕ)
+    (before after : Outside) : Served → Type 0 where
+  Whole : (turns : List Turn) → length turns ≡ count → ServesTurns steps indexes peers o start serial turns before after
+      → EndsTurns steps indexes peers o count start serial before after served.Done
+  Stopped : (turns : List Turn) (refused : KeyRefused) → length turns < count → StopsAfter steps indexes peers o start serial turns refused before after
+      → EndsTurns steps indexes peers o count start serial before after (served.Keys refused)
+  Stopped_untold : (turns : List Turn) (refused : KeyRefused) → length turns < count → StopsUntold steps indexes peers o start serial turns refused before after
+      → EndsTurns steps indexes peers o count start serial before after served.Sink
+  Unwritten : BreaksOff peers o count before after → EndsTurns steps indexes peers o count start serial before after served.Sink
+  Forgotten : BreaksOff peers o count before after → EndsTurns steps indexes peers o count start serial before after served.Memory

@@ -2,9 +2,11 @@
 #![tactic(auto)]
 
 mod compared;
+mod daemon;
 mod ended;
 mod indexes;
 mod laws;
+mod lines;
 mod many_turns;
 mod node;
 mod note;
@@ -13,20 +15,18 @@ mod opened;
 mod parts;
 mod peer;
 mod poll;
-mod recorded;
 mod restock;
 mod served;
 mod verified;
 
 pub use compared::{LinesRefused, VerifyRefused};
+pub use daemon::Daemon;
 pub use ended::Ended;
 pub use indexes::{Indexes, LEAST_LEFT, RESERVED};
 pub use laws::recordings_agree;
 pub use many_turns::serve;
 pub use node::Core;
-pub use one_turn::turn;
 pub use opened::{Ports, open, opening_of};
 pub use peer::Peer;
-pub use recorded::serve_recorded;
-pub use served::{Served, serve_opened, tell};
+pub use served::Served;
 pub use verified::verify;

@@ -1,57 +1,75 @@
-// Many turns, one after another.
-ghost use Rattle.std.specs.Prelude.{◌≡◌, ◌≤◌, ◌<◌, ◌^◌, IfOk, IsErrOf, OnErr, OnOk, length};
+// Many turns of a daemon, one after another, to its last line.
+ghost use Rattle.std.specs.Prelude.{◌≡◌, ◌≢◌, ◌≤◌, Err, IfErr, OnOk};
 ghost use Rattle.sp_keystate.specs.declared.refused.KeyRefused.TheVariants.{KeeperFault};
-ghost use Rattle.sp_outside.specs.declared.wire.TheConstants.{DATAGRAM_BYTES};
 ghost use Rattle.sp_outside.specs.Causes.{Rose};
 ghost use Rattle.sp_recording.specs.declared.line.TheConstants.{MAX_TURNS};
-ghost use Rattle.sp_service_turns.specs.Keys.{HoldsKeys, IfKeysEnd, KeepsKeys, KeysGoOn};
-ghost use Rattle.sp_service_turns.specs.Runs.{Ran, RanEarly, RanFewer};
+ghost use Rattle.sp_service_turns.specs.Daemons.{EndsAfter};
+ghost use Rattle.sp_service_turns.specs.Keys.{HoldsKeys, KeepsKeys};
+ghost use Rattle.sp_service_turns.specs.Runs.{Ran};
 
-use crate::ended::Ended;
+use crate::daemon::Daemon;
 use crate::node::Core;
-use crate::one_turn::turn;
-use crate::peer::Peer;
-use crate::poll::polled_by;
-use sp_keystate::KeyState;
+use crate::served::Served;
 use sp_outside::{Clock, Keeper, Sink, Wire};
 use std::alloc::Global;
 
-/// So many turns. The neighbours are polled in a cycle, in the order of the list, which is that of their ids. Gives how many datagrams
-/// were lost. Turns that end early made their first calls, and the recording has a beginning of their lines; those that end by the key file are
-/// whole, and fewer.
-pub fn serve<N: Core, W: Wire, C: Clock, P: Keeper, K: Sink>(
+/// Makes so many turns with a daemon that has made none, and ends it. The neighbours are polled in a cycle, in the order of the list, which is that of their
+/// ids.
+#[tactic(auto, using(crate::proofs::EndingLemmas::finishes))]
+pub fn serve<N: Core + Drop, W: Wire, C: Clock, P: Keeper, K: Sink>(
     alloc: Global,
-    node: &mut N,
-    keys: &mut KeyState,
-    peers: &[Peer],
+    mut daemon: Daemon<N>,
     turns: u32,
     wire: &mut W,
     clock: &mut C,
     keeper: &mut P,
     sink: &mut K,
-    buf: &mut [u8],
-) -> Result<u32, Ended>
-    requires peers { length peers.now < 2 ^ 16 }
+) -> Served
     requires turns { turns ≤ MAX_TURNS }
-    requires buffer { DATAGRAM_BYTES ≤ length buf.old }
-    requires held { HoldsKeys (P.disk keeper.old) keys.old (N.indexes node.old) }
-    ensures ran { IfOk result (λ lost. Ran N.steps N.indexes peers.now turns node.old node.new (W.told wire.old) (W.told wire.new) (C.told clock.old) (C.told clock.new)
-        (K.contents sink.old) (K.contents sink.new) lost) }
-    ensures early { OnErr result (RanEarly peers.now turns (W.told wire.old) (W.told wire.new) (K.contents sink.old) (K.contents sink.new)) }
-    ensures fewer { IfKeysEnd result (RanFewer N.steps N.indexes peers.now turns node.old (W.told wire.old) (W.told wire.new) (C.told clock.old) (C.told clock.new)
-        (K.contents sink.old) (K.contents sink.new)) }
-    ensures held { OnOk result (HoldsKeys (P.disk keeper.new) keys.new (N.indexes node.new)) }
-    ensures kept { KeepsKeys keys.old (P.disk keeper.old) (P.past keeper.old) (P.past keeper.new) }
-    ensures later { K.faults sink.old ≤ K.faults sink.new }
-    ensures failed { IsErrOf result Ended.Sink → Rose (K.faults sink.old) (K.faults sink.new) }
-    ensures keeper { IsErrOf result (Ended.Keys KeeperFault) → Rose (P.faults keeper.old) (P.faults keeper.new) }
+    requires fresh { (daemon.turns ≡ 0) × (daemon.lost ≡ 0) }
+    requires held { HoldsKeys (P.disk keeper.old) daemon.keys (N.indexes daemon.node) }
+    ensures ends { EndsAfter N.steps N.indexes daemon.peers.items turns daemon.node daemon.keys.serial
+        (record { wire = W.told wire.old; clock = C.told clock.old; disk = P.disk keeper.old; text = K.contents sink.old })
+        (record { wire = W.told wire.new; clock = C.told clock.new; disk = P.disk keeper.new; text = K.contents sink.new }) result }
+    ensures kept { KeepsKeys daemon.keys (P.disk keeper.old) (P.past keeper.old) (P.past keeper.new) }
+    ensures unopened { result ≢ Served.Wire }
+    ensures keeper { result ≡ Served.Keys KeeperFault → Rose (P.faults keeper.old) (P.faults keeper.new) }
+    ensures write { result ≡ Served.Sink → Rose (K.faults sink.old) (K.faults sink.new) }
 {
-    let mut lost = 0u32;
-    'turns: for made in 0..turns {
-        let polled = polled_by(peers, made);
-        lost += turn(
-            alloc, node, keys, peers, polled, wire, clock, keeper, sink, buf,
-        )?;
+    match make_turns(alloc, &mut daemon, turns, wire, clock, keeper, sink) {
+        Ok(()) => daemon.finish(alloc, sink),
+        Err(ended) => ended,
     }
-    Ok(lost)
+}
+
+/// Makes so many turns with a daemon that has made none.
+fn make_turns<N: Core + Drop, W: Wire, C: Clock, P: Keeper, K: Sink>(
+    alloc: Global,
+    daemon: &mut Daemon<N>,
+    turns: u32,
+    wire: &mut W,
+    clock: &mut C,
+    keeper: &mut P,
+    sink: &mut K,
+) -> Result<(), Served>
+    requires turns { turns ≤ MAX_TURNS }
+    requires fresh { (daemon.old.turns ≡ 0) × (daemon.old.lost ≡ 0) }
+    requires held { HoldsKeys (P.disk keeper.old) daemon.old.keys (N.indexes daemon.old.node) }
+    ensures ran { OnOk result (Ran N.steps N.indexes daemon.old.peers.items turns daemon.old.node daemon.new.node (W.told wire.old) (W.told wire.new)
+        (C.told clock.old) (C.told clock.new) (K.contents sink.old) (K.contents sink.new) daemon.old.keys.serial daemon.new.keys.serial daemon.new.lost) }
+    ensures counted { OnOk result (daemon.new.turns ≡ turns) }
+    ensures ended { IfErr result (EndsAfter N.steps N.indexes daemon.old.peers.items turns daemon.old.node daemon.old.keys.serial
+        (record { wire = W.told wire.old; clock = C.told clock.old; disk = P.disk keeper.old; text = K.contents sink.old })
+        (record { wire = W.told wire.new; clock = C.told clock.new; disk = P.disk keeper.new; text = K.contents sink.new })) }
+    ensures held { OnOk result (HoldsKeys (P.disk keeper.new) daemon.new.keys (N.indexes daemon.new.node)) }
+    ensures kept { KeepsKeys daemon.old.keys (P.disk keeper.old) (P.past keeper.old) (P.past keeper.new) }
+    ensures later { K.faults sink.old ≤ K.faults sink.new }
+    ensures unopened { result ≢ Err Served.Wire }
+    ensures keeper { result ≡ Err (Served.Keys KeeperFault) → Rose (P.faults keeper.old) (P.faults keeper.new) }
+    ensures write { result ≡ Err Served.Sink → Rose (K.faults sink.old) (K.faults sink.new) }
+{
+    'turns: for _made in 0..turns {
+        daemon.turn(alloc, wire, clock, keeper, sink)?;
+    }
+    Ok(())
 }

@@ -5,7 +5,7 @@ ghost use Rattle.sp_outside.specs.declared.wire.TheConstants.{DATAGRAM_BYTES};
 ghost use Rattle.sp_outside.specs.Causes.{Rose};
 ghost use Rattle.sp_service_turns.specs.Done.{Done};
 ghost use Rattle.sp_service_turns.specs.Early.{Early};
-ghost use Rattle.sp_service_turns.specs.Keys.{HoldsKeys, IfKeysEnd, KeepsKeys, KeysGoOn};
+ghost use Rattle.sp_service_turns.specs.Keys.{HoldsKeys, IfKeysEnd, IfKeysEndBy, KeepsKeys, KeysGoOn, NoMore};
 
 use crate::ended::Ended;
 use crate::node::Core;
@@ -36,7 +36,7 @@ pub fn turn<N: Core, W: Wire, C: Clock, P: Keeper, K: Sink>(
     requires buffer { DATAGRAM_BYTES ≤ length buf.old }
     requires held { HoldsKeys (P.disk keeper.old) keys.old (N.indexes node.old) }
     ensures done { IfOk result (λ lost. Done N.steps N.indexes peers.now polled node.old node.new (W.told wire.old) (W.told wire.new)
-        (C.told clock.old) (C.told clock.new) (K.contents sink.old) (K.contents sink.new) lost) }
+        (C.told clock.old) (C.told clock.new) (K.contents sink.old) (K.contents sink.new) keys.old.serial keys.new.serial lost) }
     ensures early { OnErr result (Early peers.now polled (W.told wire.old) (W.told wire.new) (K.contents sink.old) (K.contents sink.new)) }
     ensures held { OnOk result (HoldsKeys (P.disk keeper.new) keys.new (N.indexes node.new)) }
     ensures on { OnOk result (KeysGoOn keys.old keys.new (P.disk keeper.old) (P.disk keeper.new)) }
@@ -44,6 +44,7 @@ pub fn turn<N: Core, W: Wire, C: Clock, P: Keeper, K: Sink>(
     ensures kept { KeepsKeys keys.old (P.disk keeper.old) (P.past keeper.old) (P.past keeper.new) }
     ensures unmoved { IfKeysEnd result ((node.new ≡ node.old) × (W.told wire.new ≡ W.told wire.old) × (C.told clock.new ≡ C.told clock.old)
         × (K.contents sink.new ≡ K.contents sink.old)) }
+    ensures spent { IfKeysEndBy result (NoMore (N.indexes node.old) keys.old.serial) }
     ensures later { K.faults sink.old ≤ K.faults sink.new }
     ensures failed { IsErrOf result Ended.Sink → Rose (K.faults sink.old) (K.faults sink.new) }
     ensures keeper { IsErrOf result (Ended.Keys KeeperFault) → Rose (P.faults keeper.old) (P.faults keeper.new) }

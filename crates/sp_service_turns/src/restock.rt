@@ -4,7 +4,7 @@ ghost use Rattle.sp_keystate.specs.declared.refused.KeyRefused.TheVariants.{Keep
 ghost use Rattle.sp_outside.specs.Causes.{Rose};
 ghost use Rattle.sp_service_turns.specs.Done.{Restocked};
 ghost use Rattle.sp_service_turns.specs.Early.{EarlyRestock};
-ghost use Rattle.sp_service_turns.specs.Keys.{HoldsKeys, IfKeysEnd, KeepsKeys, KeysGoOn};
+ghost use Rattle.sp_service_turns.specs.Keys.{HoldsKeys, IfKeysEnd, IfKeysEndBy, KeepsKeys, KeysGoOn, NoMore};
 
 use crate::ended::Ended;
 use crate::indexes::RESERVED;
@@ -16,7 +16,7 @@ use sp_recording::LineRef;
 use std::alloc::Global;
 
 /// Reserves more indexes where few are left: in the key file first, then at the node, and then it is recorded.
-#[tactic(auto, using(crate::proofs::KeyLemmas::unchanged, crate::proofs::KeyLemmas::kept_none, crate::proofs::KeyLemmas::kept_by))]
+#[tactic(auto, using(crate::proofs::KeyLemmas::unchanged, crate::proofs::KeyLemmas::kept_none, crate::proofs::KeyLemmas::kept_by, crate::proofs::KeyLemmas::no_more))]
 pub fn restock<N: Core, P: Keeper, K: Sink>(
     alloc: Global,
     node: &mut N,
@@ -25,13 +25,15 @@ pub fn restock<N: Core, P: Keeper, K: Sink>(
     sink: &mut K,
 ) -> Result<(), Ended>
     requires { HoldsKeys (P.disk keeper.old) keys.old (N.indexes node.old) }
-    ensures restocked { OnOk result (Restocked N.steps N.indexes node.old node.new (K.contents sink.old) (K.contents sink.new)) }
+    ensures restocked { OnOk result (Restocked N.steps N.indexes node.old node.new (K.contents sink.old) (K.contents sink.new)
+        keys.old.serial keys.new.serial) }
     ensures held { OnOk result (HoldsKeys (P.disk keeper.new) keys.new (N.indexes node.new)) }
     ensures on { OnOk result (KeysGoOn keys.old keys.new (P.disk keeper.old) (P.disk keeper.new)) }
     ensures faultless { OnOk result (P.faults keeper.new ≡ P.faults keeper.old) }
     ensures kept { KeepsKeys keys.old (P.disk keeper.old) (P.past keeper.old) (P.past keeper.new) }
     ensures early { OnErr result (EarlyRestock (K.contents sink.old) (K.contents sink.new)) }
     ensures unmoved { IfKeysEnd result ((node.new ≡ node.old) × (K.contents sink.new ≡ K.contents sink.old)) }
+    ensures spent { IfKeysEndBy result (NoMore (N.indexes node.old) keys.old.serial) }
     ensures later { K.faults sink.old ≤ K.faults sink.new }
     ensures failed { IsErrOf result Ended.Sink → Rose (K.faults sink.old) (K.faults sink.new) }
     ensures keeper { IsErrOf result (Ended.Keys KeeperFault) → Rose (P.faults keeper.old) (P.faults keeper.new) }

@@ -1,4 +1,5 @@
 pub mod Complete
+pub mod Daemons
 pub mod GeneratedRuns
 pub mod Outputs
 pub mod Said

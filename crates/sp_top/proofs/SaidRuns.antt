@@ -20,7 +20,9 @@ use Rattle.sp_top.specs.Complete.{IsCompleteReplay, IsDoneOrFailed}
 use Rattle.sp_top.specs.Outputs.{usage_line}
 use Rattle.sp_keystate.specs.RefusedLines.{refused_line}
 use Rattle.sp_keystate.specs.declared.refused.KeyRefused.TheVariants as keys
-use Rattle.sp_top.specs.Services.{AskEnds, DaemonEnds, FormatEnds, Keeper_failed, KeepsFile}
+use Rattle.sp_top.proofs.Daemons.{runs}
+use Rattle.sp_top.specs.Daemons.{DaemonEnds}
+use Rattle.sp_top.specs.Services.{AskEnds, FormatEnds, Keeper_failed, KeepsFile}
 use Rattle.sp_top.specs.declared.command.Command.{Command}
 use Rattle.sp_top.specs.declared.command.Command.TheVariants as commands
 use Rattle.sp_top.specs.declared.ended.Status.{Status}
@@ -91,7 +93,7 @@ pub served : (turns : ℕ) (left : Option (List ℕ)) (past : Option Past) (stat
     → DaemonEnds left turns status o0 o1 → status ≢ statuses.Usage → SaidClaims (Some (commands.Daemon turns)) left past status o0 o1
 served turns left past status o0 o1 ends usage = record {
   wrote = λ uncalled _. absurd (cc);
-  served = ends;
+  served = runs left turns status o0 o1 ends;
   complete = λ read written. tt;
   generated = tt;
   usage = λ is. absurd (usage is);
@@ -188,7 +190,7 @@ claimed (Some commands.Verify) left o = record {
 }
 claimed (Some (commands.Daemon turns)) left o = record {
   wrote = λ _ _. (refl, refl);
-  served = inr (record { cause = inr refl; quiet = (refl, refl, refl); unwritten = refl });
+  served = runs left turns statuses.Memory o o (inr (record { cause = inr refl; quiet = (refl, refl, refl); unwritten = refl }));
   complete = λ read written. tt;
   generated = tt;
   usage = λ is. absurd (cc);

@@ -19,7 +19,8 @@ use Rattle.sp_service_turns.specs.declared.served.Served.{Served}
 use Rattle.sp_service_ask.specs.Asking.{Asked, Unopened}
 use Rattle.sp_service_ask.specs.declared.question.Question.{Question}
 use Rattle.sp_words.specs.declared.command_line.Ask.{Ask}
-use Rattle.sp_top.specs.Services.{Answers, AskEnds, DaemonEnds, FormatEnds, IsTold, Keeper_failed, Made, Makes, Was_formatted, formatted_line, No_port, No_reply, Reply, question_of, reply_line, unanswered_line}
+use Rattle.sp_top.specs.Daemons.{DaemonEnds}
+use Rattle.sp_top.specs.Services.{Answers, AskEnds, FormatEnds, IsTold, Keeper_failed, Made, Makes, Was_formatted, formatted_line, No_port, No_reply, Reply, question_of, reply_line, unanswered_line}
 use Rattle.sp_top.specs.Statuses.{key_status, served_status}
 use Rattle.sp_top.specs.declared.ended.Status.{Status}
 use Rattle.sp_top.specs.declared.ended.Status.TheVariants as statuses

@@ -1,8 +1,7 @@
--- How the commands end that call the wire or the key file: a daemon, a question to one, and the making of a key file.
-use Rattle.std.specs.Prelude.{ℕ, ◌≡◌, ◌⊎◌, Bool, List, [], ◌∷◌, ◌++◌, Option, Some, None, codes}
+-- How the commands end that call the wire or the key file: a question to a daemon, the making of a key file, and a daemon itself.
+use Rattle.std.specs.Prelude.{ℕ, ◌≡◌, ◌⊎◌, List, [], ◌∷◌, ◌++◌, Option, Some, None, codes}
 use Rattle.std.specs.Fmt.{decimal}
 use Rattle.std.specs.Io.KnownBytes.{Appends}
-use Rattle.sp_base.specs.declared.limits.TheConstants.{MAX_INPUT_BYTES}
 use Rattle.sp_lines.specs.Rows.{line_text}
 use Rattle.sp_keystate.specs.RefusedLines.{refused_line}
 use Rattle.sp_keystate.specs.Starting.{KeepsAll}
@@ -10,38 +9,16 @@ use Rattle.sp_keystate.specs.States.{Finds, FormatMoments, Formats}
 use Rattle.sp_keystate.specs.declared.refused.KeyRefused.TheVariants as keys
 use Rattle.sp_keystate.specs.declared.slot.InUse.{InUse}
 use Rattle.sp_outside.specs.Disk.{Disk}
-use Rattle.sp_outside.specs.Streams.{AppendsFront, IsInput}
-use Rattle.sp_service.specs.Served.{Ends, IsQuiet}
+use Rattle.sp_outside.specs.Streams.{AppendsFront}
 use Rattle.sp_service_turns.specs.Served.{Outside, wire_line}
-use Rattle.sp_service_turns.specs.declared.served.Served.{Served}
 use Rattle.sp_service_ask.specs.Asking.{Asked, Unopened}
 use Rattle.sp_service_ask.specs.declared.question.Question.{Question}
 use Rattle.sp_words.specs.declared.command_line.Ask.{Ask}
-use Rattle.sp_top.specs.Statuses.{served_status}
+use Rattle.sp_top.specs.Daemons.{DaemonRuns}
 use Rattle.sp_top.specs.declared.command.Command.{Command}
 use Rattle.sp_top.specs.declared.command.Command.TheVariants as commands
 use Rattle.sp_top.specs.declared.ended.Status.{Status}
 use Rattle.sp_top.specs.declared.ended.Status.TheVariants as statuses
-
--- ---- a daemon
-
--- it was the daemon of what a source had left, of which no more is read than may be
-pub record ServedFrom (left : Option (List ℕ)) (turns : ℕ) (status : Status) (before after : Outside) : Type 0 where
-  pub text : List ℕ
-  pub is_cut : Bool
-  pub input : IsInput left MAX_INPUT_BYTES text is_cut
-  pub ended : Served
-  pub status_is : status ≡ served_status ended
-  pub ends : Ends text is_cut turns before after ended
-
--- the input couldn't be read, and nothing else was called
-pub record IsUnread (status : Status) (before after : Outside) : Type 0 where
-  pub cause : (status ≡ statuses.Source) ⊎ (status ≡ statuses.Memory)
-  pub quiet : IsQuiet before after
-  pub unwritten : after.text ≡ before.text
-
-abbrev pub DaemonEnds : Option (List ℕ) → ℕ → Status → Outside → Outside → Type 0
-DaemonEnds left turns status before after = ServedFrom left turns status before after ⊎ IsUnread status before after
 
 -- ---- a question
 
@@ -116,7 +93,7 @@ KeepsFile _ told past now = now ≡ past
 
 -- how what the words say ended, where it calls the wire or the keeper
 abbrev pub ServiceEnds : Option Command → Option (List ℕ) → Status → Outside → Outside → Type 0
-ServiceEnds (Some (commands.Daemon turns)) left status before after = DaemonEnds left turns status before after
+ServiceEnds (Some (commands.Daemon turns)) left status before after = DaemonRuns left turns status before after
 ServiceEnds (Some (commands.Ask a)) left status before after = AskEnds a status before after
 ServiceEnds (Some commands.Format) left status before after = FormatEnds status before after
 ServiceEnds _ left status before after = Unit {0}

@@ -2,7 +2,7 @@
 ghost use Rattle.std.specs.Prelude.{◌≡◌, ◌≢◌, ◌⊎◌, None as Nothing};
 ghost use Rattle.sp_keystate.specs.Starting.{KeepsAll};
 ghost use Rattle.sp_outside.specs.Causes.{Rose};
-ghost use Rattle.sp_top.specs.Services.{DaemonEnds};
+ghost use Rattle.sp_top.specs.Daemons.{DaemonEnds};
 ghost use Rattle.sp_top.specs.Statuses.{served_status};
 ghost use Rattle.sp_words.specs.CommandLines.{IsTurns};
 

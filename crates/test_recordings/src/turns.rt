@@ -6,12 +6,14 @@ use sp_outside::{
     WirePlan,
 };
 use sp_recording::read;
-use sp_service_turns::{Core, Ended, Indexes, Peer, RESERVED, VerifyRefused, serve, verify};
+use sp_service_turns::{
+    Core, Daemon, Indexes, Peer, RESERVED, Served, VerifyRefused, opening_of, serve, verify,
+};
 use std::alloc::Global;
 use std::process::Abort;
 use std::test::Fail;
 
-/// What three turns record. The wire fails at the second send and at the client side's second receive.
+/// What three turns record between the first and the last line. The wire fails at the second send and at the client side's second receive.
 const RECORDED: &str = "\
 tick 1000 ba7816bf8f01cfea414140de5dae2223b00361a396177a9cb410ff61f20015ad\n\
 overlay 2 53 e3b0c44298fc1c149afbf4c8996fb92427ae41e4649b934ca495991b7852b855\n\
@@ -23,6 +25,9 @@ tick 1006 ba7816bf8f01cfea414140de5dae2223b00361a396177a9cb410ff61f20015ad\n\
 stray 5000\n\
 poll 2 e3b0c44298fc1c149afbf4c8996fb92427ae41e4649b934ca495991b7852b855\n\
 ";
+
+/// The first line, of a first start.
+const FIRST: &str = "recording 1 1 0 32\n";
 
 /// A line that such a node doesn't make: the digest of no bytes at a tick.
 const OTHER: &str = "tick 1007 e3b0c44298fc1c149afbf4c8996fb92427ae41e4649b934ca495991b7852b855\n";
@@ -75,7 +80,7 @@ impl Core for Fixed {
 }
 
 /// Three turns that are recorded in this sink.
-fn three_turns<K: Sink>(alloc: Global, sink: &mut K) -> Result<Result<u32, Ended>, Fail> {
+fn three_turns<K: Sink>(alloc: Global, sink: &mut K) -> Result<Served, Fail> {
     let overlay = [
         Some(Coming {
             port: 9_002,
@@ -98,30 +103,23 @@ fn three_turns<K: Sink>(alloc: Global, sink: &mut K) -> Result<Result<u32, Ended
     };
     let mut wire = MemoryWire::new(alloc, &overlay, &client, plan);
     let mut clock = MemoryClock::planned(&[1_000], 1_006);
-    let mut buf = vec![in alloc; 0u8; DATAGRAM_BYTES]?;
     let mut keeper = MemoryKeeper::new();
     let Ok(_) = format_keys(&mut keeper) else {
         return Err("no key file".into());
     };
-    let Ok(mut started) = start(&mut keeper, RESERVED, RESERVED) else {
+    let Ok(started) = start(&mut keeper, RESERVED, RESERVED) else {
         return Err("no start".into());
     };
     if started.state.bound != RESERVED {
         return Err("another bound".into());
     }
-    let answer = serve(
-        alloc,
-        &mut Fixed,
-        &mut started.state,
-        &PEERS,
-        3,
-        &mut wire,
-        &mut clock,
-        &mut keeper,
-        sink,
-        &mut buf,
-    );
-    Ok(answer)
+    let opening = opening_of(&started);
+    let peers = Vec::from_slice(alloc, &PEERS)?;
+    let buffer = vec![in alloc; 0u8; DATAGRAM_BYTES]?;
+    match Daemon::begin(alloc, Fixed, started.state, peers, buffer, &opening, sink) {
+        Ok(daemon) => Ok(serve(alloc, daemon, 3, &mut wire, &mut clock, &mut keeper, sink)),
+        Err(ended) => Ok(ended),
+    }
 }
 
 /// How a recording with these lines comes out at such a node.
@@ -130,7 +128,7 @@ fn verified(
     alloc: Global,
     last: &str,
 ) -> Result<Result<u32, VerifyRefused>, Fail> {
-    let text = format!(in alloc; "recording 1 1 0 32\n{RECORDED}{last}")?;
+    let text = format!(in alloc; "{FIRST}{RECORDED}{last}")?;
     assert!(rt; text.len() < 10_000);
     let reading = read(alloc, 32, &[NodeId(2), NodeId(3)], 0, text.as_bytes())?;
     Ok(verify(alloc, &mut Fixed, 0, &reading))
@@ -140,8 +138,9 @@ fn verified(
 fn three_turns_are_recorded_and_verified(rt: HostRuntime) -> Result<(), Fail> {
     let alloc = rt.alloc();
     let mut sink = MemorySink::new(alloc);
-    assert_eq!(rt; three_turns(alloc, &mut sink)?, Ok(2));
-    assert!(rt; sink.bytes() == RECORDED.as_bytes());
+    assert_eq!(rt; three_turns(alloc, &mut sink)?, Served::Done);
+    let whole = format!(in alloc; "{FIRST}{RECORDED}end turns 3 lost 2\n")?;
+    assert!(rt; sink.bytes() == whole.as_bytes());
     assert_eq!(rt; verified(&rt, alloc, "")?, Ok(8));
     Ok(())
 }
@@ -161,9 +160,9 @@ fn the_first_other_digest_and_the_first_bad_line_are_told(rt: HostRuntime) -> Re
 #[test]
 fn a_sink_that_fails_ends_the_turns_with_a_beginning(rt: HostRuntime) -> Result<(), Fail> {
     let alloc = rt.alloc();
-    let mut sink = PlannedSink::new(alloc, 1_000, &[2]);
-    assert_eq!(rt; three_turns(alloc, &mut sink)?, Err(Ended::Sink));
-    let mut beginning = String::new(alloc);
+    let mut sink = PlannedSink::new(alloc, 1_000, &[3]);
+    assert_eq!(rt; three_turns(alloc, &mut sink)?, Served::Sink);
+    let mut beginning = FIRST.to_string(alloc)?;
     for line in RECORDED.split_inclusive('\n').take(2) {
         beginning.push_str(line)?;
     }

@@ -5,7 +5,7 @@ use Rattle.sp_service_turns.proofs.one_turn.turn.Goals as goal
 
 pub returns-clause-done : goal.returns-clause-done
 returns-clause-done g c =
-    whole g.N.Core.steps g.N.Core.indexes c.args.peers.now c.args.polled _ _ _ _ _ _ _ _ _ _ _ _ _ _ _ _ _ _ _ _ _ c.in_ok-restock.ensures.restocked c.in_ok-tick.ensures.ticked
+    whole g.N.Core.steps g.N.Core.indexes c.args.peers.now c.args.polled _ _ _ _ _ _ _ _ _ _ _ _ _ _ _ _ _ _ _ _ _ _ _ c.in_ok-restock.ensures.restocked c.in_ok-tick.ensures.ticked
     c.in_ok-tick.ensures.uses c.in_ok-overlay_lost.ensures.heard c.in_ok-overlay_lost.ensures.uses c.in_ok-client_lost.ensures.served c.in_ok-poll_lost.ensures.polled
 
 pub returns-clause-held : goal.returns-clause-held

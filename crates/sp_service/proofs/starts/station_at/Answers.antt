@@ -1,6 +1,6 @@
 use Rattle.std.proofs.Common.{◌∙◌}
 use Rattle.sp_service.proofs.Bootable.{bootable}
-use Rattle.sp_service.proofs.starts.start.Goals as goal
+use Rattle.sp_service.proofs.starts.station_at.Goals as goal
 
 pub boot-requires : goal.boot-requires
 boot-requires c =
