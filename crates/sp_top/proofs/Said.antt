@@ -1,5 +1,5 @@
 -- What words say that are no command, or a command line without a command.
-use Rattle.std.proofs.Common.{◌≡◌, ℕ, List, Option, Some, None, sym, ap, ◌∙◌, subst}
+use Rattle.std.proofs.Common.{◌≡◌, ℕ, List, Some, None, sym, ap, ◌∙◌, subst}
 use Rattle.sp_client.specs.Requests.{IsRequest}
 use Rattle.sp_client.specs.declared.request.Request.{Request}
 use Rattle.sp_words.specs.CommandLines.{IsCommandLine, texts_for}
