@@ -62,6 +62,8 @@ RECIPES = [
     ("15,872 frames with one bit changed", [b"replay"], [(HEADER + b"poll 1 2\n", 1), (FLIPS, 31), (b"pass 1 2 1\nend\n", 1)], 0,
      b"journal 1\n" + FIRST_FRAME + HEARD + b"15874 learned 1\nsummary events 15874 sent 0 delivered 0 priority 0 frames 1\n"),
     ("an event without an end", [b"replay"], [(HEADER, 1), (b"0", 134_217_728)], 3, b"journal 1\nrefused 9 LineLong\n"),
+    ("a schedule of more than 64 MiB", [b"replay"], [(HEADER, 1), (b"inject 1 2 " + 65_507 * b"00" + b"\n", 513)], 3,
+     b"journal 1\n" + b"".join(b"%d magic\n" % number for number in range(1, 513)) + b"refused 0 TooBig\n"),
     ("bytes without an end after end", [b"replay"], [(HEADER + b"end\n", 1), (b"0", 134_217_728)], 3, b"journal 1\nrefused 10 LineLong\n"),
 ]
 

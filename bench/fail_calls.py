@@ -2,7 +2,7 @@
 
 Where an allocation fails a run must end with status 0 and its output, or with status 9 and nothing written; a second round lets each later
 allocation fail too. Where one read of the input fails, and the next would go well, it must end with status 5 and nothing written; where one
-write fails, with status 6 and a beginning of the output. A command of which no allocation, read or write is counted is a fault of its own:
+write fails, with status 6 and a beginning of the output. A replay writes while it reads, so on 9 and 5 too it has written a beginning. A command of which no allocation, read or write is counted is a fault of its own:
 then nothing was tried. `generate` reads nothing, so there no read may be counted. Of more than MANY allocations SOME are tried, evenly apart, and
 the last one. It needs a C compiler, `cc`.
 """
@@ -61,6 +61,10 @@ class Failing:
             ends[status] = ends.get(status, 0) + 1
         return ends
 
+    def is_broken_off(self, output):
+        """What a run may have written that a failed read or want of memory ended."""
+        return output == b"" or (self.words == ["replay"] and self.wanted.startswith(output) and output != self.wanted)
+
     def all(self):
         status, output, counts = self.run()
         if self.text is None and output.startswith(self.wanted):
@@ -70,12 +74,12 @@ class Failing:
         allocations, reads, writes = counts
         if 0 in (allocations, writes) or (reads == 0) != (self.text is None):
             sys.exit(f"{self.name}: {counts} allocations, reads and writes were counted, so nothing would be tried, or what reads nothing read")
-        in_memory = lambda status, output: (status, output) in ((0, self.wanted), (9, b""))
+        in_memory = lambda status, output: (status, output) == (0, self.wanted) or (status == 9 and self.is_broken_off(output))
         for rest in ({}, {"FAIL_REST": "1"}):
             ends = self.each("FAIL_ALLOC", allocations, in_memory, **rest)
             which = "it and all later ones fail" if rest else "it alone fails"
             print(f"{self.name}: {allocations} allocations, {which}: {ends.get(0, 0)} whole outputs, {ends.get(9, 0)} times status 9")
-        self.each("FAIL_READ", reads, lambda status, output: (status, output) == (5, b""))
+        self.each("FAIL_READ", reads, lambda status, output: status == 5 and self.is_broken_off(output))
         self.each("FAIL_WRITE", writes, lambda status, output: status == 6 and self.wanted.startswith(output) and output != self.wanted)
         print(f"{self.name}: {reads} reads and {writes} writes, of which one fails: status 5 and 6")
 

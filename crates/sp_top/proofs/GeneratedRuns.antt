@@ -10,7 +10,7 @@ use Rattle.sp_schedule_events.specs.declared.event.Event.{Event}
 use Rattle.sp_world.specs.Past.{Past}
 use Rattle.sp_world.specs.declared.refused.WorldRefused.{WorldRefused}
 use Rattle.sp_world.specs.declared.refused.WorldRefused.TheVariants as stops
-use Rattle.sp_top.specs.Claims.{Wrote}
+use Rattle.sp_top.specs.Claims.{WorldClaims, Wrote}
 use Rattle.sp_top.specs.Outputs.{Generated_summary, IsGenerated, generated_text}
 use Rattle.sp_top.specs.declared.command.Command.TheVariants as commands
 use Rattle.sp_top.specs.Played.{IsPlayedBy}
@@ -42,9 +42,12 @@ generate_written number left past before after is written = record {
 }
 
 -- a beginning of it was written
-pub generate_begun : (number : ℕ) (left : Option (List ℕ)) (past : Past) (before after : Option (List ℕ)) → IsGenerated number past
+pub generate_begun : (number : ℕ) (left : Option (List ℕ)) (past : Past) (before after : Option (List ℕ)) → IsGenerated number past → WorldClaims past
     → AppendsFront before after (generated_text past.journal) → Wrote (Some (commands.Generate number)) left (Some past) statuses.Sink before after
-generate_begun number left past before after is begun = record {
+generate_begun number left past before after is claims begun = record {
+  whole = Some past;
+  claims = claims;
+  goes_on = refl;
   status = statuses.Done;
   output = generated_text past.journal;
   is_output = Generated_summary number past is;

@@ -2,6 +2,11 @@ pub mod Complete
 pub mod Daemons
 pub mod GeneratedRuns
 pub mod Outputs
+pub mod Ways
+pub mod Begun
+pub mod Lines
+pub mod Feeding
+pub mod Ends
 pub mod Said
 pub mod SaidRuns
 pub mod Services

@@ -41,13 +41,13 @@ use Rattle.sp_top.specs.Statuses.{verdict_status, verified_status}
 -- ---- whole readings
 
 -- a reading that ended well read a text that wasn't cut, up to its line `end`
-record EndedWell (is_cut : Bool) (stage : Stage) : Type 0 where
-  whole : is_cut ≡ false
-  scenario : Scenario
-  events : List Event
-  end : stage ≡ stages.End scenario events
+pub record EndedWell (is_cut : Bool) (stage : Stage) : Type 0 where
+  pub whole : is_cut ≡ false
+  pub scenario : Scenario
+  pub events : List Event
+  pub end : stage ≡ stages.End scenario events
 
-ended_well : (is_cut : Bool) (stage : Stage) (line : ℕ) (stop : Stop Kind) → endings.Whole ≡ ending_of is_cut stage line stop → EndedWell is_cut stage
+pub ended_well : (is_cut : Bool) (stage : Stage) (line : ℕ) (stop : Stop Kind) → endings.Whole ≡ ending_of is_cut stage line stop → EndedWell is_cut stage
 ended_well true stage line Nothing_left e = absurd cc
 ended_well false stage line Nothing_left e = at_end stage e
   where
@@ -187,7 +187,7 @@ pub usage_written : (left : Option (List ℕ)) (world : Option Past) (status : S
 usage_written left world status before after worldless (inl usage) whole begun =
     rw (worldless, usage) (record { output = usage_line; is_output = No_command; written = whole usage })
 usage_written left world status before after worldless (inr sink) whole begun =
-    rw (worldless, sink) (record { status = statuses.Usage; output = usage_line; is_output = No_command; begun = begun sink })
+    rw (worldless, sink) (record { whole = None; claims = tt; goes_on = refl; status = statuses.Usage; output = usage_line; is_output = No_command; begun = begun sink })
 
 -- the whole output of an offline command was written
 pub offline_written : (left : Option (List ℕ)) (command : Offline) (verdict : Verdict) (out : List ℕ) (before after : Option (List ℕ))
@@ -203,7 +203,7 @@ offline_written left command verdicts.Refused out before after answers written =
 pub offline_begun : (left : Option (List ℕ)) (command : Offline) (verdict : Verdict) (out : List ℕ) (before after : Option (List ℕ))
     → Answers command left verdict out → AppendsFront before after out → Wrote (Some (commands.Offline command)) left None statuses.Sink before after
 offline_begun left command verdict out before after answers begun =
-    record { status = verdict_status verdict; output = out; is_output = Offline_answer command verdict out answers; begun = begun }
+    record { whole = None; claims = tt; goes_on = refl; status = verdict_status verdict; output = out; is_output = Offline_answer command verdict out answers; begun = begun }
 
 -- the line that tells a verification was written
 pub judged_written : (left : Option (List ℕ)) (verdict : verified.Verdict) (out text : List ℕ) (is_cut : Bool) (before after : Option (List ℕ))
@@ -229,6 +229,9 @@ pub judged_begun : (left : Option (List ℕ)) (verdict : verified.Verdict) (out 
     → IsInput left MAX_INPUT_BYTES text is_cut → IsJudged text is_cut verdict out → AppendsFront before after out
     → Wrote (Some commands.Verify) left None statuses.Sink before after
 judged_begun left verdict out text is_cut before after input judged begun = record {
+  whole = None;
+  claims = tt;
+  goes_on = refl;
   status = verified_status verdict;
   output = out;
   is_output = Recording_judged verdict out (record { text = text; is_cut = is_cut; input = input; judged = judged });

@@ -27,6 +27,7 @@ use Rattle.sp_top.specs.declared.command.Command.{Command}
 use Rattle.sp_top.specs.declared.command.Command.TheVariants as commands
 use Rattle.sp_top.specs.declared.ended.Status.{Status}
 use Rattle.sp_top.specs.declared.ended.Status.TheVariants as statuses
+use Rattle.sp_top.proofs.Begun.{nothing_begun}
 use Rattle.sp_top.proofs.Outputs.{usage_written}
 
 -- what was claimed of what the words say holds by the words
@@ -157,7 +158,7 @@ claimed None left o = record {
   only_usage = λ _. inr (inr refl);
 }
 claimed (Some commands.Replay) left o = record {
-  wrote = λ _ _. (refl, refl);
+  wrote = λ _ _. nothing_begun left o.text;
   served = tt;
   complete = λ read written. record { honest = λ tells. inr refl; bad = λ tells. inr refl };
   generated = tt;

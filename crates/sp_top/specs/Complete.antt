@@ -93,3 +93,10 @@ abbrev pub calls_keeper : Option Command → Bool
 calls_keeper (Some (commands.Daemon turns)) = true
 calls_keeper (Some commands.Format) = true
 calls_keeper _ = false
+
+-- a replay, a daemon and a question write while they run, and all others at their end
+abbrev pub writes_at_end : Option Command → Bool
+writes_at_end (Some commands.Replay) = false
+writes_at_end (Some (commands.Daemon turns)) = false
+writes_at_end (Some (commands.Ask a)) = false
+writes_at_end _ = true

@@ -1,5 +1,5 @@
 -- What was read and run, and the text that tells it: what the parts of a replay promise each other.
-use Rattle.std.specs.Prelude.{ℕ, ◌≡◌, ◌≢◌, ◌≤◌, ◌++◌, Bool, List, length, Option, Some, None, IfSome}
+use Rattle.std.specs.Prelude.{ℕ, ◌≡◌, ◌≤◌, ◌++◌, Bool, List, length, Option, Some, None, IfSome}
 use Rattle.sp_base.specs.declared.limits.TheConstants.{MAX_EVENTS}
 use Rattle.sp_journal.specs.JournalText.{journal_lines, journal_text}
 use Rattle.sp_schedule.specs.declared.stage.Stage.{Stage}
@@ -22,11 +22,6 @@ IsShort past = length past.events ≤ MAX_EVENTS
 -- a flow may have a message
 abbrev pub HasBuffers : Past → Type 0
 HasBuffers past = 1 ≤ past.scenario.limits.buffer
-
--- a whole reading has a world, and no world has stopped for want of memory
-abbrev pub HasWorld : Option Past → Ending → Type 0
-HasWorld None ending = ending ≢ endings.Whole
-HasWorld (Some past) ending = past.stopped ≢ Some stops.Memory
 
 -- how the events of a stage were run, by why the world has stopped
 abbrev pub IsPlayedBy : Stage → Past → Option WorldRefused → Type 0

@@ -1,5 +1,5 @@
 // The top call: words and the outside go in, the outcome comes out.
-ghost use Rattle.std.specs.Prelude.{◌≡◌, ◌≢◌, ◌⊎◌, IfSome, None, false, map};
+ghost use Rattle.std.specs.Prelude.{◌≡◌, ◌≢◌, ◌⊎◌, IfSome, None, false, map, true};
 ghost use Rattle.std.specs.Io.KnownBytes.{Appends};
 ghost use Rattle.std.specs.String.{string_bytes};
 ghost use Rattle.sp_outside.specs.Causes.{Rose};
@@ -7,7 +7,8 @@ ghost use Rattle.sp_outside.specs.Streams.{AppendsFront};
 ghost use Rattle.sp_top.specs.Outputs.{usage_line};
 ghost use Rattle.sp_top.specs.Claims.{SaidClaims, WorldClaims};
 ghost use Rattle.sp_top.specs.Commands.{BySaid, IsInRange};
-ghost use Rattle.sp_top.specs.Complete.{calls_clock, calls_keeper, calls_wire, reads};
+ghost use Rattle.sp_top.specs.Complete.{calls_clock, calls_keeper, calls_wire, reads, writes_at_end};
+ghost use Rattle.sp_top.specs.Fronts.{IsBrokenOff};
 ghost use Rattle.sp_top.specs.Services.{KeepsFile};
 
 use crate::command::{Command, command_of};
@@ -25,8 +26,8 @@ use std::alloc::Global;
 
 /// Runs the words over the outside that is handed in.
 ///
-/// `replay` reads a schedule from the source, runs its events in the order of their lines, and writes their journal to the
-/// sink. `generate --seed N` makes the schedule of a number, runs it, and writes the summary and the digest of its journal. `topology`
+/// `replay` reads a schedule from the source line by line, runs its events in their order, and writes each one's entry to the
+/// sink before it reads on. `generate --seed N` makes the schedule of a number, runs it, and writes the summary and the digest of its journal. `topology`
 /// reads an administrator's draft, and writes its signed document and the administrator's key. `paths --from S --to D --paths K` reads a
 /// graph, and writes its cheapest disjoint paths, or how many there are. `daemon --turns T` reads a configuration, and serves as its daemon over
 /// the wire and the clock for so many turns, which it records. `verify` reads a configuration and a recording, and writes how many of its digests
@@ -54,12 +55,15 @@ pub fn run<S: Source, K: Sink, W: Wire, C: Clock, P: Keeper>(
     // buffer is above its bound; each answer to a client has its cause.
     ensures claims { IfSome result.world WorldClaims }
 
+    // Where the source of a replay fails, the journal of all events that had come was written, and none of their lines is bad.
+    ensures broken { BySaid (map string_bytes words.now) (λ said. said ≡ Some Command.Replay → result.status ≡ Status.Source → IsBrokenOff (S.left source.old) (S.left source.new) result.world (K.contents sink.old) (K.contents sink.new)) }
+
     // A command calls only what it needs, and where it wrote nothing, the sink wasn't called.
     ensures unread { BySaid (map string_bytes words.now) (λ said. reads said ≡ false → source.new ≡ source.old) }
     ensures uncalled { BySaid (map string_bytes words.now) (λ said. calls_wire said ≡ false → wire.new ≡ wire.old) }
     ensures timeless { BySaid (map string_bytes words.now) (λ said. calls_clock said ≡ false → clock.new ≡ clock.old) }
     ensures untouched { BySaid (map string_bytes words.now) (λ said. calls_keeper said ≡ false → keeper.new ≡ keeper.old) }
-    ensures quiet { BySaid (map string_bytes words.now) (λ said. calls_wire said ≡ false → (result.status ≡ Status.Source) ⊎ (result.status ≡ Status.Memory) → sink.new ≡ sink.old) }
+    ensures quiet { BySaid (map string_bytes words.now) (λ said. writes_at_end said ≡ true → (result.status ≡ Status.Source) ⊎ (result.status ≡ Status.Memory) → sink.new ≡ sink.old) }
 
     // A status that tells a fault comes only with one.
     ensures faultless { result.status ≢ Status.Source → S.faults source.new ≡ S.faults source.old }
@@ -96,7 +100,8 @@ fn run_said<S: Source, K: Sink, W: Wire, C: Clock, P: Keeper>(
     ensures timeless { calls_clock said.entry ≡ false → clock.new ≡ clock.old }
     ensures untouched { calls_keeper said.entry ≡ false → keeper.new ≡ keeper.old }
     ensures kept { KeepsFile said.entry (P.disk keeper.old) (P.past keeper.old) (P.past keeper.new) }
-    ensures quiet { calls_wire said.entry ≡ false → (result.status ≡ Status.Source) ⊎ (result.status ≡ Status.Memory) → sink.new ≡ sink.old }
+    ensures broken { said.entry ≡ Some Command.Replay → result.status ≡ Status.Source → IsBrokenOff (S.left source.old) (S.left source.new) result.world (K.contents sink.old) (K.contents sink.new) }
+    ensures quiet { writes_at_end said.entry ≡ true → (result.status ≡ Status.Source) ⊎ (result.status ≡ Status.Memory) → sink.new ≡ sink.old }
     ensures faultless { result.status ≢ Status.Source → S.faults source.new ≡ S.faults source.old }
     ensures read { result.status ≡ Status.Source → Rose (S.faults source.old) (S.faults source.new) }
     ensures sunk { calls_wire said.entry ≡ false → result.status ≢ Status.Sink → K.faults sink.new ≡ K.faults sink.old }

@@ -1,5 +1,5 @@
 -- What is claimed of a run is claimed of its reader and its writer.
-use Rattle.std.proofs.Common.{◌≡◌, ℕ, false, List, Option, inl, inr, refl, subst, arith}
+use Rattle.std.proofs.Common.{◌≡◌, ℕ, true, false, List, Option, inl, inr, refl, subst, arith}
 use Rattle.std.specs.Prelude.{◌⊎◌}
 use Rattle.sp_outside.specs.Calls.{Call}
 use Rattle.sp_outside.specs.Disk.{Disk}
@@ -7,7 +7,7 @@ use Rattle.sp_service_turns.specs.Served.{Outside}
 use Rattle.sp_top.specs.Claims.{SaidClaims}
 use Rattle.sp_top.specs.Commands.{BySaid}
 use Rattle.sp_top.specs.declared.command.Command.{Command}
-use Rattle.sp_top.specs.Complete.{calls_wire, reads}
+use Rattle.sp_top.specs.Complete.{reads, writes_at_end}
 use Rattle.sp_top.specs.Statuses.{code_of}
 use Rattle.sp_top.specs.declared.ended.Status.{Status}
 use Rattle.sp_top.specs.declared.ended.Status.TheVariants as statuses
@@ -81,9 +81,9 @@ abbrev IsQuietCode : ℕ → Type 0
 IsQuietCode code = (code ≡ 5) ⊎ (code ≡ 9)
 
 pub quiet : {A B : Type 0} (words : List (List ℕ)) (s0 s1 : A) (r0 r1 : B) (status : Status) (code : ℕ) → code ≡ code_of status
-    → BySaid words (λ said. calls_wire said ≡ false → (status ≡ statuses.Source) ⊎ (status ≡ statuses.Memory) → s1 ≡ s0) → (s1 ≡ s0 → r1 ≡ r0)
-    → BySaid words (λ said. calls_wire said ≡ false → (code ≡ 5) ⊎ (code ≡ 9) → r1 ≡ r0)
+    → BySaid words (λ said. writes_at_end said ≡ true → (status ≡ statuses.Source) ⊎ (status ≡ statuses.Memory) → s1 ≡ s0) → (s1 ≡ s0 → r1 ≡ r0)
+    → BySaid words (λ said. writes_at_end said ≡ true → (code ≡ 5) ⊎ (code ≡ 9) → r1 ≡ r0)
 quiet words s0 s1 r0 r1 status code code_is is same =
-    lift words (λ said. calls_wire said ≡ false → (status ≡ statuses.Source) ⊎ (status ≡ statuses.Memory) → s1 ≡ s0)
-    (λ said. calls_wire said ≡ false → IsQuietCode code → r1 ≡ r0)
+    lift words (λ said. writes_at_end said ≡ true → (status ≡ statuses.Source) ⊎ (status ≡ statuses.Memory) → s1 ≡ s0)
+    (λ said. writes_at_end said ≡ true → IsQuietCode code → r1 ≡ r0)
     (λ said stays uncalled cause. same (stays uncalled (source_or_memory status (subst IsQuietCode code_is cause)))) is

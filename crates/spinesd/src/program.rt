@@ -1,8 +1,8 @@
 // The whole program over any reader, writer, wire, clock and key file: words and input go in, output and a number come out.
-ghost use Rattle.std.specs.Prelude.{◌≡◌, ◌⊎◌, IfOk, OnErr, false, map};
+ghost use Rattle.std.specs.Prelude.{◌≡◌, ◌⊎◌, IfOk, OnErr, false, map, true};
 ghost use Rattle.std.specs.String.{string_bytes};
 ghost use Rattle.sp_top.specs.Commands.{BySaid};
-ghost use Rattle.sp_top.specs.Complete.{calls_wire, reads};
+ghost use Rattle.sp_top.specs.Complete.{reads, writes_at_end};
 ghost use Rattle.spinesd.specs.Ended.{Ended};
 
 use crate::standard::{StandardSink, StandardSource};
@@ -35,7 +35,7 @@ pub fn program<R: Read, W: Write, N: Wire + Drop, C: Clock + Drop, P: Keeper + D
     // no word was kept, so none is run
     ensures wordless { OnErr words ((result.code ≡ 9) × (result.reader ≡ reader) × (result.writer ≡ writer)) }
     ensures unread { IfOk words (λ words. BySaid (map string_bytes words.items) (λ said. reads said ≡ false → result.reader ≡ reader)) }
-    ensures quiet { IfOk words (λ words. BySaid (map string_bytes words.items) (λ said. calls_wire said ≡ false → (result.code ≡ 5) ⊎ (result.code ≡ 9) → result.writer ≡ writer)) }
+    ensures quiet { IfOk words (λ words. BySaid (map string_bytes words.items) (λ said. writes_at_end said ≡ true → (result.code ≡ 5) ⊎ (result.code ≡ 9) → result.writer ≡ writer)) }
 {
     let Ok(words) = words else {
         return Finished {

@@ -7,4 +7,4 @@ returns-in-Ok-write_all-clause-wrote g c = λ left.
 
 pub returns-clause-wrote : goal.returns-clause-wrote
 returns-clause-wrote g c = λ left.
-    generate_begun c.args.number left c.in-Ok.world _ _ c.in-Ok.ensures.run (rw (c.as_bytes.ensures.value, c.in-Ok-told.ensures) at c.write_all.ensures.front)
+    generate_begun c.args.number left c.in-Ok.world _ _ c.in-Ok.ensures.run c.in-Ok.ensures.claims (rw (c.as_bytes.ensures.value, c.in-Ok-told.ensures) at c.write_all.ensures.front)

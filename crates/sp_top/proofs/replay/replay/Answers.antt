@@ -1,23 +1,26 @@
-use Rattle.std.specs.String.{string_bytes}
-use Rattle.sp_top.proofs.Complete.{complete_output}
-use Rattle.sp_top.proofs.Outputs.{played_output, wrote_whole}
+use Rattle.sp_top.proofs.Begun.{nothing_begun}
+use Rattle.sp_top.proofs.Ends.{end_complete, end_wrote, forged_output, forged_written, read_output}
 use Rattle.sp_top.proofs.replay.replay.Goals as goal
 
-pub returns-in-Ok-write_all-clause-wrote : goal.returns-in-Ok-write_all-clause-wrote
-returns-in-Ok-write_all-clause-wrote g c =
-    let output = played_output c.a_reading_is_of_its_text.ensures c.a_good_text_is_read.ensures c.a_text_has_one_reading.ensures (g.S.Source.left c.args.source.now) c.in-Ok.input.bytes.items c.in-Ok.input.is_cut c.in-Ok-read_and_run.played.world
-    c.in-Ok-read_and_run.played.status (string_bytes c.in-Ok-read_and_run.played.text) c.in-Ok.ensures.bytes c.in-Ok-read_and_run.ensures in
-    wrote_whole _ _ _ _ _ _ output (rw c.as_bytes.ensures.value at c.in-Ok-write_all.ensures.whole)
+pub returns-in_default-clause-wrote : goal.returns-in_default-clause-wrote
+returns-in_default-clause-wrote g c = rw c.forgotten.ensures (nothing_begun (g.S.Source.left c.args.source.now) (g.K.Sink.contents c.args.sink.now))
 
-pub returns-clause-wrote : goal.returns-clause-wrote
-returns-clause-wrote g c =
-    let output = played_output c.a_reading_is_of_its_text.ensures c.a_good_text_is_read.ensures c.a_text_has_one_reading.ensures (g.S.Source.left c.args.source.now) c.in-Ok.input.bytes.items c.in-Ok.input.is_cut c.in-Ok-read_and_run.played.world
-    c.in-Ok-read_and_run.played.status (string_bytes c.in-Ok-read_and_run.played.text) c.in-Ok.ensures.bytes c.in-Ok-read_and_run.ensures in
-    record { status = c.in-Ok-read_and_run.played.status; output = string_bytes c.in-Ok-read_and_run.played.text; is_output = output; begun = rw c.as_bytes.ensures.value at c.write_all.ensures.front }
+pub returns-in-Read-clause-wrote : goal.returns-in-Read-clause-wrote
+returns-in-Read-clause-wrote g c =
+    end_wrote _ _ _ c.play_input.new.world _ _ _ (read_output _ _ _ c.play_input.new.world c.in-Read.ending c.in-Read.ensures.halts c.tell_end.ensures.claims) c.tell_end.result.world
+    c.tell_end.result.status c.tell_end.ensures.claims c.in-Read.ensures.halts.written c.tell_end.ensures.tells
 
-pub returns-in-Ok-write_all-clause-complete : goal.returns-in-Ok-write_all-clause-complete
-returns-in-Ok-write_all-clause-complete g c = λ read wrote.
-    let output = played_output c.a_reading_is_of_its_text.ensures c.a_good_text_is_read.ensures c.a_text_has_one_reading.ensures (g.S.Source.left c.args.source.now) c.in-Ok.input.bytes.items c.in-Ok.input.is_cut c.in-Ok-read_and_run.played.world
-    c.in-Ok-read_and_run.played.status (string_bytes c.in-Ok-read_and_run.played.text) c.in-Ok.ensures.bytes c.in-Ok-read_and_run.ensures in
-    complete_output c.a_good_text_is_read.ensures c.a_text_has_one_reading.ensures (g.S.Source.left c.args.source.now) c.in-Ok-read_and_run.played.world c.in-Ok-read_and_run.played.status
-    (string_bytes c.in-Ok-read_and_run.played.text) output
+pub returns-in-Read-clause-complete : goal.returns-in-Read-clause-complete
+returns-in-Read-clause-complete g c = λ read written.
+    end_complete _ _ _ c.play_input.new.world (g.K.Sink.contents c.args.sink.now) _ _ (read_output _ _ _ c.play_input.new.world c.in-Read.ending c.in-Read.ensures.halts c.tell_end.ensures.claims) c.tell_end.result.world
+    c.tell_end.result.status c.tell_end.ensures.tells written
+
+pub returns-in-Forged-clause-wrote : goal.returns-in-Forged-clause-wrote
+returns-in-Forged-clause-wrote g c =
+    end_wrote _ _ _ c.play_input.new.world _ _ _ (forged_output _ _ _ c.play_input.new.world c.in-Forged.ensures.halts c.tell_end-in-Forged.ensures.claims) c.tell_end-in-Forged.result.world
+    c.tell_end-in-Forged.result.status c.tell_end-in-Forged.ensures.claims (forged_written _ _ _ _ c.in-Forged.ensures.halts) c.tell_end-in-Forged.ensures.tells
+
+pub returns-in-Forged-clause-complete : goal.returns-in-Forged-clause-complete
+returns-in-Forged-clause-complete g c = λ read written.
+    end_complete _ _ _ c.play_input.new.world (g.K.Sink.contents c.args.sink.now) _ _ (forged_output _ _ _ c.play_input.new.world c.in-Forged.ensures.halts c.tell_end-in-Forged.ensures.claims) c.tell_end-in-Forged.result.world
+    c.tell_end-in-Forged.result.status c.tell_end-in-Forged.ensures.tells written
