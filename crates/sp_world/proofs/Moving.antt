@@ -1,5 +1,5 @@
 -- What a call of a node among all is in the world: a turn in which nothing is forged, or in which something is.
-use Rattle.std.proofs.Common.{◌≡◌, ℕ, ◌+◌, false, List, [], length, None, Some, refl, sym, ap, ap₂, ◌∙◌, subst}
+use Rattle.std.proofs.Common.{◌≡◌, ℕ, false, List, [], None, Some, refl, sym, ap, ap₂, ◌∙◌, subst}
 use Rattle.std.proofs.lemmas.Option.{same_Some}
 use Rattle.sp_base.specs.declared.id.NodeId.{NodeId}
 use Rattle.sp_journal.specs.declared.entry.Entry.{Entry}
@@ -14,7 +14,7 @@ use Rattle.sp_runs.specs.Runs as runs
 use Rattle.sp_runs.specs.Runs.{Move, directions_after, next_frame}
 use Rattle.sp_runs.specs.Scenarios.{setting_of}
 use Rattle.sp_runs.specs.Settings.{Setting}
-use Rattle.sp_runs.specs.Worlds.{Direction, World, frames_in, with_frame, with_node}
+use Rattle.sp_runs.specs.Worlds.{Direction, World, with_node}
 use Rattle.sp_schedule_events.specs.declared.event.Event.{Event}
 use Rattle.sp_schedule_events.specs.declared.event.Event.TheVariants as events
 use Rattle.sp_schedule_events.specs.declared.scenario.Scenario.{Scenario}
@@ -27,8 +27,7 @@ use Rattle.sp_world.specs.declared.acts.Done.{Done}
 use Rattle.sp_world.specs.declared.acts.Done.TheVariants as dones
 use Rattle.sp_world.specs.declared.bytes.Came.TheVariants as cames
 use Rattle.sp_world_steps.specs.Asks.{asked}
-use Rattle.sp_world_steps.specs.Gave.{Tells}
-use Rattle.sp_world_steps.specs.Members.{AskedAmong, PolledAmong}
+use Rattle.sp_world_steps.specs.Members.{AskedAmong}
 
 -- ---- what is asked
 

@@ -15,11 +15,9 @@ use Rattle.sp_runs.specs.Worlds.{Direction, World, at_start}
 use Rattle.sp_schedule_events.specs.declared.event.Event.{Event}
 use Rattle.sp_schedule_events.specs.declared.scenario.Scenario.{Scenario}
 use Rattle.sp_world.specs.Kept.{IsKept}
-use Rattle.sp_runs.specs.declared.what.What.{What}
 use Rattle.sp_world.specs.Past.{GoesOn, IsUnforged, Past}
 use Rattle.sp_world.specs.Stands.{IsTold, Stands}
 use Rattle.sp_world.specs.declared.refused.WorldRefused.{WorldRefused}
-use Rattle.sp_world.specs.declared.refused.WorldRefused.TheVariants as refusals
 
 -- a world that hasn't stopped
 abbrev pub going : Scenario → List Event → List Entry → World → Past
@@ -55,35 +53,6 @@ kept_on s es es' js js' w w' e j len c c' t kept st told crafted events_are jour
   long = kept.long;
   crafters = λ is. crafted;
 })
-
--- a world that stops for want of memory keeps all that it has
-pub kept_as_before : (s : Scenario) (es es' : List Event) (js js' : List Entry) (w w' : World) (len : ℕ) (c c' : Crafters) (t : Option WorldRefused)
-    → IsKept (record { scenario = s; events = es; journal = js; world = w; stopped = t }) len c → t ≡ None → es' ≡ es → js' ≡ js → w' ≡ w
-    → IsKept (stopped_by s es' js' w' refusals.Memory) len c'
-kept_as_before s es es' js js' w w' len c c' t kept is events_are journal_is same = rw (events_are, journal_is, same) (record {
-  past = record {
-    graph = kept.past.graph;
-    last = kept.past.last;
-    clean = kept.past.clean;
-    now = λ unforged. kept.past.now (subst IsUnforged (sym is) tt);
-  };
-  long = kept.long;
-  crafters = λ is. absurd (never refusals.Memory is);
-})
-
--- a world that has met a forgery keeps what it has done
-pub kept_stopped : (s : Scenario) (es : List Event) (js : List Entry) (w w' : World) (len : ℕ) (c c' : Crafters) (t : Option WorldRefused) (number : ℕ) (what : What)
-    → IsKept (record { scenario = s; events = es; journal = js; world = w; stopped = t }) len c → IsKept (stopped_by s es js w' (refusals.Forged number what)) len c'
-kept_stopped s es js w w' len c c' t number what kept = record {
-  past = record {
-    graph = kept.past.graph;
-    last = kept.past.last;
-    clean = kept.past.clean;
-    now = λ unforged. absurd unforged;
-  };
-  long = kept.long;
-  crafters = λ is. absurd (never (refusals.Forged number what) is);
-}
 
 pub goes_on : (s : Scenario) (es es' : List Event) (js js' : List Entry) (w w' : World) (e : Event) (j : Entry) → IsTold (setting_of s) es js w e j w'
     → es' ≡ es ++ e ∷ [] → js' ≡ js ++ j ∷ [] → GoesOn (going s es js w) e (going s es' js' w')

@@ -51,8 +51,8 @@ pushed_first : (rows : List Direction) (u v : NodeId) (frame : List ℕ) → pos
     → rows ++ record { from = u; to = v; frames = frame ∷ [] } ∷ [] ≡ with_frame rows u v frame
 pushed_first rows u v frame none =
     sym (
-      put_where-no_position (is_from_to u v) (record { from = u; to = v; frames = frames_in rows u v ++ frame ∷ [] }) rows none
-      ∙ ap (λ (fs : List (List ℕ)). rows ++ record { from = u; to = v; frames = fs ++ frame ∷ [] } ∷ []) (in_no_row rows u v none)
+    put_where-no_position (is_from_to u v) (record { from = u; to = v; frames = frames_in rows u v ++ frame ∷ [] }) rows none
+    ∙ ap (λ (fs : List (List ℕ)). rows ++ record { from = u; to = v; frames = fs ++ frame ∷ [] } ∷ []) (in_no_row rows u v none)
     )
 
 -- ---- a poll
