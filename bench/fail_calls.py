@@ -1,10 +1,10 @@
-"""Runs each command once for each of its allocations, reads and writes, which then fails: python3 bench/fail_calls.py PATH/TO/spinesd
+"""Runs each command once for each of its allocations, reads and writes, which then fails: python3 bench/fail_calls.py PATH/TO/spinesd [--all]
 
 Where an allocation fails a run must end with status 0 and its output, or with status 9 and nothing written; a second round lets each later
 allocation fail too. Where one read of the input fails, and the next would go well, it must end with status 5 and nothing written; where one
 write fails, with status 6 and a beginning of the output. A command of which no allocation, read or write is counted is a fault of its own:
 then nothing was tried. `generate` reads nothing, so there no read may be counted. Of more than MANY allocations SOME are tried, evenly apart, and
-the last one. It needs a C compiler, `cc`.
+the last one; with --all, each is. It needs a C compiler, `cc`.
 """
 
 import os
@@ -15,11 +15,14 @@ import tempfile
 ROOT = os.path.dirname(os.path.dirname(os.path.abspath(__file__)))
 # up to so many allocations of a command are all tried in a round, and of more so many
 MANY, SOME = 1_000, 60
-# the words of a command, the file of its input, if it reads any, and that of its output or of the output's first line, or the output itself
+# how many events of the generated schedule are replayed
+CUT = 300
+# the words of a command, the file of its input, if it reads any, and that of its output or of the output's beginning, or the output itself
 RUNS = [
     (["replay"], "crates/spinesd/stdin", "crates/spinesd/stdout"),
     (["replay"], "conformance/schedules/acknowledgement.schedule", "conformance/schedules/acknowledgement.out"),
     (["replay"], "conformance/schedules/expiry.schedule", "conformance/schedules/expiry.out"),
+    (["replay"], "conformance/schedules/generated_7.schedule", "conformance/schedules/generated_7.out"),
     (["generate", "--seed", "7"], None, "conformance/generated/seed_7.summary"),
     (["paths", "--from", "1", "--to", "4", "--paths", "2"], "examples/trap.graph", b"path 1 2 4\npath 1 3 4\ncost 10\n"),
     (["topology"], "examples/two_nodes.toml", "examples/two_nodes.topology"),
@@ -32,19 +35,31 @@ def stored(path):
         return file.read()
 
 
-def tried(count):
+def first_events(schedule, journal):
+    """The schedule with its first events alone, and the lines of them in its journal."""
+    header, events = schedule.split(b"begin\n")
+    lines = [line for line in journal.split(b"\n") if line.split(b" ")[0].isdigit() and int(line.split(b" ")[0]) > CUT]
+    return header + b"begin\n" + b"".join(events.splitlines(True)[:CUT]) + b"end\n", journal[:journal.index(b"\n" + lines[0]) + 1]
+
+
+def tried(count, every=False):
     """The numbers of the calls that fail, of so many."""
-    apart = 1 if count <= MANY else count // SOME
+    apart = 1 if every or count <= MANY else count // SOME
     return sorted({*range(1, count + 1, apart), count} - {0})
 
 
 class Failing:
     """A command that runs with one of its calls failing."""
 
-    def __init__(self, program, library, words, path, wanted):
-        self.program, self.library, self.words, self.wanted = program, library, words, wanted
+    def __init__(self, program, library, words, path, wanted, every):
+        self.program, self.library, self.words, self.wanted, self.every = program, library, words, wanted, every
         self.text = path and stored(path)
         self.name = words[0] + (f" of {os.path.basename(path)}" if path else "")
+        # an output of which only the beginning is stored
+        self.begins = path is None or "generated" in path
+        if path and self.begins:
+            self.text, self.wanted = first_events(self.text, wanted)
+            self.name += f", its first {CUT} events"
 
     def run(self, **variables):
         """The status, the output, and how many allocations, reads and writes there were."""
@@ -54,7 +69,7 @@ class Failing:
     def each(self, name, count, is_right, **variables):
         """Lets each of these calls fail in turn, and gives how often each status came."""
         ends = {}
-        for number in tried(count):
+        for number in tried(count, self.every):
             status, output, _ = self.run(**variables, **{name: str(number)})
             if not is_right(status, output):
                 sys.exit(f"{self.name}, {name} {number}: status {status}, output {output[:200]!r}")
@@ -63,7 +78,7 @@ class Failing:
 
     def all(self):
         status, output, counts = self.run()
-        if self.text is None and output.startswith(self.wanted):
+        if self.begins and output.startswith(self.wanted):
             self.wanted = output
         if (status, output) != (0, self.wanted):
             sys.exit(f"{self.name} with no failure: status {status}, output {output[:200]!r}")
@@ -88,12 +103,12 @@ def library_in(folder):
 
 
 def main():
-    if len(sys.argv) != 2:
-        sys.exit("usage: python3 bench/fail_calls.py PATH/TO/spinesd")
+    if len(sys.argv) not in (2, 3) or sys.argv[2:] not in ([], ["--all"]):
+        sys.exit("usage: python3 bench/fail_calls.py PATH/TO/spinesd [--all]")
     with tempfile.TemporaryDirectory() as folder:
         library = library_in(folder)
         for words, path, wanted in RUNS:
-            Failing(os.path.abspath(sys.argv[1]), library, words, path, wanted if isinstance(wanted, bytes) else stored(wanted)).all()
+            Failing(os.path.abspath(sys.argv[1]), library, words, path, wanted if isinstance(wanted, bytes) else stored(wanted), sys.argv[2:] == ["--all"]).all()
 
 
 if __name__ == "__main__":
