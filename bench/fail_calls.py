@@ -3,8 +3,9 @@
 Where an allocation fails a run must end with status 0 and its output, or with status 9 and nothing written; a second round lets each later
 allocation fail too. Where one read of the input fails, and the next would go well, it must end with status 5 and nothing written; where one
 write fails, with status 6 and a beginning of the output. A command of which no allocation, read or write is counted is a fault of its own:
-then nothing was tried. `generate` reads nothing, so there no read may be counted. Of more than MANY allocations SOME are tried, evenly apart, and
-the last one; with --all, each is. It needs a C compiler, `cc`.
+then nothing was tried. `generate` reads nothing, so there no read may be counted. Each allocation fails in a copy of the run that is made at it
+(`fail_calls.c`), so that no run begins anew for it. Of more than MOST allocations so many are tried, evenly apart; with --all each is. It needs a C
+compiler, `cc`.
 """
 
 import os
@@ -13,8 +14,8 @@ import sys
 import tempfile
 
 ROOT = os.path.dirname(os.path.dirname(os.path.abspath(__file__)))
-# up to so many allocations of a command are all tried in a round, and of more so many
-MANY, SOME = 1_000, 60
+# up to so many allocations of a command are tried in a round
+MOST = 2_500
 # how many events of the generated schedule are replayed
 CUT = 300
 # the words of a command, the file of its input, if it reads any, and that of its output or of the output's beginning, or the output itself
@@ -38,14 +39,17 @@ def stored(path):
 def first_events(schedule, journal):
     """The schedule with its first events alone, and the lines of them in its journal."""
     header, events = schedule.split(b"begin\n")
-    lines = [line for line in journal.split(b"\n") if line.split(b" ")[0].isdigit() and int(line.split(b" ")[0]) > CUT]
-    return header + b"begin\n" + b"".join(events.splitlines(True)[:CUT]) + b"end\n", journal[:journal.index(b"\n" + lines[0]) + 1]
+    numbered = [line for line in journal.split(b"\n") if line[:1].isdigit()]
+    shown = journal[:journal.index(b"\n" + numbered[CUT] + b"\n") + 1]
+    return header + b"begin\n" + b"".join(events.splitlines(True)[:CUT]) + b"end\n", shown
 
 
-def tried(count, every=False):
-    """The numbers of the calls that fail, of so many."""
-    apart = 1 if every or count <= MANY else count // SOME
-    return sorted({*range(1, count + 1, apart), count} - {0})
+def hashed(output):
+    """The FNV-1a of an output."""
+    value = 0xCBF29CE484222325
+    for byte in output:
+        value = (value ^ byte) * 0x100000001B3 % 2**64
+    return value
 
 
 class Failing:
@@ -66,15 +70,35 @@ class Failing:
         ended = subprocess.run([self.program, *self.words], input=self.text or b"", capture_output=True, env={"LD_PRELOAD": self.library, **variables}, check=False)
         return ended.returncode, ended.stdout, [int(count) for count in ended.stderr.split()]
 
-    def each(self, name, count, is_right, **variables):
-        """Lets each of these calls fail in turn, and gives how often each status came."""
-        ends = {}
-        for number in tried(count, self.every):
-            status, output, _ = self.run(**variables, **{name: str(number)})
+    def copied(self, count, **variables):
+        """Lets allocations fail, each in a copy of the run, and gives how often each status came."""
+        apart = 1 if self.every else -(-count // MOST)
+        with tempfile.TemporaryDirectory() as folder:
+            record, text = os.path.join(folder, "record"), os.path.join(folder, "input")
+            with open(text, "wb") as file:
+                file.write(self.text or b"")
+            with open(text, "rb") as file:
+                ended = subprocess.run([self.program, *self.words], stdin=file, capture_output=True,
+                                       env={"LD_PRELOAD": self.library, "FAIL_EACH": record, "FAIL_APART": str(apart), **variables}, check=False)
+            if (ended.returncode, ended.stdout) != (0, self.wanted):
+                sys.exit(f"{self.name}, copied at each allocation: status {ended.returncode}, output {ended.stdout[:200]!r}")
+            with open(record, encoding="ascii") as file:
+                rows = [[int(word) for word in line.split()] for line in file]
+        if [row[0] for row in rows] != list(range(apart, count + 1, apart)):
+            sys.exit(f"{self.name}: {len(rows)} copies of {count} allocations")
+        right, ends = {0: [len(self.wanted), hashed(self.wanted)], 9: [0, hashed(b"")]}, {0: 0, 9: 0}
+        for number, status, *output in rows:
+            if right.get(status) != output:
+                sys.exit(f"{self.name}, allocation {number}: status {status}, {output[0]} bytes")
+            ends[status] += 1
+        return ends
+
+    def each(self, name, count, is_right):
+        """Lets each of these calls fail in turn."""
+        for number in range(1, count + 1):
+            status, output, _ = self.run(**{name: str(number)})
             if not is_right(status, output):
                 sys.exit(f"{self.name}, {name} {number}: status {status}, output {output[:200]!r}")
-            ends[status] = ends.get(status, 0) + 1
-        return ends
 
     def all(self):
         status, output, counts = self.run()
@@ -85,11 +109,10 @@ class Failing:
         allocations, reads, writes = counts
         if 0 in (allocations, writes) or (reads == 0) != (self.text is None):
             sys.exit(f"{self.name}: {counts} allocations, reads and writes were counted, so nothing would be tried, or what reads nothing read")
-        in_memory = lambda status, output: (status, output) in ((0, self.wanted), (9, b""))
         for rest in ({}, {"FAIL_REST": "1"}):
-            ends = self.each("FAIL_ALLOC", allocations, in_memory, **rest)
+            ends = self.copied(allocations, **rest)
             which = "it and all later ones fail" if rest else "it alone fails"
-            print(f"{self.name}: {allocations} allocations, {which}: {ends.get(0, 0)} whole outputs, {ends.get(9, 0)} times status 9")
+            print(f"{self.name}: {sum(ends.values())} of {allocations} allocations, {which}: {ends[0]} whole outputs, {ends[9]} times status 9")
         self.each("FAIL_READ", reads, lambda status, output: (status, output) == (5, b""))
         self.each("FAIL_WRITE", writes, lambda status, output: status == 6 and self.wanted.startswith(output) and output != self.wanted)
         print(f"{self.name}: {reads} reads and {writes} writes, of which one fails: status 5 and 6")
