@@ -131,7 +131,8 @@ def main():
     with tempfile.TemporaryDirectory() as folder:
         library = library_in(folder)
         for words, path, wanted in RUNS:
-            Failing(os.path.abspath(sys.argv[1]), library, words, path, wanted if isinstance(wanted, bytes) else stored(wanted), sys.argv[2:] == ["--all"]).all()
+            output = wanted if isinstance(wanted, bytes) else stored(wanted)
+            Failing(os.path.abspath(sys.argv[1]), library, words, path, output, sys.argv[2:] == ["--all"]).all()
 
 
 if __name__ == "__main__":

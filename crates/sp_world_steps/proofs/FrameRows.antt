@@ -34,7 +34,8 @@ in_row : (rows : List Direction) (u v : NodeId) (place : ℕ) (row : Direction) 
     → frames_in rows u v ≡ row.frames
 in_row rows u v place row at is = ap (λ (d : Direction). d.frames) (first_where-read (is_from_to u v) (none_yet u v) rows place row at is)
 
-pushed_there : (rows : List Direction) (u v : NodeId) (place : ℕ) (frame : List ℕ) (row : Direction) → position (is_from_to u v) rows ≡ Some place → row ≡ get_or rows place row
+pushed_there : (rows : List Direction) (u v : NodeId) (place : ℕ) (frame : List ℕ) (row : Direction)
+    → position (is_from_to u v) rows ≡ Some place → row ≡ get_or rows place row
     → set rows place (record { from = row.from; to = row.to; frames = row.frames ++ frame ∷ [] }) ≡ with_frame rows u v frame
 pushed_there rows u v place frame row at is =
     let read = first_where-read (is_from_to u v) (none_yet u v) rows place row at is in
@@ -57,7 +58,8 @@ pushed_first rows u v frame none =
 
 -- ---- a poll
 
-pub is_framed : (nodes after : List NodeState) (u v : NodeId) (frames kept : List (List ℕ)) (bytes : List ℕ) (entry : Entry) (number : ℕ) → PolledAmong nodes u v bytes after
+pub is_framed : (nodes after : List NodeState) (u v : NodeId) (frames kept : List (List ℕ)) (bytes : List ℕ) (entry : Entry) (number : ℕ)
+    → PolledAmong nodes u v bytes after
     → Tells number (replied (Frame bytes)) entry → number ≡ length frames + 1 → kept ≡ frames ++ bytes ∷ [] → IsFramed nodes u v frames entry after kept
 is_framed nodes after u v frames kept bytes entry number polled tells counted is = record {
   bytes = bytes;
@@ -83,11 +85,14 @@ pub polled_there : (nodes after : List NodeState) (rows : List Direction) (u v :
     → position (is_from_to u v) rows ≡ Some place → row ≡ get_or rows place row → IsFramed nodes u v row.frames entry after kept
     → IsPolled (world_of nodes rows) u v entry (world_of after (set rows place (record { from = row.from; to = row.to; frames = kept })))
 polled_there nodes after rows u v place row kept entry at is f =
-    framed_is nodes after rows (set rows place (record { from = row.from; to = row.to; frames = kept })) u v row.frames kept entry f (in_row rows u v place row at is)
-    (ap (λ (fs : List (List ℕ)). set rows place (record { from = row.from; to = row.to; frames = fs })) f.kept_is ∙ pushed_there rows u v place f.bytes row at is)
+    framed_is nodes after rows (set rows place (record { from = row.from; to = row.to; frames = kept })) u v row.frames kept entry f
+    (in_row rows u v place row at is)
+    (ap (λ (fs : List (List ℕ)). set rows place (record { from = row.from; to = row.to; frames = fs })) f.kept_is
+    ∙ pushed_there rows u v place f.bytes row at is)
 
 pub polled_first : (nodes after : List NodeState) (rows new : List Direction) (u v : NodeId) (frames kept : List (List ℕ)) (entry : Entry)
-    → position (is_from_to u v) rows ≡ None → frames ≡ [] → IsFramed nodes u v frames entry after kept → new ≡ rows ++ record { from = u; to = v; frames = kept } ∷ []
+    → position (is_from_to u v) rows ≡ None → frames ≡ [] → IsFramed nodes u v frames entry after kept
+    → new ≡ rows ++ record { from = u; to = v; frames = kept } ∷ []
     → IsPolled (world_of nodes rows) u v entry (world_of after new)
 polled_first nodes after rows new u v frames kept entry none empty f is =
     framed_is nodes after rows new u v frames kept entry f (in_no_row rows u v none ∙ sym empty)

@@ -78,7 +78,8 @@ ack_is : (len : ℕ) (o : Option Kept) → IfSome o (IsObject kinds.Ack len) →
 ack_is len None is = (omega arith, All-nil IsGood)
 ack_is len (Some o) is = (omega arith, All-cons IsGood o [] is.fields (All-nil IsGood))
 
-slot_is : (len : ℕ) (slot : Option Report) → IfSome slot (IsReport len) → (length (slot_objects slot) ≤ most kinds.Ack + most kinds.Rel) × All IsGood (slot_objects slot)
+slot_is : (len : ℕ) (slot : Option Report) → IfSome slot (IsReport len)
+    → (length (slot_objects slot) ≤ most kinds.Ack + most kinds.Rel) × All IsGood (slot_objects slot)
 slot_is len None is = (omega arith, All-nil IsGood)
 slot_is len (Some r) is =
     let ack = ack_is len r.ack is.ack in
@@ -92,7 +93,15 @@ contents_are len s is =
     let prios = All-map IsGood (λ m. m.1) s.prios (All-weaker (IsNumbered len) (λ (m : ℕ × Kept). IsGood m.1) (λ m h. h.object.fields) s.prios is.prios) in
     let rest = map (λ (m : ℕ × Kept). m.1) s.prios ++ slot_objects s.slot in
     subst AreObjects (sym (of_contents s)) (record {
-      few = omega (arith, slot.0, is.few_weights, is.few_prios, length-append s.weights rest, length-append (map (λ (m : ℕ × Kept). m.1) s.prios) (slot_objects s.slot), length-map s.prios (λ (m : ℕ × Kept). m.1));
+      few = omega (
+        arith,
+        slot.0,
+        is.few_weights,
+        is.few_prios,
+        length-append s.weights rest,
+        length-append (map (λ (m : ℕ × Kept). m.1) s.prios) (slot_objects s.slot),
+        length-map s.prios (λ (m : ℕ × Kept). m.1),
+      );
       good = All-append IsGood s.weights rest weights (All-append IsGood (map (λ (m : ℕ × Kept). m.1) s.prios) (slot_objects s.slot) prios slot.1);
     })
 
@@ -101,7 +110,8 @@ contents_are len s is =
 part_are : (bytes : List ℕ) → AreBytes bytes → AreBytes (sections_part bytes)
 part_are bytes are = All-drop (λ (b : ℕ). b < 256) 33 (signed_part bytes) (All-take (λ (b : ℕ). b < 256) (length bytes - 32) bytes are)
 
-sections_are : (len : ℕ) (bytes : List ℕ) (r : Result Contents SectionRefused) → AreBytes bytes → sections_of len (sections_part bytes) ≡ r → AreObjects (objects_in (pieces_in r))
+sections_are : (len : ℕ) (bytes : List ℕ) (r : Result Contents SectionRefused) → AreBytes bytes
+    → sections_of len (sections_part bytes) ≡ r → AreObjects (objects_in (pieces_in r))
 sections_are len bytes (Ok s) are is = contents_are len s (read_is_spelled len (sections_part bytes) s (part_are bytes are) is).1
 sections_are len bytes (Err refused) are is = none_are
 
@@ -139,4 +149,10 @@ pub few_items : (n new : NodeState) (u : NodeId) (bytes : List ℕ) (step : Step
 few_items n new u bytes step are called gave =
     let answered = (handled format n u bytes).answered in
     let few = (handled_are n u bytes are).few in
-    omega (arith, ap (λ (is : List Item). length is) (items_are n new u bytes step called gave), length-map answered (λ (a : Kept × Item). a.1), length-map answered (λ (a : Kept × Item). a.0), few)
+    omega (
+      arith,
+      ap (λ (is : List Item). length is) (items_are n new u bytes step called gave),
+      few,
+      length-map answered (λ (a : Kept × Item). a.1),
+      length-map answered (λ (a : Kept × Item). a.0),
+    )

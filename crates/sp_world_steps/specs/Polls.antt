@@ -14,7 +14,8 @@ abbrev pub world_of : List NodeState → List Direction → World
 world_of nodes directions = record { nodes = nodes; directions = directions }
 
 -- u made its next frame for v, which is told by its number after those of this direction, and kept behind them
-pub record IsFramed (nodes : List NodeState) (u v : NodeId) (frames : List (List ℕ)) (entry : Entry) (after : List NodeState) (kept : List (List ℕ)) : Type 0 where
+pub record IsFramed (nodes : List NodeState) (u v : NodeId) (frames : List (List ℕ)) (entry : Entry) (after : List NodeState)
+    (kept : List (List ℕ)) : Type 0 where
   pub bytes : List ℕ
   pub polled : PolledAmong nodes u v bytes after
   pub tells : Tells (length frames + 1) (replied (Frame bytes)) entry
