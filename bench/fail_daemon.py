@@ -10,7 +10,7 @@ import subprocess
 import sys
 import tempfile
 
-from fail_calls import ROOT, library_in, tried
+from fail_calls import ROOT, library_in
 
 sys.path.insert(0, os.path.join(ROOT, "examples", "overlay"))
 
@@ -69,7 +69,7 @@ class Daemon:
             sys.exit("daemon: no allocation was counted, so nothing would be tried")
         for rest in ({}, {"FAIL_REST": "1"}):
             ends = {}
-            for number in tried(allocations):
+            for number in range(1, allocations + 1):
                 status, output, _ = self.failing(FAIL_ALLOC=str(number), **rest)
                 fault = self.fault(status, output)
                 if fault:

@@ -1,6 +1,6 @@
 pub mod Numbered
-pub mod FrameRows
 pub mod SignedThere
 pub mod Turns
 pub mod Finding
 pub mod Outcomes
+pub mod Short

@@ -1,5 +1,5 @@
 // What of an arrival is forged: its tag, or else the first object in the order of handling.
-ghost use Rattle.std.specs.Prelude.{◌≡◌, IfOk, None as Nothing, length, map, option_map};
+ghost use Rattle.std.specs.Prelude.{◌≡◌, ◌≤◌, [], IfSome, None as Nothing, length, map, option_map, vec_capacity};
 ghost use Rattle.sp_frame.specs.Frames.{opened, sections_part};
 ghost use Rattle.sp_frame.specs.Sections.{sections_of};
 ghost use Rattle.sp_node_core.specs.Format.{format};
@@ -11,38 +11,78 @@ ghost use Rattle.sp_runs.specs.Forgery.{forged, forged_object};
 ghost use Rattle.sp_runs.specs.Scenarios.{setting_of};
 ghost use Rattle.sp_runs.specs.Worlds.{World};
 ghost use Rattle.sp_forgery.specs.Found.{Answered, answered, found_at};
+ghost use Rattle.sp_forgery.specs.Whats.{IsShort, what_of};
 
-use crate::directions::Directions;
 use crate::objects::{Known, first_forged};
 use crate::tags::has_forged_tag;
-use sp_base::{Bytes, Memory, NodeId};
+use sp_base::{Bytes, NodeId};
 use sp_frame::Frame;
 use sp_rules::{Item, LinkReply, Step, Taken};
 use sp_runs::What;
-use std::alloc::Global;
+use sp_world_steps::Directions;
 
-/// What of an arrival at `v` from `u` is forged, by what the node answered. None exactly where nothing is.
+/// How long a message is at most.
+pub const MAX_MESSAGE_BYTES: usize = 1_062;
+
+/// What of an arrival is forged, as it stands in the datagram.
+#[derive(Clone, Copy, Debug)]
+pub enum Forgery<'a> {
+    Tag,
+    Object(&'a [u8]),
+}
+
+impl Forgery<'_> {
+    /// The same with bytes of its own, in an empty vector that has room for any message. It takes no memory.
+    pub fn copied(&self, mut room: Vec<u8>) -> What
+        requires empty { room.items ≡ [] }
+        requires room { MAX_MESSAGE_BYTES ≤ vec_capacity room }
+        requires short { IsShort self.now }
+        ensures { result ≡ what_of self.now }
+    {
+        match self {
+            Forgery::Tag => What::Tag,
+            Forgery::Object(body) => {
+                fill(&mut room, body);
+                What::Object(Bytes::from_vec(room))
+            }
+        }
+    }
+}
+
+/// Writes bytes into an empty vector that has room for them.
+fn fill(room: &mut Vec<u8>, bytes: &[u8])
+    requires empty { room.old.items ≡ [] }
+    requires room { length bytes.now ≤ vec_capacity room.old }
+    ensures { room.new.items ≡ bytes.now }
+{
+    match room.extend_from_slice(bytes) {
+        Ok(()) => {}
+        Err(_) => unreachable!(),
+    }
+}
+
+/// What of an arrival at `v` from `u` is forged, by what the node answered. None exactly where nothing is. It takes no memory.
 #[tactic(auto, using(crate::proofs::Outcomes::tag_is, crate::proofs::Outcomes::object_is, crate::proofs::Outcomes::link_is, crate::proofs::Outcomes::items_are))]
-pub fn judge(
-    alloc: Global,
+pub fn judge<'a>(
     known: &Known<'_>,
     directions: &Directions,
     u: NodeId,
     v: NodeId,
-    bytes: &[u8],
+    bytes: &'a [u8],
     step: &Step<Taken>,
-) -> Result<Option<What>, Memory>
+) -> Option<Forgery<'a>>
     requires { length known.now.events.now ≡ length known.now.journal.now }
-    ensures { (n new : NodeState) (w : World) → n.fixed.me ≡ v → n.fixed.signature_len ≡ known.now.signature_len → call_refusal n u ≡ Nothing → w.directions ≡ directions.now
+    ensures judged { (n new : NodeState) (w : World) → n.fixed.me ≡ v → n.fixed.signature_len ≡ known.now.signature_len → call_refusal n u ≡ Nothing → w.directions ≡ directions.now
         → Answered n u bytes.now step.now new
-        → IfOk result (λ what. what ≡ forged format (setting_of known.now.scenario.now) known.now.events.now known.now.journal.now w n (Datagram u bytes.now) (answered n u bytes.now step.now)) }
+        → option_map what_of result ≡ forged format (setting_of known.now.scenario.now) known.now.events.now known.now.journal.now w n (Datagram u bytes.now) (answered n u bytes.now step.now) }
+    ensures short { (n new : NodeState) → n.fixed.signature_len ≡ known.now.signature_len → call_refusal n u ≡ Nothing → Answered n u bytes.now step.now new → IfSome result IsShort }
 {
     if has_forged_tag(known.scenario, directions, u, v, bytes, &step.reply.link) {
-        return Ok(Some(What::Tag));
+        return Some(Forgery::Tag);
     }
     match forged_in(known, &step.reply.link, bytes, step.reply.items.as_slice()) {
-        Some(body) => Ok(Some(What::Object(Bytes::copy(alloc, body)?))),
-        None => Ok(None),
+        Some(body) => Some(Forgery::Object(body)),
+        None => None,
     }
 }
 

@@ -5,12 +5,12 @@ ghost use Rattle.sp_runs.specs.Scenarios.{setting_of};
 ghost use Rattle.sp_runs.specs.Settings.{is_correct};
 ghost use Rattle.sp_runs.specs.Worlds.{frames_in};
 
-use crate::directions::Directions;
 use crate::nodes::is_correct;
 use sp_base::NodeId;
 use sp_frame::Frame;
 use sp_rules::LinkReply;
 use sp_schedule_events::Scenario;
+use sp_world_steps::Directions;
 
 /// Whether these bytes with a right tag came from a correct node that never made them for `v`.
 pub fn has_forged_tag(

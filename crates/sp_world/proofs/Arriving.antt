@@ -19,7 +19,7 @@ use Rattle.sp_runs.specs.declared.what.What.{What}
 use Rattle.sp_schedule_events.specs.declared.event.Event.{Event}
 use Rattle.sp_schedule_events.specs.declared.scenario.Scenario.{Scenario}
 use Rattle.sp_world.specs.Arrivals.{CanHear, IsFound, IsHeard}
-use Rattle.sp_world.specs.Stands.{world_of}
+use Rattle.sp_world_steps.specs.Polls.{world_of}
 use Rattle.sp_world_steps.proofs.Stepping.{fixed_stays}
 use Rattle.sp_world_steps.proofs.Without.{without_is_same}
 use Rattle.sp_world_steps.specs.Gave.{Tells, taken}
@@ -33,6 +33,14 @@ module _ (s : Scenario) (es : List Event) (js : List Entry) (nodes after : List 
 
   same_old : (can : CanHear len nodes v u) → (h : HeardAmong nodes u v bytes step after) → can.call.node ≡ h.old
   same_old can h = same_Some can.call.node h.old (sym can.call.is_there ∙ h.is_there)
+
+  -- what is said of any state that took it so, holds of the one that did
+  pub when_heard : (P : Type 0) → CanHear len nodes v u → HeardAmong nodes u v bytes step after
+      → ((n new : NodeState) → n.fixed.signature_len ≡ len → call_refusal n u ≡ None → Answered n u bytes step new → P) → P
+  when_heard P can h says =
+      let same = same_old can h in
+      says h.old h.new (subst (λ (n : NodeState). n.fixed.signature_len ≡ len) same can.long)
+      (subst (λ (n : NodeState). call_refusal n u ≡ None) same can.call.answers) h.took
 
   judged_is : (what : Option What) → (can : CanHear len nodes v u) → (h : HeardAmong nodes u v bytes step after) → IsJudged what
       → what ≡ forged format (setting_of s) es js (world_of nodes ds) h.old (Datagram u bytes) (taken h.old u bytes step)

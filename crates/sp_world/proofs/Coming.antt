@@ -27,7 +27,8 @@ use Rattle.laws_runs.proofs.Neighbours.{links_have_their_keys}
 use Rattle.laws_runs_format.proofs.ReadBack.{format_carries}
 use Rattle.laws_runs_format.proofs.Topologies.{topologies_fit}
 use Rattle.sp_world.proofs.Standing.{at_first, fits}
-use Rattle.sp_world.specs.Stands.{CanCraft, IsAtFirst, IsEdgeOf, Stands, world_of}
+use Rattle.sp_world.specs.Stands.{CanCraft, IsAtFirst, IsEdgeOf, Stands}
+use Rattle.sp_world_steps.specs.Polls.{world_of}
 use Rattle.sp_world_steps.proofs.Among.{place_of_any}
 use Rattle.sp_world_steps.proofs.Lengths.{opened_is_between}
 

@@ -39,7 +39,8 @@ use Rattle.sp_sign.specs.Heights.{param_of}
 use Rattle.sp_topology.specs.declared.topology.LmsHeight.{LmsHeight}
 use Rattle.sp_topology.specs.Neighbours.{joins}
 use Rattle.sp_journal.specs.declared.entry.Entry.{Entry}
-use Rattle.sp_world.specs.Stands.{CanCraft, IsAtFirst, IsSpent, world_of}
+use Rattle.sp_world.specs.Stands.{CanCraft, IsAtFirst, IsSpent}
+use Rattle.sp_world_steps.specs.Polls.{world_of}
 use Rattle.sp_world_steps.specs.Asks.{asked}
 use Rattle.sp_world_steps.specs.Members.{AskedAmong}
 

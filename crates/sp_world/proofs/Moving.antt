@@ -1,5 +1,5 @@
 -- What a call of a node among all is in the world: a turn in which nothing is forged, or in which something is.
-use Rattle.std.proofs.Common.{◌≡◌, ℕ, ◌+◌, false, List, [], length, None, Some, refl, sym, ap, ap₂, ◌∙◌, subst}
+use Rattle.std.proofs.Common.{◌≡◌, ℕ, false, List, [], None, Some, refl, sym, ap, ap₂, ◌∙◌, subst}
 use Rattle.std.proofs.lemmas.Option.{same_Some}
 use Rattle.sp_base.specs.declared.id.NodeId.{NodeId}
 use Rattle.sp_journal.specs.declared.entry.Entry.{Entry}
@@ -14,20 +14,20 @@ use Rattle.sp_runs.specs.Runs as runs
 use Rattle.sp_runs.specs.Runs.{Move, directions_after, next_frame}
 use Rattle.sp_runs.specs.Scenarios.{setting_of}
 use Rattle.sp_runs.specs.Settings.{Setting}
-use Rattle.sp_runs.specs.Worlds.{Direction, World, frames_in, with_frame, with_node}
+use Rattle.sp_runs.specs.Worlds.{Direction, World, with_node}
 use Rattle.sp_schedule_events.specs.declared.event.Event.{Event}
 use Rattle.sp_schedule_events.specs.declared.event.Event.TheVariants as events
 use Rattle.sp_schedule_events.specs.declared.scenario.Scenario.{Scenario}
 use Rattle.sp_world.proofs.Standing.{asked_reaches}
 use Rattle.sp_world.specs.Arrivals.{Arrives}
-use Rattle.sp_world.specs.Polls.{IsPolled}
-use Rattle.sp_world.specs.Stands.{Comes, ComesTo, IsArrival, IsSpent, IsTold, sender, world_of}
+use Rattle.sp_world_steps.specs.Polls.{IsPolled}
+use Rattle.sp_world.specs.Stands.{Comes, ComesTo, IsArrival, IsSpent, IsTold, sender}
+use Rattle.sp_world_steps.specs.Polls.{world_of}
 use Rattle.sp_world.specs.declared.acts.Done.{Done}
 use Rattle.sp_world.specs.declared.acts.Done.TheVariants as dones
 use Rattle.sp_world.specs.declared.bytes.Came.TheVariants as cames
 use Rattle.sp_world_steps.specs.Asks.{asked}
-use Rattle.sp_world_steps.specs.Gave.{Tells}
-use Rattle.sp_world_steps.specs.Members.{AskedAmong, PolledAmong}
+use Rattle.sp_world_steps.specs.Members.{AskedAmong}
 
 -- ---- what is asked
 
@@ -102,19 +102,6 @@ asked_is_told s es js nodes after ds e entry a =
 
 -- ---- a poll
 
-pub is_polled : (nodes after : List NodeState) (ds kept : List Direction) (u v : NodeId) (bytes : List ℕ) (entry : Entry) (number : ℕ) → PolledAmong nodes u v bytes after
-    → Tells number (replied (Frame bytes)) entry → number ≡ length (frames_in ds u v) + 1 → kept ≡ with_frame ds u v bytes
-    → IsPolled (world_of nodes ds) u v entry (world_of after kept)
-is_polled nodes after ds kept u v bytes entry number p tells counted is = record {
-  old = p.old;
-  after = p.new;
-  bytes = bytes;
-  is_there = p.is_there;
-  step = p.step;
-  tells = subst (λ (k : ℕ). Tells k (replied (Frame bytes)) entry) counted tells;
-  world_is = ap₂ (λ (ns : List NodeState) (rows : List Direction). world_of ns rows) p.nodes_are is;
-}
-
 pub polled_is_told : (s : Scenario) (es : List Event) (js : List Entry) (w new : World) (u v : NodeId) (entry : Entry) → IsPolled w u v entry new
     → IsTold (setting_of s) es js w (events.Poll u v) entry new
 polled_is_told s es js w new u v entry p = record {
@@ -187,7 +174,7 @@ arrived_comes_to s es js nodes after ds e bytes (dones.Told entry) is comes h = 
   });
   unforged = h.unforged;
 }
-arrived_comes_to s es js nodes after ds e bytes (dones.Forged what) is comes h = (
+arrived_comes_to s es js nodes after ds e bytes (dones.Forged what told) is comes (h, same) = (
   record {
     entry = h.entry;
     new = world_of (with_node nodes (acting e) h.new) ds;
@@ -204,7 +191,7 @@ arrived_comes_to s es js nodes after ds e bytes (dones.Forged what) is comes h =
     });
     is = h.found;
   },
-  ap (λ (ns : List NodeState). world_of ns ds) h.nodes_are,
+  (same, ap (λ (ns : List NodeState). world_of ns ds) h.nodes_are),
 )
 
 pub spent_is_told : (s : Scenario) (es : List Event) (js : List Entry) (w : World) (e : Event) (count : ℕ) (entry : Entry) → IsSpent (setting_of s) es e count

@@ -15,7 +15,7 @@ use Rattle.sp_runs.specs.Worlds.{Direction, World, at_start}
 use Rattle.sp_schedule_events.specs.declared.event.Event.{Event}
 use Rattle.sp_schedule_events.specs.declared.scenario.Scenario.{Scenario}
 use Rattle.sp_world.specs.Kept.{IsKept}
-use Rattle.sp_world.specs.Past.{GoesOn, Past}
+use Rattle.sp_world.specs.Past.{GoesOn, IsUnforged, Past}
 use Rattle.sp_world.specs.Stands.{IsTold, Stands}
 use Rattle.sp_world.specs.declared.refused.WorldRefused.{WorldRefused}
 
@@ -34,7 +34,7 @@ pub stands : (s : Scenario) (es : List Event) (js : List Entry) (w : World) (e :
     → IsKept (record { scenario = s; events = es; journal = js; world = w; stopped = t }) len c → t ≡ None → InRange (setting_of s) es e → length es < MAX_EVENTS → Stands s es js w e
 stands s es js w e len c t kept is range few = record {
   graph = kept.past.graph;
-  clean = subst (λ (v : World). Clean format (setting_of s) es js v) (sym (kept.past.now is)) kept.past.clean;
+  clean = subst (λ (v : World). Clean format (setting_of s) es js v) (sym (kept.past.now (subst IsUnforged (sym is) tt))) kept.past.clean;
   range = range;
   few = few;
 }
@@ -53,20 +53,6 @@ kept_on s es es' js js' w w' e j len c c' t kept st told crafted events_are jour
   long = kept.long;
   crafters = λ is. crafted;
 })
-
--- a world that has stopped keeps what it has done
-pub kept_stopped : (s : Scenario) (es : List Event) (js : List Entry) (w w' : World) (len : ℕ) (c c' : Crafters) (t : Option WorldRefused) (refused : WorldRefused)
-    → IsKept (record { scenario = s; events = es; journal = js; world = w; stopped = t }) len c → IsKept (stopped_by s es js w' refused) len c'
-kept_stopped s es js w w' len c c' t refused kept = record {
-  past = record {
-    graph = kept.past.graph;
-    last = kept.past.last;
-    clean = kept.past.clean;
-    now = λ is. absurd (never refused is);
-  };
-  long = kept.long;
-  crafters = λ is. absurd (never refused is);
-}
 
 pub goes_on : (s : Scenario) (es es' : List Event) (js js' : List Entry) (w w' : World) (e : Event) (j : Entry) → IsTold (setting_of s) es js w e j w'
     → es' ≡ es ++ e ∷ [] → js' ≡ js ++ j ∷ [] → GoesOn (going s es js w) e (going s es' js' w')

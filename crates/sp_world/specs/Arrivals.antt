@@ -49,4 +49,4 @@ pub record IsFound (s : Scenario) (es : List Event) (js : List Entry) (w : World
 
 abbrev pub Arrives : Scenario → List Event → List Entry → World → (u v : NodeId) → List ℕ → Done → List NodeState → Type 0
 Arrives s es js w u v bytes (dones.Told entry) after = IsHeard s es js w u v bytes entry after
-Arrives s es js w u v bytes (dones.Forged what) after = IsFound s es js w u v bytes what after
+Arrives s es js w u v bytes (dones.Forged what told) after = IsFound s es js w u v bytes what after × (told ≡ what)

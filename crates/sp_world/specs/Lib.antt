@@ -2,6 +2,5 @@ pub mod Past
 -- ---- what proofs and the parts of this crate use among themselves
 pub mod Stands
 pub mod Arrivals
-pub mod Polls
 pub mod Boots
 pub mod Kept

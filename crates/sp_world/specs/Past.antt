@@ -27,13 +27,19 @@ pub record Past : Type 0 where
 abbrev pub at_first : Scenario → Past
 at_first s = record { scenario = s; events = []; journal = []; world = at_start (setting_of s); stopped = None }
 
--- The events are a run in which nothing is forged, and the entries are its journal. Until the world has stopped, its nodes and frames are those
--- at the end of the run.
+-- no forgery has stopped it
+abbrev pub IsUnforged : Option WorldRefused → Type 0
+IsUnforged None = Unit {0}
+IsUnforged (Some refusals.Memory) = Unit {0}
+IsUnforged (Some (refusals.Forged number what)) = ⊥
+
+-- The events are a run in which nothing is forged, and the entries are its journal. The nodes and frames are those at the end of the run, also
+-- where the world has stopped for want of memory: until the event in which something is forged.
 pub record IsPast (p : Past) : Type 0 where
   pub graph : IsGraph p.scenario.graph
   pub last : World
   pub clean : Clean format (setting_of p.scenario) p.events p.journal last
-  pub now : p.stopped ≡ None → p.world ≡ last
+  pub now : IsUnforged p.stopped → p.world ≡ last
 
 -- ---- one event
 
@@ -59,10 +65,10 @@ pub record IsForged (old : Past) (event : Event) (number : ℕ) (what : What) (n
   pub stopped : new.stopped ≡ Some (refusals.Forged number what)
   pub world : new.world ≡ without old.world (acting event)
 
--- why a world stops
+-- why a world stops. For want of memory nothing happens
 abbrev pub Stops : Past → Event → WorldRefused → Past → Type 0
 Stops old event (refusals.Forged number what) new = IsForged old event number what new
-Stops old event refusals.Memory new = new.stopped ≡ Some refusals.Memory
+Stops old event refusals.Memory new = (new.stopped ≡ Some refusals.Memory) × (new.world ≡ old.world)
 
 -- It isn't done. The first time the world stops; later it answers the same again, and nothing changes.
 pub record IsRefused (old : Past) (event : Event) (refused : WorldRefused) (new : Past) : Type 0 where

@@ -11,7 +11,7 @@ use Rattle.sp_runs.specs.Inputs.{acting, crafts, input_of}
 use Rattle.sp_runs.specs.Runs.{Clean, InRange, IsCraftOf, IsForgedAt, Turn, forged_in}
 use Rattle.sp_runs.specs.Scenarios.{edge_key, setting_of}
 use Rattle.sp_runs.specs.Settings.{Setting}
-use Rattle.sp_runs.specs.Worlds.{Direction, World, node_in}
+use Rattle.sp_runs.specs.Worlds.{World, node_in}
 use Rattle.sp_schedule_events.specs.declared.event.Event.{Event}
 use Rattle.sp_schedule_events.specs.declared.event.Event.TheVariants as events
 use Rattle.sp_schedule_events.specs.declared.scenario.Scenario.{Scenario}
@@ -28,10 +28,6 @@ pub record Stands (s : Scenario) (es : List Event) (js : List Entry) (w : World)
   pub clean : Clean format (setting_of s) es js w
   pub range : InRange (setting_of s) es event
   pub few : length es < MAX_EVENTS
-
--- the nodes and the frames
-abbrev pub world_of : List NodeState → List Direction → World
-world_of nodes directions = record { nodes = nodes; directions = directions }
 
 -- ---- bytes that come
 
@@ -96,4 +92,4 @@ pub record IsTold (x : Setting) (es : List Event) (js : List Entry) (old : World
 -- it is told by its entry, or this of it is forged, and the node that acts is gone
 abbrev pub ComesTo : Setting → List Event → List Entry → World → Event → Done → World → Type 0
 ComesTo x es js old event (dones.Told entry) new = IsTold x es js old event entry new
-ComesTo x es js old event (dones.Forged what) new = IsForgedAt format x es js old event what × (new ≡ without old (acting event))
+ComesTo x es js old event (dones.Forged what told) new = IsForgedAt format x es js old event what × ((told ≡ what) × (new ≡ without old (acting event)))

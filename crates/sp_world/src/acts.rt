@@ -1,21 +1,19 @@
 // One event at the node that acts, by its kind.
-ghost use Rattle.std.specs.Prelude.{◌≡◌, ◌+◌, ◌<◌, ◌^◌, ◌∷◌, ◌++◌, [], IfOk, OnErr, OnOk, length};
+ghost use Rattle.std.specs.Prelude.{◌≡◌, ◌∷◌, ◌++◌, [], IfOk, OnErr, OnOk};
 ghost use Rattle.sp_adversary.specs.Crafting.{AreAfter};
 ghost use Rattle.sp_runs.specs.Scenarios.{setting_of};
-ghost use Rattle.sp_runs.specs.Worlds.{frames_in};
-ghost use Rattle.sp_world.specs.Polls.{IsPolled};
-ghost use Rattle.sp_world.specs.Stands.{ComesTo, IsArrival, Stands, world_of};
-ghost use Rattle.sp_world_steps.specs.Members.{CanCall};
+ghost use Rattle.sp_world.specs.Stands.{ComesTo, IsArrival, Stands};
+ghost use Rattle.sp_world_steps.specs.Polls.{world_of};
 
 use crate::arrivals::arrive;
 use crate::bytes::{Came, bring, sender};
 use sp_adversary::Crafters;
-use sp_base::{Memory, NodeId};
-use sp_forgery::{Directions, Known, acting};
+use sp_base::Memory;
+use sp_forgery::{Known, acting};
 use sp_journal::Entry;
 use sp_runs::What;
 use sp_schedule_events::Event;
-use sp_world_steps::{Member, ask, frame, poll, spent};
+use sp_world_steps::{Directions, Member, ask, spent};
 use std::alloc::Global;
 
 /// What an event came to.
@@ -23,11 +21,11 @@ use std::alloc::Global;
 pub enum Done {
     /// It is told by this entry.
     Told(Entry),
-    /// This of it is forged.
-    Forged(What),
+    /// This of it is forged: once to keep, and once to tell.
+    Forged { what: What, told: What },
 }
 
-/// Does an event at its node.
+/// Does an event at its node. After want of memory the nodes and the frames are as before.
 #[tactic(auto, using(crate::proofs::Moving::asked_is_told, crate::proofs::Moving::poll_comes_to, crate::proofs::Standing::can_ask, crate::proofs::Standing::can_poll, crate::proofs::Standing::few_frames, crate::proofs::Crafting::after_asked, crate::proofs::Crafting::after_poll))]
 pub fn act(
     alloc: Global,
@@ -42,10 +40,10 @@ pub fn act(
     requires long { known.now.signature_len ≡ (setting_of known.now.scenario.now).signature_len }
     ensures done { IfOk result (λ done. ComesTo (setting_of known.now.scenario.now) known.now.events.now known.now.journal.now (world_of nodes.old.items directions.old) event.now done (world_of nodes.new.items directions.new)) }
     ensures crafters { OnOk result (AreAfter known.now.scenario.now (known.now.events.now ++ event.now ∷ []) crafters.new) }
-    ensures frames { OnErr result (directions.new ≡ directions.old) }
+    ensures as_before { OnErr result (world_of nodes.new.items directions.new ≡ world_of nodes.old.items directions.old) }
 {
     match event {
-        Event::Poll { u, v } => Ok(Done::Told(polled(alloc, nodes, directions, *u, *v)?)),
+        Event::Poll { u, v } => Ok(Done::Told(directions.poll(alloc, nodes, *u, *v)?)),
         Event::Pass { .. }
         | Event::Flip { .. }
         | Event::Inject { .. }
@@ -53,27 +51,6 @@ pub fn act(
         | Event::CraftStatus { .. } => arrival(alloc, known, nodes, directions, crafters, event),
         _ => Ok(Done::Told(ask(alloc, nodes, acting(event), event)?)),
     }
-}
-
-/// The node `u` makes its next frame for `v`, and it is kept.
-#[tactic(auto, using(crate::proofs::Moving::is_polled))]
-fn polled(
-    alloc: Global,
-    nodes: &mut Vec<Member>,
-    directions: &mut Directions,
-    u: NodeId,
-    v: NodeId,
-) -> Result<Entry, Memory>
-    requires can { CanCall nodes.old.items u v }
-    requires few { length (frames_in directions.old u v) + 1 < 2 ^ 32 }
-    ensures ok { IfOk result (λ entry. IsPolled (world_of nodes.old.items directions.old) u v entry (world_of nodes.new.items directions.new)) }
-    ensures err { OnErr result (directions.new ≡ directions.old) }
-{
-    let number = directions.frames(u, v).len() as u32 + 1;
-    let bytes = poll(alloc, nodes, u, v)?;
-    let entry = frame(alloc, number, bytes.as_slice());
-    directions.put(alloc, u, v, bytes)?;
-    Ok(entry)
 }
 
 /// Bytes come to the node that acts.
@@ -92,6 +69,7 @@ fn arrival(
     requires long { known.now.signature_len ≡ (setting_of known.now.scenario.now).signature_len }
     ensures done { IfOk result (λ done. ComesTo (setting_of known.now.scenario.now) known.now.events.now known.now.journal.now (world_of nodes.old.items directions.now) event.now done (world_of nodes.new.items directions.now)) }
     ensures crafters { OnOk result (AreAfter known.now.scenario.now (known.now.events.now ++ event.now ∷ []) crafters.new) }
+    ensures as_before { OnErr result (nodes.new.items ≡ nodes.old.items) }
 {
     match bring(alloc, known, nodes, directions, crafters, event)? {
         Came::Datagram(bytes) => {

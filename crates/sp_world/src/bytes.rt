@@ -4,14 +4,15 @@ ghost use Rattle.sp_adversary.specs.Crafting.{AreAfter};
 ghost use Rattle.sp_runs.specs.Inputs.{flipped};
 ghost use Rattle.sp_runs.specs.Scenarios.{setting_of};
 ghost use Rattle.sp_runs.specs.Worlds.{frame_in};
-ghost use Rattle.sp_world.specs.Stands.{Comes, IsArrival, Stands, sender, world_of};
+ghost use Rattle.sp_world.specs.Stands.{Comes, IsArrival, Stands, sender};
+ghost use Rattle.sp_world_steps.specs.Polls.{world_of};
 
 use crate::crafts::{crafted, status};
 use sp_adversary::{Crafters, flipped};
 use sp_base::{Bytes, Flow, Memory, NodeId};
-use sp_forgery::{Directions, Known};
+use sp_forgery::Known;
 use sp_schedule_events::Event;
-use sp_world_steps::Member;
+use sp_world_steps::{Directions, Member};
 use std::alloc::Global;
 
 /// What comes to the node that acts.

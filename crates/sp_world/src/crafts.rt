@@ -11,7 +11,8 @@ ghost use Rattle.sp_runs.specs.Worlds as worlds;
 ghost use Rattle.sp_runs.specs.Worlds.{node_in};
 ghost use Rattle.sp_schedule_events.specs.declared.event.Event as event;
 ghost use Rattle.sp_schedule_events.specs.declared.event.Event.TheVariants as events;
-ghost use Rattle.sp_world.specs.Stands.{CanCraft, Comes, IsAtFirst, IsEdgeOf, world_of};
+ghost use Rattle.sp_world.specs.Stands.{CanCraft, Comes, IsAtFirst, IsEdgeOf};
+ghost use Rattle.sp_world_steps.specs.Polls.{world_of};
 
 use crate::bytes::Came;
 use sp_adversary::{

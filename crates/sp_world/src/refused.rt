@@ -47,7 +47,7 @@ impl WorldRefused {
 }
 
 /// What is forged, once more.
-pub(crate) fn copy_of(alloc: Global, what: &What) -> Result<What, Memory>
+fn copy_of(alloc: Global, what: &What) -> Result<What, Memory>
     ensures { IfOk result (λ copied. copied ≡ what.now) }
 {
     match what {

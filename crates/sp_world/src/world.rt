@@ -10,14 +10,13 @@ ghost use Rattle.sp_world.specs.Past.{GoesOn, IsPast, IsRefused, at_first};
 use crate::WorldRefused;
 use crate::acts::{Done, act};
 use crate::boots::{correct_nodes, signature_len};
-use crate::refused::copy_of;
 use sp_adversary::Crafters;
 use sp_base::{Memory, NodeId, push_in_room};
-use sp_forgery::{Directions, Hints, Known};
+use sp_forgery::{Hints, Known};
 use sp_journal::Entry;
 use sp_node::Node;
 use sp_schedule_events::{Event, Scenario};
-use sp_world_steps::{Member, member_of};
+use sp_world_steps::{Directions, Member, member_of};
 use std::alloc::Global;
 use std::marker::Model;
 
@@ -72,7 +71,8 @@ impl World {
     /// Does an event: its acting node makes one step, and its entry is the next of the journal.
     ///
     /// `Forged` exactly where something of it is forged. Then the run ends: the event isn't one of it, the node that acted is gone, and each later event is
-    /// answered the same. After `Memory` it ends too, and each later event is answered `Memory`.
+    /// answered the same. `Memory` leaves the events, the journal, the frames and the nodes as they were, since all memory that the world needs is taken
+    /// before the node acts. Then the run ends too, and each later event is answered `Memory`.
     pub fn step(&mut self, alloc: Global, event: Event) -> Result<(), WorldRefused>
         requires range { InRange (setting_of self.old.scenario) self.old.events event }
         requires few { length self.old.events < MAX_EVENTS }
@@ -108,9 +108,8 @@ impl World {
                 self.stopped = None;
                 Ok(())
             }
-            Done::Forged(what) => {
+            Done::Forged { what, told } => {
                 let event = self.events.len() as u32 + 1;
-                let told = copy_of(alloc, &what)?;
                 self.stopped = Some(WorldRefused::Forged { event, what });
                 Err(WorldRefused::Forged { event, what: told })
             }

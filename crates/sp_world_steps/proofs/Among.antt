@@ -3,6 +3,7 @@ use Rattle.std.proofs.Common.{◌≡◌, ◌<◌, ◌≤◌, ℕ, Bool, true, fa
 use Rattle.std.specs.Prelude.{position}
 use Rattle.std.specs.List.{list_any, position_or_len}
 use Rattle.std.proofs.lemmas.Bool.Decides.{nat_tests}
+use Rattle.std.proofs.lemmas.List.{set-get_or}
 use Rattle.std.proofs.lemmas.Option.{same_Some}
 use Rattle.sp_base.proofs.RowLemmas.{find-position, replace_where-position}
 use Rattle.sp_base.specs.declared.id.NodeId.{NodeId}
@@ -64,6 +65,10 @@ found_at nodes u place old at is = rw (find-position (is_me u) old nodes place a
 
 pub set_at : (nodes : List NodeState) (u : NodeId) (place : ℕ) (new : NodeState) → position (is_me u) nodes ≡ Some place → set nodes place new ≡ with_node nodes u new
 set_at nodes u place new at = sym (replace_where-position (is_me u) new nodes place at)
+
+-- where the node in a place stays as it is, so do all
+pub same_among : (nodes : List NodeState) (place : ℕ) (old new : NodeState) → old ≡ get_or nodes place old → new ≡ old → set nodes place new ≡ nodes
+same_among nodes place old new is same = ap (set nodes place) (same ∙ is) ∙ set-get_or nodes place old
 
 pub asked_at : (nodes : List NodeState) (u : NodeId) (place : ℕ) (event : Event) (entry : Entry) (old new : NodeState)
     → u ≡ acting event → position (is_me u) nodes ≡ Some place → old ≡ get_or nodes place old → GaveAnswer old event entry new

@@ -1,5 +1,5 @@
 -- What a call of a node gives: what is fixed of it stays, and its refusal has its word.
-use Rattle.std.proofs.Common.{◌≡◌, ◌≢◌, ℕ, List, Option, None, Some, Result, Ok, Err, [], refl, ap}
+use Rattle.std.proofs.Common.{◌≡◌, ◌≢◌, ℕ, List, Option, None, Some, Result, Ok, Err, [], refl, ap, ◌∙◌, subst}
 use Rattle.std.specs.Prelude.{IfErr}
 use Rattle.laws_node.proofs.Shapes.{shapes_stay}
 use Rattle.laws_node.specs.Shapes.{Shape}
@@ -12,9 +12,10 @@ use Rattle.sp_node.specs.Calls.{Datagrams, Polls, TakesPrio, TakesRel, Ticks}
 use Rattle.sp_node_core.specs.Format.{format}
 use Rattle.sp_node_state.specs.Sends.{Sends}
 use Rattle.sp_rules.specs.Arrivals.{handled}
-use Rattle.sp_rules.specs.Node.{NodeState}
+use Rattle.sp_rules.specs.Node.{NodeState, call_refusal}
+use Rattle.sp_rules.specs.Polls.{frame_to}
 use Rattle.sp_rules.specs.PrioPeer.{gone}
-use Rattle.sp_rules.specs.Steps.{Arrived, Datagram, Frame, Input, Message, NodeStep, NotCalled, Output, Payload, Poll, Refused, TakePrio, TakeRel, Tick, Ticked, accepted, replied}
+use Rattle.sp_rules.specs.Steps.{Arrived, Datagram, Frame, Input, Message, NodeStep, NotCalled, Output, Payload, Poll, Refused, TakePrio, TakeRel, Tick, Ticked, accepted, arrived, refused_call, replied}
 use Rattle.sp_rules.specs.declared.node.NodeRefused.{NodeRefused}
 use Rattle.sp_rules.specs.declared.node.NodeRefused.TheVariants as calls
 use Rattle.sp_rules.specs.declared.node.Step.{Step}
@@ -38,6 +39,11 @@ fixed_by_send input refusal old new (Err (sends.NoPaths found)) gave = fixed_sta
 fixed_by_send input refusal old new (Err (sends.Low least)) gave = fixed_stays old input (replied (Refused (sends.Low least))) new gave
 fixed_by_send input refusal old new (Err (sends.Spent index)) gave = fixed_stays old input (replied (Refused (sends.Spent index))) new gave
 fixed_by_send input refusal old new (Err (sends.NotReserved bound)) gave = fixed_stays old input (replied (Refused (sends.NotReserved bound))) new gave
+
+-- after want of memory a node is as before
+pub memory_by_send : (input : Input) (refusal : Option SendRefused) (old new : NodeState) (done : Result (Step ℕ) SendRefused) → Sends input refusal old done new
+    → done ≡ Err sends.Memory → new ≡ old
+memory_by_send input refusal old new done gave is = (subst (λ (d : Result (Step ℕ) SendRefused). Sends input refusal old d new) is gave).1
 
 pub words_by_send : (input : Input) (refusal : Option SendRefused) (old new : NodeState) (done : Result (Step ℕ) SendRefused) → HasWords old input
     → Sends input refusal old done new → IfErr done (λ refused. refused ≢ sends.Memory → refused_word refused ≡ None → ⊥)
@@ -91,6 +97,25 @@ pub fixed_by_tick : (old : NodeState) (now : ℕ) (new : NodeState) (done : Resu
 fixed_by_tick old now new (Ok step) gave =
     fixed_stays old (Tick now) (record { reply = Ticked step.reply; effects = step.effects.list; answered = [] }) new gave
 fixed_by_tick old now new (Err refused) gave = ap (λ (n : NodeState). n.fixed) gave.1
+
+-- a call that is answered is refused for want of memory alone
+pub memory_by_poll : (old : NodeState) (v : NodeId) (new : NodeState) (refused : NodeRefused) → call_refusal old v ≡ None → Polls old v (Err refused) new → new ≡ old
+memory_by_poll old v new calls.NotNeighbour called gave =
+    let e = ap (λ (o : Output). o.reply) (gave.0 ∙ ap (λ r. refused_call r (replied (Frame (frame_to format old v)))) called) in absurd (cc)
+memory_by_poll old v new calls.Worn called gave =
+    let e = ap (λ (o : Output). o.reply) (gave.0 ∙ ap (λ r. refused_call r (replied (Frame (frame_to format old v)))) called) in absurd (cc)
+memory_by_poll old v new calls.Memory called gave = gave.1
+
+pub memory_by_datagram : (old : NodeState) (u : NodeId) (bytes : List ℕ) (new : NodeState) (refused : NodeRefused) → call_refusal old u ≡ None
+    → Datagrams old u bytes (Err refused) new → new ≡ old
+memory_by_datagram old u bytes new calls.NotNeighbour called gave =
+    let e = ap (λ (o : Output). o.reply) (gave.0 ∙ ap (λ r. refused_call r (arrived format old u bytes)) called) in absurd (cc)
+memory_by_datagram old u bytes new calls.Worn called gave =
+    let e = ap (λ (o : Output). o.reply) (gave.0 ∙ ap (λ r. refused_call r (arrived format old u bytes)) called) in absurd (cc)
+memory_by_datagram old u bytes new calls.Memory called gave = gave.1
+
+pub memory_by_tick : (old : NodeState) (now : ℕ) (new : NodeState) (refused : NodeRefused) → Ticks old now (Err refused) new → new ≡ old
+memory_by_tick old now new refused gave = gave.1
 
 pub fixed_by_take_rel : (old : NodeState) (src : NodeId) (payload : Option (List ℕ)) (new : NodeState) → TakesRel old src payload new → new.fixed ≡ old.fixed
 fixed_by_take_rel old src payload new gave = fixed_stays old (TakeRel src) (replied (Payload payload)) new gave

@@ -1,3 +1,4 @@
 pub mod Gave
 pub mod Asks
 pub mod Members
+pub mod Polls

@@ -1,5 +1,5 @@
 // Each call of a node, with the entry that tells it.
-ghost use Rattle.std.specs.Prelude.{◌≡◌, ◌≢◌, ◌≤◌, IfErr, IfOk, None as Nothing, Option, Some as There, length};
+ghost use Rattle.std.specs.Prelude.{◌≡◌, ◌≢◌, ◌≤◌, Err, IfErr, IfOk, None as Nothing, OnErr, Option, Some as There, length};
 ghost use Rattle.sp_base.specs.declared.limits.TheConstants.{MAX_PAYLOAD_BYTES, MAX_PRIORITY, MAX_WEIGHT};
 ghost use Rattle.sp_msg.specs.declared.refused.SendRefused as sends;
 ghost use Rattle.sp_frame.specs.declared.frame.TheConstants.{MAX_FRAME_BYTES};
@@ -10,6 +10,7 @@ ghost use Rattle.sp_paths.specs.declared.limits.TheConstants.{MAX_PATHS};
 ghost use Rattle.sp_rules.specs.Node.{NodeState, call_refusal};
 ghost use Rattle.sp_rules.specs.Steps.{Frame, Input, NodeStep, Poll, SendPrio, SendRel, SetWeight, TakePrio, TakeRel, Tick, replied};
 ghost use Rattle.sp_runs.specs.Journals.{body_word, refused_word};
+ghost use Rattle.sp_world_steps.specs.declared.entries.TheConstants.{MOST_OBJECTS};
 ghost use Rattle.sp_world_steps.specs.Gave.{Gave, GaveTaken, HasWords};
 
 use crate::entries::{quiet, told};
@@ -25,7 +26,8 @@ use std::alloc::Global;
 #[tactic(auto, using(crate::proofs::Stepping::gave_by_send))]
 fn sent(alloc: Global, done: Result<Step<u64>, SendRefused>) -> Result<Entry, Memory>
     requires words { IfErr done (λ refused. refused ≢ SendRefused.Memory → refused_word refused ≡ Nothing → ⊥) }
-    ensures { (input : Input) (refusal : Option sends.SendRefused) (old new : NodeState) → Sends input refusal old done new → IfOk result (λ entry. Gave old input entry new) }
+    ensures gave { (input : Input) (refusal : Option sends.SendRefused) (old new : NodeState) → Sends input refusal old done new → IfOk result (λ entry. Gave old input entry new) }
+    ensures memory { OnErr result (done ≡ Err SendRefused.Memory) }
 {
     match done {
         Ok(Step { reply, effects }) => Ok(told(Reply::Accepted { seq: reply }, effects)),
@@ -35,11 +37,12 @@ fn sent(alloc: Global, done: Result<Step<u64>, SendRefused>) -> Result<Entry, Me
 }
 
 /// A client sends a reliable message.
-#[tactic(auto, using(crate::proofs::Stepping::fixed_by_send, crate::proofs::Stepping::words_by_send))]
+#[tactic(auto, using(crate::proofs::Stepping::fixed_by_send, crate::proofs::Stepping::memory_by_send, crate::proofs::Stepping::words_by_send))]
 pub fn rel(alloc: Global, node: &mut Node, d: NodeId, payload: &[u8]) -> Result<Entry, Memory>
     requires short { length payload.now ≤ MAX_PAYLOAD_BYTES }
     requires words { HasWords node.old.state (SendRel d payload.now) }
     ensures gave { IfOk result (λ entry. Gave node.old.state (SendRel d payload.now) entry node.new.state) }
+    ensures as_before { OnErr result (node.new.state ≡ node.old.state) }
     ensures fixed { node.new.state.fixed ≡ node.old.state.fixed }
 {
     let done = node.send_rel(alloc, d, payload);
@@ -47,7 +50,7 @@ pub fn rel(alloc: Global, node: &mut Node, d: NodeId, payload: &[u8]) -> Result<
 }
 
 /// A client sends a priority message.
-#[tactic(auto, using(crate::proofs::Stepping::fixed_by_send, crate::proofs::Stepping::words_by_send))]
+#[tactic(auto, using(crate::proofs::Stepping::fixed_by_send, crate::proofs::Stepping::memory_by_send, crate::proofs::Stepping::words_by_send))]
 pub fn prio(
     alloc: Global,
     node: &mut Node,
@@ -62,6 +65,7 @@ pub fn prio(
     requires short { length payload.now ≤ MAX_PAYLOAD_BYTES }
     requires words { HasWords node.old.state (SendPrio (record { dst = d; prio = prio; expiry = expiry; paths = paths; payload = payload.now })) }
     ensures gave { IfOk result (λ entry. Gave node.old.state (SendPrio (record { dst = d; prio = prio; expiry = expiry; paths = paths; payload = payload.now })) entry node.new.state) }
+    ensures as_before { OnErr result (node.new.state ≡ node.old.state) }
     ensures fixed { node.new.state.fixed ≡ node.old.state.fixed }
 {
     let done = node.send_prio(alloc, d, prio, expiry, paths, payload);
@@ -69,12 +73,13 @@ pub fn prio(
 }
 
 /// An administrator sets the weight of a link.
-#[tactic(auto, using(crate::proofs::Stepping::fixed_by_send, crate::proofs::Stepping::words_by_send))]
+#[tactic(auto, using(crate::proofs::Stepping::fixed_by_send, crate::proofs::Stepping::memory_by_send, crate::proofs::Stepping::words_by_send))]
 pub fn weight(alloc: Global, node: &mut Node, v: NodeId, weight: u32) -> Result<Entry, Memory>
     requires least { 1 ≤ weight }
     requires most { weight ≤ MAX_WEIGHT }
     requires words { HasWords node.old.state (SetWeight v weight) }
     ensures gave { IfOk result (λ entry. Gave node.old.state (SetWeight v weight) entry node.new.state) }
+    ensures as_before { OnErr result (node.new.state ≡ node.old.state) }
     ensures fixed { node.new.state.fixed ≡ node.old.state.fixed }
 {
     let done = node.set_weight(alloc, v, weight);
@@ -98,6 +103,7 @@ pub fn take(alloc: Global, node: &mut Node, s: NodeId) -> Entry
 pub fn take_prio(alloc: Global, node: &mut Node) -> Result<Entry, Memory>
     requires words { HasWords node.old.state TakePrio }
     ensures gave { IfOk result (λ entry. Gave node.old.state TakePrio entry node.new.state) }
+    ensures as_before { OnErr result (node.new.state ≡ node.old.state) }
     ensures fixed { node.new.state.fixed ≡ node.old.state.fixed }
 {
     let mut effects = Vec::with_capacity(alloc, 1)?;
@@ -139,9 +145,10 @@ fn payload_word(kept: Kept) -> Reply
 }
 
 /// The clock says so.
-#[tactic(auto, using(crate::proofs::Stepping::fixed_by_tick))]
+#[tactic(auto, using(crate::proofs::Stepping::fixed_by_tick, crate::proofs::Stepping::memory_by_tick))]
 pub fn tick(alloc: Global, node: &mut Node, now: u64) -> Result<Entry, Memory>
     ensures gave { IfOk result (λ entry. Gave node.old.state (Tick now) entry node.new.state) }
+    ensures as_before { OnErr result (node.new.state ≡ node.old.state) }
     ensures fixed { node.new.state.fixed ≡ node.old.state.fixed }
 {
     match node.tick(alloc, now) {
@@ -151,12 +158,13 @@ pub fn tick(alloc: Global, node: &mut Node, now: u64) -> Result<Entry, Memory>
 }
 
 /// The next frame to a neighbour.
-#[tactic(auto, using(crate::proofs::Stepping::fixed_by_poll, crate::proofs::Lengths::polled_is_short))]
+#[tactic(auto, using(crate::proofs::Stepping::fixed_by_poll, crate::proofs::Stepping::memory_by_poll, crate::proofs::Lengths::polled_is_short))]
 pub fn poll(alloc: Global, node: &mut Node, v: NodeId) -> Result<Bytes, Memory>
     requires answered { call_refusal node.old.state v ≡ Nothing }
     requires short { node.old.state.fixed.signature_len ≤ most_signature }
     ensures step { IfOk result (λ bytes. NodeStep format node.old.state (Poll v) (replied (Frame bytes)) node.new.state) }
     ensures long { IfOk result (λ bytes. length bytes ≤ MAX_FRAME_BYTES) }
+    ensures as_before { OnErr result (node.new.state ≡ node.old.state) }
     ensures fixed { node.new.state.fixed ≡ node.old.state.fixed }
 {
     node.is_kept();
@@ -167,7 +175,7 @@ pub fn poll(alloc: Global, node: &mut Node, v: NodeId) -> Result<Bytes, Memory>
 }
 
 /// A datagram arrives.
-#[tactic(auto, using(crate::proofs::Stepping::fixed_by_datagram))]
+#[tactic(auto, using(crate::proofs::Stepping::fixed_by_datagram, crate::proofs::Stepping::memory_by_datagram))]
 pub fn datagram(
     alloc: Global,
     node: &mut Node,
@@ -176,6 +184,8 @@ pub fn datagram(
 ) -> Result<Step<Taken>, Memory>
     requires answered { call_refusal node.old.state u ≡ Nothing }
     ensures step { IfOk result (λ step. GaveTaken node.old.state u bytes.now step node.new.state) }
+    ensures few { IfOk result (λ step. length step.reply.items ≤ MOST_OBJECTS) }
+    ensures as_before { OnErr result (node.new.state ≡ node.old.state) }
     ensures fixed { node.new.state.fixed ≡ node.old.state.fixed }
 {
     match node.datagram(alloc, u, bytes) {

@@ -1,13 +1,18 @@
-//! The correct nodes of a run among one another: each call of one of them, with the entry that tells it in a journal.
+//! The correct nodes of a run among one another, and the frames that they made: each call of one of them, with the entry that tells it in a journal.
+//!
+//! A call that is refused for want of memory leaves all nodes and all frames as they were.
 #![tactic(auto)]
 
 mod calls;
+mod directions;
 mod entries;
+mod frames;
 mod member;
 mod members;
 mod words;
 
-pub use entries::{arrived, entry_of, frame, spent, told};
+pub use directions::Directions;
+pub use entries::{MOST_OBJECTS, arrived, entry_of, spent, told};
 pub use member::Member;
-pub use members::{ask, forget, hear, member_of, poll};
+pub use members::{ask, forget, hear, member_of};
 pub use words::tick_word;

@@ -1,10 +1,11 @@
 // A correct node under its id.
-ghost use Rattle.std.specs.Prelude.{◌≡◌, ◌≤◌, IfOk, None as Nothing, length};
+ghost use Rattle.std.specs.Prelude.{◌≡◌, ◌≤◌, IfOk, None as Nothing, OnErr, length};
 ghost use Rattle.sp_frame.specs.declared.frame.TheConstants.{MAX_FRAME_BYTES};
 ghost use Rattle.sp_node_core.specs.Format.{format};
 ghost use Rattle.sp_node_core.specs.PolledFrames.{most_signature};
 ghost use Rattle.sp_rules.specs.Node.{call_refusal};
 ghost use Rattle.sp_rules.specs.Steps.{Frame, NodeStep, Poll, replied};
+ghost use Rattle.sp_world_steps.specs.declared.entries.TheConstants.{MOST_OBJECTS};
 ghost use Rattle.sp_world_steps.specs.Asks.{GaveAnswer, MayAsk};
 ghost use Rattle.sp_world_steps.specs.Gave.{GaveTaken};
 
@@ -60,6 +61,7 @@ impl Member {
     pub fn ask(&mut self, alloc: Global, event: &Event) -> Result<Entry, Memory>
         requires { MayAsk self.old event.now }
         ensures answered { IfOk result (λ entry. GaveAnswer self.old event.now entry self.new) }
+        ensures as_before { OnErr result (self.new ≡ self.old) }
         ensures fixed { self.new.fixed ≡ self.old.fixed }
     {
         ask(alloc, &mut self.node, event)
@@ -71,6 +73,7 @@ impl Member {
         requires short { self.old.fixed.signature_len ≤ most_signature }
         ensures long { IfOk result (λ bytes. length bytes ≤ MAX_FRAME_BYTES) }
         ensures step { IfOk result (λ bytes. NodeStep format self.old (Poll v) (replied (Frame bytes)) self.new) }
+        ensures as_before { OnErr result (self.new ≡ self.old) }
         ensures fixed { self.new.fixed ≡ self.old.fixed }
     {
         poll(alloc, &mut self.node, v)
@@ -85,6 +88,8 @@ impl Member {
     ) -> Result<Step<Taken>, Memory>
         requires answered { call_refusal self.old u ≡ Nothing }
         ensures step { IfOk result (λ step. GaveTaken self.old u bytes.now step self.new) }
+        ensures few { IfOk result (λ step. length step.reply.items ≤ MOST_OBJECTS) }
+        ensures as_before { OnErr result (self.new ≡ self.old) }
         ensures fixed { self.new.fixed ≡ self.old.fixed }
     {
         datagram(alloc, &mut self.node, u, bytes)
@@ -95,6 +100,7 @@ impl Member {
 fn ask(alloc: Global, node: &mut Node, event: &Event) -> Result<Entry, Memory>
     requires { MayAsk node.old.state event.now }
     ensures answered { IfOk result (λ entry. GaveAnswer node.old.state event.now entry node.new.state) }
+    ensures as_before { OnErr result (node.new.state ≡ node.old.state) }
     ensures fixed { node.new.state.fixed ≡ node.old.state.fixed }
 {
     match event {

@@ -1,8 +1,9 @@
 // One node among all, each by its place.
-ghost use Rattle.std.specs.Prelude.{◌≡◌, ◌≤◌, IfOk, length, option_map, position};
+ghost use Rattle.std.specs.Prelude.{◌≡◌, ◌≤◌, IfOk, OnErr, length, option_map, position};
 ghost use Rattle.sp_frame.specs.declared.frame.TheConstants.{MAX_FRAME_BYTES};
 ghost use Rattle.sp_runs.specs.Inputs.{acting};
 ghost use Rattle.sp_runs.specs.Worlds.{is_me, node_in};
+ghost use Rattle.sp_world_steps.specs.declared.entries.TheConstants.{MOST_OBJECTS};
 ghost use Rattle.sp_world_steps.specs.Members.{AskedAmong, CanAsk, CanCall, HeardAmong, PolledAmong, without_node};
 
 use crate::Member;
@@ -27,7 +28,7 @@ pub fn member_of(nodes: &[Member], u: NodeId) -> Option<&Member>
 }
 
 /// A client or the clock asks something of the node `u`, which acts.
-#[tactic(auto, using(sp_base::proofs::RowLemmas::placed, crate::proofs::Among::asked_at, crate::proofs::Among::asked_has_place, crate::proofs::Among::may_ask_at))]
+#[tactic(auto, using(sp_base::proofs::RowLemmas::placed, crate::proofs::Among::same_among, crate::proofs::Among::asked_at, crate::proofs::Among::asked_has_place, crate::proofs::Among::may_ask_at))]
 pub fn ask(
     alloc: Global,
     nodes: &mut Vec<Member>,
@@ -36,7 +37,8 @@ pub fn ask(
 ) -> Result<Entry, Memory>
     requires acts { u ≡ acting event.now }
     requires can { CanAsk nodes.old.items event.now }
-    ensures { IfOk result (λ entry. AskedAmong nodes.old.items event.now entry nodes.new.items) }
+    ensures asked { IfOk result (λ entry. AskedAmong nodes.old.items event.now entry nodes.new.items) }
+    ensures as_before { OnErr result (nodes.new.items ≡ nodes.old.items) }
 {
     let Some(place) = place_of(nodes, u) else {
         unreachable!()
@@ -46,11 +48,12 @@ pub fn ask(
 }
 
 /// The node `u` makes its next frame for its neighbour `v`.
-#[tactic(auto, using(sp_base::proofs::RowLemmas::placed, crate::proofs::Among::polled_at, crate::proofs::Among::called_has_place, crate::proofs::Among::answers_at, crate::proofs::Among::short_at))]
+#[tactic(auto, using(sp_base::proofs::RowLemmas::placed, crate::proofs::Among::same_among, crate::proofs::Among::polled_at, crate::proofs::Among::called_has_place, crate::proofs::Among::answers_at, crate::proofs::Among::short_at))]
 pub fn poll(alloc: Global, nodes: &mut Vec<Member>, u: NodeId, v: NodeId) -> Result<Bytes, Memory>
     requires can { CanCall nodes.old.items u v }
     ensures polled { IfOk result (λ bytes. PolledAmong nodes.old.items u v bytes nodes.new.items) }
     ensures long { IfOk result (λ bytes. length bytes ≤ MAX_FRAME_BYTES) }
+    ensures as_before { OnErr result (nodes.new.items ≡ nodes.old.items) }
 {
     let Some(place) = place_of(nodes, u) else {
         unreachable!()
@@ -60,7 +63,7 @@ pub fn poll(alloc: Global, nodes: &mut Vec<Member>, u: NodeId, v: NodeId) -> Res
 }
 
 /// The node `v` takes what came from its neighbour `u`.
-#[tactic(auto, using(sp_base::proofs::RowLemmas::placed, crate::proofs::Among::heard_at, crate::proofs::Among::called_has_place, crate::proofs::Among::answers_at))]
+#[tactic(auto, using(sp_base::proofs::RowLemmas::placed, crate::proofs::Among::same_among, crate::proofs::Among::heard_at, crate::proofs::Among::called_has_place, crate::proofs::Among::answers_at))]
 pub fn hear(
     alloc: Global,
     nodes: &mut Vec<Member>,
@@ -69,7 +72,9 @@ pub fn hear(
     bytes: &[u8],
 ) -> Result<Step<Taken>, Memory>
     requires can { CanCall nodes.old.items v u }
-    ensures { IfOk result (λ step. HeardAmong nodes.old.items u v bytes.now step nodes.new.items) }
+    ensures heard { IfOk result (λ step. HeardAmong nodes.old.items u v bytes.now step nodes.new.items) }
+    ensures few { IfOk result (λ step. length step.reply.items ≤ MOST_OBJECTS) }
+    ensures as_before { OnErr result (nodes.new.items ≡ nodes.old.items) }
 {
     let Some(place) = place_of(nodes, v) else {
         unreachable!()

@@ -1,13 +1,12 @@
 // The words of a journal for what a node answered.
-ghost use Rattle.std.specs.Prelude.{◌≡◌, IfOk, None as Nothing, Some as There, map};
+ghost use Rattle.std.specs.Prelude.{◌≡◌, ◌≤◌, [], None as Nothing, Some as There, length, map, vec_capacity};
 ghost use Rattle.sp_runs.specs.Journals.{ack_word, item_word, link_word, prio_word, refused_word, rel_word, section_word, tick_word, weight_word};
 
-use sp_base::{Listed, Memory, push_in_room};
+use sp_base::{Listed, push_in_room};
 use sp_frame::SectionRefused;
 use sp_journal::{AnswerWord, ItemWord, LinkWord, Reply, SectionWord};
 use sp_msg::SendRefused;
 use sp_rules::{AckAnswer, Item, LinkReply, PrioAnswer, RelAnswer, TickReply, WeightAnswer};
-use std::alloc::Global;
 
 fn section_word(refused: SectionRefused) -> SectionWord
     ensures { result ≡ section_word refused }
@@ -103,15 +102,16 @@ fn rel_word(answer: RelAnswer) -> AnswerWord
     }
 }
 
-/// The words of all items.
-pub fn item_words(alloc: Global, items: &[Item]) -> Result<Listed<ItemWord>, Memory>
-    ensures { IfOk result (λ words. words ≡ map item_word items.now) }
+/// The words of all items, in an empty vector that has room for them. It takes no memory.
+pub fn item_words(mut words: Vec<ItemWord>, items: &[Item]) -> Listed<ItemWord>
+    requires empty { words.items ≡ [] }
+    requires room { length items.now ≤ vec_capacity words }
+    ensures { result ≡ map item_word items.now }
 {
-    let mut words = Vec::with_capacity(alloc, items.len())?;
     'items: for item in items {
         push_in_room(&mut words, item_word(*item));
     }
-    Ok(Listed::from_vec(words))
+    Listed::from_vec(words)
 }
 
 /// The reply to a send that is refused so.

@@ -1,5 +1,5 @@
 use Rattle.sp_world.proofs.Standing.{can_hear}
-use Rattle.sp_world.specs.Stands.{world_of}
+use Rattle.sp_world_steps.specs.Polls.{world_of}
 use Rattle.sp_world.proofs.acts.arrival.Goals as goal
 
 pub arrive-requires-clause-can : goal.arrive-requires-clause-can

@@ -1,19 +1,32 @@
-use Rattle.std.proofs.Common.{sym, ◌∙◌}
-use Rattle.sp_world.proofs.Arriving.{is_found, is_heard}
+use Rattle.std.proofs.Common.{refl}
+use Rattle.sp_forgery.specs.Whats.{IsShort, what_of}
+use Rattle.sp_world.proofs.Arriving.{is_found, is_heard, when_heard}
 use Rattle.sp_world.proofs.arrivals.arrive.Goals as goal
 
-pub returns-in-Some : goal.returns-in-Some
-returns-in-Some c =
+pub copied-what-requires-clause-short : goal.copied-what-requires-clause-short
+copied-what-requires-clause-short c =
     let known = c.args.known.now in
-    rw c.forget.ensures
-    (is_found known.scenario.now known.events.now known.journal.now c.args.nodes.now.items c.hear.new.nodes.items c.args.directions.now c.args.u c.args.v
-    c.args.bytes.now c.in_ok-step.step known.signature_len c.in-Some.what c.requires.can c.in_ok-step.ensures
-    (λ n new w me len call rows gave. sym c.in-Some.is ∙ c.in_ok-what.ensures n new w me len call rows gave))
+    when_heard known.scenario.now known.events.now known.journal.now c.args.nodes.now.items c.hear.new.nodes.items c.args.directions.now c.args.u c.args.v
+    c.args.bytes.now c.in_ok-step.step known.signature_len (IsShort c.in-Some.found) c.requires.can c.in_ok-step.ensures.heard c.in-Some.ensures.short
 
-pub returns-in_ok-arrived-in-None : goal.returns-in_ok-arrived-in-None
-returns-in_ok-arrived-in-None c =
+pub copied-told-requires-clause-short : goal.copied-told-requires-clause-short
+copied-told-requires-clause-short c =
+    let known = c.args.known.now in
+    when_heard known.scenario.now known.events.now known.journal.now c.args.nodes.now.items c.hear.new.nodes.items c.args.directions.now c.args.u c.args.v
+    c.args.bytes.now c.in_ok-step.step known.signature_len (IsShort c.in-Some.found) c.requires.can c.in_ok-step.ensures.heard c.in-Some.ensures.short
+
+pub returns-in-Some-clause-arrives : goal.returns-in-Some-clause-arrives
+returns-in-Some-clause-arrives c =
+    let known = c.args.known.now in
+    rw (c.forget.ensures, c.copied-what.ensures, c.copied-told.ensures) (
+      is_found known.scenario.now known.events.now known.journal.now c.args.nodes.now.items c.hear.new.nodes.items c.args.directions.now c.args.u c.args.v
+          c.args.bytes.now c.in_ok-step.step known.signature_len (what_of c.in-Some.found) c.requires.can c.in_ok-step.ensures.heard c.in-Some.ensures.judged,
+      refl,
+    )
+
+pub returns-in-None-clause-arrives : goal.returns-in-None-clause-arrives
+returns-in-None-clause-arrives c =
     let known = c.args.known.now in
     is_heard known.scenario.now known.events.now known.journal.now c.args.nodes.now.items c.hear.new.nodes.items c.args.directions.now c.args.u c.args.v
-    c.args.bytes.now c.in_ok-step.step known.signature_len c.in_ok-arrived-in-None.field-0 c.requires.can c.in_ok-step.ensures
-    (λ n new w me len call rows gave. sym c.in-None.is ∙ c.in_ok-what.ensures n new w me len call rows gave)
-    c.in_ok-arrived-in-None.ensures
+    c.args.bytes.now c.in_ok-step.step known.signature_len c.arrived.result c.requires.can c.in_ok-step.ensures.heard c.in-None.ensures.judged
+    c.arrived.ensures

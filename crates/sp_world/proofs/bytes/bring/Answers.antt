@@ -2,7 +2,8 @@ use Rattle.std.proofs.Common.{sym, subst}
 use Rattle.std.specs.Prelude.{IfOk}
 use Rattle.sp_runs.specs.Scenarios.{setting_of}
 use Rattle.sp_schedule_events.specs.declared.event.Event.{Event}
-use Rattle.sp_world.specs.Stands.{Comes, world_of}
+use Rattle.sp_world.specs.Stands.{Comes}
+use Rattle.sp_world_steps.specs.Polls.{world_of}
 use Rattle.sp_world.proofs.bytes.bring.Goals as goal
 
 pub returns-in-Craft-clause-comes : goal.returns-in-Craft-clause-comes

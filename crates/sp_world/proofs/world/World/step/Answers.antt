@@ -1,7 +1,8 @@
 use Rattle.std.proofs.Common.{◌≡◌, None, ◌∙◌}
 use Rattle.sp_runs.specs.Scenarios.{setting_of}
 use Rattle.sp_world.proofs.Pasts.{goes_on, kept_on, stands}
-use Rattle.sp_world.specs.Stands.{IsTold, world_of}
+use Rattle.sp_world.specs.Stands.{IsTold}
+use Rattle.sp_world_steps.specs.Polls.{world_of}
 use Rattle.sp_world.proofs.world.World.step.Goals as goal
 
 pub invariant_of-self-in-Told : goal.invariant_of-self-in-Told

@@ -1,8 +1,14 @@
 // The frames of one direction.
-ghost use Rattle.std.specs.Prelude.{◌≡◌, true, ◌++◌, ◌∷◌, [], IsTrue, IfOk, OnOk, OnErr};
+ghost use Rattle.std.specs.Prelude.{◌≡◌, ◌+◌, ◌<◌, ◌^◌, true, IsTrue, IfOk, OnErr, length};
 ghost use Rattle.sp_runs.specs.Forgery.{is_among};
+ghost use Rattle.sp_world_steps.specs.Members.{CanCall};
+ghost use Rattle.sp_world_steps.specs.Polls.{IsFramed};
 
-use sp_base::{Bytes, Memory, NodeId, push};
+use crate::Member;
+use crate::entries::frame;
+use crate::members::poll;
+use sp_base::{Bytes, Memory, NodeId, push_in_room};
+use sp_journal::Entry;
 use std::alloc::Global;
 use std::marker::Model;
 
@@ -23,33 +29,35 @@ impl Model for Direction {
 }
 
 impl Direction {
-    /// A direction with its first frame.
-    pub fn with_first(
-        alloc: Global,
-        from: NodeId,
-        to: NodeId,
-        frame: Bytes,
-    ) -> Result<Direction, Memory>
-        ensures { IfOk result (λ d. d ≡ record { from = from; to = to; frames = frame ∷ [] }) }
-    {
-        let mut frames = Vec::new(alloc);
-        push(&mut frames, frame)?;
-        Ok(Direction { from, to, frames })
-    }
-
     pub fn frames(&self) -> &[Bytes]
         ensures { result.now ≡ self.now.frames }
     {
         self.frames.as_slice()
     }
+}
 
-    /// One more frame. After an error there is none.
-    pub fn add(&mut self, frame: Bytes) -> Result<(), Memory>
-        ensures ok { OnOk result (self.new ≡ record { from = self.old.from; to = self.old.to; frames = self.old.frames ++ frame ∷ [] }) }
-        ensures err { OnErr result (self.new ≡ self.old) }
-    {
-        push(&mut self.frames, frame)
-    }
+/// The node `u` makes its next frame for `v`, and it is kept behind those that it made. The room for it is taken first: so where there is none, the
+/// node is as before.
+#[tactic(auto, using(crate::proofs::FrameRows::is_framed))]
+pub fn add_frame(
+    alloc: Global,
+    nodes: &mut Vec<Member>,
+    u: NodeId,
+    v: NodeId,
+    frames: &mut Vec<Bytes>,
+) -> Result<Entry, Memory>
+    requires can { CanCall nodes.old.items u v }
+    requires few { length frames.old.items + 1 < 2 ^ 32 }
+    ensures framed { IfOk result (λ entry. IsFramed nodes.old.items u v frames.old.items entry nodes.new.items frames.new.items) }
+    ensures frames { OnErr result (frames.new.items ≡ frames.old.items) }
+    ensures nodes { OnErr result (nodes.new.items ≡ nodes.old.items) }
+{
+    frames.reserve(1)?;
+    let number = frames.len() as u32 + 1;
+    let bytes = poll(alloc, nodes, u, v)?;
+    let entry = frame(alloc, number, bytes.as_slice());
+    push_in_room(frames, bytes);
+    Ok(entry)
 }
 
 /// Whether the bytes are one of these frames. The one of this number, counted from 1, is looked at first.

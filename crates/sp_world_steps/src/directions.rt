@@ -1,10 +1,14 @@
 // All frames of a world by their direction, each found by its number alone.
-ghost use Rattle.std.specs.Prelude.{◌≡◌, [], IfOk, OnErr, OnOk, position, option_map};
+ghost use Rattle.std.specs.Prelude.{◌≡◌, ◌+◌, ◌<◌, ◌^◌, [], IfOk, OnErr, length, position, option_map};
 ghost use Rattle.sp_runs.specs.Forgery.{is_among};
-ghost use Rattle.sp_runs.specs.Worlds.{frame_in, frames_in, is_from_to, with_frame};
+ghost use Rattle.sp_runs.specs.Worlds.{frame_in, frames_in, is_from_to};
+ghost use Rattle.sp_world_steps.specs.Members.{CanCall};
+ghost use Rattle.sp_world_steps.specs.Polls.{IsPolled, world_of};
 
-use crate::frames::{Direction, has_at};
-use sp_base::{Bytes, Memory, NodeId, push};
+use crate::Member;
+use crate::frames::{Direction, add_frame, has_at};
+use sp_base::{Bytes, Memory, NodeId, push_in_room};
+use sp_journal::Entry;
 use std::alloc::Global;
 use std::marker::Model;
 
@@ -54,26 +58,33 @@ impl Directions {
         self.frames(from, to).get(number as usize - 1)
     }
 
-    /// One more frame of a direction. After an error there is none.
-    #[tactic(auto, using(sp_base::proofs::RowLemmas::put_placed, crate::proofs::FrameRows::pushed_there))]
-    pub fn put(
+    /// The node `u` makes its next frame for its neighbour `v`, and it is kept. All room is taken first: after want of memory the nodes and the
+    /// frames are as before.
+    #[tactic(auto, using(sp_base::proofs::RowLemmas::put_placed, crate::proofs::FrameRows::polled_there, crate::proofs::FrameRows::polled_first))]
+    pub fn poll(
         &mut self,
         alloc: Global,
-        from: NodeId,
-        to: NodeId,
-        frame: Bytes,
-    ) -> Result<(), Memory>
-        ensures ok { OnOk result (self.new ≡ with_frame self.old from to frame) }
-        ensures err { OnErr result (self.new ≡ self.old) }
+        nodes: &mut Vec<Member>,
+        u: NodeId,
+        v: NodeId,
+    ) -> Result<Entry, Memory>
+        requires can { CanCall nodes.old.items u v }
+        requires few { length (frames_in self.old u v) + 1 < 2 ^ 32 }
+        ensures polled { IfOk result (λ entry. IsPolled (world_of nodes.old.items self.old) u v entry (world_of nodes.new.items self.new)) }
+        ensures as_before { OnErr result (world_of nodes.new.items self.new ≡ world_of nodes.old.items self.old) }
     {
-        match self.place(from, to) {
+        match self.place(u, v) {
             Some(place) => {
                 let row = &mut self.rows[place];
-                row.add(frame)
+                add_frame(alloc, nodes, u, v, &mut row.frames)
             }
             None => {
-                let row = Direction::with_first(alloc, from, to, frame)?;
-                push(&mut self.rows, row)
+                self.rows.reserve(1)?;
+                let mut frames = Vec::new(alloc);
+                let entry = add_frame(alloc, nodes, u, v, &mut frames)?;
+                let (from, to) = (u, v);
+                push_in_room(&mut self.rows, Direction { from, to, frames });
+                Ok(entry)
             }
         }
     }

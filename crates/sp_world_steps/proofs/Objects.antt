@@ -1,0 +1,158 @@
+-- The objects of a datagram that a node takes: they are few, and each is a message with its fields in their ranges.
+use Rattle.std.proofs.Common.{◌≡◌, ◌+◌, ◌≤◌, ◌<◌, ◌-◌, ℕ, List, [], ◌∷◌, ◌++◌, length, map, length-append, append_assoc, Option, Some, None, Result, Ok, Err, refl, sym, ap, ap₂, ◌∙◌, subst, arith}
+use Rattle.std.specs.Prelude.{All, IfSome}
+use Rattle.std.proofs.lemmas.List.{length-map}
+use Rattle.std.proofs.lemmas.List.Elements.{All-append, All-drop, All-map, All-nil, All-cons, All-take, All-weaker}
+use Rattle.laws_node.proofs.Objects.{objects_are_answered}
+use Rattle.laws_node.specs.Objects.{objects_in, objects_of}
+use Rattle.sp_base.specs.Spelling.{AreBytes}
+use Rattle.sp_base.specs.declared.id.NodeId.{NodeId}
+use Rattle.sp_frame.proofs.SectionLemmas.{read_is_spelled}
+use Rattle.sp_frame.specs.Frames.{sections_part, signed_part}
+use Rattle.sp_frame.specs.Objects.{IsObject, most}
+use Rattle.sp_frame.specs.Ranges.{IsContents, IsNumbered, IsReport}
+use Rattle.sp_frame.specs.Reliable.{Report}
+use Rattle.sp_frame.specs.Sections.{Contents, sections_of}
+use Rattle.sp_frame.specs.Views.{as_list}
+use Rattle.sp_frame.specs.declared.kind.Kind.TheVariants as kinds
+use Rattle.sp_frame.specs.declared.refused.SectionRefused.{SectionRefused}
+use Rattle.sp_msg.specs.Bodies.{HasGoodFields}
+use Rattle.sp_msg.specs.declared.kept.Kept.{Kept}
+use Rattle.sp_node_core.specs.Format.{format}
+use Rattle.sp_rules.specs.Arrivals.{arrival_at, handled, pieces_in, pieces_where, reply_at, sections_in}
+use Rattle.sp_rules.specs.Node.{NodeState, call_refusal}
+use Rattle.sp_rules.specs.Pieces.{AckPiece, Piece, PrioAckPiece, RelPiece, WeightPiece, pieces_of, prio_piece, slot_pieces}
+use Rattle.sp_rules.specs.Steps.{Arrived, Output, Reply, arrived, refused_call}
+use Rattle.sp_rules.specs.declared.answers.Item.{Item}
+use Rattle.sp_rules.specs.declared.node.LinkReply.{LinkReply}
+use Rattle.sp_rules.specs.declared.node.LinkReply.TheVariants as replies
+use Rattle.sp_rules.specs.declared.node.Step.{Step}
+use Rattle.sp_rules.specs.declared.node.Taken.{Taken}
+use Rattle.sp_world_steps.specs.Gave.{GaveTaken}
+use Rattle.sp_world_steps.specs.declared.entries.TheConstants.{MOST_OBJECTS}
+
+-- ---- the objects of contents, part by part
+
+objects_both : (xs ys : List Piece) → objects_in (xs ++ ys) ≡ objects_in xs ++ objects_in ys
+objects_both [] ys = refl
+objects_both (p ∷ xs) ys =
+    ap (λ (os : List Kept). objects_of p ++ os) (objects_both xs ys) ∙ sym (append_assoc (objects_of p) (objects_in xs) (objects_in ys))
+
+of_each : (one : Kept → Piece) → ((o : Kept) → objects_of (one o) ≡ o ∷ []) → (os : List Kept) → objects_in (map one os) ≡ os
+of_each one each [] = refl
+of_each one each (o ∷ os) = rw (each o) (ap (λ (others : List Kept). o ∷ others) (of_each one each os))
+
+of_numbered : (ms : List (ℕ × Kept)) → objects_in (map prio_piece ms) ≡ map (λ m. m.1) ms
+of_numbered [] = refl
+of_numbered (m ∷ ms) = ap (λ (os : List Kept). m.1 ∷ os) (of_numbered ms)
+
+abbrev slot_objects : Option Report → List Kept
+slot_objects None = []
+slot_objects (Some r) = as_list r.ack ++ r.rels
+
+of_slot : (slot : Option Report) → objects_in (slot_pieces slot) ≡ slot_objects slot
+of_slot None = refl
+of_slot (Some r) =
+    objects_both (map (AckPiece r.flow) (as_list r.ack)) (map (RelPiece r.flow) r.rels)
+    ∙ ap₂ (λ (xs ys : List Kept). xs ++ ys) (of_each (AckPiece r.flow) (λ o. refl) (as_list r.ack)) (of_each (RelPiece r.flow) (λ o. refl) r.rels)
+
+of_contents : (s : Contents) → objects_in (pieces_of s) ≡ s.weights ++ (map (λ m. m.1) s.prios ++ slot_objects s.slot)
+of_contents s =
+    objects_both (map WeightPiece s.weights) (PrioAckPiece s.prio_ack ∷ (map prio_piece s.prios ++ slot_pieces s.slot))
+    ∙ ap₂ (λ (xs ys : List Kept). xs ++ ys) (of_each WeightPiece (λ o. refl) s.weights)
+    (objects_both (map prio_piece s.prios) (slot_pieces s.slot) ∙ ap₂ (λ (xs ys : List Kept). xs ++ ys) (of_numbered s.prios) (of_slot s.slot))
+
+-- ---- they are few, and good
+
+abbrev pub IsGood : Kept → Type 0
+IsGood o = HasGoodFields o.body
+
+pub record AreObjects (os : List Kept) : Type 0 where
+  pub few : length os ≤ MOST_OBJECTS
+  pub good : All IsGood os
+
+none_are : AreObjects []
+none_are = record { few = omega arith; good = All-nil IsGood }
+
+ack_is : (len : ℕ) (o : Option Kept) → IfSome o (IsObject kinds.Ack len) → (length (as_list o) ≤ most kinds.Ack) × All IsGood (as_list o)
+ack_is len None is = (omega arith, All-nil IsGood)
+ack_is len (Some o) is = (omega arith, All-cons IsGood o [] is.fields (All-nil IsGood))
+
+slot_is : (len : ℕ) (slot : Option Report) → IfSome slot (IsReport len)
+    → (length (slot_objects slot) ≤ most kinds.Ack + most kinds.Rel) × All IsGood (slot_objects slot)
+slot_is len None is = (omega arith, All-nil IsGood)
+slot_is len (Some r) is =
+    let ack = ack_is len r.ack is.ack in
+    let rels = All-weaker (IsObject kinds.Rel len) IsGood (λ o h. h.fields) r.rels is.rels in
+    (omega (arith, ack.0, is.few, length-append (as_list r.ack) r.rels), All-append IsGood (as_list r.ack) r.rels ack.1 rels)
+
+contents_are : (len : ℕ) (s : Contents) → IsContents len s → AreObjects (objects_in (pieces_of s))
+contents_are len s is =
+    let slot = slot_is len s.slot is.slot in
+    let weights = All-weaker (IsObject kinds.Weight len) IsGood (λ o h. h.fields) s.weights is.weights in
+    let prios = All-map IsGood (λ m. m.1) s.prios (All-weaker (IsNumbered len) (λ (m : ℕ × Kept). IsGood m.1) (λ m h. h.object.fields) s.prios is.prios) in
+    let rest = map (λ (m : ℕ × Kept). m.1) s.prios ++ slot_objects s.slot in
+    subst AreObjects (sym (of_contents s)) (record {
+      few = omega (
+        arith,
+        slot.0,
+        is.few_weights,
+        is.few_prios,
+        length-append s.weights rest,
+        length-append (map (λ (m : ℕ × Kept). m.1) s.prios) (slot_objects s.slot),
+        length-map s.prios (λ (m : ℕ × Kept). m.1),
+      );
+      good = All-append IsGood s.weights rest weights (All-append IsGood (map (λ (m : ℕ × Kept). m.1) s.prios) (slot_objects s.slot) prios slot.1);
+    })
+
+-- ---- of whatever bytes come
+
+part_are : (bytes : List ℕ) → AreBytes bytes → AreBytes (sections_part bytes)
+part_are bytes are = All-drop (λ (b : ℕ). b < 256) 33 (signed_part bytes) (All-take (λ (b : ℕ). b < 256) (length bytes - 32) bytes are)
+
+sections_are : (len : ℕ) (bytes : List ℕ) (r : Result Contents SectionRefused) → AreBytes bytes
+    → sections_of len (sections_part bytes) ≡ r → AreObjects (objects_in (pieces_in r))
+sections_are len bytes (Ok s) are is = contents_are len s (read_is_spelled len (sections_part bytes) s (part_are bytes are) is).1
+sections_are len bytes (Err refused) are is = none_are
+
+where_are : (pieces : List Piece) (reply : LinkReply) → AreObjects (objects_in pieces) → AreObjects (objects_in (pieces_where reply pieces))
+where_are pieces replies.Fresh h = h
+where_are pieces replies.TooLong h = none_are
+where_are pieces (replies.Short short) h = none_are
+where_are pieces replies.Magic h = none_are
+where_are pieces replies.Version h = none_are
+where_are pieces replies.NotForMe h = none_are
+where_are pieces replies.BadTag h = none_are
+where_are pieces (replies.Learned boot) h = none_are
+where_are pieces (replies.Stale boot counter) h = none_are
+where_are pieces (replies.OtherTopology theirs) h = none_are
+where_are pieces (replies.Section refused) h = none_are
+
+pub handled_are : (n : NodeState) (u : NodeId) (bytes : List ℕ) → AreBytes bytes → AreObjects (map (λ a. a.0) (handled format n u bytes).answered)
+handled_are n u bytes are =
+    let sections = sections_in format n.fixed bytes in
+    subst AreObjects (sym (objects_are_answered format (arrival_at n u) n.parts (pieces_where (reply_at format n u bytes) (pieces_in sections))))
+    (where_are (pieces_in sections) (reply_at format n u bytes) (sections_are n.fixed.signature_len bytes sections are refl))
+
+-- ---- as many answers
+
+abbrev items_in : Reply → List Item
+items_in (Arrived link items) = items
+items_in _ = []
+
+items_are : (n new : NodeState) (u : NodeId) (bytes : List ℕ) (step : Step Taken) → call_refusal n u ≡ None → GaveTaken n u bytes step new
+    → step.reply.items ≡ map (λ a. a.1) (handled format n u bytes).answered
+items_are n new u bytes step called gave = ap (λ (o : Output). items_in o.reply) (gave.0 ∙ ap (λ r. refused_call r (arrived format n u bytes)) called)
+
+pub few_items : (n new : NodeState) (u : NodeId) (bytes : List ℕ) (step : Step Taken) → AreBytes bytes → call_refusal n u ≡ None → GaveTaken n u bytes step new
+    → length step.reply.items ≤ MOST_OBJECTS
+few_items n new u bytes step are called gave =
+    let answered = (handled format n u bytes).answered in
+    let few = (handled_are n u bytes are).few in
+    omega (
+      arith,
+      ap (λ (is : List Item). length is) (items_are n new u bytes step called gave),
+      few,
+      length-map answered (λ (a : Kept × Item). a.1),
+      length-map answered (λ (a : Kept × Item). a.0),
+    )
