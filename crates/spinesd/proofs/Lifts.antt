@@ -1,5 +1,5 @@
 -- What is claimed of a run is claimed of its reader and its writer.
-use Rattle.std.proofs.Common.{◌≡◌, ℕ, true, false, List, Option, inl, inr, refl, subst, arith}
+use Rattle.std.proofs.Common.{◌≡◌, ℕ, true, false, List, Option, Some, inl, inr, refl, subst, arith}
 use Rattle.std.specs.Prelude.{◌⊎◌}
 use Rattle.sp_outside.specs.Calls.{Call}
 use Rattle.sp_outside.specs.Disk.{Disk}
@@ -7,7 +7,9 @@ use Rattle.sp_service_turns.specs.Served.{Outside}
 use Rattle.sp_top.specs.Claims.{SaidClaims}
 use Rattle.sp_top.specs.Commands.{BySaid}
 use Rattle.sp_top.specs.declared.command.Command.{Command}
+use Rattle.sp_top.specs.declared.command.Command.TheVariants as commands
 use Rattle.sp_top.specs.Complete.{reads, writes_at_end}
+use Rattle.sp_top.specs.Fronts.{IsBrokenOff}
 use Rattle.sp_top.specs.Statuses.{code_of}
 use Rattle.sp_top.specs.declared.ended.Status.{Status}
 use Rattle.sp_top.specs.declared.ended.Status.TheVariants as statuses
@@ -41,6 +43,12 @@ ended words left l past status w0 w1 k0 k1 d0 d1 b0 b1 t0 t1 read before after i
     let Q : Option (List ℕ) → Type 0 = λ x. BySaid words (λ said. SaidEnded said left past status x t1) in
     let R : Option (List ℕ) → Type 0 = λ x. BySaid words (λ said. SaidEnded said left past status b0 x) in
     subst R after (subst Q before (subst P read told))
+
+-- a source that failed is a reader that failed
+pub broken : (words : List (List ℕ)) (left l rest m : Option (List ℕ)) (past : Option Past) (status : Status) (b0 b1 t0 t1 : Option (List ℕ)) → l ≡ left → m ≡ rest
+    → t0 ≡ b0 → t1 ≡ b1 → BySaid words (λ said. said ≡ Some commands.Replay → status ≡ statuses.Source → IsBrokenOff l m past t0 t1)
+    → BySaid words (λ said. said ≡ Some commands.Replay → status ≡ statuses.Source → IsBrokenOff left rest past b0 b1)
+broken words left l rest m past status b0 b1 t0 t1 read left_over before after is = rw (← read, ← left_over, ← before, ← after) is
 
 -- what stayed in a source stayed in its reader
 pub unread : {A B : Type 0} (words : List (List ℕ)) (s0 s1 : A) (r0 r1 : B) → BySaid words (λ said. reads said ≡ false → s1 ≡ s0) → (s1 ≡ s0 → r1 ≡ r0)

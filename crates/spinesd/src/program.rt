@@ -30,7 +30,7 @@ pub fn program<R: Read, W: Write, N: Wire + Drop, C: Clock + Drop, P: Keeper + D
     mut clock: C,
     mut keeper: P,
 ) -> Finished<R, W>
-    ensures ended { IfOk words (λ words. Ended (map string_bytes words.items) (R.remaining reader) (W.contents writer) (W.contents result.writer) result.code) }
+    ensures ended { IfOk words (λ words. Ended (map string_bytes words.items) (R.remaining reader) (R.remaining result.reader) (W.contents writer) (W.contents result.writer) result.code) }
 
     // no word was kept, so none is run
     ensures wordless { OnErr words ((result.code ≡ 9) × (result.reader ≡ reader) × (result.writer ≡ writer)) }

@@ -1,5 +1,5 @@
 use Rattle.std.proofs.Common.{ap, rules, sym, ◌∙◌}
-use Rattle.spinesd.proofs.Lifts.{ended, quiet, unread}
+use Rattle.spinesd.proofs.Lifts.{broken, ended, quiet, unread}
 use Rattle.spinesd.proofs.program.program.Goals as goal
 
 pub returns-clause-ended : goal.returns-clause-ended
@@ -10,6 +10,9 @@ returns-clause-ended g c =
       world = c.run-outcome.result.world;
       said = ended _ _ _ _ _ _ _ _ _ _ _ _ _ _ _ (ap g.R.Read.remaining (ap (λ s. s.reader) c.new-source.ensures)) (ap g.W.Write.contents (ap (λ s. s.writer) c.new-sink.ensures))
           (sym (ap g.W.Write.contents c.into_writer.ensures)) (rw c.as_slice.ensures.value at c.run-outcome.ensures.said);
+      broken = broken _ _ _ _ _ _ _ _ _ _ _ (ap g.R.Read.remaining (ap (λ s. s.reader) c.new-source.ensures)) (sym (ap g.R.Read.remaining c.into_reader.ensures))
+          (ap g.W.Write.contents (ap (λ s. s.writer) c.new-sink.ensures)) (sym (ap g.W.Write.contents c.into_writer.ensures))
+          (rw c.as_slice.ensures.value at c.run-outcome.ensures.broken);
       claims = search rules;
     })
 
