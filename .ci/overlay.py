@@ -1,8 +1,8 @@
-"""Runs an overlay of three daemons with the built program: python3 .ci/overlay.py PATH/TO/spinesd
+"""Runs overlays of daemons with the built program: python3 .ci/overlay.py PATH/TO/spinesd
 
-It makes keys, a signed topology and three configurations in a folder of its own, sends messages from one end of a line to the other, verifies
-each recording, and does the same of daemons that end by themselves. Ports are the system's, nothing is left running, and it takes less than ten
-seconds. Each difference is told, and the status is then 1.
+It makes keys, a signed topology and configurations in folders of its own, sends messages from one end of a line of three to the other, verifies
+each recording, and does the same of four in a square, where two ways cost the same, and of three that end by themselves. Ports are the system's,
+nothing is left running, and it takes less than ten seconds. Each difference is told, and the status is then 1.
 """
 
 import os
@@ -10,6 +10,7 @@ import re
 import signal
 import sys
 import tempfile
+import time
 
 ROOT = os.path.dirname(os.path.dirname(os.path.abspath(__file__)))
 sys.path.insert(0, os.path.join(ROOT, "examples", "overlay"))
@@ -20,6 +21,10 @@ HEIGHT = 5
 MANY_TURNS = 100_000
 FEW_TURNS = 25
 MESSAGES = [b"\x00", b"hello", bytes(range(256)) * 4]
+# both ways round cost the same, so a message over one path has two least sets of paths
+SQUARE = 4, [(1, 2, 10), (1, 3, 10), (2, 4, 10), (3, 4, 10)]
+# the greatest expiry
+NEVER = 2**64 - 1
 # a line of a recording that has a digest
 WITH_DIGEST = re.compile(rb"^(?:tick|overlay|client|poll) .*[0-9a-f]{64}$", re.MULTILINE)
 
@@ -71,6 +76,34 @@ def messages_arrive(judge, folder, program):
         verified(judge, "daemons that are stopped", overlay, node)
 
 
+def taken(overlay, node, seconds=5.0):
+    """The oldest priority message of a node, which is waited for."""
+    until = time.monotonic() + seconds
+    answer = "empty"
+    while answer == "empty" and time.monotonic() < until:
+        answer = overlay.ask(node, "takeprio")
+    return answer
+
+
+def ways_tie(judge, folder, program):
+    """A priority message over one of two ways of equal cost arrives, and so does one over both. The recordings have the choice, and `verify` makes it again."""
+    overlay = Overlay(folder, program)
+    try:
+        overlay.make(SQUARE, HEIGHT)
+        for node in overlay.ports:
+            overlay.start(node, MANY_TURNS)
+        overlay.ask(4, "listen")
+        for number, paths in enumerate((1, 2), 1):
+            name = f"the message over {paths} of two equal ways"
+            judge.equal(f"{name} is sent", overlay.ask(1, f"sendprio 4 5 {NEVER} {paths} 746965"), f"accepted {number}")
+            judge.equal(f"{name} arrives", taken(overlay, 4), f"payload 1 {number} 746965")
+        judge.equal("a third way isn't there", overlay.ask(1, f"sendprio 4 5 {NEVER} 3 746965"), "nopaths 2")
+    finally:
+        overlay.end_all()
+    for node in overlay.ports:
+        verified(judge, "daemons of a square", overlay, node)
+
+
 def daemons_end(judge, folder, program):
     """Daemons end by themselves after their turns, and the last line says so."""
     overlay = Overlay(folder, program)
@@ -96,6 +129,7 @@ def main():
     judge = Judge()
     with tempfile.TemporaryDirectory() as folder:
         messages_arrive(judge, os.path.join(folder, "messages"), sys.argv[1])
+        ways_tie(judge, os.path.join(folder, "square"), sys.argv[1])
         daemons_end(judge, os.path.join(folder, "ended"), sys.argv[1])
     print(f"{judge.looks - judge.wrong} looks at an overlay of daemons as wanted, {judge.wrong} not")
     sys.exit(1 if judge.wrong else 0)
