@@ -3,10 +3,12 @@
 Two idle daemons: the share of a core and the memory of each. Then a line of three, whose client at one end sends messages of 64 bytes as fast as they
 are accepted, and one at the other end takes them: how many arrive in a second, with their acknowledgements back, and how much of a core each daemon
 takes. Then a hub of five leaves, each of which sends to the next over the hub: the same, and how many datagrams the system dropped at the hub. Each
-runs for SECONDS, 10 if not said. Figures depend on the machine, and nothing is judged.
+runs for SECONDS, 10 if not said. Last two daemons that end by themselves: the processor time of their turns, and that of the verification of what they
+recorded. Figures depend on the machine, and nothing is judged.
 """
 
 import os
+import resource
 import socket
 import sys
 import tempfile
@@ -19,6 +21,7 @@ sys.path.insert(0, os.path.join(ROOT, "examples", "overlay"))
 from overlay import Overlay, line_of  # noqa: E402
 
 MANY_TURNS = 1_000_000
+RECORDED_TURNS = 10_000
 PAYLOAD = "5a" * 64
 TICKS = os.sysconf("SC_CLK_TCK")
 
@@ -116,6 +119,28 @@ def measured(program, name, graph, ways, seconds):
             overlay.end_all()
 
 
+def recorded(program, seconds):
+    """Runs two daemons to their end while messages go from one to the other, and verifies what they recorded."""
+    with tempfile.TemporaryDirectory() as folder:
+        overlay = Overlay(folder, program)
+        overlay.make(line_of(2))
+        try:
+            pids = {node: overlay.start(node, RECORDED_TURNS).pid for node in overlay.ports}
+            arrived = carried(overlay, [(1, 2)], seconds)
+            used = {node: os.wait4(pid, 0)[2] for node, pid in pids.items()}
+        finally:
+            overlay.children = {}
+            overlay.end_all()
+        print(f"{RECORDED_TURNS} turns of two daemons: {arrived} messages arrived")
+        for node, daemon in used.items():
+            before = resource.getrusage(resource.RUSAGE_CHILDREN)
+            _, output = overlay.verify(node)
+            after = resource.getrusage(resource.RUSAGE_CHILDREN)
+            turns, checks = daemon.ru_utime + daemon.ru_stime, after.ru_utime + after.ru_stime - before.ru_utime - before.ru_stime
+            size = len(overlay.recording(node))
+            print(f"node {node}: {turns:.2f} s of a processor for its turns, a recording of {size} bytes, {checks:.2f} s for `{output}`")
+
+
 def main():
     if not 2 <= len(sys.argv) <= 3:
         sys.exit("usage: python3 bench/daemons.py PATH/TO/spinesd [SECONDS]")
@@ -124,6 +149,7 @@ def main():
     measured(program, "two idle daemons", line_of(2), [], seconds)
     measured(program, "a line of three", line_of(3), [(1, 3)], seconds)
     measured(program, "a hub of five leaves", hub, [(leaf, leaf % 5 + 2 if leaf < 6 else 2) for leaf in range(2, 7)], seconds)
+    recorded(program, seconds)
 
 
 if __name__ == "__main__":
