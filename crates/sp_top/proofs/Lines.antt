@@ -24,7 +24,7 @@ use Rattle.sp_schedule.specs.declared.stage.Stage.{Stage}
 use Rattle.sp_schedule.specs.declared.stage.Stage.TheVariants as stages
 use Rattle.sp_schedule_events.specs.declared.event.Event.{Event}
 use Rattle.sp_schedule_events.specs.declared.scenario.Scenario.{Scenario}
-use Rattle.sp_world.specs.Past.{GoesOn, IsForged, IsPast, IsRefused, Past, at_first}
+use Rattle.sp_world.specs.Past.{GoesOn, IsForged, IsPast, IsRefused, IsUnforged, Past, at_first}
 use Rattle.sp_world.specs.declared.refused.WorldRefused.TheVariants as stops
 use Rattle.sp_top.specs.declared.halt.Halt.{Halt}
 use Rattle.sp_top.specs.declared.halt.Halt.TheVariants as halts
@@ -294,7 +294,7 @@ forged_of f p q e number what reads next past refused more is_cut =
         events = rw (refused.scenario, refused.events) events;
         counted = rw refused.events forged.counted;
         world = p.world;
-        run = rw (refused.scenario, refused.events, refused.journal, past.now next.going) past.clean;
+        run = rw (refused.scenario, refused.events, refused.journal, past.now (subst IsUnforged (sym next.going) tt)) past.clean;
         forged = rw (refused.scenario, refused.events, refused.journal) forged.forged;
         stopped = forged.stopped;
       };

@@ -102,7 +102,7 @@ module _ (s : Scenario) (all : List Event) (schedule : IsSchedule s all) where
         events = sym (append-nil es);
         entries = [];
         journal = sym (append-nil js);
-        past = record { graph = schedule.scenario.graph; last = w; clean = clean; now = λ none. absurd (cc) };
+        past = record { graph = schedule.scenario.graph; last = w; clean = clean; now = λ none. refl };
         played = record {
           event = e;
           rest = rest;
