@@ -4,6 +4,7 @@ pub mod Reading
 pub mod Refusals
 pub mod Rows
 pub mod Spelling
+pub mod Few
 pub mod Finds
 pub mod Lists
 pub mod Position

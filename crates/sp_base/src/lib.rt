@@ -2,6 +2,7 @@
 #![tactic(auto)]
 
 mod cursor;
+mod four;
 mod id;
 mod limits;
 mod listed;
@@ -11,9 +12,10 @@ mod reader;
 mod room;
 
 pub use cursor::Cursor;
+pub use four::Four;
 pub use id::{EdgeId, Flow, Limits, NodeId};
 pub use limits::{
-    MAX_BUFFER, MAX_EDGES, MAX_EVENTS, MAX_INPUT_BYTES, MAX_LINE_BYTES, MAX_NODES,
+    MAX_BUFFER, MAX_EDGES, MAX_EVENTS, MAX_INPUT_BYTES, MAX_LINE_BYTES, MAX_MESSAGES, MAX_NODES,
     MAX_PAYLOAD_BYTES, MAX_PRIORITY, MAX_SEQ, MAX_STORE, MAX_WEIGHT,
 };
 pub use listed::{Bytes, Listed};

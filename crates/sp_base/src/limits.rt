@@ -32,3 +32,6 @@ pub const MAX_LINE_BYTES: usize = 131_200;
 
 /// The longest input, in bytes.
 pub const MAX_INPUT_BYTES: usize = 67_108_864;
+
+/// The greatest number of priority messages, and of reliable ones, in a frame, and of messages in flight to a neighbour.
+pub const MAX_MESSAGES: usize = 4;
