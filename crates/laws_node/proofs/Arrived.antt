@@ -5,6 +5,7 @@ use Rattle.std.specs.List.{All}
 use Rattle.std.proofs.lemmas.List.Elements.{All-cons, All-head, All-tail}
 use Rattle.sp_base.specs.Spelling.{AreBytes}
 use Rattle.sp_base.specs.declared.id.NodeId.{NodeId}
+use Rattle.sp_base.specs.declared.limits.TheConstants.{MAX_MESSAGES}
 use Rattle.sp_frame.specs.Objects.{IsObject}
 use Rattle.sp_frame.specs.Ranges.{IsContents, IsNumbered, IsReport}
 use Rattle.sp_frame.specs.Reliable.{Report}
@@ -24,7 +25,7 @@ use Rattle.sp_rules.specs.declared.node.LinkReply.{LinkReply}
 use Rattle.sp_rules.specs.declared.node.LinkReply.TheVariants as replies
 use Rattle.laws_node.specs.Inputs.{ArtsFit}
 use Rattle.laws_node.specs.Nodes.{NodeHolds}
-use Rattle.laws_node.specs.Sizes.{Sizes, most_messages}
+use Rattle.laws_node.specs.Sizes.{Sizes}
 use Rattle.laws_node.proofs.Carried.{AllKeep, PieceKeeps}
 use Rattle.laws_node.proofs.Handles.{AllFit, InRange, PieceFits, messages, messages_in}
 use Rattle.laws_node.proofs.Tables.{all_weaker}
@@ -92,7 +93,7 @@ slot_messages (Some r) =
     let rels = no_messages (RelPiece r.flow) (λ o. refl) r.rels in
     omega (arith, acks, rels, messages_both (map (AckPiece r.flow) (as_list r.ack)) (map (RelPiece r.flow) r.rels))
 
-few_messages : (len : ℕ) (s : Contents) → IsContents len s → messages (pieces_of s) ≤ most_messages
+few_messages : (len : ℕ) (s : Contents) → IsContents len s → messages (pieces_of s) ≤ MAX_MESSAGES
 few_messages len s is =
     let weights = no_messages WeightPiece (λ o. refl) s.weights in
     let prios = prio_messages s.prios in
@@ -104,7 +105,7 @@ few_messages len s is =
 -- pieces that fit, and few of them messages
 pub record FewFit (k : Sizes) (pieces : List Piece) : Type 0 where
   pub fit : AllFit k pieces
-  pub few : messages pieces ≤ most_messages
+  pub few : messages pieces ≤ MAX_MESSAGES
 
 none_fit : (k : Sizes) → FewFit k []
 none_fit k = record { fit = tt; few = omega arith }

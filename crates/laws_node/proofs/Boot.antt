@@ -180,6 +180,8 @@ peers_hold k (n ∷ ns) =
     All-cons (PrioPeerHolds k 0 0) (new_peer k.store n) (map (new_peer k.store) ns) (record {
       store = record { last = omega arith; bounded = omega arith; capacity = omega arith; entries = All-nil (EntryHolds k 0) };
       number = omega arith;
+      few = omega arith;
+      given = All-nil (λ pair. pair.0 ≤ 0);
       heard = omega arith;
     }) (peers_hold k ns)
 

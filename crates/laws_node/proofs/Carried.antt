@@ -1,12 +1,11 @@
 -- What a poll carries is kept by the node, so all holds of it that is asked of messages that are kept.
-use Rattle.std.proofs.Common.{ℕ, ◌+◌, ◌-◌, nat_le, nat_lt, max, List, [], ◌∷◌, ◌++◌, map, Option, Some, None}
+use Rattle.std.proofs.Common.{ℕ, ◌-◌, nat_lt, max, List, [], ◌∷◌, ◌++◌, map, drop, Option, Some, None}
 use Rattle.std.specs.Prelude.{IfSome}
 use Rattle.std.specs.List.{All, slice_get}
 use Rattle.std.specs.Option.{option_and_then, option_map}
-use Rattle.std.proofs.lemmas.List.Elements.{All-head, All-tail}
-use Rattle.sp_base.specs.Cursor.{or_else}
-use Rattle.sp_base.specs.Position.{message_of}
+use Rattle.std.proofs.lemmas.List.Elements.{All-head, All-tail, All-take}
 use Rattle.sp_base.specs.declared.id.NodeId.{NodeId}
+use Rattle.sp_base.specs.declared.limits.TheConstants.{MAX_MESSAGES}
 use Rattle.sp_frame.specs.Views.{as_list}
 use Rattle.sp_msg.specs.declared.kept.Kept.{Kept}
 use Rattle.sp_rules.specs.Arts.{Arts}
@@ -18,22 +17,22 @@ use Rattle.sp_rules.specs.Pieces.{Piece, WeightPiece, PrioAckPiece, PrioPiece, R
 use Rattle.sp_rules.specs.Polls.{as_message, contents_to}
 use Rattle.sp_rules.specs.Prio.{is_peer, no_peer, peer_in}
 use Rattle.sp_rules.specs.PrioPeer as rows
-use Rattle.sp_rules.specs.PrioPeer.{PrioPeer, flying, numbered}
-use Rattle.sp_rules.specs.Rel.{RelState, flow_at, flow_in, is_to, next_place, peer_in as rel_peer_in, slot_for, slot_of, view_in}
-use Rattle.sp_rules.specs.Store.{next_entry}
+use Rattle.sp_rules.specs.PrioPeer.{PrioPeer}
+use Rattle.sp_rules.specs.Rel.{RelState, flow_at, flow_in, is_to, messages_after, next_place, peer_in as rel_peer_in, slot_for, slot_of, view_in}
 use Rattle.sp_rules.specs.Weights.{WeightState, held_in, next, next_row}
 use Rattle.sp_rules.specs.declared.store.Entry.{Entry}
 use Rattle.laws_node.specs.Flows.{AckKept, FlowHolds, RelHolds}
 use Rattle.laws_node.specs.Nodes.{NodeHolds}
-use Rattle.laws_node.specs.Sizes.{Fits, Sizes}
-use Rattle.laws_node.specs.Stores.{EntryHolds, PrioPeerHolds}
+use Rattle.laws_node.specs.Sizes.{Fits, Sizes, numbers_after}
+use Rattle.laws_node.specs.Stores.{PrioPeerHolds}
 use Rattle.laws_node.specs.Updates.{UpdateHolds, WeightsHold}
 use Rattle.laws_node.specs.Asked.{NewKeep}
 use Rattle.laws_node.proofs.AskedLemmas.{new_both}
-use Rattle.laws_node.proofs.Frames.{flying_holds, get_holds, next_holds}
-use Rattle.laws_node.proofs.Priority.{no_peer_holds}
+use Rattle.laws_node.proofs.Flight.{Flies, flight_holds}
+use Rattle.laws_node.proofs.Frames.{get_holds}
+use Rattle.laws_node.proofs.Priority.{no_peer_holds, row_carried_holds}
 use Rattle.laws_node.proofs.Reliable.{read}
-use Rattle.laws_node.proofs.Tables.{all_first, cond_either}
+use Rattle.laws_node.proofs.Tables.{all_drop_first, all_first, cond_either}
 
 -- ---- pieces
 
@@ -104,18 +103,15 @@ module _ (k : Sizes) where
       go None = tt
       go (Some row) = held row (held_in w.rows row) (h.rows row)
 
-  message_kept : (numbers ids : ℕ) (q : PrioPeer) → PrioPeerHolds k numbers ids q → AllKeep k.keeps (map prio_piece (as_list (option_map as_message (rows.next_prio q))))
-  message_kept numbers ids q h = go (flying q) (flying_holds k ids q h.store)
-    where
-      one : (number : ℕ) (o : Option Entry) → IfSome o (EntryHolds k q.store.last)
-          → AllKeep k.keeps (map prio_piece (as_list (option_map as_message (option_map (numbered number) o))))
-      one number None is = tt
-      one number (Some e) is = (is.fits.holds, tt)
+  messages_listed : (last most : ℕ) (ms : List (ℕ × Entry)) → All (Flies k last most) ms → AllKeep k.keeps (map prio_piece (map as_message ms))
+  messages_listed last most [] all = tt
+  messages_listed last most (m ∷ ms) all =
+      ((All-head (Flies k last most) m ms all).entry.fits.holds, messages_listed last most ms (All-tail (Flies k last most) m ms all))
 
-      go : (o : Option Entry) → IfSome o (EntryHolds k q.store.last)
-          → AllKeep k.keeps (map prio_piece (as_list (option_map as_message (or_else (option_map (numbered q.number) o) (option_map (numbered (q.number + 1)) (next_entry q.store q.last))))))
-      go None is = one (q.number + 1) (next_entry q.store q.last) (next_holds k ids q.store q.last h.store)
-      go (Some e) is = one q.number (Some e) is
+  messages_kept : (numbers ids : ℕ) (q : PrioPeer) → PrioPeerHolds k numbers ids q → AllKeep k.keeps (map prio_piece (map as_message (rows.next_prios q)))
+  messages_kept numbers ids q h =
+      messages_listed (rows.carried q).store.last (rows.carried q).number (rows.next_prios q)
+      (flight_holds k _ ids (rows.carried q) (row_carried_holds k numbers ids q h))
 
   ack_kept : (f : FlowState) (o : Option Kept) → IfSome o (AckKept k (ends f)) → IfSome o (Fits k)
   ack_kept f None h = tt
@@ -132,10 +128,10 @@ module _ (k : Sizes) where
         all_both k.keeps (map (AckPiece flow) (as_list (slot_of r v flow).ack)) (map (RelPiece flow) (slot_of r v flow).rels)
             (maybe (AckPiece flow) (λ o fits. fits.holds) (slot_of r v flow).ack
             (cond_either (λ o. IfSome o (Fits k)) (nat_lt w.base f.at.base) f.ack None (ack_kept f f.ack holds.ack) tt))
-            (cond_either (λ (os : List Kept). AllKeep k.keeps (map (RelPiece flow) os)) (is_to r flow) [] (as_list (message_of f.at (max w.have f.at.base + 1))) tt
-            (maybe (RelPiece flow) (λ o fits. fits.holds) (message_of f.at (max w.have f.at.base + 1))
-            (cond_either (λ o. IfSome o (Fits k)) (nat_le (max w.have f.at.base + 1) f.at.base) None (slice_get f.at.list (max w.have f.at.base + 1 - f.at.base - 1)) tt
-            (get_holds (Fits k) f.at.list (max w.have f.at.base + 1 - f.at.base - 1) holds.messages)))),
+            (cond_either (λ (os : List Kept). AllKeep k.keeps (map (RelPiece flow) os)) (is_to r flow) [] (messages_after f.at (max w.have f.at.base)) tt
+            (listed (RelPiece flow) (λ o fits. fits.holds) (messages_after f.at (max w.have f.at.base))
+            (All-take (Fits k) MAX_MESSAGES (drop (max w.have f.at.base - f.at.base) f.at.list)
+            (all_drop_first (Fits k) (max w.have f.at.base - f.at.base) f.at.list holds.messages)))),
       )
 
   slot_kept : (index : ℕ) (r : RelState) (v : NodeId) → RelHolds k index r → AllKeep k.keeps (slot_pieces (slot_for r v))
@@ -158,6 +154,7 @@ module _ (k : Sizes) where
       (maybe WeightPiece (λ o fits. fits.holds) (next n.parts.weights (place_of n.fixed v)) (weight_kept n.signer.index (place_of n.fixed v) n.parts.weights h.parts.weights)) (
         tt,
         all_both k.keeps (map prio_piece s.prios) (slot_pieces s.slot)
-            (message_kept n.calls _ q (all_first (PrioPeerHolds k n.calls _) (is_peer v.0) no_peer n.parts.prio.peers h.parts.prio.peers (no_peer_holds k n.calls _)))
+            (messages_kept (numbers_after n.calls) _ q (all_first (PrioPeerHolds k (numbers_after n.calls) _) (is_peer v.0) no_peer n.parts.prio.peers
+            h.parts.prio.peers (no_peer_holds k (numbers_after n.calls) _)))
             (slot_kept n.signer.index n.parts.rel v h.parts.rel),
       )

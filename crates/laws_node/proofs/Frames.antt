@@ -1,13 +1,13 @@
 -- What a poll writes is in the ranges of a frame.
-use Rattle.std.proofs.Common.{◌≡◌, ◌<◌, ◌≤◌, ℕ, ◌+◌, ◌-◌, ◌^◌, nat_le, nat_lt, max, Bool, true, List, [], ◌∷◌, length, filter, Option, Some, None, refl, sym, ◌∙◌, arith}
+use Rattle.std.proofs.Common.{◌≡◌, ◌<◌, ◌≤◌, ℕ, ◌+◌, ◌-◌, ◌^◌, nat_lt, max, true, List, [], ◌∷◌, length, map, drop, Option, Some, None, refl, sym, ◌∙◌, arith}
 use Rattle.std.specs.Prelude.{IfSome, IsTrue}
-use Rattle.std.specs.List.{All, find, slice_get}
+use Rattle.std.specs.List.{All, slice_get}
 use Rattle.std.specs.Option.{option_and_then, option_map}
-use Rattle.std.proofs.lemmas.List.Elements.{All-cons, All-contains, All-filter, All-head, All-nil, All-tail}
-use Rattle.sp_base.specs.Cursor.{or_else}
-use Rattle.sp_base.specs.Position.{message_of}
+use Rattle.std.proofs.lemmas.List.{length-map, length-take}
+use Rattle.std.proofs.lemmas.List.Elements.{All-cons, All-nil, All-take}
 use Rattle.sp_base.specs.declared.id.Flow.{Flow}
 use Rattle.sp_base.specs.declared.id.NodeId.{NodeId}
+use Rattle.sp_base.specs.declared.limits.TheConstants.{MAX_MESSAGES}
 use Rattle.sp_frame.specs.Objects.{IsObject, is_of}
 use Rattle.sp_frame.specs.Ranges.{IsContents, IsNumbered, IsReport}
 use Rattle.sp_frame.specs.Views.{as_list}
@@ -16,28 +16,26 @@ use Rattle.sp_frame.specs.declared.kind.Kind.TheVariants as kinds
 use Rattle.sp_msg.specs.declared.body.Body.{Body}
 use Rattle.sp_msg.specs.declared.body.Body.TheVariants as bodies
 use Rattle.sp_msg.specs.declared.kept.Kept.{Kept}
-use Rattle.sp_rules.proofs.ChoiceLemmas.{first_is_there}
-use Rattle.sp_rules.specs.Choices.{first_by}
 use Rattle.sp_rules.specs.Flow.{AreMessages, FlowState, IsMessage, ends}
 use Rattle.sp_rules.specs.Parts.{is_signed, place_of}
 use Rattle.sp_rules.specs.Node.{NodeState}
 use Rattle.sp_rules.specs.Polls.{as_message, contents_to}
 use Rattle.sp_rules.specs.Prio.{is_peer, no_peer, peer_in}
 use Rattle.sp_rules.specs.PrioPeer as rows
-use Rattle.sp_rules.specs.PrioPeer.{PrioPeer, flying, numbered}
-use Rattle.sp_rules.specs.Rel.{RelState, flow_at, flow_in, is_to, next_place, peer_in as rel_peer_in, slot_for, slot_of, view_in}
-use Rattle.sp_rules.specs.Store.{Store, entry_in, has_id, highest, is_of as is_source, next_entry, next_source, priority}
+use Rattle.sp_rules.specs.PrioPeer.{PrioPeer}
+use Rattle.sp_rules.specs.Rel.{RelState, flow_at, flow_in, is_to, messages_after, next_place, peer_in as rel_peer_in, slot_for, slot_of, view_in}
 use Rattle.sp_rules.specs.Weights.{WeightState, held_in, next, next_row}
 use Rattle.sp_rules.specs.declared.store.Entry.{Entry}
 use Rattle.laws_node.specs.Flows.{AckKept, FlowHolds, IsAckOf, RelHolds}
 use Rattle.laws_node.specs.Laws.{FramesFit}
 use Rattle.laws_node.specs.Nodes.{NodeHolds, sizes_of}
-use Rattle.laws_node.specs.Sizes.{Fits, Sizes}
-use Rattle.laws_node.specs.Stores.{EntryHolds, IsPrio, PrioPeerHolds, StoreHolds}
+use Rattle.laws_node.specs.Sizes.{Fits, Sizes, numbers_after}
+use Rattle.laws_node.specs.Stores.{IsPrio, PrioPeerHolds}
 use Rattle.laws_node.specs.Updates.{IsUpdate, UpdateHolds, WeightsHold}
-use Rattle.laws_node.proofs.Priority.{no_peer_holds}
+use Rattle.laws_node.proofs.Flight.{Flies, flight_few, flight_holds}
+use Rattle.laws_node.proofs.Priority.{all_map, no_peer_holds, row_carried_holds}
 use Rattle.laws_node.proofs.Reliable.{read}
-use Rattle.laws_node.proofs.Tables.{all_first, all_get, cond_either}
+use Rattle.laws_node.proofs.Tables.{all_drop_first, all_first, all_get, all_weaker, cond_either}
 
 -- ---- objects
 
@@ -68,12 +66,12 @@ is_rel flow number (bodies.Prio p) is = absurd is
 is_rel flow number (bodies.Weight u) is = absurd is
 is_rel flow number (bodies.Ack a) is = absurd is
 
--- one or none
-record ListFits {X : Type 0} (P : X → Type 0) (xs : List X) : Type 0 where
-  few : length xs ≤ 1
+-- so many at most, and each of them fits
+record FewFit {X : Type 0} (most : ℕ) (P : X → Type 0) (xs : List X) : Type 0 where
+  few : length xs ≤ most
   all : All P xs
 
-list_of : {X : Type 0} (P : X → Type 0) (o : Option X) → IfSome o P → ListFits P (as_list o)
+list_of : {X : Type 0} (P : X → Type 0) (o : Option X) → IfSome o P → FewFit 1 P (as_list o)
 list_of P None p = record { few = omega arith; all = All-nil P }
 list_of P (Some x) p = record { few = omega arith; all = All-cons P x [] p (All-nil P) }
 
@@ -91,51 +89,26 @@ weight_fits k index len w v same short h = go (next_row w v)
     go None = tt
     go (Some row) = held row (held_in w.rows row) (h.rows row)
 
--- ---- the priority message
+-- ---- the priority messages
 
-found_holds : {X : Type 0} (P : X → Type 0) (test : X → Bool) (xs : List X) → All P xs → IfSome (find test xs) P
-found_holds P test [] all = tt
-found_holds P test (x ∷ xs) all =
-    cond_either (λ o. IfSome o P) (test x) (Some x) (find test xs) (All-head P x xs all) (found_holds P test xs (All-tail P x xs all))
+numbered_fits : (k : Sizes) (len last most : ℕ) → k.signature_len ≡ len → len < 65536 → most < 2 ^ 64 → (m : ℕ × Entry) → Flies k last most m
+    → IsNumbered len (as_message m)
+numbered_fits k len last most same short small m h = record {
+  number = omega (arith, h.number, small);
+  object = object_of k kinds.Prio len m.1.kept same short (is_prio m.1.kept.body h.entry.kind) h.entry.fits;
+}
 
-chosen_holds : {X : Type 0} (P : X → Type 0) (R : X → X → Bool) (xs : List X) → All P xs → IfSome (first_by R xs) P
-chosen_holds P R xs all = go (first_by R xs) refl
-  where
-    go : (o : Option _) → first_by R xs ≡ o → IfSome o P
-    go None is = tt
-    go (Some x) is = All-contains P xs x all (first_is_there R xs x is)
-
-pub flying_holds : (k : Sizes) (ids : ℕ) (q : PrioPeer) → StoreHolds k ids q.store → IfSome (flying q) (EntryHolds k q.store.last)
-flying_holds k ids q h = go q.flight
-  where
-    go : (id : Option ℕ) → IfSome (option_and_then (entry_in q.store) id) (EntryHolds k q.store.last)
-    go None = tt
-    go (Some id) = found_holds (EntryHolds k q.store.last) (has_id id) q.store.entries h.entries
-
-pub next_holds : (k : Sizes) (ids : ℕ) (s : Store) (last : Option ℕ) → StoreHolds k ids s → IfSome (next_entry s last) (EntryHolds k s.last)
-next_holds k ids s last h = go (next_source s.entries last)
-  where
-    go : (source : Option ℕ) → IfSome (option_and_then (highest s.entries) source) (EntryHolds k s.last)
-    go None = tt
-    go (Some source) =
-        chosen_holds (EntryHolds k s.last) (λ a b. nat_lt (priority b) (priority a)) (filter (is_source source) s.entries)
-        (All-filter (is_source source) (EntryHolds k s.last) s.entries h.entries)
-
-message_holds : (k : Sizes) (numbers ids len : ℕ) (q : PrioPeer) → k.signature_len ≡ len → len < 65536 → numbers + 1 < 2 ^ 64
-    → PrioPeerHolds k numbers ids q → IfSome (option_map as_message (rows.next_prio q)) (IsNumbered len)
-message_holds k numbers ids len q same short small h = go (flying q) (flying_holds k ids q h.store)
-  where
-    one : (number : ℕ) → number ≤ numbers + 1 → (o : Option Entry) → IfSome o (EntryHolds k q.store.last)
-        → IfSome (option_map as_message (option_map (numbered number) o)) (IsNumbered len)
-    one number low None is = tt
-    one number low (Some e) is =
-        record { number = omega (arith, low, small); object = object_of k kinds.Prio len e.kept same short (is_prio e.kept.body is.kind) is.fits }
-
-    go : (o : Option Entry) → IfSome o (EntryHolds k q.store.last)
-        → IfSome (option_map as_message (or_else (option_map (numbered q.number) o) (option_map (numbered (q.number + 1)) (next_entry q.store q.last))))
-        (IsNumbered len)
-    go None is = one (q.number + 1) (omega (arith, h.number)) (next_entry q.store q.last) (next_holds k ids q.store q.last h.store)
-    go (Some e) is = one q.number (omega (arith, h.number)) (Some e) is
+messages_fit : (k : Sizes) (numbers ids len : ℕ) (q : PrioPeer) → k.signature_len ≡ len → len < 65536 → numbers + MAX_MESSAGES < 2 ^ 64
+    → PrioPeerHolds k numbers ids q → FewFit MAX_MESSAGES (IsNumbered len) (map as_message (rows.next_prios q))
+messages_fit k numbers ids len q same short small h =
+    let after = row_carried_holds k numbers ids q h in
+    let few = flight_few (rows.carried q) in
+    record {
+      few = omega (arith, length-map (rows.next_prios q) as_message, few, after.few);
+      all = all_map (Flies k (rows.carried q).store.last (rows.carried q).number) (IsNumbered len) as_message
+          (numbered_fits k len (rows.carried q).store.last (rows.carried q).number same short (omega (arith, small, after.number)))
+          (rows.next_prios q) (flight_holds k _ ids (rows.carried q) after);
+    }
 
 -- ---- the slot
 
@@ -158,14 +131,18 @@ pub weaker : {X : Type 0} (P Q : X → Type 0) (o : Option X) → ((x : X) → P
 weaker P Q None step p = tt
 weaker P Q (Some x) step p = step x p
 
-rel_fits : (k : Sizes) (index len number : ℕ) (f : FlowState) → k.signature_len ≡ len → len < 65536 → FlowHolds k index f
-    → IfSome (message_of f.at number) (IsObject kinds.Rel len)
-rel_fits k index len number f same short h =
-    cond_either (λ o. IfSome o (IsObject kinds.Rel len)) (nat_le number f.at.base) None (slice_get f.at.list (number - f.at.base - 1)) tt
-    (weaker (λ m. Fits k m × (is_of kinds.Rel m.body ≡ true)) (IsObject kinds.Rel len) (slice_get f.at.list (number - f.at.base - 1))
-    (λ m both. object_of k kinds.Rel len m same short both.1 both.0)
-    (get_holds (λ m. Fits k m × (is_of kinds.Rel m.body ≡ true)) f.at.list (number - f.at.base - 1)
-    (both_hold (Fits k) (λ m. is_of kinds.Rel m.body ≡ true) f.at.list h.messages (messages_are (ends f) f.at.base f.at.list h.standing.messages))))
+-- the first messages after any place, at most four
+rels_fit : (k : Sizes) (index len number : ℕ) (f : FlowState) → k.signature_len ≡ len → len < 65536 → FlowHolds k index f
+    → FewFit MAX_MESSAGES (IsObject kinds.Rel len) (messages_after f.at number)
+rels_fit k index len number f same short h =
+    let left = drop (number - f.at.base) f.at.list in
+    record {
+      few = omega (arith, length-take MAX_MESSAGES left);
+      all = All-take (IsObject kinds.Rel len) MAX_MESSAGES left (all_drop_first (IsObject kinds.Rel len) (number - f.at.base) f.at.list
+          (all_weaker (λ m. Fits k m × (is_of kinds.Rel m.body ≡ true)) (IsObject kinds.Rel len) f.at.list
+          (λ m both. object_of k kinds.Rel len m same short both.1 both.0)
+          (both_hold (Fits k) (λ m. is_of kinds.Rel m.body ≡ true) f.at.list h.messages (messages_are (ends f) f.at.base f.at.list h.standing.messages))));
+    }
 
 ack_fits : (k : Sizes) (index len : ℕ) (f : FlowState) → k.signature_len ≡ len → len < 65536 → FlowHolds k index f → IfSome f.ack (IsObject kinds.Ack len)
 ack_fits k index len f same short h =
@@ -178,15 +155,17 @@ slot_of_fits k index len r v row same short h there =
     let f = flow_in r.flows flow in
     let w = view_in (rel_peer_in r.peers v).views flow in
     let holds = read k index r.flows flow there.src there.dst h.flows in
-    let message = list_of (IsObject kinds.Rel len) (message_of f.at (max w.have f.at.base + 1)) (rel_fits k index len (max w.have f.at.base + 1) f same short holds) in
+    let messages = rels_fit k index len (max w.have f.at.base) f same short holds in
     record {
       src = omega (arith, there.src);
       dst = omega (arith, there.dst);
       base = omega (arith, holds.standing.sound, holds.standing.numbers);
       have = omega (arith, holds.standing.numbers);
       ack = cond_either (λ o. IfSome o (IsObject kinds.Ack len)) (nat_lt w.base f.at.base) f.ack None (ack_fits k index len f same short holds) tt;
-      few = cond_either (λ (os : List Kept). length os ≤ 1) (is_to r flow) [] (as_list (message_of f.at (max w.have f.at.base + 1))) (omega arith) message.few;
-      rels = cond_either (All (IsObject kinds.Rel len)) (is_to r flow) [] (as_list (message_of f.at (max w.have f.at.base + 1))) (All-nil (IsObject kinds.Rel len)) message.all;
+      few = cond_either (λ (os : List Kept). length os ≤ MAX_MESSAGES) (is_to r flow) [] (messages_after f.at (max w.have f.at.base)) (omega arith)
+          messages.few;
+      rels = cond_either (All (IsObject kinds.Rel len)) (is_to r flow) [] (messages_after f.at (max w.have f.at.base))
+          (All-nil (IsObject kinds.Rel len)) messages.all;
     }
 
 slot_fits : (k : Sizes) (index len : ℕ) (r : RelState) (v : NodeId) → k.signature_len ≡ len → len < 65536 → RelHolds k index r
@@ -208,10 +187,11 @@ contents_fit k n v h =
     let len = n.fixed.signature_len in
     let same : k.signature_len ≡ len = sym h.fixed.signature_len in
     let q = peer_in n.parts.prio v.0 in
-    let row = all_first (PrioPeerHolds k n.calls _) (is_peer v.0) no_peer n.parts.prio.peers h.parts.prio.peers (no_peer_holds k n.calls _) in
+    let row = all_first (PrioPeerHolds k (numbers_after n.calls) _) (is_peer v.0) no_peer n.parts.prio.peers h.parts.prio.peers
+    (no_peer_holds k (numbers_after n.calls) _) in
     let weights = list_of (IsObject kinds.Weight len) (next n.parts.weights (place_of n.fixed v))
     (weight_fits k n.signer.index len n.parts.weights (place_of n.fixed v) same h.fixed.short h.parts.weights) in
-    let prios = list_of (IsNumbered len) (option_map as_message (rows.next_prio q)) (message_holds k n.calls _ len q same h.fixed.short (omega (arith, h.calls)) row) in
+    let prios = messages_fit k (numbers_after n.calls) _ len q same h.fixed.short (omega (arith, h.calls)) row in
     record {
       few_weights = weights.few;
       weights = weights.all;

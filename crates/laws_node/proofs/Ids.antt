@@ -1,9 +1,10 @@
 -- In no place does a step give an id twice.
-use Rattle.std.proofs.Common.{◌≡◌, ◌≤◌, ℕ, ◌+◌, Bool, true, false, List, [], ◌∷◌, ◌++◌, map, filter, drop, not, Option, Some, None, refl, sym, subst, arith, cond}
+use Rattle.std.proofs.Common.{◌≡◌, ◌≤◌, ℕ, zero, suc, ◌+◌, ◌-◌, Bool, true, false, List, [], ◌∷◌, ◌++◌, length, map, filter, drop, not, Option, Some, None, refl, sym, subst, arith, cond}
 use Rattle.std.specs.List.{All}
 use Rattle.std.proofs.lemmas.List.Elements.{All-cons, All-head, All-tail}
 use Rattle.sp_base.specs.Rows.{first_where, replace_where}
 use Rattle.sp_base.specs.declared.id.NodeId.{NodeId}
+use Rattle.sp_base.specs.declared.limits.TheConstants.{MAX_MESSAGES}
 use Rattle.sp_msg.specs.declared.body.Ack.{Ack}
 use Rattle.sp_msg.specs.declared.kept.Kept.{Kept}
 use Rattle.sp_msg.specs.declared.refused.SendRefused.{SendRefused}
@@ -22,7 +23,7 @@ use Rattle.sp_rules.specs.PrioPeer.{PrioPeer}
 use Rattle.sp_rules.specs.Rel as rel
 use Rattle.sp_rules.specs.Sends.{own_prio, rel_refusal, send_prio_refusal, signer_refusal, weight_refusal}
 use Rattle.sp_rules.specs.Steps.{Input, NodeStep, Output, Poll, Datagram, Tick, SendRel, SendPrio, SetWeight, TakeRel, TakePrio}
-use Rattle.sp_rules.specs.Store.{Store, arriving, evicted, has_id, is_expired, less_expired, put, without}
+use Rattle.sp_rules.specs.Store.{Store, arriving, evicted, has_id, is_expired, less_expired, next_besides, put, removed, without}
 use Rattle.sp_rules.specs.Ticks.{at_time, settled_by, time_after}
 use Rattle.sp_rules.specs.declared.answers.Item.TheVariants as items
 use Rattle.sp_rules.specs.declared.answers.PrioAnswer.{PrioAnswer}
@@ -68,6 +69,11 @@ oldest_out : (l : ℕ) (es : List Entry) → Rises 0 l es → Rises 0 l (drop 1 
 oldest_out l [] h = h
 oldest_out l (e ∷ es) h = lower 0 e.id l es (omega arith) h.1
 
+all_out : (given : ℕ) (s : Store) (pairs : List (ℕ × ℕ)) → PlaceRises given s → PlaceRises given (rows.less_all s pairs)
+all_out given s [] h = h
+all_out given s (pair ∷ pairs) h =
+    all_out given (removed s pair.1) pairs (record { rise = less (has_id pair.1) 0 s.last s.entries h.rise; least = h.least })
+
 expired_out : (given : ℕ) (s : Store) (now : ℕ) → PlaceRises given s → PlaceRises given (less_expired s now)
 expired_out given s now h = record { rise = some (λ e. not (is_expired now e)) 0 s.last s.entries h.rise; least = h.least }
 
@@ -92,9 +98,12 @@ module _ (given : ℕ → ℕ) where
   launched_rises q None h = h
   launched_rises q (Some e) h = h
 
-  acked_by : (q : PrioPeer) (o : Option ℕ) → (PeerRises given) q → (PeerRises given) (rows.acked_of q o)
-  acked_by q None h = h
-  acked_by q (Some id) h = record { rise = less (has_id id) 0 q.store.last q.store.entries h.rise; least = h.least }
+  filled_rises : (room : ℕ) (q : PrioPeer) → (PeerRises given) q → (PeerRises given) (rows.filled room q)
+  filled_rises zero q h = h
+  filled_rises (suc room) q h = filled_rises room (rows.launch q) (launched_rises q (next_besides q.store q.flight q.last) h)
+
+  acked_rises : (number : ℕ) (q : PrioPeer) → (PeerRises given) q → (PeerRises given) (rows.acked q number)
+  acked_rises number q h = all_out (given q.peer) q.store (rows.landed q number) h
 
   given_rises : (o : Kept) (came : Option NodeId) (q : PrioPeer) → (PeerRises given) q → (PeerRises given) (rows.given o came q)
   given_rises o came q h = by (rows.goes_to o.body came q)
@@ -109,11 +118,7 @@ module _ (given : ℕ → ℕ) where
   one_peer s v f keeps h = record { inbox = h.inbox; peers = first_changes (prio.is_peer v) prio.no_peer f keeps s.peers h.peers }
 
   carried_keeps : (q : PrioPeer) → (PeerRises given) q → (PeerRises given) (rows.carried q)
-  carried_keeps q h = by (rows.flying q)
-    where
-      by : (o : Option Entry) → (PeerRises given) (rows.carried_of q o)
-      by None = launched_rises q (_) h
-      by (Some e) = h
+  carried_keeps q h = filled_rises (MAX_MESSAGES - length (rows.settled q).flight) (rows.settled q) h
 
   admitted : (s : PrioState) (o : Kept) (came : Option NodeId) → (AllRise given) s → (AllRise given) (prio.admit_prio s o came)
   admitted s o came h = by (prio.is_here s o.body)
@@ -147,7 +152,7 @@ module _ (given : ℕ → ℕ) where
 
   piece : (arts : Arts) (at : Arrival) (p : Parts) (x : Piece) → Rise p → Rise (handle arts at p x).parts
   piece arts at p (WeightPiece o) h = unless_new _ _ p refl h
-  piece arts at p (PrioAckPiece number) h = one_peer p.prio at.from.0 (λ q. rows.acked q number) (λ q k. acked_by q (rows.landed q number) k) h
+  piece arts at p (PrioAckPiece number) h = one_peer p.prio at.from.0 (λ q. rows.acked q number) (acked_rises number) h
   piece arts at p (PrioPiece number o) h =
       let answer = prio_answer (is_signed arts at.fixed o) (prio.judge_prio p.prio o.body at.now) in
       let new = record p { prio = prio.admit_prio p.prio o (Some at.from) } in

@@ -4,6 +4,7 @@ pub mod Boot
 pub mod Carried
 pub mod Determined
 pub mod Flows
+pub mod Flight
 pub mod Frames
 pub mod Handles
 pub mod Ids

@@ -31,7 +31,7 @@ use Rattle.sp_rules.specs.PrioPeer.{PrioPeer}
 use Rattle.sp_rules.specs.Rel.{admit_ack, admit_rel, delivery, due, is_to, judge_ack_of, judge_rel_of, pushed_in, rel_effects}
 use Rattle.sp_rules.specs.Sends.{after_take_prio, after_take_rel, edge_or, mask_in, own_prio, prio_body, prio_sent, rel_body, rel_number, rel_refusal, rel_sent, send_prio_refusal, signed_effect, signer_refusal, weight_body, weight_number, weight_refusal, weight_refusal_at, weight_sent}
 use Rattle.sp_rules.specs.Steps.{Input, NodeStep, Output, Poll, Datagram, Tick, SendRel, SendPrio, SetWeight, TakeRel, TakePrio, Frame, accepted, arrived, refused_call, refused_send, replied}
-use Rattle.sp_rules.specs.Store.{Store, evicted, expired_entries, oldest}
+use Rattle.sp_rules.specs.Store.{Store, entry_in, evicted, expired_entries, oldest, removed}
 use Rattle.sp_rules.specs.Ticks.{ack_effects, at_time, settled_by, time_after}
 use Rattle.sp_rules.specs.Weights.{WeightState, held, held_in, minimum, minimum_of, offer, offer_of, row_for, row_if, row_in, start, weight_of}
 use Rattle.sp_rules.specs.declared.answers.Item.TheVariants as items
@@ -78,6 +78,12 @@ silent_flat f each (x ∷ xs) = silent_both (f x) (flat_map f xs) (each x) (sile
 silent_gone : (place : ℕ) (why : Why) (e : Option Entry) → Silent (rows.gone place why e)
 silent_gone place why None = λ edge end w. refl
 silent_gone place why (Some e) = λ edge end w. refl
+
+silent_left : (place : ℕ) (s : Store) (pairs : List (ℕ × ℕ)) → Silent (rows.left_effects place s pairs)
+silent_left place s [] = λ edge end w. refl
+silent_left place s (pair ∷ pairs) =
+    silent_both (rows.gone place whys.Acked (entry_in s pair.1)) (rows.left_effects place (removed s pair.1) pairs)
+    (silent_gone place whys.Acked (entry_in s pair.1)) (silent_left place (removed s pair.1) pairs)
 
 silent_stored : (place id : ℕ) (body : Body) → Silent (rows.stored place id body)
 silent_stored place id (bodies.Prio p) = λ edge end w. refl
@@ -211,7 +217,9 @@ one_turns arts at p (WeightPiece o) h =
           rw t done
       | inr t ↦ let same = still p p.weights [] nothing refl h in rw t same
     ]
-one_turns arts at p (PrioAckPiece number) h = still p p.weights _ (silent_gone (prio.peer_in p.prio at.from.0).peer whys.Acked _) refl h
+one_turns arts at p (PrioAckPiece number) h =
+    let q = prio.peer_in p.prio at.from.0 in
+    still p p.weights (rows.acked_effects q number) (silent_left q.peer q.store (rows.landed q number)) refl h
 one_turns arts at p (PrioPiece number o) h =
     let answer = prio_answer (is_signed arts at.fixed o) (judge_prio p.prio o.body at.now) in
     let t = is_new (items.Prio answer) in

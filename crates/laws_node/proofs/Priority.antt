@@ -1,17 +1,18 @@
 -- What each change of the priority part keeps.
-use Rattle.std.proofs.Common.{◌≡◌, ◌<◌, ◌≤◌, ℕ, ◌+◌, ◌^◌, not, List, [], ◌∷◌, length, map, Option, Some, None, sym, subst, arith, nat_lt, length-append, length-drop}
+use Rattle.std.proofs.Common.{◌≡◌, ◌<◌, ◌≤◌, ℕ, zero, suc, ◌+◌, ◌-◌, ◌^◌, not, List, [], ◌∷◌, length, map, Option, Some, None, sym, subst, arith, nat_lt, length-append, length-drop}
 use Rattle.std.specs.List.{All}
 use Rattle.std.proofs.lemmas.Bool.Decides.{nat_tests}
 use Rattle.std.proofs.lemmas.List.Elements.{All-cons, All-head, All-nil, All-tail}
 use Rattle.sp_base.specs.declared.id.NodeId.{NodeId}
+use Rattle.sp_base.specs.declared.limits.TheConstants.{MAX_MESSAGES}
 use Rattle.sp_msg.specs.Bodies.{HasGoodFields}
 use Rattle.sp_msg.specs.declared.body.Body.{Body}
 use Rattle.sp_msg.specs.declared.body.Body.TheVariants as bodies
 use Rattle.sp_msg.specs.declared.kept.Kept.{Kept}
 use Rattle.sp_rules.specs.Prio.{PrioState, acked, admit_prio, carried, expired, heard, is_here, is_peer, marked, next_after_own, no_peer, peer_in, spread, taken, with_peer}
 use Rattle.sp_rules.specs.PrioPeer as rows
-use Rattle.sp_rules.specs.PrioPeer.{PrioPeer, acked_of, carried_of, flying, given, goes_to, landed, launched}
-use Rattle.sp_rules.specs.Store.{Store, arriving, evicted, has_id, is_expired, less_expired, less_oldest, next_entry, put, removed, said, victim, without}
+use Rattle.sp_rules.specs.PrioPeer.{PrioPeer, filled, given, goes_to, landed, lands, launch, launched, less_all, settled, waits}
+use Rattle.sp_rules.specs.Store.{Store, arriving, evicted, has_id, is_expired, less_expired, less_oldest, next_besides, put, removed, said, victim, without}
 use Rattle.sp_rules.specs.declared.store.Entry.{Entry}
 use Rattle.sp_rules.specs.declared.store.TheConstants.{IDS}
 use Rattle.laws_node.specs.Sizes.{Fits, Sizes}
@@ -93,48 +94,87 @@ pub no_peer_holds : (k : Sizes) (numbers ids : ℕ) → PrioPeerHolds k numbers 
 no_peer_holds k numbers ids = record {
   store = record { last = omega arith; bounded = omega arith; capacity = omega arith; entries = All-nil (EntryHolds k 0) };
   number = omega arith;
+  few = omega arith;
+  given = All-nil (λ pair. pair.0 ≤ 0);
   heard = omega arith;
 }
 
 pub peer_more : (k : Sizes) (numbers more ids further : ℕ) (q : PrioPeer) → numbers ≤ more → ids ≤ further → PrioPeerHolds k numbers ids q
     → PrioPeerHolds k more further q
 peer_more k numbers more ids further q up upper h =
-    record { store = store_more k ids further q.store upper h.store; number = omega (arith, up, h.number); heard = h.heard }
+    record { store = store_more k ids further q.store upper h.store; number = omega (arith, up, h.number); few = h.few; given = h.given; heard = h.heard }
 
 given_holds : (k : Sizes) (numbers ids : ℕ) (o : Kept) (came : Option NodeId) (q : PrioPeer) → IsPrio o.body → Fits k o → PrioPeerHolds k numbers ids q
     → PrioPeerHolds k numbers (ids + 1) (given o came q)
 given_holds k numbers ids o came q is fits h =
     cond_either (PrioPeerHolds k numbers (ids + 1)) (goes_to o.body came q) (record q { store = put q.store o }) q
-    (record { store = put_holds k ids q.store o is fits h.store; number = h.number; heard = h.heard })
+    (record { store = put_holds k ids q.store o is fits h.store; number = h.number; few = h.few; given = h.given; heard = h.heard })
     (peer_more k numbers numbers ids (ids + 1) q (omega arith) (omega arith) h)
 
-row_carried_holds : (k : Sizes) (numbers ids : ℕ) (q : PrioPeer) → PrioPeerHolds k numbers ids q → PrioPeerHolds k (numbers + 1) ids (rows.carried q)
-row_carried_holds k numbers ids q h = go (flying q)
-  where
-    same : PrioPeerHolds k (numbers + 1) ids q
-    same = peer_more k numbers (numbers + 1) ids ids q (omega arith) (omega arith) h
+-- one more goes in flight, where there is room
+launched_holds : (k : Sizes) (numbers ids : ℕ) (q : PrioPeer) (e : Option Entry) → length q.flight + 1 ≤ MAX_MESSAGES → PrioPeerHolds k numbers ids q
+    → PrioPeerHolds k (numbers + 1) ids (launched q e)
+launched_holds k numbers ids q None room h = peer_more k numbers (numbers + 1) ids ids q (omega arith) (omega arith) h
+launched_holds k numbers ids q (Some e) room h = record {
+  store = h.store;
+  number = omega (arith, h.number);
+  few = let one = length-append q.flight ((q.number + 1, e.id) ∷ []) in omega (arith, one, room);
+  given = all_push (λ pair. pair.0 ≤ q.number + 1) q.flight (q.number + 1, e.id)
+      (all_weaker (λ pair. pair.0 ≤ q.number) (λ pair. pair.0 ≤ q.number + 1) q.flight (λ pair low. omega (arith, low)) h.given) (omega arith);
+  heard = h.heard;
+}
 
-    launch : (e : Option Entry) → PrioPeerHolds k (numbers + 1) ids (launched q e)
-    launch None = same
-    launch (Some e) = record { store = h.store; number = omega (arith, h.number); heard = h.heard }
+launched_few : (q : PrioPeer) (e : Option Entry) → length (launched q e).flight ≤ length q.flight + 1
+launched_few q None = omega arith
+launched_few q (Some e) = let one = length-append q.flight ((q.number + 1, e.id) ∷ []) in omega (arith, one)
 
-    go : (e : Option Entry) → PrioPeerHolds k (numbers + 1) ids (carried_of q e)
-    go None = launch (next_entry q.store q.last)
-    go (Some e) = same
+filled_holds : (k : Sizes) (ids room numbers : ℕ) (q : PrioPeer) → length q.flight + room ≤ MAX_MESSAGES → PrioPeerHolds k numbers ids q
+    → PrioPeerHolds k (numbers + room) ids (filled room q)
+filled_holds k ids zero numbers q most h = peer_more k numbers (numbers + 0) ids ids q (omega arith) (omega arith) h
+filled_holds k ids (suc room) numbers q most h =
+    let next = next_besides q.store q.flight q.last in
+    let one = launched_few q next in
+    peer_more k (numbers + 1 + room) (numbers + suc room) ids ids (filled room (launch q)) (omega arith) (omega arith)
+    (filled_holds k ids room (numbers + 1) (launch q) (omega (arith, one, most)) (launched_holds k numbers ids q next (omega (arith, most)) h))
+
+settled_holds : (k : Sizes) (numbers ids : ℕ) (q : PrioPeer) → PrioPeerHolds k numbers ids q → PrioPeerHolds k numbers ids (settled q)
+settled_holds k numbers ids q h = record {
+  store = h.store;
+  number = h.number;
+  few = let less = filter_shorter (waits q.store) q.flight in omega (arith, less, h.few);
+  given = all_filter (λ pair. pair.0 ≤ q.number) (waits q.store) q.flight h.given;
+  heard = h.heard;
+}
+
+pub row_carried_holds : (k : Sizes) (numbers ids : ℕ) (q : PrioPeer) → PrioPeerHolds k numbers ids q
+    → PrioPeerHolds k (numbers + MAX_MESSAGES) ids (rows.carried q)
+row_carried_holds k numbers ids q h =
+    let left = settled_holds k numbers ids q h in
+    let room = MAX_MESSAGES - length (settled q).flight in
+    peer_more k (numbers + room) (numbers + MAX_MESSAGES) ids ids (rows.carried q) (omega arith) (omega arith)
+    (filled_holds k ids room numbers (settled q) (omega (arith, left.few)) left)
+
+less_all_holds : (k : Sizes) (ids : ℕ) (s : Store) (pairs : List (ℕ × ℕ)) → StoreHolds k ids s → StoreHolds k ids (less_all s pairs)
+less_all_holds k ids s [] h = h
+less_all_holds k ids s (pair ∷ pairs) h = less_all_holds k ids (removed s pair.1) pairs (removed_holds k ids s pair.1 h)
 
 row_acked_holds : (k : Sizes) (numbers ids : ℕ) (q : PrioPeer) (number : ℕ) → PrioPeerHolds k numbers ids q → PrioPeerHolds k numbers ids (rows.acked q number)
-row_acked_holds k numbers ids q number h = go (landed q number)
-  where
-    go : (id : Option ℕ) → PrioPeerHolds k numbers ids (acked_of q id)
-    go None = h
-    go (Some id) = record { store = removed_holds k ids q.store id h.store; number = h.number; heard = h.heard }
+row_acked_holds k numbers ids q number h = record {
+  store = less_all_holds k ids q.store (landed q number) h.store;
+  number = h.number;
+  few = let less = filter_shorter (λ pair. not (lands number pair)) q.flight in omega (arith, less, h.few);
+  given = all_filter (λ pair. pair.0 ≤ q.number) (λ pair. not (lands number pair)) q.flight h.given;
+  heard = h.heard;
+}
 
 row_heard_holds : (k : Sizes) (numbers ids : ℕ) (q : PrioPeer) (number : ℕ) → number < 2 ^ 64 → PrioPeerHolds k numbers ids q
     → PrioPeerHolds k numbers ids (rows.heard q number)
-row_heard_holds k numbers ids q number small h = record { store = h.store; number = h.number; heard = omega (arith, small, h.heard) }
+row_heard_holds k numbers ids q number small h =
+    record { store = h.store; number = h.number; few = h.few; given = h.given; heard = omega (arith, small, h.heard) }
 
 row_expired_holds : (k : Sizes) (numbers ids now : ℕ) (q : PrioPeer) → PrioPeerHolds k numbers ids q → PrioPeerHolds k numbers ids (rows.expired q now)
-row_expired_holds k numbers ids now q h = record { store = less_expired_holds k ids q.store now h.store; number = h.number; heard = h.heard }
+row_expired_holds k numbers ids now q h =
+    record { store = less_expired_holds k ids q.store now h.store; number = h.number; few = h.few; given = h.given; heard = h.heard }
 
 -- ---- the whole part
 
@@ -167,9 +207,10 @@ with_peer_holds k numbers more ids index p v q up new h = record {
 }
 
 pub carried_holds : (k : Sizes) (numbers ids index : ℕ) (p : PrioState) (v : ℕ) → PrioHolds k numbers ids index p
-    → PrioHolds k (numbers + 1) ids index (carried p v)
+    → PrioHolds k (numbers + MAX_MESSAGES) ids index (carried p v)
 carried_holds k numbers ids index p v h =
-    with_peer_holds k numbers (numbers + 1) ids index p v (rows.carried (peer_in p v)) (omega arith) (row_carried_holds k numbers ids (peer_in p v)) h
+    with_peer_holds k numbers (numbers + MAX_MESSAGES) ids index p v (rows.carried (peer_in p v)) (omega arith)
+    (row_carried_holds k numbers ids (peer_in p v)) h
 
 pub acked_holds : (k : Sizes) (numbers ids index : ℕ) (p : PrioState) (v number : ℕ) → PrioHolds k numbers ids index p
     → PrioHolds k numbers ids index (acked p v number)

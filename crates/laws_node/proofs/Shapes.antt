@@ -1,11 +1,12 @@
 -- No step changes the shape of a node.
-use Rattle.std.proofs.Common.{◌≡◌, ℕ, ◌*◌, Bool, true, false, List, [], ◌∷◌, length, length-set, map, slice_set, Option, Some, None, Result, Ok, Err, refl, ap, ap₂, ◌∙◌, arith, cond}
+use Rattle.std.proofs.Common.{◌≡◌, ℕ, zero, suc, ◌-◌, ◌*◌, Bool, true, false, List, [], ◌∷◌, length, length-set, map, slice_set, Option, Some, None, Result, Ok, Err, refl, ap, ap₂, ◌∙◌, arith, cond}
 use Rattle.std.specs.Prelude.{zip}
 use Rattle.std.proofs.lemmas.Bool.Decides.{nat_tests}
 use Rattle.std.proofs.lemmas.List.{length-replicate}
 use Rattle.sp_base.specs.Rows.{first_where, replace_where}
 use Rattle.sp_base.specs.declared.id.Flow.{Flow}
 use Rattle.sp_base.specs.declared.id.NodeId.{NodeId}
+use Rattle.sp_base.specs.declared.limits.TheConstants.{MAX_MESSAGES}
 use Rattle.sp_frame.specs.Frames.{opened}
 use Rattle.sp_frame.specs.declared.head.Head.{Head}
 use Rattle.sp_frame.specs.declared.refused.FrameRefused.{FrameRefused}
@@ -34,7 +35,7 @@ use Rattle.sp_rules.specs.Rel as rel
 use Rattle.sp_rules.specs.Rel.{RelPeer, RelState, View}
 use Rattle.sp_rules.specs.Sends.{own_prio, rel_body, rel_refusal, send_prio_refusal, signer_refusal, weight_body, weight_refusal}
 use Rattle.sp_rules.specs.Steps.{Poll, Datagram, Tick, SendRel, SendPrio, SetWeight, TakeRel, TakePrio}
-use Rattle.sp_rules.specs.Store.{put}
+use Rattle.sp_rules.specs.Store.{Store, next_besides, put, removed}
 use Rattle.sp_rules.specs.Ticks.{at_time, settled_by, time_after}
 use Rattle.sp_rules.specs.Weights as weights
 use Rattle.sp_rules.specs.Weights.{WeightState}
@@ -127,19 +128,20 @@ launched_shape : (q : PrioPeer) (o : Option Entry) → peer_shape (rows.launched
 launched_shape q None = refl
 launched_shape q (Some e) = refl
 
-carried_by : (q : PrioPeer) (o : Option Entry) → peer_shape (rows.carried_of q o) ≡ peer_shape q
-carried_by q None = launched_shape q _
-carried_by q (Some e) = refl
+filled_shape : (room : ℕ) (q : PrioPeer) → peer_shape (rows.filled room q) ≡ peer_shape q
+filled_shape zero q = refl
+filled_shape (suc room) q = filled_shape room (rows.launch q) ∙ launched_shape q (next_besides q.store q.flight q.last)
 
 carried_shape : (q : PrioPeer) → peer_shape (rows.carried q) ≡ peer_shape q
-carried_shape q = carried_by q (rows.flying q)
+carried_shape q = filled_shape (MAX_MESSAGES - length (rows.settled q).flight) (rows.settled q)
 
-acked_by : (q : PrioPeer) (o : Option ℕ) → peer_shape (rows.acked_of q o) ≡ peer_shape q
-acked_by q None = refl
-acked_by q (Some id) = refl
+less_all_capacity : (s : Store) (pairs : List (ℕ × ℕ)) → (rows.less_all s pairs).capacity ≡ s.capacity
+less_all_capacity s [] = refl
+less_all_capacity s (pair ∷ pairs) = less_all_capacity (removed s pair.1) pairs
 
 acked_shape : (number : ℕ) (q : PrioPeer) → peer_shape (rows.acked q number) ≡ peer_shape q
-acked_shape number q = acked_by q (rows.landed q number)
+acked_shape number q =
+    ap (λ (n : ℕ). record { peer = q.peer; edge = q.edge; capacity = n }) (less_all_capacity q.store (rows.landed q number))
 
 given_shape : (o : Kept) (came : Option NodeId) (q : PrioPeer) → peer_shape (rows.given o came q) ≡ peer_shape q
 given_shape o came q = by (rows.goes_to o.body came q)

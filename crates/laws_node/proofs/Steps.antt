@@ -30,12 +30,13 @@ use Rattle.sp_rules.specs.Weights.{held}
 use Rattle.sp_rules.specs.declared.node.NodeRefused.{NodeRefused}
 use Rattle.sp_rules.specs.declared.node.NodeRefused.TheVariants as refusals
 use Rattle.sp_rules.specs.declared.node.TheConstants.{MAX_CALLS}
-use Rattle.sp_base.specs.declared.limits.TheConstants.{MAX_PAYLOAD_BYTES, MAX_WEIGHT}
+use Rattle.sp_base.specs.declared.limits.TheConstants.{MAX_MESSAGES, MAX_PAYLOAD_BYTES, MAX_WEIGHT}
 use Rattle.laws_node.specs.Inputs.{ArtsFit, InputFits, PrioSendFits}
 use Rattle.laws_node.specs.Laws.{EachStepKeeps, ExtendKeeps}
 use Rattle.laws_node.specs.Nodes.{NodeHolds, PartsHold, SignerHolds, sizes_of}
 use Rattle.laws_node.specs.Shapes.{Shape}
-use Rattle.laws_node.specs.Sizes.{Sizes, ids_after}
+use Rattle.laws_node.specs.Sizes.{Sizes, ids_after, numbers_after}
+use Rattle.laws_node.specs.Stores.{PrioHolds}
 use Rattle.laws_node.specs.Asked.{NewKeep, OwnKeep, WhatIsNewIsKept, payload_in}
 use Rattle.laws_node.proofs.Arrived.{sections_fit, where_fits}
 use Rattle.laws_node.proofs.AskedLemmas.{none_new}
@@ -85,13 +86,12 @@ not_worn n v e most =
 small_me : (k : Sizes) (n : NodeState) → NodeHolds k n → n.fixed.me.0 < 256
 small_me k n h = omega (arith, h.fixed.is_node)
 
--- the parts after a poll or a datagram
-parts_called : (k : Sizes) (n : NodeState) (p : Parts) → PartsHold k (n.calls + 1) (ids_after n.calls n.signer.index) n.signer.index p
-    → PartsHold k (n.calls + 1) (ids_after (n.calls + 1) n.signer.index) n.signer.index p
-parts_called k n p h = record {
+-- the parts, where more may have been given
+parts_more : (k : Sizes) (numbers more ids further index : ℕ) (p : Parts) → numbers ≤ more → ids ≤ further → PartsHold k numbers ids index p
+    → PartsHold k more further index p
+parts_more k numbers more ids further index p one two h = record {
   weights = h.weights;
-  prio = prio_more k (n.calls + 1) (n.calls + 1) (ids_after n.calls n.signer.index) (ids_after (n.calls + 1) n.signer.index) n.signer.index n.signer.index
-      p.prio (omega arith) (omega arith) (omega arith) h.prio;
+  prio = prio_more k numbers more ids further index index p.prio one two (omega arith) h.prio;
   rel = h.rel;
 }
 
@@ -103,22 +103,15 @@ poll_keeps k n v most h = record {
   calls = most;
   links = with_link_holds n n.calls v (advanced (link_in n v)) (small_me k n h) h.links (advanced_holds n.calls (link_in n v));
   signer = h.signer;
-  parts = parts_called k n (polled n.fixed n.parts v) (record {
-    weights = moved_holds k n.signer.index n.parts.weights (place_of n.fixed v) h.parts.weights;
-    prio = carried_holds k n.calls (ids_after n.calls n.signer.index) n.signer.index n.parts.prio v.0 h.parts.prio;
-    rel = served_holds k n.signer.index n.parts.rel v h.parts.rel;
-  });
+  parts = parts_more k (numbers_after n.calls + MAX_MESSAGES) (numbers_after (n.calls + 1)) (ids_after n.calls n.signer.index)
+      (ids_after (n.calls + 1) n.signer.index) n.signer.index (polled n.fixed n.parts v) (omega arith) (omega arith) (record {
+        weights = moved_holds k n.signer.index n.parts.weights (place_of n.fixed v) h.parts.weights;
+        prio = carried_holds k (numbers_after n.calls) (ids_after n.calls n.signer.index) n.signer.index n.parts.prio v.0 h.parts.prio;
+        rel = served_holds k n.signer.index n.parts.rel v h.parts.rel;
+      });
 }
 
 -- ---- a datagram
-
-parts_more : (k : Sizes) (numbers more ids further index : ℕ) (p : Parts) → numbers ≤ more → ids ≤ further → PartsHold k numbers ids index p
-    → PartsHold k more further index p
-parts_more k numbers more ids further index p one two h = record {
-  weights = h.weights;
-  prio = prio_more k numbers more ids further index index p.prio one two (omega arith) h.prio;
-  rel = h.rel;
-}
 
 datagram_keeps : (k : Sizes) (arts : Arts) (n : NodeState) (v : NodeId) (bytes : List ℕ) → ArtsFit arts n.fixed n.signer → AreBytes bytes
     → NewKeep k.keeps (handled arts n v bytes).answered → n.calls + 1 ≤ MAX_CALLS → NodeHolds k n
@@ -126,7 +119,7 @@ datagram_keeps : (k : Sizes) (arts : Arts) (n : NodeState) (v : NodeId) (bytes :
 datagram_keeps k arts n v bytes fits are new most h =
     let pieces = where_fits k (pieces_in (sections_in arts n.fixed bytes)) (reply_at arts n v bytes)
     (sections_fit k arts n.fixed n.signer bytes fits are h.fixed.signature_len (sections_in arts n.fixed bytes) refl) in
-    let done = all_hold k arts (arrival_at n v) h.fixed.me n.calls (ids_after n.calls n.signer.index) n.signer.index n.parts
+    let done = all_hold k arts (arrival_at n v) h.fixed.me (numbers_after n.calls) (ids_after n.calls n.signer.index) n.signer.index n.parts
     (pieces_where (reply_at arts n v bytes) (pieces_in (sections_in arts n.fixed bytes))) new pieces.fit h.parts in
     record {
       fixed = h.fixed;
@@ -134,8 +127,8 @@ datagram_keeps k arts n v bytes fits are new most h =
       calls = most;
       links = with_link_holds n n.calls v (link_after arts n v bytes) (small_me k n h) h.links (link_after_holds arts n n.calls v bytes fits.heads are);
       signer = h.signer;
-      parts = parts_more k n.calls (n.calls + 1) _ (ids_after (n.calls + 1) n.signer.index) n.signer.index (handled arts n v bytes).parts (omega arith)
-          (omega (arith, pieces.few)) done;
+      parts = parts_more k (numbers_after n.calls) (numbers_after (n.calls + 1)) _ (ids_after (n.calls + 1) n.signer.index) n.signer.index
+          (handled arts n v bytes).parts (omega arith) (omega (arith, pieces.few)) done;
     }
 
 -- ---- a signature was made
@@ -146,6 +139,13 @@ Owns k arts n body = signer_of body ≡ n.fixed.me → HasGoodFields body → n.
 
 signed_once_holds : (s : Signer) → s.index < s.bound → SignerHolds s → SignerHolds (record s { index = s.index + 1 })
 signed_once_holds s below h = record { index = omega (arith, below); bound = h.bound; total = h.total }
+
+-- the priority part, where another one has what was signed
+signed_beside : (k : Sizes) (n : NodeState) → PrioHolds k (numbers_after n.calls) (ids_after n.calls n.signer.index) n.signer.index n.parts.prio
+    → PrioHolds k (numbers_after n.calls) (ids_after n.calls (n.signer.index + 1)) (n.signer.index + 1) n.parts.prio
+signed_beside k n h =
+    prio_more k (numbers_after n.calls) (numbers_after n.calls) (ids_after n.calls n.signer.index) (ids_after n.calls (n.signer.index + 1))
+    n.signer.index (n.signer.index + 1) n.parts.prio (omega arith) (omega arith) (omega arith) h
 
 rel_sent_keeps : (k : Sizes) (arts : Arts) (n : NodeState) (dst : NodeId) (payload : List ℕ) → ArtsFit arts n.fixed n.signer
     → length payload ≤ MAX_PAYLOAD_BYTES → Owns k arts n (rel_body n dst payload) → rel_refusal n dst ≡ None → NodeHolds k n
@@ -161,8 +161,7 @@ rel_sent_keeps k arts n dst payload fits short own_keeps e h =
       signer = signed_once_holds n.signer (free n.signer h.signer sent.free) h.signer;
       parts = record {
         weights = weights_more k n.signer.index (n.signer.index + 1) n.parts.weights (omega arith) h.parts.weights;
-        prio = prio_more k n.calls n.calls (ids_after n.calls n.signer.index) (ids_after n.calls (n.signer.index + 1)) n.signer.index (n.signer.index + 1)
-            n.parts.prio (omega arith) (omega arith) (omega arith) h.parts.prio;
+        prio = signed_beside k n h.parts.prio;
         rel = pushed_in_holds k n.signer.index n.parts.rel (signed_now arts n (rel_body n dst payload)) sent.next own h.parts.rel;
       };
     }
@@ -182,9 +181,10 @@ prio_sent_keeps k arts n m choice fits sizes own_keeps e is h =
       signer = signed_once_holds n.signer (free n.signer h.signer sent.free) h.signer;
       parts = record {
         weights = weights_more k n.signer.index (n.signer.index + 1) n.parts.weights (omega arith) h.parts.weights;
-        prio = prio_more k n.calls n.calls (ids_after n.calls n.signer.index + 1) (ids_after n.calls (n.signer.index + 1)) (n.signer.index + 1) (n.signer.index + 1)
-            _ (omega arith) (omega arith) (omega arith)
-            (sent_holds k n.calls (ids_after n.calls n.signer.index) n.signer.index n.parts.prio (own_prio arts n m choice) tt own refl h.parts.prio);
+        prio = prio_more k (numbers_after n.calls) (numbers_after n.calls) (ids_after n.calls n.signer.index + 1) (ids_after n.calls (n.signer.index + 1))
+            (n.signer.index + 1) (n.signer.index + 1) _ (omega arith) (omega arith) (omega arith)
+            (sent_holds k (numbers_after n.calls) (ids_after n.calls n.signer.index) n.signer.index n.parts.prio (own_prio arts n m choice) tt own refl
+            h.parts.prio);
         rel = rel_more k n.signer.index (n.signer.index + 1) n.parts.rel (omega arith) h.parts.rel;
       };
     }
@@ -204,8 +204,7 @@ weight_sent_keeps k arts n v weight fits least most own_keeps e h =
       parts = record {
         weights = held_holds k n.signer.index (n.signer.index + 1) sent.row n.parts.weights (signed_now arts n (weight_body n v weight)) (omega arith)
             (record { kind = tt; place = sent.place; fits = own; own = sent.own }) h.parts.weights;
-        prio = prio_more k n.calls n.calls (ids_after n.calls n.signer.index) (ids_after n.calls (n.signer.index + 1)) n.signer.index (n.signer.index + 1)
-            n.parts.prio (omega arith) (omega arith) (omega arith) h.parts.prio;
+        prio = signed_beside k n h.parts.prio;
         rel = rel_more k n.signer.index (n.signer.index + 1) n.parts.rel (omega arith) h.parts.rel;
       };
     }
@@ -221,7 +220,7 @@ at_time_holds k n now small h = record {
   signer = h.signer;
   parts = record {
     weights = h.parts.weights;
-    prio = expired_holds k n.calls (ids_after n.calls n.signer.index) n.signer.index n.parts.prio (time_after n now) h.parts.prio;
+    prio = expired_holds k (numbers_after n.calls) (ids_after n.calls n.signer.index) n.signer.index n.parts.prio (time_after n now) h.parts.prio;
     rel = h.parts.rel;
   };
 }
@@ -240,8 +239,7 @@ settled_keeps k arts n ack fits own_keeps is e h =
       signer = signed_once_holds n.signer (free n.signer h.signer e) h.signer;
       parts = record {
         weights = weights_more k n.signer.index (n.signer.index + 1) n.parts.weights (omega arith) h.parts.weights;
-        prio = prio_more k n.calls n.calls (ids_after n.calls n.signer.index) (ids_after n.calls (n.signer.index + 1)) n.signer.index (n.signer.index + 1)
-            n.parts.prio (omega arith) (omega arith) (omega arith) h.parts.prio;
+        prio = signed_beside k n h.parts.prio;
         rel = rel_more k n.signer.index (n.signer.index + 1) _ (omega arith)
             (settled_holds k n.signer.index n.parts.rel ack (signed_now arts n (bodies.Ack ack)) is refl own h.parts.rel);
       };
@@ -330,7 +328,7 @@ step_holds k arts n TakePrio output new fits input news own s h =
       signer = h.signer;
       parts = record {
         weights = h.parts.weights;
-        prio = taken_holds k n.calls (ids_after n.calls n.signer.index) n.signer.index n.parts.prio h.parts.prio;
+        prio = taken_holds k (numbers_after n.calls) (ids_after n.calls n.signer.index) n.signer.index n.parts.prio h.parts.prio;
         rel = h.parts.rel;
       };
     })

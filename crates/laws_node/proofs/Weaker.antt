@@ -9,7 +9,7 @@ use Rattle.sp_rules.specs.Store.{Store}
 use Rattle.sp_rules.specs.declared.store.Entry.{Entry}
 use Rattle.laws_node.specs.Flows.{AckKept, FlowHolds}
 use Rattle.laws_node.specs.Nodes.{NodeHolds}
-use Rattle.laws_node.specs.Sizes.{Fits, Sizes}
+use Rattle.laws_node.specs.Sizes.{Fits, Sizes, numbers_after}
 use Rattle.laws_node.specs.Stores.{EntryHolds, PrioPeerHolds, StoreHolds}
 use Rattle.laws_node.specs.Updates.{UpdateHolds}
 use Rattle.laws_node.proofs.Tables.{all_weaker}
@@ -50,7 +50,7 @@ module _ (k : Sizes) (Q : Kept → Type 0) (less : (o : Kept) → k.keeps o → 
   }
 
   peer_weaker : (numbers ids : ℕ) (q : PrioPeer) → PrioPeerHolds k numbers ids q → PrioPeerHolds (asking Q k) numbers ids q
-  peer_weaker numbers ids q h = record { store = store_weaker ids q.store h.store; number = h.number; heard = h.heard }
+  peer_weaker numbers ids q h = record { store = store_weaker ids q.store h.store; number = h.number; few = h.few; given = h.given; heard = h.heard }
 
   update_weaker : (index row : ℕ) (o : Option Kept) → IfSome o (UpdateHolds k index row) → IfSome o (UpdateHolds (asking Q k) index row)
   update_weaker index row None h = tt
@@ -80,7 +80,8 @@ module _ (k : Sizes) (Q : Kept → Type 0) (less : (o : Kept) → k.keeps o → 
         known = h.parts.prio.known;
         capacity = h.parts.prio.capacity;
         inbox = store_weaker _ n.parts.prio.inbox h.parts.prio.inbox;
-        peers = all_weaker (PrioPeerHolds k n.calls _) (PrioPeerHolds (asking Q k) n.calls _) n.parts.prio.peers (peer_weaker n.calls _) h.parts.prio.peers;
+        peers = all_weaker (PrioPeerHolds k (numbers_after n.calls) _) (PrioPeerHolds (asking Q k) (numbers_after n.calls) _) n.parts.prio.peers
+            (peer_weaker (numbers_after n.calls) _) h.parts.prio.peers;
         least = h.parts.prio.least;
         next = h.parts.prio.next;
       };

@@ -9,7 +9,7 @@ use Rattle.sp_rules.specs.Parts.{Fixed, Parts, is_signed, nodes_of}
 use Rattle.sp_rules.specs.declared.node.TheConstants.{MAX_CALLS}
 use Rattle.sp_topology.specs.Ranges.{IsTopology}
 use Rattle.laws_node.specs.Flows.{RelHolds}
-use Rattle.laws_node.specs.Sizes.{IsNode, Sizes, ids_after, most_indexes}
+use Rattle.laws_node.specs.Sizes.{IsNode, Sizes, ids_after, most_indexes, numbers_after}
 use Rattle.laws_node.specs.Stores.{PrioHolds}
 use Rattle.laws_node.specs.Updates.{WeightsHold}
 
@@ -47,7 +47,7 @@ pub record NodeHolds (k : Sizes) (n : NodeState) : Type 0 where
   pub calls : n.calls ≤ MAX_CALLS
   pub links : All (LinkHolds n.calls) n.links
   pub signer : SignerHolds n.signer
-  pub parts : PartsHold k n.calls (ids_after n.calls n.signer.index) n.signer.index n.parts
+  pub parts : PartsHold k (numbers_after n.calls) (ids_after n.calls n.signer.index) n.signer.index n.parts
 
 -- the sizes of a node are read off what it keeps
 abbrev pub sizes_of : (Kept → Type 0) → NodeState → Sizes

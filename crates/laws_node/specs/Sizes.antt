@@ -1,7 +1,7 @@
 -- What is the same for all that a node keeps, and what holds of each signed message among it.
 use Rattle.std.specs.Prelude.{ℕ, List, ◌≡◌, ◌≤◌, ◌+◌, ◌*◌, ◌^◌, length}
 use Rattle.sp_base.specs.declared.id.NodeId.{NodeId}
-use Rattle.sp_base.specs.declared.limits.TheConstants.{MAX_NODES}
+use Rattle.sp_base.specs.declared.limits.TheConstants.{MAX_MESSAGES, MAX_NODES}
 use Rattle.sp_msg.specs.Bodies.{HasGoodFields}
 use Rattle.sp_msg.specs.declared.kept.Kept.{Kept}
 use Rattle.sp_topology.specs.declared.topology.Edge.{Edge}
@@ -26,13 +26,13 @@ pub record Fits (k : Sizes) (o : Kept) : Type 0 where
 abbrev pub IsNode : NodeId → Type 0
 IsNode v = (1 ≤ v.0) × (v.0 ≤ MAX_NODES)
 
--- a frame has at most so many priority messages
-abbrev pub most_messages : ℕ
-most_messages = 1
+-- how many link numbers were given to a neighbour at most: as many as there may be in each frame to it
+abbrev pub numbers_after : (calls : ℕ) → ℕ
+numbers_after calls = MAX_MESSAGES * calls
 
 -- how many ids a store may have given: one for each priority message that came in a frame, and one for each own one
 abbrev pub ids_after : (calls index : ℕ) → ℕ
-ids_after calls index = most_messages * calls + index
+ids_after calls index = MAX_MESSAGES * calls + index
 
 -- no key of a node has more indexes: two levels of height 15 (RFC 8554, section 6)
 abbrev pub most_indexes : ℕ

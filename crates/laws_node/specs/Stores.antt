@@ -1,6 +1,7 @@
 -- What holds of the priority part of a node after any steps: bounds, kinds, ranges and counts.
 use Rattle.std.specs.Prelude.{ℕ, ◌≡◌, ◌<◌, ◌≤◌, ◌+◌, ◌^◌, length}
 use Rattle.std.specs.List.{All}
+use Rattle.sp_base.specs.declared.limits.TheConstants.{MAX_MESSAGES}
 use Rattle.sp_msg.specs.declared.body.Body.{Body}
 use Rattle.sp_msg.specs.declared.body.Body.TheVariants as bodies
 use Rattle.sp_rules.specs.Prio.{PrioState}
@@ -25,10 +26,12 @@ pub record StoreHolds (k : Sizes) (ids : ℕ) (s : Store) : Type 0 where
   pub capacity : s.capacity ≤ k.store
   pub entries : All (EntryHolds k s.last) s.entries
 
--- so many link numbers were given at most
+-- so many link numbers were given at most, and those in flight are among them
 pub record PrioPeerHolds (k : Sizes) (numbers ids : ℕ) (q : PrioPeer) : Type 0 where
   pub store : StoreHolds k ids q.store
   pub number : q.number ≤ numbers
+  pub few : length q.flight ≤ MAX_MESSAGES
+  pub given : All (λ pair. pair.0 ≤ q.number) q.flight
   pub heard : q.heard < 2 ^ 64
 
 pub record PrioHolds (k : Sizes) (numbers ids index : ℕ) (p : PrioState) : Type 0 where

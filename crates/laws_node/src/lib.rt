@@ -34,8 +34,9 @@ pub use weight_laws::{
 };
 
 /// A law: at the start of its life and after each step, a node holds at most as many messages of each flow and entries of each store as its
-/// own bounds say, each in its place and its ranges, with its signer's valid signature; ids and numbers are at most the calls and signatures
-/// made; and each frame that it makes is in the ranges of its grammar. That the bounds stay as they were given is a law of its own.
+/// own bounds say, each in its place and its ranges, with its signer's valid signature; at most four priority messages are in flight to each
+/// neighbour, under numbers that were given; link numbers are at most four for each call, and ids four for each call and one for each
+/// signature made; and each frame that it makes is in the ranges of its grammar. That the bounds stay as they were given is a law of its own.
 pub fn each_step_keeps_what_a_node_keeps()
     ensures boot { BootKeeps }
     ensures step { EachStepKeeps }

@@ -1,4 +1,5 @@
--- What the slot of the flow leaves at the node that it comes to: its acknowledgement is acknowledged there, and its message is had, or waits for room.
+-- What the slot of the flow leaves at the node that it comes to: its acknowledgement is acknowledged there, and its first message is had, or waits for
+-- room.
 use Rattle.std.proofs.Common.{◌≡◌, ◌≤◌, ◌<◌, ℕ, ◌+◌, ◌-◌, ◌==◌, ◌&&◌, Bool, true, false, cond, min, List, length, refl, sym, ap, ◌∙◌, inl, inr, arith}
 use Rattle.std.specs.Prelude.{not, nat_le, nat_lt}
 use Rattle.std.specs.List.{list_any}

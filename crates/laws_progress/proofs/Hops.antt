@@ -8,7 +8,8 @@ use Rattle.laws_progress.proofs.Service.{is_on, number_on, IsWithin}
 use Rattle.sp_runs.specs.Rounds.{is_pass, is_take}
 use Rattle.laws_progress.proofs.Facts.{Goes, Sight, IsTurn}
 
--- what a frame says of the flow: whether its slot is the flow's, whether it echoes the right boot, the numbers of its report, whether it has an acknowledgement, and the number of its message or 0
+-- what a frame says of the flow: whether its slot is the flow's, whether it echoes the right boot, the numbers of its report, whether it has an
+-- acknowledgement, and the number of its first message or 0
 pub record Told : Type 0 where
   pub mine : Bool
   pub echo : Bool

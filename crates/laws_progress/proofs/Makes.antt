@@ -1,16 +1,17 @@
--- What the frame of a poll tells of the flow: where it stands, the acknowledgement that the neighbour lacks, and the message after those that it has.
-use Rattle.std.proofs.Common.{◌≡◌, ◌≤◌, ◌<◌, ◌⊎◌, ℕ, zero, suc, ◌+◌, ◌-◌, ◌==◌, Bool, true, false, cond, max, List, [], ◌∷◌, ◌++◌, length, map, Option, Some, None, option_map, refl, sym, ap, subst, ◌∙◌, inl, inr, arith}
-use Rattle.std.specs.Prelude.{All, IfSome, nat_le, nat_lt, slice_get}
+-- What the frame of a poll tells of the flow: where it stands, the acknowledgement that the neighbour lacks, and the first messages after those
+-- that it has.
+use Rattle.std.proofs.Common.{◌≡◌, ◌≤◌, ◌<◌, ◌⊎◌, ℕ, zero, suc, ◌+◌, ◌-◌, ◌==◌, Bool, true, false, cond, max, List, [], ◌∷◌, ◌++◌, length, map, take, drop, Option, Some, None, option_map, refl, sym, ap, subst, ◌∙◌, inl, inr, arith}
+use Rattle.std.specs.Prelude.{All, IfSome, nat_lt, slice_get}
 use Rattle.std.specs.Option.{option_and_then}
 use Rattle.std.proofs.lemmas.Bool.{cases_Bool, eqb-true, eqb-false, ne_eqb, ltb-false, ltb-true}
-use Rattle.std.proofs.lemmas.Bool.Decides.{nat_tests}
 use Rattle.std.proofs.lemmas.List.Elements.{All-head, All-tail}
+use Rattle.sp_base.proofs.FewLemmas.{drop_first, drop_past}
 use Rattle.sp_base.specs.Cursor.{next_after}
-use Rattle.sp_base.specs.Position.{IsPosition, message_of}
+use Rattle.sp_base.specs.Position.{IsPosition}
 use Rattle.sp_base.specs.declared.id.Flow.{Flow}
 use Rattle.sp_base.specs.declared.id.NodeId.{NodeId}
+use Rattle.sp_base.specs.declared.limits.TheConstants.{MAX_MESSAGES}
 use Rattle.sp_frame.specs.Reliable.{Report}
-use Rattle.sp_frame.specs.Views.{as_list}
 use Rattle.sp_msg.specs.declared.body.Body.{Body}
 use Rattle.sp_msg.specs.declared.body.Body.TheVariants as bodies
 use Rattle.sp_msg.specs.declared.kept.Kept.{Kept}
@@ -20,7 +21,7 @@ use Rattle.sp_rules.specs.Flow.{AreMessages, FlowState, IsMessage, ends, is_flow
 use Rattle.sp_rules.specs.Node.{NodeState, link_in}
 use Rattle.sp_rules.specs.Parts.{nodes_of}
 use Rattle.sp_rules.specs.Polls.{frame_to}
-use Rattle.sp_rules.specs.Rel.{RelState, flow_at, flow_in, is_to, next_flow, next_place, pairs_of, peer_in, slot_for, slot_of, view_in}
+use Rattle.sp_rules.specs.Rel.{RelState, flow_at, flow_in, is_to, messages_after, next_flow, next_place, pairs_of, peer_in, slot_for, slot_of, view_in}
 use Rattle.laws_node.specs.Flows.{AckKept, FlowHolds, IsAckOf, RelHolds}
 use Rattle.laws_node.specs.Sizes.{Sizes}
 use Rattle.laws_runs.specs.Signs.{Good, sizes_at}
@@ -47,15 +48,16 @@ use Rattle.laws_progress.proofs.Service.{next_on}
 use Rattle.laws_progress.proofs.Standing.{is_same, place_at, place_in, rel_of, there_on}
 use Rattle.laws_progress.proofs.Wires.{has_ack, is_mine, number_in, slot_in, told_of, told_slot, wires}
 
--- ---- the acknowledgement and the message of a slot
+-- ---- the acknowledgement and the messages of a slot
 
 pub data SlotAck (flow : Flow) (base : ℕ) : Option Kept → Type 0 where
   No_ack : SlotAck flow base None
   Has_ack : (o : Kept) → IsAckOf flow o.body → number_said o.body ≡ base → SlotAck flow base (Some o)
 
+-- the first of the messages is one of the flow. Of those after it nothing is asked
 pub data SlotRel (flow : Flow) : List Kept → Type 0 where
   No_rel : SlotRel flow []
-  Has_rel : (o : Kept) (q : ℕ) → IsMessage flow q o.body → SlotRel flow (o ∷ [])
+  Has_rel : (o : Kept) (os : List Kept) (q : ℕ) → IsMessage flow q o.body → SlotRel flow (o ∷ os)
 
 pub said : (flow : Flow) (q : ℕ) (body : Body) → IsMessage flow q body → number_said body ≡ q
 said flow q (bodies.Rel r) is = is.2
@@ -101,26 +103,29 @@ record RelsMade (flow : Flow) (here : Bool) (f : FlowState) (top : ℕ) (os : Li
   next_is : here ≡ false → (f.at.have ≤ top) ⊎ (number_in os ≡ top + 1)
   is : SlotRel flow os
 
-message_made : (flow : Flow) (f : FlowState) (top : ℕ) → IsPosition f.at → AreMessages flow f.at.base f.at.list → f.at.base ≤ top → RelsMade flow false f top (as_list (message_of f.at (top + 1)))
-message_made flow f top whole are low =
-    let above : nat_le (top + 1) f.at.base ≡ false = grind (arith, nat_tests) in
-    let is : message_of f.at (top + 1) ≡ slice_get f.at.list (top + 1 - f.at.base - 1) = ap (λ t. cond t None (slice_get f.at.list (top + 1 - f.at.base - 1))) above in
-    subst (λ o. RelsMade flow false f top (as_list o)) (sym is) (go (slice_get f.at.list (top + 1 - f.at.base - 1)) refl)
+-- the messages after a number begin with the next one
+messages_made : (flow : Flow) (f : FlowState) (top : ℕ) → IsPosition f.at → AreMessages flow f.at.base f.at.list → f.at.base ≤ top
+    → RelsMade flow false f top (messages_after f.at top)
+messages_made flow f top whole are low = go (slice_get f.at.list (top - f.at.base)) refl
   where
-    go : (o : Option Kept) → slice_get f.at.list (top + 1 - f.at.base - 1) ≡ o → RelsMade flow false f top (as_list o)
+    go : (o : Option Kept) → slice_get f.at.list (top - f.at.base) ≡ o → RelsMade flow false f top (messages_after f.at top)
     go None e =
-        let past = get_none f.at.list (top + 1 - f.at.base - 1) e in
-        record { there = omega arith; near = omega arith; next_is = λ z. inl (omega (arith, past, whole, low)); is = No_rel }
+        let past = get_none f.at.list (top - f.at.base) e in
+        let none : messages_after f.at top ≡ [] = ap (λ (os : List Kept). take MAX_MESSAGES os) (drop_past f.at.list (top - f.at.base) e) in
+        subst (RelsMade flow false f top) (sym none)
+        (record { there = omega arith; near = omega arith; next_is = λ z. inl (omega (arith, past, whole, low)); is = No_rel })
     go (Some o) e =
-        let within = get_some f.at.list (top + 1 - f.at.base - 1) o e in
-        let message = message_at flow f.at.base f.at.list (top + 1 - f.at.base - 1) o are e in
-        let number = said flow (f.at.base + (top + 1 - f.at.base - 1) + 1) o.body message in
-        record {
+        let within = get_some f.at.list (top - f.at.base) o e in
+        let message = message_at flow f.at.base f.at.list (top - f.at.base) o are e in
+        let number = said flow (f.at.base + (top - f.at.base) + 1) o.body message in
+        let others = take (MAX_MESSAGES - 1) (drop (top - f.at.base + 1) f.at.list) in
+        let first : messages_after f.at top ≡ o ∷ others = ap (λ (os : List Kept). take MAX_MESSAGES os) (drop_first f.at.list (top - f.at.base) o e) in
+        subst (RelsMade flow false f top) (sym first) (record {
           there = omega (arith, within, whole, low, number);
           near = omega (arith, low, number);
           next_is = λ z. inr (omega (arith, low, number));
-          is = Has_rel o (f.at.base + (top + 1 - f.at.base - 1) + 1) message;
-        }
+          is = Has_rel o others (f.at.base + (top - f.at.base) + 1) message;
+        })
 
 -- ---- a whole slot
 
@@ -173,12 +178,12 @@ slot_made k index r v flow h acks =
     let found = found_ends r.flows flow in
     let a = ack_made flow f w.base (flow_ack r flow acks) (λ o e. subst (λ fl. IsAckOf fl o.body) found (s.kinds o e)) in
     let messages : AreMessages flow f.at.base f.at.list = subst (λ fl. AreMessages fl f.at.base f.at.list) found s.messages in
-    let go : (t : Bool) → is_to r flow ≡ t → RelsMade flow t f (max w.have f.at.base) (cond t [] (as_list (message_of f.at (max w.have f.at.base + 1)))) =
+    let go : (t : Bool) → is_to r flow ≡ t → RelsMade flow t f (max w.have f.at.base) (cond t [] (messages_after f.at (max w.have f.at.base))) =
     λ t. elim (cases_Bool t) [
       | inl on ↦ λ e. rw on (record { there = omega arith; near = omega arith; next_is = λ z. absurd (let g : true ≡ false = z in cc); is = No_rel })
       | inr off ↦ λ e.
           let away : (f.dst.0 == k.me.0) ≡ false = ne_eqb _ _ (λ z. eqb-false _ _ (e ∙ off) (ap (λ (n : NodeId). n.0) h.me ∙ sym z ∙ ap (λ (fl : Flow). fl.dst.0) found)) in
-          rw off (message_made flow f (max w.have f.at.base) (s.position away) messages (omega arith))
+          rw off (messages_made flow f (max w.have f.at.base) (s.position away) messages (omega arith))
     ] in
     let m = go (is_to r flow) refl in
     record { base = refl; have = refl; ack = a.is; rels = m.is; no_ack = a.none; next_there = m.there; next_near = m.near; next_is = m.next_is }

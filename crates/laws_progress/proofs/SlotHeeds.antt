@@ -103,11 +103,12 @@ rels_heard : (arts : Arts) (fx : Fixed) (nodes : List NodeId) (bound : ℕ) (v :
     → (is_to r flow ≡ false → number_in os ≤ (flow_in (after_rels arts fx r flow os).flows flow).at.have)
     × (is_to r flow ≡ true → min (number_in os) ((flow_in r.flows flow).at.have - length (flow_in r.flows flow).inbox + bound) ≤ (flow_in (after_rels arts fx r flow os).flows flow).at.have)
 rels_heard arts fx nodes bound v flow r [] ready are No_rel signed near window at_source = (λ z. omega arith, λ z. omega arith)
-rels_heard arts fx nodes bound v flow r (o ∷ []) ready are (Has_rel x q is) signed near window at_source =
+rels_heard arts fx nodes bound v flow r (o ∷ os) ready are (Has_rel x rest q is) signed near window at_source =
     let number = said flow q o.body is in
-    let h = rel_heard arts fx nodes bound v flow r o q ready are is (signed o [] refl) (omega (arith, number, near)) (omega (arith, number, window)) (λ z. let low = at_source z in omega (arith, number, low)) in
-    (λ z. let have = h.0 z in omega (arith, have, number), λ z. let have = h.1 z in omega (arith, have, number))
-rels_heard arts fx nodes bound v flow r (o ∷ (y ∷ os)) ready are is signed near window at_source = elim is [ ]
+    let h = rel_heard arts fx nodes bound v flow r o q ready are is (signed o os refl) (omega (arith, number, near)) (omega (arith, number, window))
+    (λ z. let low = at_source z in omega (arith, number, low)) in
+    let up = (rels_later arts fx (after_rel arts fx r flow o) flow os flow).have in
+    (λ z. let have = h.0 z in omega (arith, have, number, up), λ z. let have = h.1 z in omega (arith, have, number, up))
 
 pub slot_heeded : (arts : Arts) (fx : Fixed) (nodes : List NodeId) (bound : ℕ) (v u : NodeId) (flow : Flow) (r : RelState) (t : Report) → Ready nodes bound v flow r → AreNodes nodes flow → SlotFits arts fx flow bound r t
     → SlotHeeded flow bound r (after_slot arts fx r u (Some t)) t

@@ -21,6 +21,7 @@ abbrev pub has_ack : Option Kept → Bool
 has_ack None = false
 has_ack (Some o) = true
 
+-- the number of the first message
 abbrev pub number_in : List Kept → ℕ
 number_in [] = 0
 number_in (o ∷ os) = number_said o.body

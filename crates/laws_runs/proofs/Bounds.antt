@@ -12,6 +12,7 @@ use Rattle.sp_rules.specs.PrioPeer.{PrioPeer}
 use Rattle.sp_rules.specs.Weights.{held_in, row_for}
 use Rattle.laws_node.specs.Flows.{FlowHolds}
 use Rattle.laws_node.specs.Shapes.{PeerShape, Shape, peer_shape}
+use Rattle.laws_node.specs.Sizes.{numbers_after}
 use Rattle.laws_node.specs.Stores.{PrioPeerHolds}
 use Rattle.laws_node.specs.Updates.{UpdateHolds}
 use Rattle.laws_node.proofs.Tables.{all_weaker}
@@ -41,7 +42,7 @@ flow_bounded x P u index f h = record {
 peer_bounded : (x : Setting) (P : Kept → Type 0) (u : NodeId) (numbers ids : ℕ) (q : PrioPeer) → PrioPeerHolds (sizes_at x P u) numbers ids q → PeerIsBounded x.store q
 peer_bounded x P u numbers ids q h = record {
   entries = let entries = h.store.bounded in let capacity = h.store.capacity in omega (arith, entries, capacity);
-  flight = at_most_one q.flight;
+  flight = h.few;
 }
 
 fused : {X Y Z : Type 0} (f : Y → Z) (g : X → Y) (h : X → Z) → ((x : X) → f (g x) ≡ h x) → (xs : List X) → map f (map g xs) ≡ map h xs
@@ -63,12 +64,13 @@ is_bounded : (x : Setting) (P : Kept → Type 0) (u : NodeId) (n : NodeState) �
 is_bounded x P u n is =
     let k = sizes_at x P u in
     let prio = is.holds.parts.prio in
+    let numbers = numbers_after n.calls in
     record {
       flows = is.holds.parts.rel.keys;
       each_flow = all_weaker (FlowHolds k n.signer.index) (FlowIsBounded x.buffer) n.parts.rel.flows (flow_bounded x P u n.signer.index) is.holds.parts.rel.flows;
       inbox = let entries = prio.inbox.bounded in let capacity = prio.inbox.capacity in omega (arith, entries, capacity);
       peers = places x P u n is;
-      each_peer = all_weaker (PrioPeerHolds k n.calls _) (PeerIsBounded x.store) n.parts.prio.peers (peer_bounded x P u n.calls _) prio.peers;
+      each_peer = all_weaker (PrioPeerHolds k numbers _) (PeerIsBounded x.store) n.parts.prio.peers (peer_bounded x P u numbers _) prio.peers;
       rows = ap (λ (s : Shape). s.weights.rows) is.shape;
       each_update = λ row. update_placed x P u n.signer.index row (held_in n.parts.weights.rows row) (is.holds.parts.weights.rows row);
     }

@@ -31,7 +31,7 @@ use Rattle.sp_rules.specs.Prio.{PrioState, admit_prio, acked_effects, judge_prio
 use Rattle.sp_rules.specs.PrioPeer as rows
 use Rattle.sp_rules.specs.PrioPeer.{PrioPeer}
 use Rattle.sp_rules.specs.Rel.{RelState, admit_ack, admit_rel, delivery, flow_in, is_from, is_to, judge_ack_of, judge_rel_of, rel_effects, reported, with_flow, with_peer, told as told_peer, peer_in}
-use Rattle.sp_rules.specs.Store.{Store, expired_entries}
+use Rattle.sp_rules.specs.Store.{Store, entry_in, expired_entries, removed}
 use Rattle.sp_rules.specs.Weights.{held}
 use Rattle.sp_rules.specs.declared.answers.Item.{Item}
 use Rattle.sp_rules.specs.declared.answers.Item.TheVariants as items
@@ -102,8 +102,14 @@ quiet_prio p o came =
     (quiet_append (prio.delivered o.body) (rows.put_effects 0 p.inbox o) (quiet_delivered o.body) (quiet_put 0 p.inbox o))
     (quiet_flat (rows.given_effects o came) (λ q. quiet_either (rows.goes_to o.body came q) (rows.put_effects q.peer q.store o) [] (quiet_put q.peer q.store o) quiet_none) p.peers)
 
+quiet_left : (place : ℕ) (s : Store) (pairs : List (ℕ × ℕ)) → Quiet (rows.left_effects place s pairs)
+quiet_left place s [] = quiet_none
+quiet_left place s (pair ∷ pairs) =
+    quiet_append (rows.gone place Acked (entry_in s pair.1)) (rows.left_effects place (removed s pair.1) pairs)
+    (quiet_gone place Acked (entry_in s pair.1)) (quiet_left place (removed s pair.1) pairs)
+
 pub quiet_acked : (p : PrioState) (v number : ℕ) → Quiet (acked_effects p v number)
-quiet_acked p v number = quiet_gone (prio.peer_in p v).peer Acked _
+quiet_acked p v number = let q = prio.peer_in p v in quiet_left q.peer q.store (rows.landed q number)
 
 quiet_expiring : (place : ℕ) (es : List Entry) → Quiet (map (λ e. effects.Gone place e.id Expired) es)
 quiet_expiring place [] = quiet_none

@@ -12,7 +12,7 @@ use Rattle.sp_rules.specs.Arts.{Arts}
 use Rattle.sp_rules.specs.Node.{NodeState}
 use Rattle.sp_rules.specs.Parts.{Fixed, as_neighbour, neighbours_of, nodes_of}
 use Rattle.sp_rules.specs.PrioPeer as rows
-use Rattle.sp_rules.specs.PrioPeer.{PrioPeer, acked_of, carried_of, flying, landed, launched}
+use Rattle.sp_rules.specs.PrioPeer.{PrioPeer}
 use Rattle.sp_rules.specs.declared.prio.Neighbour.{Neighbour}
 use Rattle.sp_topology.proofs.NeighbourLemmas.{found_ascend}
 use Rattle.sp_topology.specs.Neighbours.{Ascend, neighbours_from}

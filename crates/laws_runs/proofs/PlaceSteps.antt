@@ -1,11 +1,11 @@
 -- What each step tells of each place of the node.
 use Rattle.laws_runs.specs.Places.{PlacesAre, StoreIs, shelf}
-use Rattle.std.proofs.Common.{◌≡◌, ◌<◌, ℕ, Bool, true, false, cond, List, [], ◌∷◌, ◌++◌, Option, Some, None, refl, sym, ap, subst, inl, inr, arith}
+use Rattle.std.proofs.Common.{◌≡◌, ◌<◌, ℕ, zero, suc, ◌-◌, Bool, true, false, cond, List, [], ◌∷◌, ◌++◌, length, Option, Some, None, refl, sym, ap, subst, ◌∙◌, inl, inr, arith}
 use Rattle.std.specs.List.{flat_map}
-use Rattle.std.specs.Option.{option_and_then}
 use Rattle.std.proofs.lemmas.Bool.{cases_Bool}
 use Rattle.std.proofs.lemmas.List.{append-nil}
 use Rattle.sp_base.specs.declared.id.NodeId.{NodeId}
+use Rattle.sp_base.specs.declared.limits.TheConstants.{MAX_MESSAGES}
 use Rattle.sp_msg.specs.Bodies.{HasGoodFields, encoded}
 use Rattle.sp_msg.specs.declared.body.Ack.{Ack}
 use Rattle.sp_msg.specs.declared.body.Body.{Body}
@@ -28,12 +28,12 @@ use Rattle.sp_rules.specs.Polls.{frame_to, polled}
 use Rattle.sp_rules.specs.Prio as prio
 use Rattle.sp_rules.specs.Prio.{PrioState, admit_prio, judge_prio, no_peer, peer_in, prio_effects}
 use Rattle.sp_rules.specs.PrioPeer as rows
-use Rattle.sp_rules.specs.PrioPeer.{PrioPeer, acked_of, carried_of, flying, landed, launched}
+use Rattle.sp_rules.specs.PrioPeer.{PrioPeer, filled, landed, launch, launched, settled}
 use Rattle.sp_rules.specs.Rel.{admit_ack, admit_rel, delivery, due, is_to, judge_ack_of, judge_rel_of, pushed_in, rel_effects}
 use Rattle.sp_rules.specs.Sends.{after_take_prio, after_take_rel, mask_in, no_paths, own_prio, prio_body, prio_refusal, prio_sent, rel_body, rel_number, rel_refusal, rel_sent, send_prio_refusal, signer_refusal, weight_body, weight_number, weight_refusal, weight_sent}
 use Rattle.sp_rules.specs.Steps as steps
 use Rattle.sp_rules.specs.Steps.{Input, NodeStep, Output, accepted, arrived, refused_call, refused_send, replied}
-use Rattle.sp_rules.specs.Store.{Store, entry_in, less_expired, next_entry, oldest, removed, said}
+use Rattle.sp_rules.specs.Store.{Store, less_expired, next_besides, oldest, said}
 use Rattle.sp_rules.specs.Ticks.{ack_effects, at_time, settled_by, time_after}
 use Rattle.sp_rules.specs.Weights.{held as held_weight}
 use Rattle.sp_rules.specs.declared.answers.Item.TheVariants as items
@@ -54,7 +54,7 @@ use Rattle.sp_runs.specs.Settings.{Setting, SettingFits}
 use Rattle.laws_runs.specs.Signs.{NodeIs, sizes_at}
 use Rattle.laws_runs.proofs.PlaceFacts.{AllAway, Turns, admitted_turns, all_turn, inbox_turns, row_turns, turns_on, turns_same}
 use Rattle.laws_runs.proofs.Goods.{arts_fit}
-use Rattle.laws_runs.proofs.StoreFacts.{Leads, Signs_it, Tells_rel, Tells_weight, expired_away, expired_is, expired_leads, gone_away, leads_nowhere, oldest_is, oldest_leads, removed_is, removed_leads}
+use Rattle.laws_runs.proofs.StoreFacts.{Leads, Signs_it, Tells_rel, Tells_weight, expired_away, expired_is, expired_leads, gone_away, leads_nowhere, left_away, left_is, left_leads, oldest_is, oldest_leads}
 
 -- ---- effects of no place
 
@@ -81,20 +81,30 @@ small_of (bodies.Rel r) is good = absurd is
 small_of (bodies.Ack a) is good = absurd is
 small_of (bodies.Weight w) is good = absurd is
 
+-- what goes in flight changes neither the place nor its store
+launched_stays : (q : PrioPeer) (e : Option Entry) → ((launched q e).peer ≡ q.peer) × ((launched q e).store ≡ q.store)
+launched_stays q None = (refl, refl)
+launched_stays q (Some e) = (refl, refl)
+
+filled_stays : (room : ℕ) (q : PrioPeer) → ((filled room q).peer ≡ q.peer) × ((filled room q).store ≡ q.store)
+filled_stays zero q = (refl, refl)
+filled_stays (suc room) q =
+    let first = launched_stays q (next_besides q.store q.flight q.last) in
+    let others = filled_stays room (launch q) in
+    (others.0 ∙ first.0, others.1 ∙ first.1)
+
 module _ (capacity : ℕ) where
   -- ---- pieces
 
   acked_turns : (p : PrioState) (v number : ℕ) → PlacesAre capacity p → Turns capacity p (prio.acked_effects p v number) (prio.acked p v number)
-  acked_turns p v number h = go (landed (peer_in p v) number) refl
-    where
-      go : (id : Option ℕ) → landed (peer_in p v) number ≡ id
-          → Turns capacity p (rows.gone (peer_in p v).peer whys.Acked (option_and_then (entry_in (peer_in p v).store) id)) (prio.with_peer p v (acked_of (peer_in p v) id))
-      go None is = row_turns capacity p v (peer_in p v) [] refl (λ s. s) (λ e s. leads_nowhere capacity v (shelf (peer_in p v).store)) (λ place other. tt) (λ none. refl) h
-      go (Some id) is =
-          row_turns capacity p v (acked_of (peer_in p v) (Some id)) (rows.gone (peer_in p v).peer whys.Acked (entry_in (peer_in p v).store id)) refl (λ s. removed_is capacity (peer_in p v).store id s)
-          (λ e s. subst (λ n. Leads capacity v (shelf (peer_in p v).store) (rows.gone n whys.Acked (entry_in (peer_in p v).store id)) (shelf (removed (peer_in p v).store id))) (sym e) (removed_leads capacity v (peer_in p v).store id s))
-          (λ place other. gone_away place (peer_in p v).peer whys.Acked (entry_in (peer_in p v).store id) other)
-          (λ none. ap (λ (r : PrioPeer). rows.gone r.peer whys.Acked (entry_in r.store id)) none) h
+  acked_turns p v number h =
+      let q = peer_in p v in
+      let pairs = landed q number in
+      row_turns capacity p v (rows.acked q number) (rows.acked_effects q number) refl (λ s. left_is capacity q.store pairs s)
+      (λ e s. subst (λ n. Leads capacity v (shelf q.store) (rows.left_effects n q.store pairs) (shelf (rows.less_all q.store pairs))) (sym e)
+      (left_leads capacity v q.store pairs s))
+      (λ place other. left_away place q.peer q.store pairs other)
+      (λ none. ap (λ (r : PrioPeer). rows.acked_effects r number) none) h
 
   -- a row whose store stays
   row_stays : (p : PrioState) (v : ℕ) (r : PrioPeer) → r.peer ≡ (peer_in p v).peer → r.store ≡ (peer_in p v).store → PlacesAre capacity p → Turns capacity p [] (prio.with_peer p v r)
@@ -160,19 +170,10 @@ module _ (capacity : ℕ) where
   -- ---- the other calls
 
   carried_turns : (p : PrioState) (v : ℕ) → PlacesAre capacity p → Turns capacity p [] (prio.carried p v)
-  carried_turns p v h = row_stays p v (rows.carried (peer_in p v)) (key (flying (peer_in p v))) (store (flying (peer_in p v))) h
-    where
-      launched_key : (q : PrioPeer) (e : Option Entry) → ((launched q e).peer ≡ q.peer) × ((launched q e).store ≡ q.store)
-      launched_key q None = (refl, refl)
-      launched_key q (Some e) = (refl, refl)
-
-      key : (e : Option Entry) → (carried_of (peer_in p v) e).peer ≡ (peer_in p v).peer
-      key None = (launched_key (peer_in p v) (next_entry (peer_in p v).store (peer_in p v).last)).0
-      key (Some e) = refl
-
-      store : (e : Option Entry) → (carried_of (peer_in p v) e).store ≡ (peer_in p v).store
-      store None = (launched_key (peer_in p v) (next_entry (peer_in p v).store (peer_in p v).last)).1
-      store (Some e) = refl
+  carried_turns p v h =
+      let q = settled (peer_in p v) in
+      let same = filled_stays (MAX_MESSAGES - length q.flight) q in
+      row_stays p v (rows.carried (peer_in p v)) same.0 same.1 h
 
   expired_turns : (p : PrioState) (now : ℕ) → PlacesAre capacity p → Turns capacity p (prio.expired_effects p now) (prio.expired p now)
   expired_turns p now h =

@@ -27,7 +27,7 @@ use Rattle.sp_rules.specs.PrioPeer as rows
 use Rattle.sp_rules.specs.PrioPeer.{PrioPeer}
 use Rattle.sp_rules.specs.Rel.{admit_ack, admit_rel, delivery, is_to, judge_ack_of, judge_rel_of, rel_effects}
 use Rattle.sp_rules.specs.Flow.{flow_said}
-use Rattle.sp_rules.specs.Store.{Store, expired_entries, said}
+use Rattle.sp_rules.specs.Store.{Store, entry_in, expired_entries, removed, said}
 use Rattle.sp_rules.specs.Weights.{held}
 use Rattle.sp_rules.specs.Window.{is_in, is_seen, with_mark}
 use Rattle.sp_rules.specs.declared.answers.Item.{Item}
@@ -89,6 +89,15 @@ mute_put place s o = mute_append (rows.stored place (s.last + 1) o.body) _ (mute
 
 mute_given : (p : PrioState) (o : Kept) (came : Option NodeId) → Mute (flat_map (rows.given_effects o came) p.peers)
 mute_given p o came = mute_flat (rows.given_effects o came) (λ q. mute_either (rows.goes_to o.body came q) (rows.put_effects q.peer q.store o) [] (mute_put q.peer q.store o) mute_none) p.peers
+
+mute_left : (place : ℕ) (s : Store) (pairs : List (ℕ × ℕ)) → Mute (rows.left_effects place s pairs)
+mute_left place s [] = mute_none
+mute_left place s (pair ∷ pairs) =
+    mute_append (rows.gone place Acked (entry_in s pair.1)) (rows.left_effects place (removed s pair.1) pairs)
+    (mute_gone place Acked (entry_in s pair.1)) (mute_left place (removed s pair.1) pairs)
+
+mute_acked : (p : PrioState) (v number : ℕ) → Mute (acked_effects p v number)
+mute_acked p v number = let q = prio.peer_in p v in mute_left q.peer q.store (rows.landed q number)
 
 mute_expiring : (place : ℕ) (es : List Entry) → Mute (map (λ e. effects.Gone place e.id Expired) es)
 mute_expiring place [] = mute_none
@@ -337,7 +346,8 @@ module _ (C : Type 0) (s d : NodeId) (S : List Message) where
       chosen told (items.Weight (weight_answer (is_signed arts at.fixed o) (offer_to at.fixed.me p.weights o.body))) (record p { weights = held p.weights o }) p (weight_effects o.body)
       (λ t. muted told p.prio (weight_effects o.body) (mute_weight o.body) h) (muted told p.prio [] mute_none h)
   one_handled told arts at p (PrioAckPiece number) new h =
-      muted told (prio.acked p.prio at.from.0 number) (acked_effects p.prio at.from.0 number) (mute_gone _ Acked _) (same_windows s d told p.prio _ refl refl refl h)
+      muted told (prio.acked p.prio at.from.0 number) (acked_effects p.prio at.from.0 number) (mute_acked p.prio at.from.0 number)
+      (same_windows s d told p.prio _ refl refl refl h)
   one_handled told arts at p (PrioPiece number o) new h =
       let answer = prio_answer (is_signed arts at.fixed o) (judge_prio p.prio o.body at.now) in
       let admitted_to = record p { prio = admit_prio p.prio o (Some at.from) } in

@@ -234,6 +234,19 @@ removed_is capacity s id h = record {
   small = all_less_first (λ (e : Entry). source e < IDS) (has_id id) s.entries h.small;
 }
 
+-- the entries of these pairs are removed, one after another
+pub left_leads : (capacity p : ℕ) (s : Store) (pairs : List (ℕ × ℕ)) → StoreIs capacity s
+    → Leads capacity p (shelf s) (rows.left_effects p s pairs) (shelf (rows.less_all s pairs))
+left_leads capacity p s [] h = leads_nowhere capacity p (shelf s)
+left_leads capacity p s (pair ∷ pairs) h =
+    let less = removed s pair.1 in
+    leads_on capacity p (shelf s) (shelf less) (shelf (rows.less_all less pairs)) (rows.gone p whys.Acked (entry_in s pair.1)) (rows.left_effects p less pairs)
+    (removed_leads capacity p s pair.1 h) (left_leads capacity p less pairs (removed_is capacity s pair.1 h))
+
+pub left_is : (capacity : ℕ) (s : Store) (pairs : List (ℕ × ℕ)) → StoreIs capacity s → StoreIs capacity (rows.less_all s pairs)
+left_is capacity s [] h = h
+left_is capacity s (pair ∷ pairs) h = left_is capacity (removed s pair.1) pairs (removed_is capacity s pair.1 h)
+
 -- the oldest is taken
 pub oldest_leads : (capacity p : ℕ) (s : Store) → StoreIs capacity s → Leads capacity p (shelf s) (rows.gone p whys.Taken (oldest s)) (shelf (less_oldest s))
 unfolding less_shelf
@@ -316,6 +329,12 @@ expired_is capacity s now h = record {
 pub gone_away : (p place : ℕ) (why : Why) (e : Option Entry) → (place ≡ p → ⊥) → AreAway p (rows.gone place why e)
 gone_away p place why None other = tt
 gone_away p place why (Some e) other = (Leaves other, tt)
+
+pub left_away : (p place : ℕ) (s : Store) (pairs : List (ℕ × ℕ)) → (place ≡ p → ⊥) → AreAway p (rows.left_effects place s pairs)
+left_away p place s [] other = tt
+left_away p place s (pair ∷ pairs) other =
+    away_both p (rows.gone place whys.Acked (entry_in s pair.1)) (rows.left_effects place (removed s pair.1) pairs)
+    (gone_away p place whys.Acked (entry_in s pair.1) other) (left_away p place (removed s pair.1) pairs other)
 
 pub put_away : (p place : ℕ) (s : Store) (o : Kept) → (place ≡ p → ⊥) → AreAway p (rows.put_effects place s o)
 put_away p place s o other = away_both p (rows.stored place (s.last + 1) o.body) _ (stored o.body) (gone_away p place whys.Evicted (evicted s o) other)

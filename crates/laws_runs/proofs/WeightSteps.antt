@@ -33,7 +33,7 @@ use Rattle.sp_rules.specs.Rel.{admit_ack, admit_rel, delivery, due, is_to, judge
 use Rattle.sp_rules.specs.Sends.{after_take_prio, after_take_rel, mask_in, own_prio, prio_body, prio_sent, rel_body, rel_number, rel_refusal, rel_sent, send_prio_refusal, signer_refusal, weight_body, weight_number, weight_refusal, weight_sent}
 use Rattle.sp_rules.specs.Steps as steps
 use Rattle.sp_rules.specs.Steps.{Input, NodeStep, Output, accepted, arrived, refused_call, refused_send, replied}
-use Rattle.sp_rules.specs.Store.{Store, evicted, expired_entries, oldest}
+use Rattle.sp_rules.specs.Store.{Store, entry_in, evicted, expired_entries, oldest, removed}
 use Rattle.sp_rules.specs.Ticks.{ack_effects, at_time, settled_by, time_after}
 use Rattle.sp_rules.specs.Weights.{WeightState, held, held_in, offer, offer_of, row_for, row_if, weight_of}
 use Rattle.sp_rules.specs.declared.answers.Item.TheVariants as items
@@ -136,6 +136,15 @@ no_prio p o came = elim (cases_Bool (prio.is_here p o.body)) [
   | inr t ↦ let all = no_flat (rows.given_effects o came) (λ q. no_either (rows.goes_to o.body came q) (rows.put_effects q.peer q.store o) (no_put q.peer q.store o)) p.peers in rw t all
 ]
 
+no_left : (place : ℕ) (s : Store) (pairs : List (ℕ × ℕ)) → NoUpdates (rows.left_effects place s pairs)
+no_left place s [] = no_none
+no_left place s (pair ∷ pairs) =
+    no_both (rows.gone place whys.Acked (entry_in s pair.1)) (rows.left_effects place (removed s pair.1) pairs)
+    (no_gone place whys.Acked (entry_in s pair.1)) (no_left place (removed s pair.1) pairs)
+
+no_acked : (p : PrioState) (v number : ℕ) → NoUpdates (prio.acked_effects p v number)
+no_acked p v number = let q = prio.peer_in p v in no_left q.peer q.store (rows.landed q number)
+
 no_expiring : (place : ℕ) (es : List Entry) → NoUpdates (map (λ e. effects.Gone place e.id whys.Expired) es)
 no_expiring place [] = no_none
 no_expiring place (e ∷ es) = let rest = no_expiring place es in record { last = λ edge end w. rest.last edge end w; each = λ P. rest.each P }
@@ -236,7 +245,7 @@ module _ (P : WeightBody → Type 0) where
         rw t done
     | inr t ↦ let same = still p p.weights [] no_none refl h in rw t same
   ]
-  one_turns arts at p (PrioAckPiece number) new h = still p p.weights _ (no_gone (prio.peer_in p.prio at.from.0).peer whys.Acked _) refl h
+  one_turns arts at p (PrioAckPiece number) new h = still p p.weights (prio.acked_effects p.prio at.from.0 number) (no_acked p.prio at.from.0 number) refl h
   one_turns arts at p (PrioPiece number o) new h =
       let answer = prio_answer (is_signed arts at.fixed o) (judge_prio p.prio o.body at.now) in
       let t = is_new (items.Prio answer) in

@@ -21,7 +21,7 @@ pub fn only_the_adversary_forges()
 {}
 
 /// A law: a correct node never has more messages of a flow, or entries of a place, than the header says; and of each flow it has one row with
-/// at most one acknowledgement, of each end of each edge at most one update, and to each neighbour at most one message in flight.
+/// at most one acknowledgement, of each end of each edge at most one update, and to each neighbour at most four messages in flight.
 pub fn buffers_stay_bounded()
     ensures { BuffersStayBounded }
 {}

@@ -23,14 +23,14 @@ use Rattle.sp_rules.specs.Handle.{Arrival, handle, handle_all, offer_to, where_n
 use Rattle.sp_rules.specs.Node.{NodeState, call_refusal}
 use Rattle.sp_rules.specs.Parts.{Parts, is_signed}
 use Rattle.sp_rules.specs.Pieces.{Piece, WeightPiece, PrioAckPiece, PrioPiece, ReportPiece, AckPiece, RelPiece}
-use Rattle.sp_rules.specs.Prio.{PrioState, acked_effects, admit_prio, delivered, expired_effects, is_here, judge_prio, prio_effects}
+use Rattle.sp_rules.specs.Prio.{PrioState, acked_effects, admit_prio, delivered, expired_effects, is_here, judge_prio, peer_in, prio_effects}
 use Rattle.sp_rules.specs.PrioPeer as rows
 use Rattle.sp_rules.specs.PrioPeer.{PrioPeer, gone, goes_to, put_effects, stored}
 use Rattle.sp_rules.specs.Rel.{RelState, admit_ack, admit_rel, delivery, due, is_to, judge_ack_of, judge_rel_of, rel_effects}
 use Rattle.sp_rules.specs.Sends.{mask_in, own_prio, prio_body, prio_sent, rel_body, rel_number, rel_refusal, rel_sent, send_prio_refusal, signed_effect, signer_refusal, weight_body, weight_number, weight_refusal, weight_sent}
 use Rattle.sp_rules.specs.Steps as steps
 use Rattle.sp_rules.specs.Steps.{Input, NodeStep, Output, accepted, refused_call, refused_send}
-use Rattle.sp_rules.specs.Store.{Store, evicted, expired_entries, oldest}
+use Rattle.sp_rules.specs.Store.{Store, entry_in, evicted, expired_entries, oldest, removed}
 use Rattle.sp_rules.specs.Ticks.{ack_effects, tick_effects, time_after}
 use Rattle.sp_rules.specs.Weights.{held}
 use Rattle.sp_rules.specs.declared.answers.Item.{Item}
@@ -101,8 +101,14 @@ module _ (p : Effect → Bool) (tells : TellsDeliveries p) where
     | inr f ↦ rw f refl
   ]
 
+  left_none : (place : ℕ) (s : Store) (pairs : List (ℕ × ℕ)) → number (rows.left_effects place s pairs) ≡ 0
+  left_none place s [] = refl
+  left_none place s (pair ∷ pairs) =
+      none_both (gone place whys.Acked (entry_in s pair.1)) (rows.left_effects place (removed s pair.1) pairs)
+      (gone_none place whys.Acked (entry_in s pair.1)) (left_none place (removed s pair.1) pairs)
+
   acked_none : (s : PrioState) (v n : ℕ) → number (acked_effects s v n) ≡ 0
-  acked_none s v n = gone_none _ whys.Acked _
+  acked_none s v n = let q = peer_in s v in left_none q.peer q.store (rows.landed q n)
 
   weight_none : (b : Body) → number (weight_effects b) ≡ 0
   weight_none (bodies.Weight w) = none (effects.WeightHeld w.origin w.edge w.seq w.weight) (tells.held w.origin w.edge w.seq w.weight)

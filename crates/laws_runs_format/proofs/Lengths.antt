@@ -1,10 +1,11 @@
 -- How long the sections of a frame are.
 use Rattle.std.proofs.Common.{◌≡◌, ◌≤◌, ℕ, ◌+◌, ◌*◌, List, [], ◌∷◌, ◌++◌, length, Option, Some, None, ◌∙◌, arith}
-use Rattle.std.specs.Prelude.{All, IfSome}
+use Rattle.std.specs.Prelude.{All, IfSome, flat_map}
 use Rattle.std.proofs.lemmas.List.{length-append}
-use Rattle.std.proofs.lemmas.List.Elements.{All-head}
+use Rattle.std.proofs.lemmas.List.Elements.{All-head, All-tail}
 use Rattle.byteorder.specs.Endian.{big_bytes}
 use Rattle.byteorder.specs.Numbers.{length-bytes_high_first}
+use Rattle.sp_base.specs.declared.limits.TheConstants.{MAX_MESSAGES}
 use Rattle.sp_frame.specs.Grammar.{counted_bytes}
 use Rattle.sp_frame.specs.Objects.{IsObject, object_bytes}
 use Rattle.sp_frame.specs.Prioritized.{numbered_bytes, prios_bytes}
@@ -28,14 +29,23 @@ encoded_short (bodies.Weight w) good = omega arith
 four_long : (a b c d : List ℕ) → length (a ++ b ++ c ++ d) ≡ length a + length b + length c + length d
 four_long a b c d = omega (arith, length-append (a ++ b ++ c) d, length-append (a ++ b) c, length-append a b)
 
--- at most one, each at most so long
-one_long : {X : Type 0} (P : X → Type 0) (spell : X → List ℕ) (size : ℕ) → ((x : X) → P x → length (spell x) ≤ size) → (xs : List X) → length xs ≤ 1 → All P xs
-    → length (counted_bytes spell xs) ≤ 1 + size
-one_long P spell size each [] few all = omega arith
-one_long P spell size each (x ∷ []) few all =
-    let one = each x (All-head P x [] all) in
-    omega (arith, one, length-append (spell x) [])
-one_long P spell size each (x ∷ (y ∷ xs)) few all = absurd (omega (arith, few))
+-- so many of at most so many bytes each
+all_long : {X : Type 0} (P : X → Type 0) (spell : X → List ℕ) (size : ℕ) → ((x : X) → P x → length (spell x) ≤ size) → (xs : List X) → All P xs
+    → length (flat_map spell xs) ≤ length xs * size
+all_long P spell size each [] all = omega arith
+all_long P spell size each (x ∷ xs) all =
+    let one = each x (All-head P x xs all) in
+    let others = all_long P spell size each xs (All-tail P x xs all) in
+    let more : (length xs + 1) * size ≡ length xs * size + size = grind arith in
+    omega (arith, one, others, more, length-append (spell x) (flat_map spell xs))
+
+-- at most so many, with their count
+few_long : {X : Type 0} (P : X → Type 0) (spell : X → List ℕ) (most size : ℕ) → ((x : X) → P x → length (spell x) ≤ size) → (xs : List X)
+    → length xs ≤ most → All P xs → length (counted_bytes spell xs) ≤ 1 + most * size
+few_long P spell most size each xs few all =
+    let long = all_long P spell size each xs all in
+    let scaled : length xs * size ≤ most * size = grind (arith, few) in
+    omega (arith, long, scaled, length-append (big_bytes 1 (length xs)) (flat_map spell xs), length-bytes_high_first 1 (length xs))
 
 object_long : (kind : Kind) (len : ℕ) (o : Kept) → IsObject kind len o → length (object_bytes o) ≤ 1104 + len
 unfolding object_bytes
@@ -47,19 +57,22 @@ object_long kind len o is = bound (length (object_bytes o)) (length (encoded o.b
 
 weights_long : (len : ℕ) (os : List Kept) → length os ≤ 1 → All (IsObject kinds.Weight len) os → length (weights_bytes os) ≤ 1105 + len
 unfolding weights_bytes
-weights_long len os few all = let h = one_long (IsObject kinds.Weight len) object_bytes (1104 + len) (object_long kinds.Weight len) os few all in omega (arith, h)
+weights_long len os few all =
+    let h = few_long (IsObject kinds.Weight len) object_bytes 1 (1104 + len) (object_long kinds.Weight len) os few all in omega (arith, h)
 
-rels_long : (len : ℕ) (os : List Kept) → length os ≤ 1 → All (IsObject kinds.Rel len) os → length (rels_bytes os) ≤ 1105 + len
+rels_long : (len : ℕ) (os : List Kept) → length os ≤ MAX_MESSAGES → All (IsObject kinds.Rel len) os → length (rels_bytes os) ≤ 4417 + 4 * len
 unfolding rels_bytes
-rels_long len os few all = let h = one_long (IsObject kinds.Rel len) object_bytes (1104 + len) (object_long kinds.Rel len) os few all in omega (arith, h)
+rels_long len os few all =
+    let h = few_long (IsObject kinds.Rel len) object_bytes MAX_MESSAGES (1104 + len) (object_long kinds.Rel len) os few all in omega (arith, h)
 
 numbered_long : (len : ℕ) (m : ℕ × Kept) → IsNumbered len m → length (numbered_bytes m) ≤ 1112 + len
 unfolding numbered_bytes
 numbered_long len m is = let one = object_long kinds.Prio len m.1 is.object in omega (arith, one, length-append (big_bytes 8 m.0) (object_bytes m.1), length-bytes_high_first 8 m.0)
 
-prios_long : (len : ℕ) (ms : List (ℕ × Kept)) → length ms ≤ 1 → All (IsNumbered len) ms → length (prios_bytes ms) ≤ 1113 + len
+prios_long : (len : ℕ) (ms : List (ℕ × Kept)) → length ms ≤ MAX_MESSAGES → All (IsNumbered len) ms → length (prios_bytes ms) ≤ 4449 + 4 * len
 unfolding prios_bytes
-prios_long len ms few all = let h = one_long (IsNumbered len) numbered_bytes (1112 + len) (numbered_long len) ms few all in omega (arith, h)
+prios_long len ms few all =
+    let h = few_long (IsNumbered len) numbered_bytes MAX_MESSAGES (1112 + len) (numbered_long len) ms few all in omega (arith, h)
 
 ack_long : (len : ℕ) (o : Option Kept) → IfSome o (IsObject kinds.Ack len) → length (ack_bytes o) ≤ 1105 + len
 unfolding ack_bytes
@@ -72,19 +85,19 @@ place_long r =
     four_long (big_bytes 1 r.flow.src.0) (big_bytes 1 r.flow.dst.0) (big_bytes 8 r.base) (big_bytes 8 r.have)
     ∙ omega (arith, length-bytes_high_first 1 r.flow.src.0, length-bytes_high_first 1 r.flow.dst.0, length-bytes_high_first 8 r.base, length-bytes_high_first 8 r.have)
 
-report_long : (len : ℕ) (r : Report) → IsReport len r → length (report_bytes r) ≤ 2228 + 2 * len
+report_long : (len : ℕ) (r : Report) → IsReport len r → length (report_bytes r) ≤ 5540 + 5 * len
 unfolding report_bytes
 report_long len r is =
     let a = ack_long len r.ack is.ack in
     let b = rels_long len r.rels is.few is.rels in
     omega (arith, a, b, place_long r, length-append (place_bytes r ++ ack_bytes r.ack) (rels_bytes r.rels), length-append (place_bytes r) (ack_bytes r.ack))
 
-slot_long : (len : ℕ) (o : Option Report) → IfSome o (IsReport len) → length (slot_bytes o) ≤ 2229 + 2 * len
+slot_long : (len : ℕ) (o : Option Report) → IfSome o (IsReport len) → length (slot_bytes o) ≤ 5541 + 5 * len
 unfolding slot_bytes
 slot_long len None h = omega arith
 slot_long len (Some r) h = let one = report_long len r h in omega (arith, one)
 
-pub contents_long : (len : ℕ) (s : Contents) → IsContents len s → length (sections_bytes s) ≤ 4455 + 4 * len
+pub contents_long : (len : ℕ) (s : Contents) → IsContents len s → length (sections_bytes s) ≤ 11103 + 10 * len
 unfolding sections_bytes
 contents_long len s is =
     let a = weights_long len s.weights is.few_weights is.weights in

@@ -15,11 +15,11 @@ use Rattle.sp_frame.specs.declared.refused.FrameRefused.{FrameRefused}
 use Rattle.sp_hmac.proofs.Lengths.{length-hmac}
 use Rattle.sp_hmac.specs.Hmac.{hmac}
 use Rattle.sp_hss.specs.KeyTree.{signature_len}
+use Rattle.sp_node_core.proofs.PolledFrames.{signatures_are_short}
 use Rattle.sp_node_core.specs.Format.{format}
+use Rattle.sp_node_core.specs.PolledFrames.{most_signature}
 use Rattle.sp_runs.specs.Scenarios.{setting_of}
 use Rattle.sp_sign.specs.Heights.{param_of}
-use Rattle.sp_topology.specs.declared.topology.LmsHeight.{LmsHeight}
-use Rattle.sp_topology.specs.declared.topology.LmsHeight.TheVariants.{Five, Ten}
 use Rattle.laws_runs.proofs.Lists.{same_bytes}
 use Rattle.laws_progress.proofs.Delivery.{acknowledgements_return, delivery_is_counted}
 use Rattle.laws_runs_format.specs.ComesThrough.{FormatComesThrough}
@@ -45,7 +45,7 @@ in_ends : (h : Head) (rest tag : List ℕ) → (head_bytes h ++ rest) ++ tag ≡
 unfolding head_bytes
 in_ends h rest tag = append_assoc (ends_bytes h ++ numbers_bytes h) rest tag ∙ append_assoc (ends_bytes h) (numbers_bytes h) (rest ++ tag)
 
-opens : (len : ℕ) → len ≤ 15000 → (h : Head) (s : Contents) (key : List ℕ) → IsContents len s
+opens : (len : ℕ) → len ≤ most_signature → (h : Head) (s : Contents) (key : List ℕ) → IsContents len s
     → opened ((head_bytes h ++ sections_bytes s) ++ hmac key (head_bytes h ++ sections_bytes s)) ≡ Ok ((head_bytes h ++ sections_bytes s) ++ hmac key (head_bytes h ++ sections_bytes s))
 opens len small h s key is =
     let body = head_bytes h ++ sections_bytes s in
@@ -75,14 +75,10 @@ back body tag long =
 
 -- ---- all of it
 
-few : (h : LmsHeight) → signature_len (param_of h) ≤ 15000
-few Five = omega arith
-few Ten = omega arith
-
 pub format_comes_through : FormatComesThrough
 format_comes_through height = record {
   carries = format_carries;
-  opens = λ h s key range is. opens (signature_len (param_of height)) (few height) h s key is;
+  opens = λ h s key range is. opens (signature_len (param_of height)) (signatures_are_short height) h s key is;
   heads = λ h s key is.
       let tag = hmac key (head_bytes h ++ sections_bytes s) in
       ap head_of (append_assoc (head_bytes h) (sections_bytes s) tag) ∙ head_is_read h (sections_bytes s ++ tag) is;

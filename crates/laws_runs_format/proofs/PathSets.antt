@@ -1,7 +1,7 @@
 -- The sets of disjoint paths between two nodes are finitely many: each stands in a list.
-use Rattle.std.proofs.Common.{◌≡◌, ◌<◌, ◌≤◌, ◌+◌, ℕ, zero, suc, Bool, true, false, List, [], ◌∷◌, ◌++◌, filter, length, refl, sym, ap, subst, ◌∙◌, inl, inr, arith}
-use Rattle.std.specs.Prelude.{◌⊎◌, ◌≢◌, ◌&&◌, ◌==◌, ◌||◌, slice_index_or}
-use Rattle.std.specs.List.{All, AllPairs, Contains, flat_map, list_all}
+use Rattle.std.proofs.Common.{◌≡◌, ◌≤◌, ℕ, suc, Bool, true, false, List, [], ◌∷◌, ◌++◌, filter, length, refl, sym, ap, subst, ◌∙◌, inl, inr, arith}
+use Rattle.std.specs.Prelude.{◌⊎◌, ◌≢◌, ◌&&◌, ◌==◌}
+use Rattle.std.specs.List.{All, AllPairs, Contains, flat_map}
 use Rattle.std.proofs.lemmas.Bool.{eqb-true}
 use Rattle.std.proofs.lemmas.Bool.Decides.{nat_tests}
 use Rattle.sp_base.specs.declared.id.NodeId.{NodeId}
@@ -10,7 +10,7 @@ use Rattle.sp_graph.specs.Disjoint.{Apart, Disjoint}
 use Rattle.sp_graph.specs.Walks.{IsPath, Joined, is_between, steps}
 use Rattle.sp_topology.specs.declared.topology.Edge.{Edge}
 use Rattle.laws_paths.proofs.Kept.{between, both_true, has_filter, same_node}
-use Rattle.laws_paths.proofs.Lists.{Distinct, Has, contains, distinct, has_left, held, either_true}
+use Rattle.laws_paths.proofs.Lists.{Has, contains, distinct, held, either_true}
 use Rattle.sp_paths.proofs.PathLemmas.{all_from}
 use Rattle.sp_paths.proofs.Tested.{all_apart_is, all_paths_is}
 use Rattle.sp_paths.specs.Tests.{all_apart, is_path}

@@ -1,7 +1,7 @@
 // How many signatures in frames are right.
 ghost use Rattle.sp_topology.specs.Ranges.{IsTopology};
 
-use crate::objects::{Four, four_in};
+use crate::objects::{OfEachKind, of_each_kind};
 use sp_base::Bytes;
 use sp_frame::ObjectRef;
 use sp_sign::{Checker, check};
@@ -29,19 +29,19 @@ fn right_in_all(topology: &Topology, frames: &[Bytes]) -> u32
 fn right_in(topology: &Topology, frame: &[u8]) -> u32
     requires { IsTopology topology.now }
 {
-    match four_in(frame) {
-        Some(four) => right_of(topology, &four),
+    match of_each_kind(frame) {
+        Some(each) => right_of(topology, &each),
         None => 0,
     }
 }
 
-fn right_of(topology: &Topology, four: &Four<'_>) -> u32
+fn right_of(topology: &Topology, each: &OfEachKind<'_>) -> u32
     requires { IsTopology topology.now }
 {
-    u32::from(is_right(topology, &four.weight))
-        + u32::from(is_right(topology, &four.prio))
-        + u32::from(is_right(topology, &four.ack))
-        + u32::from(is_right(topology, &four.rel))
+    u32::from(is_right(topology, &each.weight))
+        + u32::from(is_right(topology, &each.prio))
+        + u32::from(is_right(topology, &each.ack))
+        + u32::from(is_right(topology, &each.rel))
 }
 
 fn is_right(topology: &Topology, object: &ObjectRef<'_>) -> bool
@@ -60,17 +60,17 @@ pub fn known_checks(checker: &mut Checker, frames: &[Bytes]) -> u32 {
 }
 
 fn known_in(checker: &mut Checker, frame: &[u8]) -> u32 {
-    match four_in(frame) {
-        Some(four) => known_of(checker, &four),
+    match of_each_kind(frame) {
+        Some(each) => known_of(checker, &each),
         None => 0,
     }
 }
 
-fn known_of(checker: &mut Checker, four: &Four<'_>) -> u32 {
-    u32::from(is_known(checker, &four.weight))
-        + u32::from(is_known(checker, &four.prio))
-        + u32::from(is_known(checker, &four.ack))
-        + u32::from(is_known(checker, &four.rel))
+fn known_of(checker: &mut Checker, each: &OfEachKind<'_>) -> u32 {
+    u32::from(is_known(checker, &each.weight))
+        + u32::from(is_known(checker, &each.prio))
+        + u32::from(is_known(checker, &each.ack))
+        + u32::from(is_known(checker, &each.rel))
 }
 
 fn is_known(checker: &mut Checker, object: &ObjectRef<'_>) -> bool {

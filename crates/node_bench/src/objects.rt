@@ -151,16 +151,17 @@ pub fn signature(alloc: Global, signer: &mut Signer, bytes: &[u8]) -> Option<Vec
     }
 }
 
-/// The objects of a frame that has all four.
+/// An object of each kind, of a frame that has them.
 #[derive(Clone, Copy)]
-pub struct Four<'a> {
+pub struct OfEachKind<'a> {
     pub weight: ObjectRef<'a>,
     pub prio: ObjectRef<'a>,
     pub ack: ObjectRef<'a>,
     pub rel: ObjectRef<'a>,
 }
 
-pub fn four_in(bytes: &[u8]) -> Option<Four<'_>> {
+/// The first object of each kind.
+pub fn of_each_kind(bytes: &[u8]) -> Option<OfEachKind<'_>> {
     let Ok(frame) = Frame::open(bytes) else {
         return None;
     };
@@ -169,19 +170,19 @@ pub fn four_in(bytes: &[u8]) -> Option<Four<'_>> {
     };
     let (Some(weight), Some((_, prio)), Some(slot)) = (
         sections.weight,
-        sections.prio,
-        sections.slot,
+        sections.prios.get(0),
+        &sections.slot,
     ) else {
         return None;
     };
-    let (Some(ack), Some(rel)) = (slot.ack, slot.rel) else {
+    let (Some(ack), Some(rel)) = (slot.ack, slot.rels.get(0)) else {
         return None;
     };
-    Some(Four {
+    Some(OfEachKind {
         weight,
-        prio,
+        prio: *prio,
         ack,
-        rel,
+        rel: *rel,
     })
 }
 
@@ -189,17 +190,17 @@ pub fn four_in(bytes: &[u8]) -> Option<Four<'_>> {
 pub fn copied(alloc: Global, bytes: &[u8]) -> Option<Objects>
     ensures { IfSome result AreWritable }
 {
-    let four = four_in(bytes)?;
-    let Some(weight) = copy_of(alloc, &four.weight) else {
+    let each = of_each_kind(bytes)?;
+    let Some(weight) = copy_of(alloc, &each.weight) else {
         return None;
     };
-    let Some(prio) = copy_of(alloc, &four.prio) else {
+    let Some(prio) = copy_of(alloc, &each.prio) else {
         return None;
     };
-    let Some(ack) = copy_of(alloc, &four.ack) else {
+    let Some(ack) = copy_of(alloc, &each.ack) else {
         return None;
     };
-    let Some(rel) = copy_of(alloc, &four.rel) else {
+    let Some(rel) = copy_of(alloc, &each.rel) else {
         return None;
     };
     Some(Objects {

@@ -1,5 +1,5 @@
 // What a node takes at its start, at the largest bounds: 16 nodes, 120 edges, 64 messages of a flow and 256 entries of a store.
-use sp_base::{Cursor, NodeId};
+use sp_base::{Cursor, Four, NodeId};
 use sp_dedup::Window;
 use sp_hss::Verifier;
 use sp_link::Link;
@@ -37,7 +37,10 @@ const TREES: usize = 3 * 64 * 32;
 const FRONT: usize = 4 + 2_348 + 56;
 
 /// A neighbour beside its store and its messages: its ids, its link numbers, whose turn it was, and what is in flight.
-const PEER: usize = size_of::<Store>() + 3 * size_of::<u64>() + 2 * size_of::<Cursor>();
+const PEER: usize = size_of::<Store>()
+    + 3 * size_of::<u64>()
+    + size_of::<Cursor>()
+    + size_of::<Four<(u64, u64)>>();
 
 /// A neighbour beside its views: its id, whose turn it was, and where the views lie.
 const PEER_ROW: usize = size_of::<u64>() + size_of::<Cursor>() + size_of::<Vec<u8>>();

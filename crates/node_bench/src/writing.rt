@@ -3,7 +3,7 @@ ghost use Rattle.node_bench.specs.Writable.{AreWritable};
 
 use crate::network::{ONE, THREE, TWO};
 use crate::objects::{Objects, copied};
-use sp_base::{Bytes, Flow};
+use sp_base::{Bytes, Flow, Four};
 use sp_frame::{Head, OutSlot, write};
 use std::alloc::Global;
 
@@ -19,14 +19,14 @@ pub fn unsealed(alloc: Global, counter: u64, objects: &Objects) -> Option<Bytes>
         base: counter,
         have: counter,
         ack: Some(&objects.ack),
-        rel: Some(&objects.rel),
+        rels: Four::new().with(&objects.rel),
     };
     write(
         alloc,
         &head(counter),
         Some(&objects.weight),
         0,
-        Some((counter, &objects.prio)),
+        &Four::new().with((counter, &objects.prio)),
         Some(&slot),
     )
     .ok()

@@ -7,7 +7,7 @@ ghost use Rattle.sp_hmac.specs.Hmac.{hmac};
 ghost use Rattle.sp_node_core.specs.Format.{format};
 ghost use Rattle.sp_runs.specs.Inputs.{counter_after, object_alone, sealed_frame, slot_alone};
 
-use sp_base::{Bytes, Flow, Memory, NodeId};
+use sp_base::{Bytes, Flow, Four, Memory, NodeId};
 use sp_frame::{Head, OutSlot, TAG_BYTES, write};
 use sp_msg::{Body, Kept};
 use std::alloc::Global;
@@ -63,9 +63,9 @@ pub fn status_frame(
         base,
         have,
         ack: None,
-        rel: None,
+        rels: Four::new(),
     };
-    let mut frame = write(alloc, head, None, 0, None, Some(&slot))?;
+    let mut frame = write(alloc, head, None, 0, &Four::new(), Some(&slot))?;
     seal(key, &mut frame);
     Ok(frame)
 }
@@ -76,8 +76,8 @@ fn with_object(alloc: Global, head: &Head, object: &Kept) -> Result<Bytes, Memor
     ensures { IfOk result (λ bytes. bytes ≡ frame_bytes head.now (object_alone object.now.body object.now) (replicate 32 0)) }
 {
     match &object.body {
-        Body::Prio(_) => write(alloc, head, None, 0, Some((1, object)), None),
-        Body::Weight(_) => write(alloc, head, Some(object), 0, None, None),
+        Body::Prio(_) => write(alloc, head, None, 0, &Four::new().with((1, object)), None),
+        Body::Weight(_) => write(alloc, head, Some(object), 0, &Four::new(), None),
         Body::Ack(ack) => {
             let slot = OutSlot {
                 flow: Flow {
@@ -87,9 +87,9 @@ fn with_object(alloc: Global, head: &Head, object: &Kept) -> Result<Bytes, Memor
                 base: 0,
                 have: 0,
                 ack: Some(object),
-                rel: None,
+                rels: Four::new(),
             };
-            write(alloc, head, None, 0, None, Some(&slot))
+            write(alloc, head, None, 0, &Four::new(), Some(&slot))
         }
         Body::Rel(rel) => {
             let slot = OutSlot {
@@ -100,9 +100,9 @@ fn with_object(alloc: Global, head: &Head, object: &Kept) -> Result<Bytes, Memor
                 base: 0,
                 have: 0,
                 ack: None,
-                rel: Some(object),
+                rels: Four::new().with(object),
             };
-            write(alloc, head, None, 0, None, Some(&slot))
+            write(alloc, head, None, 0, &Four::new(), Some(&slot))
         }
     }
 }

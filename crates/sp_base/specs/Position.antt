@@ -1,5 +1,5 @@
 -- Where a flow stands at a node, over messages of any kind.
-use Rattle.std.specs.Prelude.{ℕ, ◌≡◌, ◌+◌, ◌-◌, nat_le, List, [], ◌∷◌, ◌++◌, length, drop, max, Option, None, slice_get, if◌then◌else◌}
+use Rattle.std.specs.Prelude.{ℕ, ◌≡◌, ◌+◌, ◌-◌, List, [], ◌∷◌, ◌++◌, length, drop, max}
 
 -- All messages up to base are acknowledged. All messages up to have came here, or are acknowledged.
 -- The list has the messages base + 1 to have, in order.
@@ -27,10 +27,6 @@ delivered p = record { base = p.base; have = p.have + 1; list = p.list }
 -- all messages up to this number are acknowledged
 abbrev pub acknowledged : {X : Type 0} → Position X → ℕ → Position X
 acknowledged p number = record { base = max p.base number; have = max p.have number; list = drop (number - p.base) p.list }
-
--- the message of a number
-abbrev pub message_of : {X : Type 0} → Position X → ℕ → Option X
-message_of p number = if nat_le number p.base then None else slice_get p.list (number - p.base - 1)
 
 -- a position with the bound of its list
 pub record Buffer (X : Type 0) : Type 0 where

@@ -1,10 +1,10 @@
 // The messages base + 1 to have of a flow, in order, whatever a message is. All memory is taken at the start.
-ghost use Rattle.std.specs.Prelude.{◌≡◌, ◌==◌, ◌+◌, ◌-◌, ◌^◌, ◌<◌, ◌≤◌, ◌↔◌, List, IfOk, OnOk, OnErr, IfErr, IsErr, drop, length};
-ghost use Rattle.std.specs.Option.{option_copied};
-ghost use Rattle.sp_base.specs.Position.{IsPosition, kept, acknowledged, message_of, empty_buffer};
+ghost use Rattle.std.specs.Prelude.{◌≡◌, ◌==◌, ◌+◌, ◌-◌, ◌^◌, ◌<◌, ◌≤◌, ◌↔◌, List, IfOk, OnOk, OnErr, IfErr, IsErr, drop, length, map, take};
+ghost use Rattle.sp_base.specs.Position.{IsPosition, kept, acknowledged, empty_buffer};
+ghost use Rattle.sp_base.specs.declared.limits.TheConstants.{MAX_MESSAGES};
 
 use circular_buffer::HeapCircularBuffer;
-use sp_base::Memory;
+use sp_base::{Four, MAX_MESSAGES, Memory};
 use sp_msg::Kept;
 use std::alloc::Global;
 use std::marker::Model;
@@ -114,13 +114,25 @@ impl<T: Drop> FlowBuffer<T> {
         self.base = seq;
     }
 
-    /// The message of this number. None exactly where it isn't above `base` and at most `have`.
-    pub fn get(&self, seq: u64) -> Option<&T>
-        ensures { option_copied result ≡ message_of self.now.at seq }
+    /// The first messages after this number, at most four.
+    pub fn messages_after(&self, number: u64) -> Four<&T>
+        ensures { map (λ message. message.now) result ≡ take MAX_MESSAGES (drop (number - self.now.at.base) self.now.at.list) }
     {
-        if seq <= self.base {
-            return None;
+        self.from(number.saturating_sub(self.base) as usize, MAX_MESSAGES)
+    }
+
+    /// The first messages from this place on, counted from 0, at most so many.
+    fn from(&self, place: usize, room: usize) -> Four<&T>
+        requires { room ≤ MAX_MESSAGES }
+        ensures messages { map (λ message. message.now) result ≡ take room (drop place self.now.at.list) }
+        ensures few { length result ≤ room }
+    {
+        if room == 0 {
+            return Four::new();
         }
-        self.items.get((seq - self.base - 1) as usize)
+        let Some(message) = self.items.get(place) else {
+            return Four::new();
+        };
+        self.from(place + 1, room - 1).led_by(message)
     }
 }

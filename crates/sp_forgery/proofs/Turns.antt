@@ -1,8 +1,9 @@
 -- A frame's objects with their answers: the first one that is forged is found by a walk over both.
 use Rattle.std.proofs.Common.{◌≡◌, ℕ, List, [], ◌∷◌, ◌++◌, map, Option, None, Some, refl, ap}
 use Rattle.laws_node.specs.Objects.{objects_in}
+use Rattle.sp_base.specs.declared.id.Flow.{Flow}
 use Rattle.sp_msg.specs.declared.kept.Kept.{Kept}
-use Rattle.sp_rules.specs.Pieces.{AckPiece, RelPiece, pieces_of, slot_pieces}
+use Rattle.sp_rules.specs.Pieces.{AckPiece, PrioAckPiece, RelPiece, WeightPiece, pieces_of, prio_piece, slot_pieces}
 use Rattle.sp_rules.specs.declared.answers.Item.{Item}
 use Rattle.std.specs.Prelude.{option_map}
 use Rattle.sp_frame.specs.Views.{as_contents, as_list, as_numbered, as_object, as_report}
@@ -21,26 +22,31 @@ in_turn x es js [] = refl
 in_turn x es js (a ∷ xs) = rw (in_turn x es js xs) refl
 
 -- the objects of sections, part by part
-pub objects_in_sections : (s : Sections) → objects_in (pieces_of (as_contents s)) ≡ as_list (option_map as_object s.weight) ++ (as_list (option_map (λ m. as_object m.1) s.prio) ++ slot_objects s.slot)
-objects_in_sections s = go s.weight s.prio s.slot
+pub objects_in_sections : (s : Sections) → objects_in (pieces_of (as_contents s)) ≡ as_list (option_map as_object s.weight) ++ (map (λ m. as_object m.1) s.prios ++ slot_objects s.slot)
+objects_in_sections s = weights s.weight
   where
+    rels : (flow : Flow) (xs : List ObjectRef) → objects_in (map (RelPiece flow) (map as_object xs)) ≡ map as_object xs ++ []
+    rels flow [] = refl
+    rels flow (x ∷ xs) = ap (λ (os : List Kept). as_object x ∷ os) (rels flow xs)
+
     slots : (o : Option Slot) → objects_in (slot_pieces (option_map as_report o)) ≡ slot_objects o
     slots None = refl
-    slots (Some s) = both s.ack s.rel
+    slots (Some s) = acks s.ack
       where
-        both : (x y : Option ObjectRef) → objects_in (map (AckPiece s.flow) (as_list (option_map as_object x)) ++ map (RelPiece s.flow) (as_list (option_map as_object y))) ≡ as_list (option_map as_object x) ++ (as_list (option_map as_object y) ++ [])
-        both None None = refl
-        both None (Some y) = refl
-        both (Some x) None = refl
-        both (Some x) (Some y) = refl
+        acks : (x : Option ObjectRef) → objects_in (map (AckPiece s.flow) (as_list (option_map as_object x)) ++ map (RelPiece s.flow) (map as_object s.rels))
+            ≡ as_list (option_map as_object x) ++ (map as_object s.rels ++ [])
+        acks None = rels s.flow s.rels
+        acks (Some x) = ap (λ (os : List Kept). as_object x ∷ os) (rels s.flow s.rels)
 
-    go : (w : Option ObjectRef) (p : Option (ℕ × ObjectRef)) (sl : Option Slot)
-        → objects_in (pieces_of (record { weights = as_list (option_map as_object w); prio_ack = s.prio_ack; prios = as_list (option_map as_numbered p); slot = option_map as_report sl }))
-        ≡ as_list (option_map as_object w) ++ (as_list (option_map (λ m. as_object m.1) p) ++ slot_objects sl)
-    go None None sl = slots sl
-    go None (Some p) sl = ap (λ (os : List Kept). as_object p.1 ∷ os) (slots sl)
-    go (Some w) None sl = ap (λ (os : List Kept). as_object w ∷ os) (slots sl)
-    go (Some w) (Some p) sl = ap (λ (os : List Kept). as_object w ∷ as_object p.1 ∷ os) (slots sl)
+    prios : (ms : List (ℕ × ObjectRef)) → objects_in (map prio_piece (map as_numbered ms) ++ slot_pieces (option_map as_report s.slot))
+        ≡ map (λ m. as_object m.1) ms ++ slot_objects s.slot
+    prios [] = slots s.slot
+    prios (m ∷ ms) = ap (λ (os : List Kept). as_object m.1 ∷ os) (prios ms)
+
+    weights : (w : Option ObjectRef) → objects_in (map WeightPiece (as_list (option_map as_object w)) ++ (PrioAckPiece s.prio_ack ∷ (map prio_piece (map as_numbered s.prios) ++ slot_pieces (option_map as_report s.slot))))
+        ≡ as_list (option_map as_object w) ++ (map (λ m. as_object m.1) s.prios ++ slot_objects s.slot)
+    weights None = prios s.prios
+    weights (Some w) = ap (λ (os : List Kept). as_object w ∷ os) (prios s.prios)
 
 -- where no object is left, none is forged
 pub none_left : (x : Setting) (es : List Event) (js : List Entry) (items : List Item) → forged_in_turn x es js [] items ≡ None

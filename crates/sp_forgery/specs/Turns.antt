@@ -1,5 +1,5 @@
 -- A walk over objects and their answers in turn, for the first that is forged.
-use Rattle.std.specs.Prelude.{ℕ, List, [], ◌∷◌, ◌++◌, option_map, Option, None, Some, if◌then◌else◌}
+use Rattle.std.specs.Prelude.{ℕ, List, [], ◌∷◌, ◌++◌, map, option_map, Option, None, Some, if◌then◌else◌}
 use Rattle.sp_frame.specs.Views.{as_list, as_object}
 use Rattle.sp_frame.specs.declared.sections.Slot.{Slot}
 use Rattle.sp_journal.specs.declared.entry.Entry.{Entry}
@@ -23,4 +23,4 @@ forged_in_turn x es js (o ∷ os) (item ∷ items) = if is_forged x es js (o, it
 -- the objects of a slot
 abbrev pub slot_objects : Option Slot → List Kept
 slot_objects None = []
-slot_objects (Some s) = as_list (option_map as_object s.ack) ++ (as_list (option_map as_object s.rel) ++ [])
+slot_objects (Some s) = as_list (option_map as_object s.ack) ++ (map as_object s.rels ++ [])

@@ -1,5 +1,5 @@
 // The objects of a frame that was handled, with their answers: which of them is the first that is forged.
-ghost use Rattle.std.specs.Prelude.{◌≡◌, ◌++◌, List, Ok, Some, None, length, option_map, if◌then◌else◌};
+ghost use Rattle.std.specs.Prelude.{◌≡◌, ◌∷◌, ◌++◌, ◌-◌, List, Ok, Some, None, drop, length, map, option_map, if◌then◌else◌};
 ghost use Rattle.laws_node.specs.Objects.{objects_in};
 ghost use Rattle.sp_frame.specs.Views.{as_contents, as_list, as_object};
 ghost use Rattle.sp_msg.specs.Bodies.{encoded, read_body};
@@ -14,6 +14,7 @@ ghost use Rattle.sp_forgery.specs.Turns.{forged_in_turn, or_later, slot_objects}
 use crate::hints::Hints;
 use crate::nodes::is_correct;
 use crate::signed::was_signed;
+use sp_base::Four;
 use sp_frame::{ObjectRef, Sections, Slot};
 use sp_journal::Entry;
 use sp_msg::{BodyRef, a_body_has_one_spelling, signer};
@@ -54,11 +55,11 @@ pub fn first_forged<'a>(
     if weight.found.is_some() {
         return weight.found;
     }
-    let prio = look(known, &object_of(&sections.prio), weight.rest);
-    if prio.found.is_some() {
-        return prio.found;
+    let prios = look_all(known, &objects_of(&sections.prios, 0), 0, weight.rest);
+    if prios.found.is_some() {
+        return prios.found;
     }
-    in_slot(known, &sections.slot, prio.rest)
+    in_slot(known, &sections.slot, prios.rest)
 }
 
 /// The same of a slot.
@@ -75,8 +76,8 @@ fn in_slot<'a>(known: &Known<'_>, slot: &Option<Slot<'a>>, items: &[Item]) -> Op
     if ack.found.is_some() {
         return ack.found;
     }
-    let rel = look(known, &slot.rel, ack.rest);
-    rel.found
+    let rels = look_all(known, &slot.rels, 0, ack.rest);
+    rels.found
 }
 
 /// Looks at an object, if there is one, with the first of the answers.
@@ -89,12 +90,45 @@ fn look<'a, 'b>(
     ensures { (os : List Kept) → forged_in_turn (setting_of known.now.scenario.now) known.now.events.now known.now.journal.now (as_list (option_map as_object object.now) ++ os) items.now
         ≡ or_later (option_map (λ b. b.now) result.found) (forged_in_turn (setting_of known.now.scenario.now) known.now.events.now known.now.journal.now os result.rest.now) }
 {
-    let Some(object) = object else {
+    match object {
+        Some(object) => look_at(known, object, items),
+        None => Looked {
+            found: None,
+            rest: items,
+        },
+    }
+}
+
+/// Looks at the objects from this place on, with the first of the answers, up to the first that is forged.
+fn look_all<'a, 'b>(
+    known: &Known<'_>,
+    objects: &Four<ObjectRef<'a>>,
+    place: usize,
+    items: &'b [Item],
+) -> Looked<'a, 'b>
+    requires { length known.now.events.now ≡ length known.now.journal.now }
+    ensures { (os : List Kept) → forged_in_turn (setting_of known.now.scenario.now) known.now.events.now known.now.journal.now (map as_object (drop place objects.now) ++ os) items.now
+        ≡ or_later (option_map (λ b. b.now) result.found) (forged_in_turn (setting_of known.now.scenario.now) known.now.events.now known.now.journal.now os result.rest.now) }
+{
+    let Some(object) = objects.get(place) else {
         return Looked {
             found: None,
             rest: items,
         };
     };
+    let first = look_at(known, object, items);
+    if first.found.is_some() {
+        return first;
+    }
+    look_all(known, objects, place + 1, first.rest)
+}
+
+/// Looks at an object with the first of the answers.
+fn look_at<'a, 'b>(known: &Known<'_>, object: &ObjectRef<'a>, items: &'b [Item]) -> Looked<'a, 'b>
+    requires { length known.now.events.now ≡ length known.now.journal.now }
+    ensures { (os : List Kept) → forged_in_turn (setting_of known.now.scenario.now) known.now.events.now known.now.journal.now (as_object object.now ∷ os) items.now
+        ≡ or_later (option_map (λ b. b.now) result.found) (forged_in_turn (setting_of known.now.scenario.now) known.now.events.now known.now.journal.now os result.rest.now) }
+{
     match items.split_first() {
         None => Looked {
             found: None,
@@ -148,13 +182,14 @@ fn is_new(item: Item) -> bool
     )
 }
 
-/// The object of a numbered message.
-fn object_of<'a>(message: &Option<(u64, ObjectRef<'a>)>) -> Option<ObjectRef<'a>>
-    ensures { option_map as_object result ≡ option_map (λ m. as_object m.1) message.now }
+/// The objects of messages with link numbers, from this place on.
+fn objects_of<'a>(prios: &Four<(u64, ObjectRef<'a>)>, place: usize) -> Four<ObjectRef<'a>>
+    ensures objects { map as_object result ≡ map (λ m. as_object m.1) (drop place prios.now) }
+    ensures many { length result ≡ length prios.now - place }
 {
-    match message {
-        Some((_, object)) => Some(*object),
-        None => None,
+    match prios.get(place) {
+        Some((_, object)) => objects_of(prios, place + 1).led_by(*object),
+        None => Four::new(),
     }
 }
 

@@ -3,3 +3,4 @@ pub mod HeadLemmas
 pub mod LengthLemmas
 pub mod ObjectLemmas
 pub mod SectionLemmas
+pub mod TimesLemmas

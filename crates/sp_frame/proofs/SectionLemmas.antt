@@ -2,6 +2,7 @@
 use Rattle.std.proofs.Common.{◌≡◌, ℕ, ◌≤◌, ◌==◌, false, List, [], ◌∷◌, ◌++◌, length, append-nil, Option, Ok, Err, Result, if◌then◌else◌, refl, sym, ap, ◌∙◌, subst, arith, lit<}
 use Rattle.std.specs.Prelude.{All, IfSome}
 use Rattle.std.proofs.lemmas.Bool.{ne_eqb}
+use Rattle.sp_base.specs.declared.limits.TheConstants.{MAX_MESSAGES}
 use Rattle.sp_base.proofs.RefusalLemmas.{then_ok}
 use Rattle.sp_msg.specs.declared.kept.Kept.{Kept}
 use Rattle.sp_frame.specs.Laws.{ReadIsSpelled, SpelledIsRead, TailIsRefused}
@@ -35,17 +36,17 @@ numbered_fit len =
     in_other_words (λ m good. record { number = good.0; object = good.1 }) (λ m good. (good.number, good.object))
     (both_fit (number_fit 8) (object_fit kinds.Prio len))
 
-prios_fit : (len : ℕ) → Fit (prios len) prios_bytes (λ xs. (length xs ≤ 1) × All (IsNumbered len) xs)
+prios_fit : (len : ℕ) → Fit (prios len) prios_bytes (λ xs. (length xs ≤ MAX_MESSAGES) × All (IsNumbered len) xs)
 unfolding prios prios_bytes
-prios_fit len = counted_fit 1 (lit< tt) (numbered_fit len)
+prios_fit len = counted_fit MAX_MESSAGES (lit< tt) (numbered_fit len)
 
 ack_fit : (len : ℕ) → Fit (ack len) ack_bytes (λ x. IfSome x (IsObject kinds.Ack len))
 unfolding ack ack_bytes
 ack_fit len = flagged_fit (object_fit kinds.Ack len)
 
-rels_fit : (len : ℕ) → Fit (rels len) rels_bytes (λ xs. (length xs ≤ 1) × All (IsObject kinds.Rel len) xs)
+rels_fit : (len : ℕ) → Fit (rels len) rels_bytes (λ xs. (length xs ≤ MAX_MESSAGES) × All (IsObject kinds.Rel len) xs)
 unfolding rels rels_bytes
-rels_fit len = counted_fit 1 (lit< tt) (object_fit kinds.Rel len)
+rels_fit len = counted_fit MAX_MESSAGES (lit< tt) (object_fit kinds.Rel len)
 
 abbrev report_parts : Report → ((((ℕ × ℕ) × ℕ) × ℕ) × Option Kept) × List Kept
 report_parts r = (((((r.flow.src.0, r.flow.dst.0), r.base), r.have), r.ack), r.rels)

@@ -6,6 +6,7 @@
 use Rattle.std.specs.Prelude.{ℕ, ◌≡◌, ◌<◌, ◌==◌, Bool, true, false, List, ◌++◌, length, Result, Ok, Err, if◌then◌else◌}
 use Rattle.byteorder.specs.Endian.{big_bytes}
 use Rattle.sp_base.specs.Refusals.{◌>>=◌}
+use Rattle.sp_base.specs.declared.limits.TheConstants.{MAX_MESSAGES}
 use Rattle.sp_msg.specs.Bodies.{HasGoodFields, encoded, read_body}
 use Rattle.sp_msg.specs.declared.body.Body.{Body}
 use Rattle.sp_msg.specs.declared.body.Body.TheVariants as bodies
@@ -20,9 +21,9 @@ use Rattle.sp_frame.specs.declared.refused.SectionRefused.TheVariants as refusal
 -- how many objects of a kind a frame has at most
 abbrev pub most : Kind → ℕ
 most kinds.Weight = 1
-most kinds.Prio = 1
+most kinds.Prio = MAX_MESSAGES
 most kinds.Ack = 1
-most kinds.Rel = 1
+most kinds.Rel = MAX_MESSAGES
 
 -- a message of this kind
 abbrev pub is_of : Kind → Body → Bool

@@ -1,5 +1,5 @@
 -- Sections that are borrowed from a datagram, as values.
-use Rattle.std.specs.Prelude.{ℕ, Option, None, Some, List, [], ◌∷◌, option_map}
+use Rattle.std.specs.Prelude.{ℕ, Option, None, Some, List, [], ◌∷◌, map, option_map}
 use Rattle.sp_msg.specs.Views.{as_body}
 use Rattle.sp_msg.specs.declared.kept.Kept.{Kept}
 use Rattle.sp_frame.specs.Reliable.{Report}
@@ -20,12 +20,12 @@ abbrev pub as_numbered : ℕ × ObjectRef → ℕ × Kept
 as_numbered message = (message.0, as_object message.1)
 
 abbrev pub as_report : Slot → Report
-as_report s = record { flow = s.flow; base = s.base; have = s.have; ack = option_map as_object s.ack; rels = as_list (option_map as_object s.rel) }
+as_report s = record { flow = s.flow; base = s.base; have = s.have; ack = option_map as_object s.ack; rels = map as_object s.rels }
 
 abbrev pub as_contents : Sections → Contents
 as_contents s = record {
   weights = as_list (option_map as_object s.weight);
   prio_ack = s.prio_ack;
-  prios = as_list (option_map as_numbered s.prio);
+  prios = map as_numbered s.prios;
   slot = option_map as_report s.slot;
 }

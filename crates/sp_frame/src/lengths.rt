@@ -1,13 +1,16 @@
 // How many bytes each part of a frame takes, before it is written.
-ghost use Rattle.std.specs.Prelude.{◌≡◌, ◌≤◌, length, IfSome, option_map};
+ghost use Rattle.std.specs.Prelude.{◌≡◌, ◌≤◌, ◌-◌, ◌*◌, All, drop, length, map, IfSome, option_map};
+ghost use Rattle.std.specs.List.{flat_map};
+ghost use Rattle.sp_base.specs.declared.limits.TheConstants.{MAX_MESSAGES};
 ghost use Rattle.sp_frame.specs.Objects.{object_bytes};
-ghost use Rattle.sp_frame.specs.Prioritized.{prios_bytes};
+ghost use Rattle.sp_frame.specs.Prioritized.{numbered_bytes, prios_bytes};
 ghost use Rattle.sp_frame.specs.Reliable.{ack_bytes, rels_bytes, slot_bytes};
 ghost use Rattle.sp_frame.specs.Views.{as_list};
 ghost use Rattle.sp_frame.specs.Weights.{weights_bytes};
 ghost use Rattle.sp_frame.specs.Writing.{IsWritable, IsWritableSlot, out_report};
 
 use crate::OutSlot;
+use sp_base::Four;
 use sp_msg::{Kept, encoded_len};
 
 /// The bytes of a count or a flag.
@@ -28,18 +31,27 @@ pub fn weight_len(weight: Option<&Kept>) -> usize
     ensures exact { result ≡ length (weights_bytes (as_list (option_map (λ o. o.now) weight.entry))) }
     ensures few { result ≤ 132_000 }
 {
-    counted_len(weight)
+    flagged_len(weight)
 }
 
-#[tactic(auto, using(crate::proofs::LengthLemmas::no_prios_long, crate::proofs::LengthLemmas::prios_long))]
-pub fn prio_len(prio: Option<(u64, &Kept)>) -> usize
-    requires { IfSome prio (λ p. IsWritable p.1.now) }
-    ensures exact { result ≡ length (prios_bytes (as_list (option_map (λ p. (p.0, p.1.now)) prio.entry))) }
-    ensures few { result ≤ 132_000 }
+#[tactic(auto, unfolding(crate::specs::Prioritized::prios_bytes), using(crate::proofs::LengthLemmas::counted_long))]
+pub fn prios_len(prios: &Four<(u64, &Kept)>) -> usize
+    requires { All (λ p. IsWritable p.1.now) prios.now }
+    ensures exact { result ≡ length (prios_bytes (map (λ p. (p.0, p.1.now)) prios.now)) }
+    ensures few { result ≤ 600_000 }
 {
-    match prio {
-        None => COUNT_BYTES,
-        Some((_, message)) => COUNT_BYTES + PRIO_ACK_BYTES + object_len(message),
+    COUNT_BYTES + numbered_len(prios, 0)
+}
+
+/// The messages with link numbers from this place on.
+fn numbered_len(prios: &Four<(u64, &Kept)>, place: usize) -> usize
+    requires { All (λ p. IsWritable p.1.now) prios.now }
+    ensures exact { result ≡ length (flat_map numbered_bytes (map (λ p. (p.0, p.1.now)) (drop place prios.now))) }
+    ensures few { result ≤ (MAX_MESSAGES - place) * 131_082 }
+{
+    match prios.get(place) {
+        None => 0,
+        Some((_, message)) => PRIO_ACK_BYTES + object_len(message) + numbered_len(prios, place + 1),
     }
 }
 
@@ -47,17 +59,17 @@ pub fn prio_len(prio: Option<(u64, &Kept)>) -> usize
 pub fn slot_len(slot: Option<&OutSlot<'_>>) -> usize
     requires { IfSome slot (λ s. IsWritableSlot s.now) }
     ensures exact { result ≡ length (slot_bytes (option_map (λ s. out_report s.now) slot.entry)) }
-    ensures few { result ≤ 300_000 }
+    ensures few { result ≤ 800_000 }
 {
     match slot {
         None => COUNT_BYTES,
-        Some(slot) => COUNT_BYTES + PLACE_BYTES + counted_len(slot.ack) + counted_len(slot.rel),
+        Some(slot) => COUNT_BYTES + PLACE_BYTES + flagged_len(slot.ack) + rels_len(&slot.rels),
     }
 }
 
 /// An object after its flag or count, or a flag alone.
 #[tactic(auto, using(crate::proofs::LengthLemmas::no_rels_long, crate::proofs::LengthLemmas::rels_long))]
-fn counted_len(object: Option<&Kept>) -> usize
+fn flagged_len(object: Option<&Kept>) -> usize
     requires { IfSome object (λ o. IsWritable o.now) }
     ensures exact { result ≡ length (rels_bytes (as_list (option_map (λ o. o.now) object.entry))) }
     ensures few { result ≤ 132_000 }
@@ -65,6 +77,27 @@ fn counted_len(object: Option<&Kept>) -> usize
     match object {
         None => COUNT_BYTES,
         Some(object) => COUNT_BYTES + object_len(object),
+    }
+}
+
+#[tactic(auto, unfolding(crate::specs::Reliable::rels_bytes), using(crate::proofs::LengthLemmas::counted_long))]
+fn rels_len(rels: &Four<&Kept>) -> usize
+    requires { All (λ o. IsWritable o.now) rels.now }
+    ensures exact { result ≡ length (rels_bytes (map (λ o. o.now) rels.now)) }
+    ensures few { result ≤ 600_000 }
+{
+    COUNT_BYTES + objects_len(rels, 0)
+}
+
+/// The objects from this place on.
+fn objects_len(rels: &Four<&Kept>, place: usize) -> usize
+    requires { All (λ o. IsWritable o.now) rels.now }
+    ensures exact { result ≡ length (flat_map object_bytes (map (λ o. o.now) (drop place rels.now))) }
+    ensures few { result ≤ (MAX_MESSAGES - place) * 131_074 }
+{
+    match rels.get(place) {
+        None => 0,
+        Some(message) => object_len(message) + objects_len(rels, place + 1),
     }
 }
 

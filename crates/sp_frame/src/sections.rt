@@ -1,7 +1,8 @@
 // The sections of a frame, read in place from the left.
-ghost use Rattle.std.specs.Prelude.{option_map, if◌then◌else◌};
+ghost use Rattle.std.specs.Prelude.{◌≡◌, ◌≤◌, IfOk, length, map, option_map, if◌then◌else◌};
 ghost use Rattle.sp_base.specs.Refusals.{Gives};
-ghost use Rattle.sp_frame.specs.Grammar.{count, number};
+ghost use Rattle.sp_base.specs.declared.limits.TheConstants.{MAX_MESSAGES};
+ghost use Rattle.sp_frame.specs.Grammar.{count, number, times};
 ghost use Rattle.sp_frame.specs.Objects.{object};
 ghost use Rattle.sp_frame.specs.Prioritized.{numbered, prios};
 ghost use Rattle.sp_frame.specs.Reliable.{ack, rels, report, slot};
@@ -12,22 +13,22 @@ ghost use Rattle.sp_frame.specs.Weights.{weights};
 use crate::judging::object_at;
 use crate::kind::Kind;
 use crate::{ObjectRef, SectionRefused};
-use sp_base::{Flow, NodeId, Reader};
+use sp_base::{Flow, Four, MAX_MESSAGES, NodeId, Reader};
 
 /// The sections of a frame, borrowed from its datagram.
-#[derive(Clone, Copy, Debug)]
+#[derive(Debug, Drop)]
 pub struct Sections<'a> {
     /// What a node says of the weight of an edge.
     pub weight: Option<ObjectRef<'a>>,
     /// Up to which of its link numbers the receiver was heard.
     pub prio_ack: u64,
-    /// A priority message, after the link number that the sender gave it.
-    pub prio: Option<(u64, ObjectRef<'a>)>,
+    /// Priority messages, each after the link number that the sender gave it.
+    pub prios: Four<(u64, ObjectRef<'a>)>,
     pub slot: Option<Slot<'a>>,
 }
 
-/// A report on a flow, with an acknowledgement and a message of the flow. Its ends may be any bytes.
-#[derive(Clone, Copy, Debug)]
+/// A report on a flow, with an acknowledgement and messages of the flow. Its ends may be any bytes.
+#[derive(Debug, Drop)]
 pub struct Slot<'a> {
     pub flow: Flow,
     /// Up to this number the messages of the flow are acknowledged.
@@ -35,7 +36,7 @@ pub struct Slot<'a> {
     /// Up to this number the sender has the messages of the flow.
     pub have: u64,
     pub ack: Option<ObjectRef<'a>>,
-    pub rel: Option<ObjectRef<'a>>,
+    pub rels: Four<ObjectRef<'a>>,
 }
 
 /// The sections that all of these bytes are, with signatures of this length, or what is first wrong from the left.
@@ -49,7 +50,7 @@ pub(crate) fn sections_of<'a>(
     let mut reader = Reader::new(bytes);
     let weight = weight_at(&mut reader, signature_len)?;
     let prio_ack = reader.u64()?;
-    let prio = prio_at(&mut reader, signature_len)?;
+    let prios = prios_at(&mut reader, signature_len)?;
     let slot = slot_at(&mut reader, signature_len)?;
     if reader.left() != 0 {
         return Err(SectionRefused::Tail);
@@ -57,7 +58,7 @@ pub(crate) fn sections_of<'a>(
     Ok(Sections {
         weight,
         prio_ack,
-        prio,
+        prios,
         slot,
     })
 }
@@ -76,16 +77,33 @@ fn weight_at<'a>(
 }
 
 #[tactic(auto, unfolding(crate::specs::Prioritized::prios))]
-fn prio_at<'a>(
+fn prios_at<'a>(
     reader: &mut Reader<'a>,
     signature_len: usize,
-) -> Result<Option<(u64, ObjectRef<'a>)>, SectionRefused>
-    ensures { Gives (λ m. (as_list (option_map as_numbered m), reader.new)) result (prios signature_len reader.old) }
+) -> Result<Four<(u64, ObjectRef<'a>)>, SectionRefused>
+    ensures { Gives (λ m. (map as_numbered m, reader.new)) result (prios signature_len reader.old) }
 {
-    if !has_one(reader)? {
-        return Ok(None);
+    let count = count_at(reader)?;
+    many_numbered(reader, count, signature_len)
+}
+
+/// So many messages with their link numbers.
+#[tactic(auto, using(crate::proofs::TimesLemmas::times_none, crate::proofs::TimesLemmas::times_first, crate::proofs::TimesLemmas::times_later, crate::proofs::TimesLemmas::times_all))]
+fn many_numbered<'a>(
+    reader: &mut Reader<'a>,
+    count: u8,
+    signature_len: usize,
+) -> Result<Four<(u64, ObjectRef<'a>)>, SectionRefused>
+    requires { count ≤ MAX_MESSAGES }
+    ensures read { Gives (λ m. (map as_numbered m, reader.new)) result (times (numbered signature_len) count reader.old) }
+    ensures many { IfOk result (λ m. length m ≡ count) }
+{
+    if count == 0 {
+        return Ok(Four::new());
     }
-    Ok(Some(numbered_at(reader, signature_len)?))
+    let first = numbered_at(reader, signature_len)?;
+    let others = many_numbered(reader, count - 1, signature_len)?;
+    Ok(others.led_by(first))
 }
 
 #[tactic(auto, unfolding(crate::specs::Prioritized::numbered, crate::specs::Grammar::number))]
@@ -122,13 +140,13 @@ fn report_at<'a>(reader: &mut Reader<'a>, signature_len: usize) -> Result<Slot<'
     let base = reader.u64()?;
     let have = reader.u64()?;
     let ack = ack_at(reader, signature_len)?;
-    let rel = rel_at(reader, signature_len)?;
+    let rels = rels_at(reader, signature_len)?;
     Ok(Slot {
         flow: Flow { src, dst },
         base,
         have,
         ack,
-        rel,
+        rels,
     })
 }
 
@@ -146,16 +164,46 @@ fn ack_at<'a>(
 }
 
 #[tactic(auto, unfolding(crate::specs::Reliable::rels))]
-fn rel_at<'a>(
+fn rels_at<'a>(
     reader: &mut Reader<'a>,
     signature_len: usize,
-) -> Result<Option<ObjectRef<'a>>, SectionRefused>
-    ensures { Gives (λ o. (as_list (option_map as_object o), reader.new)) result (rels signature_len reader.old) }
+) -> Result<Four<ObjectRef<'a>>, SectionRefused>
+    ensures { Gives (λ o. (map as_object o, reader.new)) result (rels signature_len reader.old) }
 {
-    if !has_one(reader)? {
-        return Ok(None);
+    let count = count_at(reader)?;
+    many_rels(reader, count, signature_len)
+}
+
+/// So many reliable messages.
+#[tactic(auto, using(crate::proofs::TimesLemmas::times_none, crate::proofs::TimesLemmas::times_first, crate::proofs::TimesLemmas::times_later, crate::proofs::TimesLemmas::times_all))]
+fn many_rels<'a>(
+    reader: &mut Reader<'a>,
+    count: u8,
+    signature_len: usize,
+) -> Result<Four<ObjectRef<'a>>, SectionRefused>
+    requires { count ≤ MAX_MESSAGES }
+    ensures read { Gives (λ o. (map as_object o, reader.new)) result (times (object Kind.Rel signature_len) count reader.old) }
+    ensures many { IfOk result (λ o. length o ≡ count) }
+{
+    if count == 0 {
+        return Ok(Four::new());
     }
-    Ok(Some(object_at(reader, Kind::Rel, signature_len)?))
+    let first = object_at(reader, Kind::Rel, signature_len)?;
+    let others = many_rels(reader, count - 1, signature_len)?;
+    Ok(others.led_by(first))
+}
+
+/// A count of messages, of at most four.
+#[tactic(auto, unfolding(crate::specs::Grammar::count, crate::specs::Grammar::number))]
+fn count_at(reader: &mut Reader<'_>) -> Result<u8, SectionRefused>
+    ensures read { Gives (λ n. (n, reader.new)) result (count MAX_MESSAGES reader.old) }
+    ensures few { IfOk result (λ n. n ≤ MAX_MESSAGES) }
+{
+    let count = reader.u8()?;
+    if usize::from(count) > MAX_MESSAGES {
+        return Err(SectionRefused::Count);
+    }
+    Ok(count)
 }
 
 /// A count, or a flag, of at most one: whether it is one.

@@ -1,8 +1,9 @@
 // A frame, written into memory that is taken at once: its whole room first, and then each part into room that is there.
-ghost use Rattle.std.specs.Prelude.{◌≡◌, ◌+◌, ◌≤◌, ◌++◌, length, IfOk, IfSome, option_map, replicate, vec_capacity, vec_len};
+ghost use Rattle.std.specs.Prelude.{◌≡◌, ◌+◌, ◌≤◌, ◌++◌, All, drop, length, map, IfOk, IfSome, option_map, replicate, vec_capacity, vec_len};
+ghost use Rattle.std.specs.List.{flat_map};
 ghost use Rattle.sp_frame.specs.Frames.{ends_bytes, frame_bytes, head_bytes, numbers_bytes};
 ghost use Rattle.sp_frame.specs.Objects.{object_bytes};
-ghost use Rattle.sp_frame.specs.Prioritized.{prios_bytes};
+ghost use Rattle.sp_frame.specs.Prioritized.{numbered_bytes, prios_bytes};
 ghost use Rattle.sp_frame.specs.Reliable.{ack_bytes, place_bytes, rels_bytes, report_bytes, slot_bytes};
 ghost use Rattle.sp_frame.specs.Views.{as_list};
 ghost use Rattle.sp_frame.specs.Weights.{weights_bytes};
@@ -10,19 +11,19 @@ ghost use Rattle.sp_frame.specs.Writing.{IsWritable, IsWritableSlot, out_report}
 
 use crate::Head;
 use crate::frame::{HEAD_BYTES, NAME, TAG_BYTES, VERSION};
-use crate::lengths::{PRIO_ACK_BYTES, prio_len, slot_len, weight_len};
-use sp_base::{Bytes, Flow, Memory, push_bytes, push_u8, push_u16, push_u32, push_u64};
+use crate::lengths::{PRIO_ACK_BYTES, prios_len, slot_len, weight_len};
+use sp_base::{Bytes, Flow, Four, Memory, push_bytes, push_u8, push_u16, push_u32, push_u64};
 use sp_msg::{Kept, encoded_len, push_body};
 use std::alloc::Global;
 
-/// A report on a flow, to be written, with an acknowledgement and a message of the flow.
-#[derive(Clone, Copy, Debug)]
+/// A report on a flow, to be written, with an acknowledgement and messages of the flow.
+#[derive(Debug, Drop)]
 pub struct OutSlot<'a> {
     pub flow: Flow,
     pub base: u64,
     pub have: u64,
     pub ack: Option<&'a Kept>,
-    pub rel: Option<&'a Kept>,
+    pub rels: Four<&'a Kept>,
 }
 
 /// The bytes of a frame, with 32 zero bytes in the place of its tag. Only want of memory refuses.
@@ -32,25 +33,25 @@ pub fn write(
     head: &Head,
     weight: Option<&Kept>,
     prio_ack: u64,
-    prio: Option<(u64, &Kept)>,
+    prios: &Four<(u64, &Kept)>,
     slot: Option<&OutSlot<'_>>,
 ) -> Result<Bytes, Memory>
     requires weight { IfSome weight (λ o. IsWritable o.now) }
-    requires prio { IfSome prio (λ p. IsWritable p.1.now) }
+    requires prios { All (λ p. IsWritable p.1.now) prios.now }
     requires slot { IfSome slot (λ s. IsWritableSlot s.now) }
     ensures bytes { IfOk result (λ bytes. bytes ≡ frame_bytes head.now (record {
       weights = as_list (option_map (λ o. o.now) weight.entry);
       prio_ack = prio_ack;
-      prios = as_list (option_map (λ p. (p.0, p.1.now)) prio.entry);
+      prios = map (λ p. (p.0, p.1.now)) prios.now;
       slot = option_map (λ s. out_report s.now) slot.entry;
     }) (replicate 32 0)) }
 {
-    let parts = weight_len(weight) + PRIO_ACK_BYTES + prio_len(prio) + slot_len(slot);
+    let parts = weight_len(weight) + PRIO_ACK_BYTES + prios_len(prios) + slot_len(slot);
     let mut out = Vec::with_capacity(alloc, HEAD_BYTES + parts + TAG_BYTES)?;
     push_head(&mut out, head);
     push_weight(&mut out, weight);
     push_u64(&mut out, prio_ack);
-    push_prio(&mut out, prio);
+    push_prios(&mut out, prios);
     push_slot(&mut out, slot);
     push_bytes(&mut out, &[0u8; TAG_BYTES]);
     Ok(Bytes::from_vec(out))
@@ -109,21 +110,33 @@ fn push_weight(out: &mut Vec<u8>, weight: Option<&Kept>)
     push_object(out, weight);
 }
 
-#[tactic(auto, unfolding(crate::specs::Prioritized::prios_bytes, crate::specs::Prioritized::numbered_bytes))]
-fn push_prio(out: &mut Vec<u8>, prio: Option<(u64, &Kept)>)
-    requires fits { IfSome prio (λ p. IsWritable p.1.now) }
-    requires room { vec_len out.old + length (prios_bytes (as_list (option_map (λ p. (p.0, p.1.now)) prio))) ≤ vec_capacity out.old }
-    ensures bytes { out.new.items ≡ out.old.items ++ prios_bytes (as_list (option_map (λ p. (p.0, p.1.now)) prio.entry)) }
-    ensures len { vec_len out.new ≡ vec_len out.old + length (prios_bytes (as_list (option_map (λ p. (p.0, p.1.now)) prio.entry))) }
+#[tactic(auto, unfolding(crate::specs::Prioritized::prios_bytes))]
+fn push_prios(out: &mut Vec<u8>, prios: &Four<(u64, &Kept)>)
+    requires fits { All (λ p. IsWritable p.1.now) prios.now }
+    requires room { vec_len out.old + length (prios_bytes (map (λ p. (p.0, p.1.now)) prios.now)) ≤ vec_capacity out.old }
+    ensures bytes { out.new.items ≡ out.old.items ++ prios_bytes (map (λ p. (p.0, p.1.now)) prios.now) }
+    ensures len { vec_len out.new ≡ vec_len out.old + length (prios_bytes (map (λ p. (p.0, p.1.now)) prios.now)) }
     ensures capacity { vec_capacity out.old ≤ vec_capacity out.new }
 {
-    let Some((number, message)) = prio else {
-        push_u8(out, 0);
+    push_u8(out, prios.len() as u8);
+    push_numbered(out, prios, 0);
+}
+
+/// The messages with link numbers from this place on.
+#[tactic(auto, unfolding(crate::specs::Prioritized::numbered_bytes))]
+fn push_numbered(out: &mut Vec<u8>, prios: &Four<(u64, &Kept)>, place: usize)
+    requires fits { All (λ p. IsWritable p.1.now) prios.now }
+    requires room { vec_len out.old + length (flat_map numbered_bytes (map (λ p. (p.0, p.1.now)) (drop place prios.now))) ≤ vec_capacity out.old }
+    ensures bytes { out.new.items ≡ out.old.items ++ flat_map numbered_bytes (map (λ p. (p.0, p.1.now)) (drop place prios.now)) }
+    ensures len { vec_len out.new ≡ vec_len out.old + length (flat_map numbered_bytes (map (λ p. (p.0, p.1.now)) (drop place prios.now))) }
+    ensures capacity { vec_capacity out.old ≤ vec_capacity out.new }
+{
+    let Some((number, message)) = prios.get(place) else {
         return;
     };
-    push_u8(out, 1);
-    push_u64(out, number);
+    push_u64(out, *number);
     push_object(out, message);
+    push_numbered(out, prios, place + 1);
 }
 
 #[tactic(auto, unfolding(crate::specs::Reliable::slot_bytes))]
@@ -152,7 +165,7 @@ fn push_report(out: &mut Vec<u8>, slot: &OutSlot<'_>)
 {
     push_place(out, slot);
     push_ack(out, slot.ack);
-    push_rel(out, slot.rel);
+    push_rels(out, &slot.rels);
 }
 
 #[tactic(auto, unfolding(crate::specs::Reliable::place_bytes))]
@@ -185,19 +198,30 @@ fn push_ack(out: &mut Vec<u8>, ack: Option<&Kept>)
 }
 
 #[tactic(auto, unfolding(crate::specs::Reliable::rels_bytes))]
-fn push_rel(out: &mut Vec<u8>, rel: Option<&Kept>)
-    requires fits { IfSome rel (λ o. IsWritable o.now) }
-    requires room { vec_len out.old + length (rels_bytes (as_list (option_map (λ o. o.now) rel))) ≤ vec_capacity out.old }
-    ensures bytes { out.new.items ≡ out.old.items ++ rels_bytes (as_list (option_map (λ o. o.now) rel.entry)) }
-    ensures len { vec_len out.new ≡ vec_len out.old + length (rels_bytes (as_list (option_map (λ o. o.now) rel.entry))) }
+fn push_rels(out: &mut Vec<u8>, rels: &Four<&Kept>)
+    requires fits { All (λ o. IsWritable o.now) rels.now }
+    requires room { vec_len out.old + length (rels_bytes (map (λ o. o.now) rels.now)) ≤ vec_capacity out.old }
+    ensures bytes { out.new.items ≡ out.old.items ++ rels_bytes (map (λ o. o.now) rels.now) }
+    ensures len { vec_len out.new ≡ vec_len out.old + length (rels_bytes (map (λ o. o.now) rels.now)) }
     ensures capacity { vec_capacity out.old ≤ vec_capacity out.new }
 {
-    let Some(rel) = rel else {
-        push_u8(out, 0);
+    push_u8(out, rels.len() as u8);
+    push_objects(out, rels, 0);
+}
+
+/// The objects from this place on.
+fn push_objects(out: &mut Vec<u8>, rels: &Four<&Kept>, place: usize)
+    requires fits { All (λ o. IsWritable o.now) rels.now }
+    requires room { vec_len out.old + length (flat_map object_bytes (map (λ o. o.now) (drop place rels.now))) ≤ vec_capacity out.old }
+    ensures bytes { out.new.items ≡ out.old.items ++ flat_map object_bytes (map (λ o. o.now) (drop place rels.now)) }
+    ensures len { vec_len out.new ≡ vec_len out.old + length (flat_map object_bytes (map (λ o. o.now) (drop place rels.now))) }
+    ensures capacity { vec_capacity out.old ≤ vec_capacity out.new }
+{
+    let Some(message) = rels.get(place) else {
         return;
     };
-    push_u8(out, 1);
-    push_object(out, rel);
+    push_object(out, message);
+    push_objects(out, rels, place + 1);
 }
 
 #[tactic(auto, unfolding(crate::specs::Objects::object_bytes), using(crate::proofs::LengthLemmas::encoded_fits))]

@@ -1,7 +1,8 @@
 -- What a node keeps gives the conditions of the calls of its parts.
-use Rattle.std.proofs.Common.{◌≡◌, ◌<◌, ◌^◌, [], Some, arith}
+use Rattle.std.proofs.Common.{◌≡◌, ◌<◌, ◌≤◌, ◌+◌, ◌^◌, [], Some, arith}
 use Rattle.std.specs.List.{All}
 use Rattle.sp_base.specs.declared.id.NodeId.{NodeId}
+use Rattle.sp_base.specs.declared.limits.TheConstants.{MAX_MESSAGES}
 use Rattle.sp_node_core.specs.Format.{format}
 use Rattle.sp_frame.specs.Ranges.{IsContents}
 use Rattle.sp_msg.specs.Bodies.{HasGoodFields}
@@ -17,6 +18,7 @@ use Rattle.laws_node.proofs.Priority.{no_peer_holds}
 use Rattle.laws_node.proofs.Reliable.{due_fits}
 use Rattle.laws_node.proofs.Tables.{all_first, all_weaker}
 use Rattle.laws_node.specs.Nodes.{IsKept, LinkHolds}
+use Rattle.laws_node.specs.Sizes.{numbers_after}
 use Rattle.laws_node.specs.Stores.{PrioPeerHolds}
 use Rattle.sp_node_state.proofs.Sizes.{sizes}
 
@@ -25,9 +27,10 @@ use Rattle.sp_node_state.proofs.Sizes.{sizes}
 pub contents_kept : (n : NodeState) (v : NodeId) → IsKept format n → IsContents n.fixed.signature_len (contents_to n.fixed n.parts v)
 contents_kept n v kept = frames_fit format n v kept
 
-pub number_low : (n : NodeState) (v : NodeId) → IsKept format n → (peer_in n.parts.prio v.0).number < 2 ^ 63
+pub number_low : (n : NodeState) (v : NodeId) → IsKept format n → (peer_in n.parts.prio v.0).number + MAX_MESSAGES ≤ 2 ^ 63
 number_low n v kept =
-    let row = all_first (PrioPeerHolds (sizes n) n.calls _) (is_peer v.0) no_peer n.parts.prio.peers kept.parts.prio.peers (no_peer_holds (sizes n) n.calls _) in
+    let most = numbers_after n.calls in
+    let row = all_first (PrioPeerHolds (sizes n) most _) (is_peer v.0) no_peer n.parts.prio.peers kept.parts.prio.peers (no_peer_holds (sizes n) most _) in
     omega (arith, row.number, kept.calls)
 
 pub links_low : (n : NodeState) → IsKept format n → n.calls < 2 ^ 60 → All (λ (l : Link). l.sent < 2 ^ 60) n.links

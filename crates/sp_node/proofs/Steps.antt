@@ -15,12 +15,10 @@ use Rattle.sp_rules.specs.declared.node.Step.{Step}
 use Rattle.sp_rules.specs.declared.node.Taken.{Taken}
 use Rattle.sp_rules.specs.declared.node.TickReply.{TickReply}
 use Rattle.laws_node.specs.Inputs.{ArtsFit, InputFits, PrioSendFits}
-use Rattle.laws_node.specs.Nodes.{IsKept}
 use Rattle.laws_node.proofs.Shapes.{shapes_stay}
 use Rattle.laws_node.proofs.Steps.{each_step_keeps, extend_keeps}
 use Rattle.laws_node.specs.Shapes.{Shape}
 use Rattle.sp_node.specs.Life.{IsLife}
-use Rattle.sp_rules.specs.Parts.{Fixed}
 use Rattle.sp_topology.specs.declared.topology.NodeKey.{NodeKey}
 use Rattle.sp_node_state.specs.Sends.{Sends}
 use Rattle.sp_node.specs.Calls.{Datagrams, Polls, Ticks}

@@ -1,5 +1,5 @@
 -- What a contract sees of a node: its state by the rules, and how many signatures and tags it has checked in this life.
-use Rattle.std.specs.Prelude.{ℕ, ◌≡◌, false, List}
+use Rattle.std.specs.Prelude.{ℕ, ◌≡◌, List}
 use Rattle.laws_node.specs.Nodes.{IsKept}
 use Rattle.sp_base.specs.declared.id.NodeId.{NodeId}
 use Rattle.sp_node_arrivals.specs.Work.{frame_checks}

@@ -11,6 +11,7 @@ ghost use Rattle.sp_node.specs.Arrived.{pieces_with};
 ghost use Rattle.sp_node.specs.Calls.{Datagrams};
 ghost use Rattle.sp_node.specs.Life.{datagram_checks, datagram_tags};
 ghost use Rattle.sp_node_arrivals.specs.Work.{frame_checks};
+ghost use Rattle.sp_node_arrivals.specs.declared.answers.TheConstants.{MOST_OBJECTS};
 ghost use Rattle.sp_node_state.specs.ReadyStates.{IsAnswered};
 ghost use Rattle.sp_rules.specs.Arrivals.{arrival_at, link_after, no_frame, of_fresh, of_link, pieces_in, pieces_where, reply_at, sections_in};
 ghost use Rattle.sp_rules.specs.Handle.{handle_all};
@@ -27,7 +28,7 @@ use sp_sign::Checker;
 use std::alloc::Global;
 
 /// What became of a datagram at its link: the reply, the link after it, and the sections that are to be handled, if any.
-#[derive(Clone, Copy, Debug)]
+#[derive(Debug, Drop)]
 struct Passage<'a> {
     reply: LinkReply,
     link: Link,
@@ -48,7 +49,7 @@ pub fn datagram(
     ensures step { Datagrams state.old from bytes.now result state.new }
     ensures keys { checker.new.nodes ≡ checker.old.nodes }
     ensures work { checker.new.checks ≤ checker.old.checks + datagram_checks state.old from bytes.now }
-    ensures few { checker.new.checks ≤ checker.old.checks + 4 }
+    ensures few { checker.new.checks ≤ checker.old.checks + MOST_OBJECTS }
     ensures tags { tags.new ≤ tags.old + datagram_tags state.old from bytes.now }
 {
     let place = state.place_for(from)?;
@@ -124,7 +125,7 @@ fn admit_sections(
     ensures as_before { OnErr result (state.new ≡ state.old) }
     ensures keys { checker.new.nodes ≡ checker.old.nodes }
     ensures work { checker.new.checks ≤ checker.old.checks + frame_checks (arrival_at state.old from) state.old.parts (pieces_with sections.now) }
-    ensures few { checker.new.checks ≤ checker.old.checks + 4 }
+    ensures few { checker.new.checks ≤ checker.old.checks + MOST_OBJECTS }
 {
     match sections {
         None => nothing_admitted(alloc),

@@ -11,6 +11,7 @@ ghost use Rattle.sp_rules.specs.Sends.{PrioSend, prio_refusal, rel_refusal, weig
 ghost use Rattle.sp_rules.specs.Steps.{SendPrio, SendRel, SetWeight};
 ghost use Rattle.sp_rules.specs.Ticks.{time_after};
 ghost use Rattle.sp_node_state.specs.Boots.{IsBootable, booted_of};
+ghost use Rattle.sp_node_arrivals.specs.declared.answers.TheConstants.{MOST_OBJECTS};
 ghost use Rattle.sp_node.specs.Calls.{Datagrams, Polls, TakesPrio, TakesRel, Ticks};
 ghost use Rattle.sp_node.specs.Life.{IsIdle, datagram_checks, datagram_tags};
 ghost use Rattle.sp_node_state.specs.Sends.{Sends};
@@ -99,7 +100,7 @@ impl Node {
     /// datagrams. All memory is taken before anything changes.
     ///
     /// Its signatures are checked once for each object that may be new when its turn comes, and for no other: so none of a datagram that isn't
-    /// fresh, nor of an object that is old, seen, expired or of a bad end, and four at most. One tag is checked where the datagram is a frame that
+    /// fresh, nor of an object that is old, seen, expired or of a bad end, and ten at most. One tag is checked where the datagram is a frame that
     /// names the ends of its link, and none else.
     #[tactic(auto, using(crate::proofs::Steps::life_by_datagram))]
     pub fn datagram(
@@ -110,7 +111,7 @@ impl Node {
     ) -> Result<Step<Taken>, NodeRefused>
         ensures step { Datagrams self.old.state from bytes.now result self.new.state }
         ensures work { self.new.checks ≤ self.old.checks + datagram_checks self.old.state from bytes.now }
-        ensures few { self.new.checks ≤ self.old.checks + 4 }
+        ensures few { self.new.checks ≤ self.old.checks + MOST_OBJECTS }
         ensures tags { self.new.tags ≤ self.old.tags + datagram_tags self.old.state from bytes.now }
     {
         self.state.recall();

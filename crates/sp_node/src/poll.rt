@@ -1,5 +1,5 @@
 // A poll: the next frame to a neighbour.
-ghost use Rattle.std.specs.Prelude.{◌≡◌, ◌<◌, ◌^◌, All, IfOk, Some as There, length, option_map, position, replicate};
+ghost use Rattle.std.specs.Prelude.{◌≡◌, ◌<◌, ◌≤◌, ◌+◌, ◌^◌, All, IfOk, Some as There, length, position, replicate};
 ghost use Rattle.laws_node.specs.Nodes.{IsKept};
 ghost use Rattle.sp_node_core.specs.Format.{format};
 ghost use Rattle.sp_frame.specs.Frames.{frame_bytes};
@@ -7,22 +7,21 @@ ghost use Rattle.sp_frame.specs.Ranges.{IsContents};
 ghost use Rattle.sp_node.specs.Calls.{Polls};
 ghost use Rattle.sp_node_state.specs.ReadyStates.{IsAnswered};
 ghost use Rattle.sp_base.specs.Rows.{first_where, replace_where};
+ghost use Rattle.sp_base.specs.declared.limits.TheConstants.{MAX_MESSAGES};
 ghost use Rattle.sp_rules.specs.Link as rules;
 ghost use Rattle.sp_rules.specs.Link.{advanced, next_head};
 ghost use Rattle.sp_rules.specs.Node.{is_link};
 ghost use Rattle.sp_rules.specs.Parts.{place_in, place_of};
-ghost use Rattle.sp_rules.specs.Polls.{after_poll, as_message, contents_to, frame_to};
-ghost use Rattle.sp_rules.specs.Prio.{carried, next_prio, peer_in};
+ghost use Rattle.sp_rules.specs.Polls.{after_poll, contents_to, frame_to};
+ghost use Rattle.sp_rules.specs.Prio.{carried, peer_in};
 ghost use Rattle.sp_rules.specs.Rel.{served};
 ghost use Rattle.sp_rules.specs.Weights.{moved};
 
 use sp_base::{Bytes, Memory, NodeId};
 use sp_frame::{Head, write};
 use sp_link::Link;
-use sp_msg::Kept;
 use sp_node_core::{Core, Fixed};
 use sp_node_state::State;
-use sp_prio::PrioTable;
 use sp_rules::NodeRefused;
 use sp_topology::NodeKey;
 use std::alloc::Global;
@@ -84,27 +83,17 @@ fn unsealed(
 {
     let weight = core.weights.next(place_of(fixed, v));
     let heard = core.prio.heard_of(v);
-    let prio = message_to(&core.prio, v);
+    let prios = core.prio.messages_for(v);
     let slot = core.rel.slot_for(v);
-    match write(alloc, head, weight, heard, prio, slot.as_ref()) {
+    match write(alloc, head, weight, heard, &prios, slot.as_ref()) {
         Ok(bytes) => Ok(bytes),
         Err(_) => Err(Memory),
     }
 }
 
-/// The priority message that goes to a neighbour, with its link number.
-fn message_to(prio: &PrioTable, v: NodeId) -> Option<(u64, &Kept)>
-    ensures { option_map (λ p. (p.0, p.1.now)) result ≡ option_map as_message (next_prio prio.now v.0) }
-{
-    match prio.slot_for(v) {
-        Some((number, entry)) => Some((number, &entry.kept)),
-        None => None,
-    }
-}
-
 /// What was next in turn of each part went to a neighbour, the node in this place.
 fn moved(core: &mut Core, at: usize, v: NodeId)
-    requires { (peer_in core.old.prio v.0).number < 2 ^ 63 }
+    requires { (peer_in core.old.prio v.0).number + MAX_MESSAGES ≤ 2 ^ 63 }
     ensures { core.new ≡ record { weights = moved core.old.weights at; prio = carried core.old.prio v.0; rel = served core.old.rel v } }
 {
     core.weights.moved(at);

@@ -2,7 +2,6 @@
 use Rattle.std.proofs.Common.{◌≡◌, ◌≤◌, ℕ, ◌+◌, ◌*◌, ◌-◌, Bool, true, false, List, [], ◌∷◌, ◌++◌, length, Option, None, Some, ap, arith, cond, length-append}
 use Rattle.std.proofs.lemmas.List.Concat.{flat_map-cons}
 use Rattle.std.specs.List.{flat_map}
-use Rattle.std.specs.Option.{option_and_then}
 use Rattle.sp_base.specs.declared.id.NodeId.{NodeId}
 use Rattle.sp_msg.specs.Caused.{Caused}
 use Rattle.sp_msg.specs.declared.body.Body.{Body}
@@ -15,9 +14,9 @@ use Rattle.sp_prio.proofs.TellLemmas.{given_few}
 use Rattle.sp_rules.specs.Answers.{is_new}
 use Rattle.sp_rules.specs.Handle.{prio_handled, weight_effects, weight_handled}
 use Rattle.sp_rules.specs.Parts.{Parts}
-use Rattle.sp_rules.specs.Prio.{PrioState, acked_effects, delivered, is_here, peer_in, prio_effects}
-use Rattle.sp_rules.specs.PrioPeer.{PrioPeer, given_effects, gone, landed, put_effects, stored}
-use Rattle.sp_rules.specs.Store.{entry_in, evicted}
+use Rattle.sp_rules.specs.Prio.{PrioState, delivered, is_here, prio_effects}
+use Rattle.sp_rules.specs.PrioPeer.{PrioPeer, given_effects, gone, put_effects, stored}
+use Rattle.sp_rules.specs.Store.{evicted}
 use Rattle.sp_rules.specs.Told.{told}
 use Rattle.sp_rules.specs.declared.answers.Item.TheVariants as items
 use Rattle.sp_rules.specs.declared.answers.PrioAnswer.{PrioAnswer}
@@ -44,10 +43,6 @@ weight_room answer o p = where_few (is_new (items.Weight answer)) (weight_effect
 gone_few : (place : ℕ) (why : Why) (e : Option Entry) → length (gone place why e) ≤ 1
 gone_few place why None = omega arith
 gone_few place why (Some e) = omega arith
-
-pub acked_room : (s : PrioState) (v number : ℕ) → length (acked_effects s v number) ≤ 1
-acked_room s v number =
-    let q = peer_in s v in gone_few q.peer whys.Acked (option_and_then (entry_in q.store) (landed q number))
 
 stored_few : (place id : ℕ) (body : Body) → length (stored place id body) ≤ 1
 stored_few place id (bodies.Prio p) = omega arith

@@ -1,34 +1,44 @@
--- The checks of what was read of a frame are those of its pieces, and at most four.
-use Rattle.std.proofs.Common.{◌≡◌, ◌≤◌, ℕ, ◌+◌, Bool, true, false, List, [], ◌∷◌, ◌++◌, Option, None, Some, map, option_map, refl, sym, ap, ◌∙◌, arith}
+-- The checks of what was read of a frame are those of its pieces, and those of its messages are counted one message after another.
+use Rattle.std.proofs.Common.{◌≡◌, ◌≤◌, ℕ, ◌+◌, Bool, true, false, List, [], ◌∷◌, ◌++◌, Option, None, Some, drop, map, option_map, refl, ap, ◌∙◌, arith}
+use Rattle.std.specs.List.{slice_get}
+use Rattle.sp_base.proofs.FewLemmas.{drop_first}
+use Rattle.std.specs.Prelude.{◌||◌}
 use Rattle.sp_base.specs.declared.id.Flow.{Flow}
 use Rattle.sp_frame.specs.Views.{as_contents, as_list, as_numbered, as_object, as_report}
+use Rattle.sp_frame.specs.declared.object.ObjectRef.{ObjectRef}
 use Rattle.sp_frame.specs.declared.sections.Sections.{Sections}
 use Rattle.sp_frame.specs.declared.sections.Slot.{Slot}
 use Rattle.sp_msg.specs.declared.kept.Kept.{Kept}
 use Rattle.sp_rules.specs.Handle.{Arrival}
 use Rattle.sp_rules.specs.Parts.{Parts}
 use Rattle.sp_rules.specs.Pieces.{AckPiece, Piece, PrioAckPiece, RelPiece, WeightPiece, pieces_of, prio_piece, slot_pieces}
-use Rattle.sp_node_arrivals.specs.Work.{ack_checks, acked_by, checks_for, frame_checks, of_some, one_if, prio_checks, rel_checks, section_checks, slot_checks, weight_checks}
+use Rattle.sp_rules.specs.Prio.{PrioState}
+use Rattle.sp_rules.specs.Rel.{RelState}
+use Rattle.sp_topology.specs.declared.topology.NodeKey.{NodeKey}
+use Rattle.sp_node_arrivals.specs.Work.{ack_checks, acked_by, checks_for, frame_checks, is_followed, of_some, prio_checks, prios_checks, rel_checks, rels_checks, section_checks, slot_checks, weight_checks}
 
--- ---- as pieces
+rels_are : (at : Arrival) (p : Parts) (flow : Flow) (moved : Bool) (os : List Kept)
+    → rels_checks moved at.fixed.topology.nodes p.rel flow os ≡ checks_for at p moved (map (RelPiece flow) os)
+rels_are at p flow moved [] = refl
+rels_are at p flow moved (o ∷ os) =
+    ap (λ (n : ℕ). rel_checks moved p.rel flow o + n) (rels_are at p flow (moved || is_followed moved at.fixed.topology.nodes p.rel flow o) os)
 
-slot_objects : (at : Arrival) (p : Parts) (flow : Flow) (ack rel : Option Kept)
-    → of_some (ack_checks p.rel flow) ack + of_some (rel_checks (acked_by at.fixed.topology.nodes p.rel flow ack) p.rel flow) rel
-    ≡ checks_for at p false (map (AckPiece flow) (as_list ack) ++ map (RelPiece flow) (as_list rel))
-slot_objects at p flow None None = refl
-slot_objects at p flow None (Some m) = omega arith
-slot_objects at p flow (Some a) None = omega arith
-slot_objects at p flow (Some a) (Some m) = omega arith
+slot_objects : (at : Arrival) (p : Parts) (flow : Flow) (ack : Option Kept) (os : List Kept)
+    → of_some (ack_checks p.rel flow) ack + rels_checks (acked_by at.fixed.topology.nodes p.rel flow ack) at.fixed.topology.nodes p.rel flow os
+    ≡ checks_for at p false (map (AckPiece flow) (as_list ack) ++ map (RelPiece flow) os)
+slot_objects at p flow None os = let same = rels_are at p flow false os in omega (arith, same)
+slot_objects at p flow (Some a) os =
+    ap (λ (n : ℕ). ack_checks p.rel flow a + n) (rels_are at p flow (acked_by at.fixed.topology.nodes p.rel flow (Some a)) os)
 
 slot_is : (at : Arrival) (p : Parts) (slot : Option Slot)
     → of_some (slot_checks at.fixed.topology.nodes p.rel) slot ≡ checks_for at p false (slot_pieces (option_map as_report slot))
 slot_is at p None = refl
-slot_is at p (Some s) = slot_objects at p s.flow (option_map as_object s.ack) (option_map as_object s.rel)
+slot_is at p (Some s) = slot_objects at p s.flow (option_map as_object s.ack) (map as_object s.rels)
 
-prio_is : (at : Arrival) (p : Parts) (m : Option (ℕ × Kept)) (rest : List Piece)
-    → of_some (λ x. prio_checks at p.prio x.1) m + checks_for at p false rest ≡ checks_for at p false (map prio_piece (as_list m) ++ rest)
-prio_is at p None rest = omega arith
-prio_is at p (Some m) rest = refl
+prios_are : (at : Arrival) (p : Parts) (ms : List (ℕ × Kept)) (rest : List Piece)
+    → prios_checks at p.prio ms + checks_for at p false rest ≡ checks_for at p false (map prio_piece ms ++ rest)
+prios_are at p [] rest = omega arith
+prios_are at p (m ∷ ms) rest = let others = prios_are at p ms rest in omega (arith, others)
 
 weight_is : (at : Arrival) (p : Parts) (o : Option Kept) (rest : List Piece)
     → of_some (weight_checks at.fixed.me p.weights) o + checks_for at p false rest ≡ checks_for at p false (map WeightPiece (as_list o) ++ rest)
@@ -38,41 +48,44 @@ weight_is at p (Some o) rest = refl
 pub as_pieces : (at : Arrival) (p : Parts) (s : Sections) → section_checks at p s ≡ frame_checks at p (pieces_of (as_contents s))
 as_pieces at p s =
     let tail : List Piece = slot_pieces (option_map as_report s.slot) in
-    let prios : List Piece = map prio_piece (as_list (option_map as_numbered s.prio)) ++ tail in
+    let prios : List Piece = map prio_piece (map as_numbered s.prios) ++ tail in
     let weight : ℕ = of_some (weight_checks at.fixed.me p.weights) (option_map as_object s.weight) in
-    let prio : ℕ = of_some (λ x. prio_checks at p.prio x.1) (option_map as_numbered s.prio) in
+    let prio : ℕ = prios_checks at p.prio (map as_numbered s.prios) in
     let slot : ℕ = of_some (slot_checks at.fixed.topology.nodes p.rel) s.slot in
     let one : slot ≡ checks_for at p false tail = slot_is at p s.slot in
-    let two : prio + checks_for at p false tail ≡ checks_for at p false prios = prio_is at p (option_map as_numbered s.prio) tail in
+    let two : prio + checks_for at p false tail ≡ checks_for at p false prios = prios_are at p (map as_numbered s.prios) tail in
     let three : weight + checks_for at p false prios ≡ frame_checks at p (pieces_of (as_contents s)) =
     weight_is at p (option_map as_object s.weight) (PrioAckPiece s.prio_ack ∷ prios) in
     omega (arith, one, two, three)
 
--- ---- at most four
+-- ---- going through the messages by their places
 
-one_at_most : (b : Bool) → one_if b ≤ 1
-one_at_most true = omega arith
-one_at_most false = omega arith
+pub prios_from : (at : Arrival) (s : PrioState) (ms : List (ℕ × ObjectRef)) (i : ℕ) (m : ℕ × ObjectRef) → slice_get ms i ≡ Some m
+    → prios_checks at s (map as_numbered (drop i ms)) ≡ prio_checks at s (as_object m.1) + prios_checks at s (map as_numbered (drop (i + 1) ms))
+prios_from at s ms i m there = ap (λ (xs : List (ℕ × ObjectRef)). prios_checks at s (map as_numbered xs)) (drop_first ms i m there)
 
-some_at_most : {A : Type 0} (checks : A → ℕ) (most : ℕ) (o : Option A) → ((a : A) → checks a ≤ most) → of_some checks o ≤ most
-some_at_most checks most None all = omega arith
-some_at_most checks most (Some a) all = all a
+pub rels_from : (moved : Bool) (keys : List NodeKey) (r : RelState) (flow : Flow) (os : List ObjectRef) (i : ℕ) (o : ObjectRef) → slice_get os i ≡ Some o
+    → rels_checks moved keys r flow (map as_object (drop i os))
+    ≡ rel_checks moved r flow (as_object o)
+    + rels_checks (moved || is_followed moved keys r flow (as_object o)) keys r flow (map as_object (drop (i + 1) os))
+rels_from moved keys r flow os i o there = ap (λ (xs : List ObjectRef). rels_checks moved keys r flow (map as_object xs)) (drop_first os i o there)
 
-two_at_most : (at : Arrival) (p : Parts) (s : Slot) → slot_checks at.fixed.topology.nodes p.rel s ≤ 2
-two_at_most at p s =
-    let ack : of_some (ack_checks p.rel s.flow) (option_map as_object s.ack) ≤ 1 =
-    some_at_most (ack_checks p.rel s.flow) 1 (option_map as_object s.ack) (λ o. one_at_most _) in
-    let acked : Bool = acked_by at.fixed.topology.nodes p.rel s.flow (option_map as_object s.ack) in
-    let rel : of_some (rel_checks acked p.rel s.flow) (option_map as_object s.rel) ≤ 1 =
-    some_at_most (rel_checks acked p.rel s.flow) 1 (option_map as_object s.rel) (λ o. one_at_most _) in
-    omega (arith, ack, rel)
+-- something that is ready comes before what is left where it came before this message, or this message is ready
+pub moved_on : (moved first on : Bool) → moved ≡ true → on ≡ moved → on ≡ (moved || first)
+moved_on true first on is same = same
+moved_on false first on is same = absurd (cc)
 
-pub at_most_four : (at : Arrival) (p : Parts) (s : Sections) → section_checks at p s ≤ 4
-at_most_four at p s =
-    let weight : of_some (weight_checks at.fixed.me p.weights) (option_map as_object s.weight) ≤ 1 =
-    some_at_most (weight_checks at.fixed.me p.weights) 1 (option_map as_object s.weight) (λ o. one_at_most _) in
-    let prio : of_some (λ x. prio_checks at p.prio x.1) (option_map as_numbered s.prio) ≤ 1 =
-    some_at_most (λ x. prio_checks at p.prio x.1) 1 (option_map as_numbered s.prio) (λ m. one_at_most _) in
-    let slot : of_some (slot_checks at.fixed.topology.nodes p.rel) s.slot ≤ 2 =
-    some_at_most (slot_checks at.fixed.topology.nodes p.rel) 2 s.slot (two_at_most at p) in
-    omega (arith, weight, prio, slot)
+pub moved_here : (moved first on : Bool) → moved ≡ false → on ≡ first → on ≡ (moved || first)
+moved_here false first on is same = same
+moved_here true first on is same = absurd (cc)
+
+-- the checks of one message, and then of those after it
+pub rels_then : (moved on : Bool) (keys kept : List NodeKey) (r : RelState) (flow : Flow) (os : List ObjectRef) (i : ℕ) (o : ObjectRef) (old between new : ℕ)
+    → slice_get os i ≡ Some o → on ≡ (moved || is_followed moved keys r flow (as_object o)) → kept ≡ keys
+    → between ≤ old + rel_checks moved r flow (as_object o) → new ≤ between + rels_checks on kept r flow (map as_object (drop (i + 1) os))
+    → new ≤ old + rels_checks moved keys r flow (map as_object (drop i os))
+rels_then moved on keys kept r flow os i o old between new there follows same one two =
+    let rest : List Kept = map as_object (drop (i + 1) os) in
+    let later = ap (λ (ks : List NodeKey). rels_checks on ks r flow rest) same ∙ ap (λ (b : Bool). rels_checks b keys r flow rest) follows in
+    let all = rels_from moved keys r flow os i o there in
+    omega (arith, one, two, later, all)

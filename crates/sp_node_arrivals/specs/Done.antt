@@ -17,7 +17,7 @@ pub record IsDone (done : Handled) (left : Parts) (answers : List Item) (before 
 
 -- the answers in their order
 abbrev pub slot_items : SlotAnswers → List Item
-slot_items a = as_list a.ack ++ as_list a.rel
+slot_items a = as_list a.ack ++ a.rels
 
 abbrev pub items_of : Answers → List Item
-items_of a = as_list a.weight ++ (as_list a.prio ++ slot_items a.slot)
+items_of a = as_list a.weight ++ (a.prios ++ slot_items a.slot)

@@ -3,3 +3,4 @@ pub mod Ready
 pub mod Work
 pub mod Done
 pub mod Admitted
+pub mod Rooms

@@ -1,6 +1,6 @@
 -- What is ready of each object before anything is taken: a copy with its memory. It is there exactly where the signature is right, wherever the
 -- object can be new when its turn comes; elsewhere nobody asks.
-use Rattle.std.specs.Prelude.{ℕ, ◌≡◌, Bool, true, false, List, Option, Some, IfSome, is_some, option_map}
+use Rattle.std.specs.Prelude.{ℕ, ◌≡◌, ◌||◌, Bool, true, false, List, [], ◌∷◌, map, Option, Some, IfSome, is_some, option_map}
 use Rattle.sp_base.specs.declared.id.Flow.{Flow}
 use Rattle.sp_base.specs.declared.id.NodeId.{NodeId}
 use Rattle.sp_frame.specs.Views.{as_numbered, as_object}
@@ -46,36 +46,51 @@ pub record IsAckReady (keys : List NodeKey) (r : RelState) (flow : Flow) (o : Ke
   pub seat : IfSome ready (λ a. IsSeated r flow a.1)
   pub right : judge_ack_of r flow o.body ≡ acks.New → is_some ready ≡ is_right keys o
 
--- whether a message that is judged so may be new when its turn comes: a new acknowledgement before it makes room, and may be of messages that
--- never came. It changes no end, and what is old or ahead stays so
-abbrev pub may_be_new : Bool → RelJudged → Bool
-may_be_new acked rels.BadEnd = false
-may_be_new acked rels.Old = false
-may_be_new acked rels.Ahead = false
-may_be_new acked rels.Gap = acked
-may_be_new acked rels.Full = acked
-may_be_new acked rels.InboxFull = acked
-may_be_new acked rels.New = true
+-- of messages one after another
+abbrev pub ArePriosReady : rules.Arrival → PrioState → List (ℕ × Kept) → List (Option Parcel) → Type 0
+ArePriosReady at s [] readies = readies ≡ []
+ArePriosReady at s (m ∷ ms) [] = ⊥
+ArePriosReady at s (m ∷ ms) (ready ∷ readies) = IsPrioReady at s m.1 ready × ArePriosReady at s ms readies
 
-pub record IsRelReady (acked : Bool) (keys : List NodeKey) (r : RelState) (flow : Flow) (o : Kept) (ready : Option (Kept × List ℕ × SeatState)) : Type 0 where
+-- whether a message that is judged so may be new when its turn comes, by whether something new comes before it in its slot. A new acknowledgement
+-- makes room, and may be of messages that never came; a new message is the one that a later message waits for. Neither changes an end, and what is
+-- old or ahead stays so
+abbrev pub may_be_new : Bool → RelJudged → Bool
+may_be_new moved rels.BadEnd = false
+may_be_new moved rels.Old = false
+may_be_new moved rels.Ahead = false
+may_be_new moved rels.Gap = moved
+may_be_new moved rels.Full = moved
+may_be_new moved rels.InboxFull = moved
+may_be_new moved rels.New = true
+
+pub record IsRelReady (moved : Bool) (keys : List NodeKey) (r : RelState) (flow : Flow) (o : Kept) (ready : Option (Kept × List ℕ × SeatState)) : Type 0 where
   pub copy : IfSome ready (λ m. m.0 ≡ o)
   pub payload : IfSome ready (λ m. m.1 ≡ payload_of o.body)
   pub seat : IfSome ready (λ m. IsSeated r flow m.2)
-  pub right : may_be_new acked (judge_rel_of r flow o.body) ≡ true → is_some ready ≡ is_right keys o
+  pub right : may_be_new moved (judge_rel_of r flow o.body) ≡ true → is_some ready ≡ is_right keys o
 
--- a message that was made ready before the acknowledgement of its slot is ready after it
+-- of messages one after another: each may be new where something before it is ready
+abbrev pub AreRelsReady : Bool → List NodeKey → RelState → Flow → List Kept → List (Option (Kept × List ℕ × SeatState)) → Type 0
+AreRelsReady moved keys r flow [] readies = readies ≡ []
+AreRelsReady moved keys r flow (o ∷ os) [] = ⊥
+AreRelsReady moved keys r flow (o ∷ os) (ready ∷ readies) =
+    IsRelReady moved keys r flow o ready × AreRelsReady (moved || is_some ready) keys r flow os readies
+
+-- a message that was made ready before an object of its slot is ready after it, whether that object was new or not
 abbrev pub StaysReady : Bool → List NodeKey → Flow → RelState → RelState → Type 0
-StaysReady acked keys flow old new =
-    (o : Kept) (ready : Option (Kept × List ℕ × SeatState)) → IsRelReady acked keys old flow o ready → IsRelReady false keys new flow o ready
+StaysReady new keys flow old left =
+    (moved : Bool) (o : Kept) (ready : Option (Kept × List ℕ × SeatState)) → IsRelReady (new || moved) keys old flow o ready
+    → IsRelReady moved keys left flow o ready
 
 -- ---- all objects of a frame
 
--- of a slot: its message may be new once its acknowledgement is, so only where that is ready
+-- of a slot: a message may be new once what comes before it is, so only where that is ready
 pub record IsSlotReady (keys : List NodeKey) (r : RelState) (slot : Slot) (ready : SlotReady) : Type 0 where
   pub acknowledgement : IfSome (option_map as_object slot.ack) (λ o. IsAckReady keys r slot.flow o ready.ack)
-  pub message : IfSome (option_map as_object slot.rel) (λ o. IsRelReady (is_some ready.ack) keys r slot.flow o ready.rel)
+  pub messages : AreRelsReady (is_some ready.ack) keys r slot.flow (map as_object slot.rels) ready.rels
 
 pub record IsReady (at : rules.Arrival) (p : Parts) (sections : Sections) (ready : Ready) : Type 0 where
   pub update : IfSome (option_map as_object sections.weight) (λ o. IsWeightReady at.fixed.me at.fixed.topology.nodes p.weights o ready.weight)
-  pub message : IfSome (option_map as_numbered sections.prio) (λ m. IsPrioReady at p.prio m.1 ready.prio)
+  pub messages : ArePriosReady at p.prio (map as_numbered sections.prios) ready.prios
   pub slot : IfSome sections.slot (λ s. IsSlotReady at.fixed.topology.nodes p.rel s ready.slot)

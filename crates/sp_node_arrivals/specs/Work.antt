@@ -1,5 +1,5 @@
 -- How many signatures may be checked for a frame: one for each object that may be new when its turn comes, and none else.
-use Rattle.std.specs.Prelude.{ℕ, ◌+◌, ◌&&◌, Bool, true, false, List, [], ◌∷◌, Option, None, Some, option_map}
+use Rattle.std.specs.Prelude.{ℕ, ◌+◌, ◌&&◌, ◌||◌, Bool, true, false, List, [], ◌∷◌, map, Option, None, Some, option_map}
 use Rattle.sp_base.specs.declared.id.Flow.{Flow}
 use Rattle.sp_base.specs.declared.id.NodeId.{NodeId}
 use Rattle.sp_frame.specs.Views.{as_numbered, as_object}
@@ -53,25 +53,30 @@ prio_checks at s o = one_if (is_new_prio (judge_prio s o.body at.now))
 abbrev pub ack_checks : RelState → Flow → Kept → ℕ
 ack_checks r flow o = one_if (is_new_ack (judge_ack_of r flow o.body))
 
--- a reliable message: it is new now, or may be new after the acknowledgement before it
+-- a reliable message: it is new now, or may be new after something new before it
 abbrev pub rel_checks : Bool → RelState → Flow → Kept → ℕ
-rel_checks acked r flow o = one_if (may_be_new acked (judge_rel_of r flow o.body))
+rel_checks moved r flow o = one_if (may_be_new moved (judge_rel_of r flow o.body))
 
 -- the acknowledgement is new: by its judgement and by its signature
 abbrev pub is_acked : List NodeKey → RelState → Flow → Kept → Bool
 is_acked keys r flow o = is_new_ack (judge_ack_of r flow o.body) && is_right keys o
 
+-- a reliable message may be new, by its judgement and by its signature, so what comes after it in its slot may be
+abbrev pub is_followed : Bool → List NodeKey → RelState → Flow → Kept → Bool
+is_followed moved keys r flow o = may_be_new moved (judge_rel_of r flow o.body) && is_right keys o
+
 -- ---- a frame
 
--- the checks for these pieces of a frame in their order, by the state before the frame, and by whether an acknowledgement before them in it is new
+-- the checks for these pieces of a frame in their order, by the state before the frame, and by whether something new comes before them in their slot
 abbrev pub checks_for : rules.Arrival → Parts → Bool → List Piece → ℕ
-checks_for at p acked [] = 0
-checks_for at p acked (WeightPiece o ∷ rest) = weight_checks at.fixed.me p.weights o + checks_for at p acked rest
-checks_for at p acked (PrioAckPiece number ∷ rest) = checks_for at p acked rest
-checks_for at p acked (PrioPiece number o ∷ rest) = prio_checks at p.prio o + checks_for at p acked rest
-checks_for at p acked (ReportPiece flow base have ∷ rest) = checks_for at p acked rest
-checks_for at p acked (AckPiece flow o ∷ rest) = ack_checks p.rel flow o + checks_for at p (is_acked at.fixed.topology.nodes p.rel flow o) rest
-checks_for at p acked (RelPiece flow o ∷ rest) = rel_checks acked p.rel flow o + checks_for at p acked rest
+checks_for at p moved [] = 0
+checks_for at p moved (WeightPiece o ∷ rest) = weight_checks at.fixed.me p.weights o + checks_for at p moved rest
+checks_for at p moved (PrioAckPiece number ∷ rest) = checks_for at p moved rest
+checks_for at p moved (PrioPiece number o ∷ rest) = prio_checks at p.prio o + checks_for at p moved rest
+checks_for at p moved (ReportPiece flow base have ∷ rest) = checks_for at p moved rest
+checks_for at p moved (AckPiece flow o ∷ rest) = ack_checks p.rel flow o + checks_for at p (is_acked at.fixed.topology.nodes p.rel flow o) rest
+checks_for at p moved (RelPiece flow o ∷ rest) =
+    rel_checks moved p.rel flow o + checks_for at p (moved || is_followed moved at.fixed.topology.nodes p.rel flow o) rest
 
 -- the checks for a whole frame
 abbrev pub frame_checks : rules.Arrival → Parts → List Piece → ℕ
@@ -87,13 +92,21 @@ abbrev pub acked_by : List NodeKey → RelState → Flow → Option Kept → Boo
 acked_by keys r flow None = false
 acked_by keys r flow (Some o) = is_acked keys r flow o
 
+abbrev pub rels_checks : Bool → List NodeKey → RelState → Flow → List Kept → ℕ
+rels_checks moved keys r flow [] = 0
+rels_checks moved keys r flow (o ∷ os) = rel_checks moved r flow o + rels_checks (moved || is_followed moved keys r flow o) keys r flow os
+
+abbrev pub prios_checks : rules.Arrival → PrioState → List (ℕ × Kept) → ℕ
+prios_checks at s [] = 0
+prios_checks at s (m ∷ ms) = prio_checks at s m.1 + prios_checks at s ms
+
 abbrev pub slot_checks : List NodeKey → RelState → Slot → ℕ
 slot_checks keys r slot =
     of_some (ack_checks r slot.flow) (option_map as_object slot.ack)
-    + of_some (rel_checks (acked_by keys r slot.flow (option_map as_object slot.ack)) r slot.flow) (option_map as_object slot.rel)
+    + rels_checks (acked_by keys r slot.flow (option_map as_object slot.ack)) keys r slot.flow (map as_object slot.rels)
 
 abbrev pub section_checks : rules.Arrival → Parts → Sections → ℕ
 section_checks at p sections =
     of_some (weight_checks at.fixed.me p.weights) (option_map as_object sections.weight)
-    + of_some (λ m. prio_checks at p.prio m.1) (option_map as_numbered sections.prio)
+    + prios_checks at p.prio (map as_numbered sections.prios)
     + of_some (slot_checks at.fixed.topology.nodes p.rel) sections.slot

@@ -1,16 +1,19 @@
-// Taking what was made ready: the update, the acknowledged link number, the priority message, and the slot. No call here can fail.
-ghost use Rattle.std.specs.Prelude.{◌≡◌, ◌≤◌, ◌<◌, ◌+◌, ◌*◌, ◌^◌, [], ◌∷◌, All, IfSome, length, map, option_map};
+// Taking what was made ready: the update, the acknowledged link number, the priority messages, and the slot. No call here can fail.
+ghost use Rattle.std.specs.Prelude.{◌≡◌, ◌≤◌, ◌+◌, ◌-◌, ◌*◌, [], ◌∷◌, IfSome, drop, length, map, option_map};
+ghost use Rattle.sp_base.specs.declared.limits.TheConstants.{MAX_MESSAGES};
 ghost use Rattle.sp_frame.specs.Views.{as_contents, as_list, as_numbered, as_object};
 ghost use Rattle.sp_rules.specs.Handle.{handle_all};
-ghost use Rattle.sp_rules.specs.Pieces.{PrioAckPiece, PrioPiece, WeightPiece, pieces_of, prio_piece};
+ghost use Rattle.sp_rules.specs.Pieces.{PrioPiece, WeightPiece, pieces_of, prio_piece};
 ghost use Rattle.sp_node_arrivals.specs.Done.{IsDone, items_of};
 ghost use Rattle.sp_node_arrivals.specs.Arrival.{as_arrival};
 ghost use Rattle.sp_node_core.specs.Format.{format};
-ghost use Rattle.sp_node_arrivals.specs.Ready.{IsPrioReady, IsReady, IsWeightReady};
+ghost use Rattle.sp_node_arrivals.specs.Ready.{ArePriosReady, IsPrioReady, IsReady, IsWeightReady};
+ghost use Rattle.sp_node_arrivals.specs.Rooms.{HasIds, HasRoom, frame_room, prio_room};
 
 use crate::answers::Answers;
 use crate::slot::admit_slot;
 use crate::{Arrival, Ready, recall};
+use sp_base::Four;
 use sp_frame::{ObjectRef, Sections};
 use sp_msg::{Effects, Kept};
 use sp_node_core::Core;
@@ -26,18 +29,26 @@ pub(crate) fn admit(
     out: &mut Effects,
 ) -> Answers
     requires ready { IsReady (as_arrival at.now) core.old sections.now ready }
-    requires inbox { core.old.prio.inbox.last < 2 ^ 63 }
-    requires stores { All (λ q. q.store.last < 2 ^ 63) core.old.prio.peers }
-    requires room { 2 * length core.old.prio.peers + 6 ≤ out.old.room }
+    requires ids { HasIds MAX_MESSAGES core.old.prio }
+    requires room { frame_room core.old.prio ≤ out.old.room }
     ensures { IsDone
         (handle_all format (as_arrival at.now) core.old (pieces_of (as_contents sections.now)))
         core.new (items_of result) out.old out.new }
 {
-    let Ready { weight, prio, slot } = ready;
+    let Ready {
+        weight,
+        prios,
+        slot,
+    } = ready;
     let weight = admit_weights(at, core, &sections.weight, weight, out);
-    let prio = admit_prios(at, core, sections.prio_ack, &sections.prio, prio, out);
+    core.admit_prio_ack(at.from, sections.prio_ack, out);
+    let prios = admit_prios(at, core, &sections.prios, 0, prios, out);
     let slot = admit_slot(at, core, &sections.slot, slot, out);
-    Answers { weight, prio, slot }
+    Answers {
+        weight,
+        prios,
+        slot,
+    }
 }
 
 fn admit_weights(
@@ -85,29 +96,33 @@ fn admit_weight(
     Item::Weight(answer)
 }
 
+/// The priority messages from this place on.
 fn admit_prios(
     at: &Arrival<'_>,
     core: &mut Core,
-    prio_ack: u64,
-    prio: &Option<(u64, ObjectRef<'_>)>,
-    ready: Option<Parcel>,
+    prios: &Four<(u64, ObjectRef<'_>)>,
+    place: usize,
+    ready: Four<Option<Parcel>>,
     out: &mut Effects,
-) -> Option<Item>
-    requires ready { IfSome (option_map as_numbered prio.now) (λ m. IsPrioReady (as_arrival at.now) core.old.prio m.1 ready) }
-    requires inbox { core.old.prio.inbox.last < 2 ^ 63 }
-    requires stores { All (λ q. q.store.last < 2 ^ 63) core.old.prio.peers }
-    requires room { 2 * length core.old.prio.peers + 4 ≤ out.old.room }
+) -> Four<Item>
+    requires ready { ArePriosReady (as_arrival at.now) core.old.prio (map as_numbered (drop place prios.now)) ready }
+    requires room { HasRoom (MAX_MESSAGES - place) core.old.prio out.old.room }
     ensures done { IsDone
-        (handle_all format (as_arrival at.now) core.old (PrioAckPiece prio_ack ∷ map prio_piece (as_list (option_map as_numbered prio.now))))
-        core.new (as_list result) out.old out.new }
+        (handle_all format (as_arrival at.now) core.old (map prio_piece (map as_numbered (drop place prios.now))))
+        core.new result out.old out.new }
+    ensures many { length result ≡ length prios.now - place }
     ensures rel { core.new.rel ≡ core.old.rel }
-    ensures room { out.old.room ≤ out.new.room + (2 * length core.old.prio.peers + 4) }
+    ensures room { out.old.room ≤ out.new.room + (MAX_MESSAGES - place) * prio_room core.old.prio }
 {
-    core.admit_prio_ack(at.from, prio_ack, out);
-    match prio {
-        Some((number, object)) => Some(admit_prio(at, core, *number, object, ready, out)),
-        None => None,
-    }
+    let Some((first, others)) = ready.split() else {
+        return Four::new();
+    };
+    let Some((number, object)) = prios.get(place) else {
+        unreachable!()
+    };
+    let item = admit_prio(at, core, *number, object, first, out);
+    let items = admit_prios(at, core, prios, place + 1, others, out);
+    items.led_by(item)
 }
 
 fn admit_prio(
@@ -119,14 +134,13 @@ fn admit_prio(
     out: &mut Effects,
 ) -> Item
     requires ready { IsPrioReady (as_arrival at.now) core.old.prio (as_object object.now) ready }
-    requires inbox { core.old.prio.inbox.last < 2 ^ 63 }
-    requires stores { All (λ q. q.store.last < 2 ^ 63) core.old.prio.peers }
-    requires room { 2 * length core.old.prio.peers + 3 ≤ out.old.room }
+    requires ids { HasIds 1 core.old.prio }
+    requires room { prio_room core.old.prio ≤ out.old.room }
     ensures done { IsDone
         (handle_all format (as_arrival at.now) core.old (PrioPiece number (as_object object.now) ∷ []))
         core.new (result ∷ []) out.old out.new }
     ensures rel { core.new.rel ≡ core.old.rel }
-    ensures room { out.old.room ≤ out.new.room + (2 * length core.old.prio.peers + 3) }
+    ensures room { out.old.room ≤ out.new.room + prio_room core.old.prio }
 {
     recall(object);
     let answer = core.admit_prio(at.time, at.from, number, object, ready, out);

@@ -10,6 +10,7 @@ mod ready;
 mod signed;
 mod slot;
 
+pub use answers::MOST_OBJECTS;
 pub use arrival::Arrival;
 pub use arriving::{Arrived, arrive};
 pub use ready::{Ready, SlotReady, make_ready};

@@ -1,5 +1,6 @@
-// Taking a slot: its report, its acknowledgement, its message.
-ghost use Rattle.std.specs.Prelude.{◌≤◌, [], ◌∷◌, false, IfSome, is_some, map, option_map};
+// Taking a slot: its report, its acknowledgement, its messages.
+ghost use Rattle.std.specs.Prelude.{◌≡◌, ◌≤◌, ◌+◌, ◌-◌, [], ◌∷◌, false, IfSome, drop, is_some, length, map, option_map};
+ghost use Rattle.sp_base.specs.declared.limits.TheConstants.{MAX_MESSAGES};
 ghost use Rattle.sp_frame.specs.Views.{as_list, as_object, as_report};
 ghost use Rattle.sp_msg.specs.Caused.{Caused};
 ghost use Rattle.sp_rules.specs.Handle.{handle_all};
@@ -7,11 +8,11 @@ ghost use Rattle.sp_rules.specs.Pieces.{AckPiece, RelPiece, slot_pieces};
 ghost use Rattle.sp_node_arrivals.specs.Done.{IsDone, slot_items};
 ghost use Rattle.sp_node_arrivals.specs.Arrival.{as_arrival};
 ghost use Rattle.sp_node_core.specs.Format.{format};
-ghost use Rattle.sp_node_arrivals.specs.Ready.{IsAckReady, IsRelReady, IsSlotReady, StaysReady};
+ghost use Rattle.sp_node_arrivals.specs.Ready.{AreRelsReady, IsAckReady, IsRelReady, IsSlotReady, StaysReady};
 
 use crate::answers::SlotAnswers;
 use crate::{Arrival, SlotReady, recall};
-use sp_base::{Bytes, Flow};
+use sp_base::{Bytes, Flow, Four};
 use sp_frame::{ObjectRef, Slot};
 use sp_msg::{Effects, Kept};
 use sp_node_core::Core;
@@ -27,17 +28,28 @@ pub(crate) fn admit_slot(
     out: &mut Effects,
 ) -> SlotAnswers
     requires ready { IfSome slot.now (λ s. IsSlotReady at.now.fixed.now.topology.nodes core.old.rel s ready) }
-    requires room { 1 ≤ out.old.room }
+    requires room { MAX_MESSAGES ≤ out.old.room }
     ensures { IsDone
         (handle_all format (as_arrival at.now) core.old (slot_pieces (option_map as_report slot.now)))
         core.new (slot_items result) out.old out.new }
 {
     match slot {
         Some(slot) => admit_report(at, core, slot, ready, out),
-        None => SlotAnswers {
-            ack: None,
-            rel: None,
-        },
+        None => {
+            let SlotReady { ack: _, rels } = ready;
+            leave(rels);
+            SlotAnswers {
+                ack: None,
+                rels: Four::new(),
+            }
+        }
+    }
+}
+
+/// Lets go what was made ready, one after another.
+fn leave(ready: Four<Option<(Kept, Bytes, Seat)>>) {
+    if let Some((_, others)) = ready.split() {
+        leave(others);
     }
 }
 
@@ -49,16 +61,16 @@ fn admit_report(
     out: &mut Effects,
 ) -> SlotAnswers
     requires ready { IsSlotReady at.now.fixed.now.topology.nodes core.old.rel slot.now ready }
-    requires room { 1 ≤ out.old.room }
+    requires room { MAX_MESSAGES ≤ out.old.room }
     ensures { IsDone
         (handle_all format (as_arrival at.now) core.old (slot_pieces (option_map as_report (Some slot.now))))
         core.new (slot_items result) out.old out.new }
 {
-    let SlotReady { ack, rel } = ready;
+    let SlotReady { ack, rels } = ready;
     core.admit_report(at.from, slot.flow, slot.base, slot.have);
     let ack = admit_acks(at, core, slot.flow, &slot.ack, ack);
-    let rel = admit_rels(at, core, slot.flow, &slot.rel, rel, out);
-    SlotAnswers { ack, rel }
+    let rels = admit_rels(at, core, slot.flow, &slot.rels, 0, rels, out);
+    SlotAnswers { ack, rels }
 }
 
 fn admit_acks(
@@ -98,24 +110,32 @@ fn admit_ack(
     Item::Ack(answer)
 }
 
+/// The messages from this place on.
 fn admit_rels(
     at: &Arrival<'_>,
     core: &mut Core,
     flow: Flow,
-    rel: &Option<ObjectRef<'_>>,
-    ready: Option<(Kept, Bytes, Seat)>,
+    rels: &Four<ObjectRef<'_>>,
+    place: usize,
+    ready: Four<Option<(Kept, Bytes, Seat)>>,
     out: &mut Effects,
-) -> Option<Item>
-    requires ready { IfSome (option_map as_object rel.now) (λ o. IsRelReady false at.now.fixed.now.topology.nodes core.old.rel flow o ready) }
-    requires room { 1 ≤ out.old.room }
-    ensures { IsDone
-        (handle_all format (as_arrival at.now) core.old (map (RelPiece flow) (as_list (option_map as_object rel.now))))
-        core.new (as_list result) out.old out.new }
+) -> Four<Item>
+    requires ready { AreRelsReady false at.now.fixed.now.topology.nodes core.old.rel flow (map as_object (drop place rels.now)) ready }
+    requires room { MAX_MESSAGES - place ≤ out.old.room }
+    ensures done { IsDone
+        (handle_all format (as_arrival at.now) core.old (map (RelPiece flow) (map as_object (drop place rels.now))))
+        core.new result out.old out.new }
+    ensures many { length result ≡ length rels.now - place }
 {
-    match rel {
-        Some(object) => Some(admit_rel(at, core, flow, object, ready, out)),
-        None => None,
-    }
+    let Some((first, others)) = ready.split() else {
+        return Four::new();
+    };
+    let Some(object) = rels.get(place) else {
+        unreachable!()
+    };
+    let item = admit_rel(at, core, flow, object, first, out);
+    let items = admit_rels(at, core, flow, rels, place + 1, others, out);
+    items.led_by(item)
 }
 
 fn admit_rel(
@@ -128,9 +148,11 @@ fn admit_rel(
 ) -> Item
     requires ready { IsRelReady false at.now.fixed.now.topology.nodes core.old.rel flow (as_object object.now) ready }
     requires room { 1 ≤ out.old.room }
-    ensures { IsDone
+    ensures done { IsDone
         (handle_all format (as_arrival at.now) core.old (RelPiece flow (as_object object.now) ∷ []))
         core.new (result ∷ []) out.old out.new }
+    ensures stays { StaysReady (is_some ready) at.now.fixed.now.topology.nodes flow core.old.rel core.new.rel }
+    ensures room { out.old.room ≤ out.new.room + 1 }
 {
     recall(object);
     let answer = core.admit_rel(flow, object, ready, out);

@@ -1,20 +1,21 @@
 -- A frame that a node makes is read back: its length first, and then each part where it was put.
-use Rattle.std.proofs.Common.{◌≡◌, ◌<◌, ◌≤◌, ℕ, ◌+◌, ◌-◌, ◌^◌, ◌==◌, ◌&&◌, ◌||◌, Bool, true, false, List, [], ◌∷◌, ◌++◌, length, take, drop, flat_map, Option, Some, None, Ok, nat_eq, append_assoc, length-append, refl, sym, ap, ap₂, ◌∙◌, subst, arith, cond}
-use Rattle.std.specs.Prelude.{IfSome, IsTrue}
+use Rattle.std.proofs.Common.{◌≡◌, ◌≤◌, ℕ, ◌+◌, ◌-◌, ◌*◌, ◌||◌, Bool, true, false, List, [], ◌∷◌, ◌++◌, length, drop, flat_map, Option, Some, None, Ok, nat_eq, append_assoc, length-append, refl, sym, ap, ap₂, ◌∙◌, subst, arith, cond}
+use Rattle.std.specs.Prelude.{IfSome}
 use Rattle.std.specs.List.{All, list_any}
 use Rattle.std.specs.Cmp.Lexicographic.{pointwise}
 use Rattle.std.proofs.lemmas.Bool.Decides.{nat_tests}
 use Rattle.std.proofs.lemmas.List.{drop_at, take_at}
 use Rattle.std.proofs.lemmas.List.Elements.{All-head, All-tail}
-use Rattle.byteorder.specs.Endian.{big_bytes, big_number}
+use Rattle.byteorder.specs.Endian.{big_bytes}
 use Rattle.sha2.proofs.Facts256.{length-sha256}
 use Rattle.sp_base.specs.Rows.{first_where}
 use Rattle.sp_base.specs.declared.id.NodeId.{NodeId}
+use Rattle.sp_base.specs.declared.limits.TheConstants.{MAX_MESSAGES}
 use Rattle.sp_node_core.specs.Format.{format}
 use Rattle.sp_frame.proofs.HeadLemmas.{head_is_read}
 use Rattle.sp_frame.proofs.SectionLemmas.{spelled_is_read}
-use Rattle.sp_frame.specs.Frames.{ends_bytes, head_bytes, head_of, numbers_bytes, opened, sections_part, signed_part, tag_part}
-use Rattle.sp_frame.specs.Grammar.{counted_bytes, flagged_bytes}
+use Rattle.sp_frame.specs.Frames.{ends_bytes, head_bytes, head_of, numbers_bytes, opened, signed_part, tag_part}
+use Rattle.sp_frame.specs.Grammar.{counted_bytes}
 use Rattle.sp_frame.specs.Objects.{IsObject, object_bytes}
 use Rattle.sp_frame.specs.Prioritized.{numbered_bytes, prios_bytes}
 use Rattle.sp_frame.specs.Ranges.{IsContents, IsHead, IsNumbered, IsReport}
@@ -24,16 +25,14 @@ use Rattle.sp_frame.specs.Weights.{weights_bytes}
 use Rattle.sp_frame.specs.declared.head.Head.{Head}
 use Rattle.sp_frame.specs.declared.kind.Kind.{Kind}
 use Rattle.sp_frame.specs.declared.kind.Kind.TheVariants as kinds
-use Rattle.sp_hmac.specs.Hmac.{block_hmac, hmac, key_block}
+use Rattle.sp_hmac.specs.Hmac.{block_hmac, hmac}
 use Rattle.sp_msg.specs.Bodies.{HasGoodFields, encoded}
 use Rattle.sp_msg.specs.declared.body.Body.{Body}
 use Rattle.sp_msg.specs.declared.body.Body.TheVariants as bodies
 use Rattle.sp_msg.specs.declared.kept.Kept.{Kept}
-use Rattle.sp_rules.specs.Arts.{is_right}
-use Rattle.sp_rules.specs.Link.{Link, new_link, next_head}
+use Rattle.sp_rules.specs.Link.{new_link, next_head}
 use Rattle.sp_rules.specs.Node.{NodeState, is_link, is_neighbour, link_in}
-use Rattle.sp_rules.specs.Parts.{is_signed}
-use Rattle.sp_rules.specs.Polls.{contents_to, frame_to, untagged}
+use Rattle.sp_rules.specs.Polls.{contents_to}
 use Rattle.sp_topology.specs.declared.topology.LmsHeight.TheVariants as heights
 use Rattle.laws_node.proofs.Frames.{frames_fit}
 use Rattle.laws_node.specs.Nodes.{IsKept, LinkHolds}
@@ -78,14 +77,18 @@ numbered_len : (len : ℕ) → len ≤ most_signature → (m : ℕ × Kept) → 
 unfolding numbered_bytes
 numbered_len len small m is = let one = object_len kinds.Prio len small m.1 is.object in omega (arith, one)
 
-few_len : {X : Type 0} (P : X → Type 0) (spell : X → List ℕ) (most : ℕ) → ((x : X) → P x → length (spell x) ≤ most) → (xs : List X) → All P xs → length xs ≤ 1
-    → length (counted_bytes spell xs) ≤ most + 1
-few_len P spell most each [] all few = omega arith
-few_len P spell most each (x ∷ []) all few =
-    let one = each x (All-head P x [] all) in
-    let alone : length (flat_map spell (x ∷ [])) ≡ length (spell x) + 0 = length-append (spell x) [] in
-    omega (arith, one, alone)
-few_len P spell most each (x ∷ y ∷ ys) all few = absurd (omega (arith, few))
+all_len : {X : Type 0} (P : X → Type 0) (spell : X → List ℕ) (each_most : ℕ) → ((x : X) → P x → length (spell x) ≤ each_most) → (xs : List X) → All P xs
+    → length (flat_map spell xs) ≤ each_most * length xs
+all_len P spell each_most each [] all = omega arith
+all_len P spell each_most each (x ∷ xs) all =
+    let one = each x (All-head P x xs all) in
+    let others = all_len P spell each_most each xs (All-tail P x xs all) in
+    let together = length-append (spell x) (flat_map spell xs) in
+    grind (arith, one, others, together)
+
+counted_len : {X : Type 0} (P : X → Type 0) (spell : X → List ℕ) (each_most : ℕ) → ((x : X) → P x → length (spell x) ≤ each_most) → (xs : List X) → All P xs
+    → length (counted_bytes spell xs) ≤ each_most * length xs + 1
+counted_len P spell each_most each xs all = let spelled = all_len P spell each_most each xs all in omega (arith, spelled)
 
 ack_len : (len : ℕ) → len ≤ most_signature → (o : Option Kept) → IfSome o (IsObject kinds.Ack len) → length (ack_bytes o) ≤ 6143
 unfolding ack_bytes
@@ -104,36 +107,42 @@ place_len : (r : Report) → length (place_bytes r) ≡ 18
 unfolding place_bytes
 place_len r = omega arith
 
-rels_len : (len : ℕ) → len ≤ most_signature → (rs : List Kept) → All (IsObject kinds.Rel len) rs → length rs ≤ 1 → length (rels_bytes rs) ≤ 6143
+rels_len : (len : ℕ) → len ≤ most_signature → (rs : List Kept) → All (IsObject kinds.Rel len) rs → length rs ≤ MAX_MESSAGES → length (rels_bytes rs) ≤ 24569
 unfolding rels_bytes
-rels_len len small rs all few = few_len (IsObject kinds.Rel len) object_bytes 6142 (object_len kinds.Rel len small) rs all few
+rels_len len small rs all few =
+    let counted = counted_len (IsObject kinds.Rel len) object_bytes 6142 (object_len kinds.Rel len small) rs all in
+    omega (arith, few, counted)
 
-report_len : (len : ℕ) → len ≤ most_signature → (r : Report) → IsReport len r → length (report_bytes r) ≤ 12304
+report_len : (len : ℕ) → len ≤ most_signature → (r : Report) → IsReport len r → length (report_bytes r) ≤ 30730
 unfolding report_bytes
 report_len len small r is =
-    subst (λ (k : ℕ). k ≤ 12304) (sym (three (place_bytes r) (ack_bytes r.ack) (rels_bytes r.rels)))
+    subst (λ (k : ℕ). k ≤ 30730) (sym (three (place_bytes r) (ack_bytes r.ack) (rels_bytes r.rels)))
     (let place = place_len r in let acks = ack_len len small r.ack is.ack in let rels = rels_len len small r.rels is.rels is.few in omega (arith, place, acks, rels))
 
-slot_len : (len : ℕ) → len ≤ most_signature → (s : Option Report) → IfSome s (IsReport len) → length (slot_bytes s) ≤ 12305
+slot_len : (len : ℕ) → len ≤ most_signature → (s : Option Report) → IfSome s (IsReport len) → length (slot_bytes s) ≤ 30731
 unfolding slot_bytes
 slot_len len small None is = omega arith
 slot_len len small (Some r) is = let one = report_len len small r is in omega (arith, one)
 
 weights_len : (len : ℕ) → len ≤ most_signature → (os : List Kept) → All (IsObject kinds.Weight len) os → length os ≤ 1 → length (weights_bytes os) ≤ 6143
 unfolding weights_bytes
-weights_len len small os all few = few_len (IsObject kinds.Weight len) object_bytes 6142 (object_len kinds.Weight len small) os all few
+weights_len len small os all few =
+    let counted = counted_len (IsObject kinds.Weight len) object_bytes 6142 (object_len kinds.Weight len small) os all in
+    omega (arith, few, counted)
 
-prios_len : (len : ℕ) → len ≤ most_signature → (ms : List (ℕ × Kept)) → All (IsNumbered len) ms → length ms ≤ 1 → length (prios_bytes ms) ≤ 6151
+prios_len : (len : ℕ) → len ≤ most_signature → (ms : List (ℕ × Kept)) → All (IsNumbered len) ms → length ms ≤ MAX_MESSAGES → length (prios_bytes ms) ≤ 24601
 unfolding prios_bytes
-prios_len len small ms all few = few_len (IsNumbered len) numbered_bytes 6150 (numbered_len len small) ms all few
+prios_len len small ms all few =
+    let counted = counted_len (IsNumbered len) numbered_bytes 6150 (numbered_len len small) ms all in
+    omega (arith, few, counted)
 
 eight_bytes : (n : ℕ) → length (big_bytes 8 n) ≡ 8
 eight_bytes n = omega arith
 
-sections_len : (len : ℕ) → len ≤ most_signature → (s : Contents) → IsContents len s → length (sections_bytes s) ≤ 24607
+sections_len : (len : ℕ) → len ≤ most_signature → (s : Contents) → IsContents len s → length (sections_bytes s) ≤ 61483
 unfolding sections_bytes
 sections_len len small s is =
-    subst (λ (k : ℕ). k ≤ 24607) (sym (four (weights_bytes s.weights) (big_bytes 8 s.prio_ack) (prios_bytes s.prios) (slot_bytes s.slot)))
+    subst (λ (k : ℕ). k ≤ 61483) (sym (four (weights_bytes s.weights) (big_bytes 8 s.prio_ack) (prios_bytes s.prios) (slot_bytes s.slot)))
     (let one = weights_len len small s.weights is.weights is.few_weights in
     let two = eight_bytes s.prio_ack in
     let more = prios_len len small s.prios is.prios is.few_prios in

@@ -1,5 +1,6 @@
 // Taking the objects of a frame: each judged by its part, and kept where it is new. No call here takes memory, so none can fail.
 ghost use Rattle.std.specs.Prelude.{◌≡◌, ◌≤◌, ◌<◌, ◌+◌, ◌*◌, ◌^◌, Some, All, IfSome, is_some, length};
+ghost use Rattle.sp_base.specs.declared.limits.TheConstants.{MAX_MESSAGES};
 ghost use Rattle.sp_frame.specs.Views.{as_object};
 ghost use Rattle.sp_msg.specs.Bodies.{HasGoodFields, payload_of};
 ghost use Rattle.sp_msg.specs.Views.{as_body};
@@ -70,9 +71,10 @@ impl Core {
 
     /// The neighbour heard the priority messages of this node up to this link number.
     pub fn admit_prio_ack(&mut self, from: NodeId, number: u64, out: &mut Effects)
-        requires room { 1 ≤ out.old.room }
+        requires room { MAX_MESSAGES ≤ out.old.room }
         ensures parts { self.new ≡ record self.old { prio = acked self.old.prio from.0 number } }
         ensures told { out.new ≡ told out.old (acked_effects self.old.prio from.0 number) }
+        ensures room { out.old.room ≤ out.new.room + MAX_MESSAGES }
     {
         self.prio.acked(from, number, out);
     }

@@ -1,3 +1,4 @@
+pub mod FlightLemmas
 pub mod MappedLemmas
 pub mod RowLemmas
 pub mod TellLemmas

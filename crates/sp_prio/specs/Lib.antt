@@ -3,3 +3,4 @@ pub mod Parcel
 pub mod Spare
 pub mod Sound
 pub mod Given
+pub mod Flight

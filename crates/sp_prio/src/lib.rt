@@ -2,6 +2,7 @@
 #![tactic(auto)]
 
 mod field;
+mod flight;
 mod parcel;
 mod peer;
 mod place;

@@ -1,31 +1,32 @@
-// What the priority part keeps of one neighbour: what waits for it, and which message is in flight.
-ghost use Rattle.std.specs.Prelude.{◌≡◌, ◌<◌, ◌≤◌, ◌+◌, ◌^◌, ◌↔◌, IfOk, IsTrue, length, option_map};
-ghost use Rattle.std.specs.Option.{option_copied};
+// What the priority part keeps of one neighbour: what waits for it, and what is in flight.
+ghost use Rattle.std.specs.Prelude.{◌≡◌, ◌<◌, ◌≤◌, ◌+◌, ◌-◌, ◌^◌, ◌↔◌, IfOk, IsTrue, length, map};
+ghost use Rattle.sp_base.specs.declared.limits.TheConstants.{MAX_MESSAGES};
+ghost use Rattle.sp_rules.specs.Polls.{as_message};
 ghost use Rattle.sp_rules.specs.Prio.{is_peer};
-ghost use Rattle.sp_rules.specs.PrioPeer.{acked, acked_effects, carried, expired, expired_effects, flying, goes_to, heard, new_peer, next_prio, put_effects};
+ghost use Rattle.sp_rules.specs.PrioPeer.{acked, acked_effects, carried, expired, expired_effects, filled, goes_to, heard, new_peer, next_prios, put_effects};
+ghost use Rattle.sp_prio.specs.Flight.{with_flight};
 ghost use Rattle.sp_prio.specs.Given.{goes_along};
 ghost use Rattle.sp_rules.specs.Store as stores;
 ghost use Rattle.sp_rules.specs.Told.{told};
 
-use crate::field::{mask_of, src_of};
+use crate::field::mask_of;
+use crate::flight::{Flight, land_from, messages_from};
 use crate::place;
-use sp_base::{Cursor, EdgeId, Memory, NodeId};
-use sp_msg::{Body, Effects, Kept, Mask, Why, mask_has};
-use sp_rules::{Entry, Neighbour};
+use sp_base::{EdgeId, Four, MAX_MESSAGES, Memory, NodeId};
+use sp_msg::{Body, Effects, Kept, Mask, mask_has};
+use sp_rules::Neighbour;
 use sp_store::Store;
 use std::alloc::Global;
 use std::marker::Model;
 
-/// A neighbour, the edge to it, its store, the link numbers that were given and heard, whose turn it was, and the entry in flight.
+/// A neighbour, the edge to it, its store, the greatest link number that was heard from it, and what is in flight to it.
 #[derive(Debug, Drop)]
 pub struct Peer {
     id: NodeId,
     edge: EdgeId,
     store: Store,
-    number: u64,
     heard: u64,
-    cursor: Cursor,
-    flight: Option<u64>,
+    flight: Flight,
 }
 
 impl Model for Peer {
@@ -34,9 +35,17 @@ impl Model for Peer {
 
     ghost Value = { PrioPeer };
 
-    ghost view = { λ p. record { peer = p.id.0; edge = p.edge.0; store = p.store; number = p.number; heard = p.heard; last = p.cursor; flight = p.flight } };
+    ghost view = { λ p. record {
+      peer = p.id.0;
+      edge = p.edge.0;
+      store = p.store;
+      heard = p.heard;
+      number = p.flight.number;
+      last = p.flight.cursor;
+      flight = p.flight.pairs;
+    } };
 
-    ghost invariant = { λ p. p.number ≤ 2 ^ 63 };
+    ghost invariant = { λ p. p.flight.number ≤ 2 ^ 63 };
 }
 
 impl Peer {
@@ -48,10 +57,8 @@ impl Peer {
             id: neighbour.id,
             edge: neighbour.edge,
             store: Store::new(alloc, capacity)?,
-            number: 0,
             heard: 0,
-            cursor: Cursor::start(),
-            flight: None,
+            flight: Flight::start(),
         })
     }
 
@@ -90,60 +97,54 @@ impl Peer {
         place::put(&mut self.store, self.id.0, kept, out);
     }
 
-    /// The entry in flight. None where there is none, or it left the store.
-    pub fn flying(&self) -> Option<&Entry>
-        ensures { option_copied result ≡ flying self.now }
+    /// What a poll carries: the messages in flight with their link numbers, with as many more of them as may be, and as there are.
+    pub fn messages(&self) -> Four<(u64, &Kept)>
+        ensures { map (λ p. (p.0, p.1.now)) result ≡ map as_message (next_prios self.now) }
     {
-        match self.flight {
-            Some(id) => self.store.get(id),
-            None => None,
-        }
-    }
-
-    /// What a poll carries, with its link number.
-    pub fn next(&self) -> Option<(u64, &Entry)>
-        ensures { option_map (λ p. (p.0, p.1.now)) result ≡ next_prio self.now }
-    {
-        match self.flying() {
-            Some(entry) => Some((self.number, entry)),
-            None => match self.store.next_for(&self.cursor) {
-                Some(entry) => Some((self.number + 1, entry)),
-                None => None,
-            },
-        }
+        let flight = self.carried();
+        messages_from(&self.store, &flight.pairs, 0)
     }
 
     /// Puts what a poll carries in flight, where it isn't yet.
     pub fn carry(&mut self)
-        requires { self.old.number < 2 ^ 63 }
+        requires { self.old.number + MAX_MESSAGES ≤ 2 ^ 63 }
         ensures { self.new ≡ carried self.old }
     {
-        if self.flying().is_some() {
-            return;
+        self.flight = self.carried();
+    }
+
+    /// What is in flight once a poll was made.
+    fn carried(&self) -> Flight
+        ensures row { with_flight self.now result ≡ carried self.now }
+        ensures number { result.number ≤ self.now.number + MAX_MESSAGES }
+    {
+        self.filled(self.flight.settled(&self.store))
+    }
+
+    /// This flight with as many more in it as may be, and as there are.
+    fn filled(&self, flight: Flight) -> Flight
+        requires { flight.number + MAX_MESSAGES < 2 ^ 64 + length flight.pairs }
+        ensures row { with_flight self.now result ≡ filled (MAX_MESSAGES - length flight.pairs) (with_flight self.now flight) }
+        ensures number { result.number + length flight.pairs ≤ flight.number + MAX_MESSAGES }
+    {
+        if flight.pairs.len() == MAX_MESSAGES {
+            return flight;
         }
-        if let Some(entry) = self.store.next_for(&self.cursor) {
-            let src = src_of(&entry.kept.body);
-            self.flight = Some(entry.id);
-            self.number += 1;
-            self.cursor.moved(src as usize);
+        match self.store.next_besides(&flight.cursor, &flight.pairs) {
+            Some(entry) => self.filled(flight.launched(entry)),
+            None => flight,
         }
     }
 
     /// The neighbour acknowledged all link numbers up to this one.
     pub fn acked(&mut self, number: u64, out: &mut Effects)
-        requires { 1 ≤ out.old.room }
+        requires { MAX_MESSAGES ≤ out.old.room }
         ensures row { self.new ≡ acked self.old number }
         ensures told { out.new ≡ told out.old (acked_effects self.old number) }
+        ensures room { out.old.room ≤ out.new.room + MAX_MESSAGES }
     {
-        if number < self.number {
-            return;
-        }
-        if let Some(id) = self.flight {
-            self.flight = None;
-            if let Some(entry) = self.store.remove(id) {
-                place::tell_gone(self.id.0, &entry, Why::Acked, out);
-            }
-        }
+        let peer = self.id.0;
+        self.flight.pairs = land_from(&self.flight.pairs, 0, number, &mut self.store, peer, out);
     }
 
     /// Whether its store has an id left for one more.
@@ -153,11 +154,11 @@ impl Peer {
         self.store.last() < 1 << 63
     }
 
-    /// Whether a link number is left for one more.
+    /// Whether a link number is left for each of as many more as may be in flight.
     pub fn has_number(&self) -> bool
-        ensures { IsTrue result ↔ (self.now.number < 2 ^ 63) }
+        ensures { IsTrue result ↔ (self.now.number + MAX_MESSAGES ≤ 2 ^ 63) }
     {
-        self.number < 1 << 63
+        self.flight.number + MAX_MESSAGES as u64 <= 1 << 63
     }
 
     /// A message came under this link number.

@@ -1,8 +1,8 @@
 // What goes into the store of a place and what leaves it, each with the effect that tells it.
-ghost use Rattle.std.specs.Prelude.{◌≡◌, ◌<◌, ◌≤◌, ◌^◌, ◌++◌, Some, length, replicate};
+ghost use Rattle.std.specs.Prelude.{◌≡◌, ◌<◌, ◌≤◌, ◌+◌, ◌^◌, ◌++◌, Some, length, replicate};
 ghost use Rattle.sp_rules.specs.Prio.{delivered};
 ghost use Rattle.sp_rules.specs.PrioPeer.{expired_effects, gone, put_effects, stored};
-ghost use Rattle.sp_rules.specs.Store.{expired_entries, less_expired, put};
+ghost use Rattle.sp_rules.specs.Store.{entry_in, expired_entries, less_expired, put, removed};
 ghost use Rattle.sp_prio.specs.Answers.{evicted_in};
 ghost use Rattle.sp_rules.specs.Told.{told};
 
@@ -86,6 +86,18 @@ pub fn tell_gone(place: u8, entry: &Entry, why: Why, out: &mut Effects)
         id: entry.id,
         why,
     });
+}
+
+/// Takes the entry of this id out, where it is there, and tells that it was acknowledged.
+pub fn leave(store: &mut Store, place: u8, id: u64, out: &mut Effects)
+    requires { 1 ≤ out.old.room }
+    ensures store { store.new ≡ removed store.old id }
+    ensures told { out.new ≡ told out.old (gone place Why.Acked (entry_in store.old id)) }
+    ensures room { out.old.room ≤ out.new.room + 1 }
+{
+    if let Some(entry) = store.remove(id) {
+        tell_gone(place, &entry, Why::Acked, out);
+    }
 }
 
 /// Takes out all entries whose expiry is before this time, the oldest first, and tells of each.

@@ -1,8 +1,10 @@
 // The table of the priority part. Every call is judged first, its memory taken next, and changes come last.
-ghost use Rattle.std.specs.Prelude.{◌≡◌, ◌<◌, ◌≤◌, ◌+◌, ◌*◌, ◌^◌, ◌↔◌, All, IfOk, IsTrue, length, option_map, vec_capacity};
+ghost use Rattle.std.specs.Prelude.{◌≡◌, ◌<◌, ◌≤◌, ◌+◌, ◌*◌, ◌^◌, ◌↔◌, All, IfOk, IsTrue, length, map, vec_capacity};
+ghost use Rattle.sp_base.specs.declared.limits.TheConstants.{MAX_MESSAGES};
 ghost use Rattle.sp_msg.specs.Bodies.{HasGoodFields};
 ghost use Rattle.sp_msg.specs.Views.{as_body};
-ghost use Rattle.sp_rules.specs.Prio.{acked, acked_effects, admit_prio, carried, expired, expired_effects, expiring, heard, is_node, judge, judge_fields, judge_prio, marked, next_prio, peer_in, places, prio_effects, spread, start, taken};
+ghost use Rattle.sp_rules.specs.Polls.{as_message};
+ghost use Rattle.sp_rules.specs.Prio.{acked, acked_effects, admit_prio, carried, expired, expired_effects, expiring, heard, is_node, judge, judge_fields, judge_prio, marked, next_prios, peer_in, places, prio_effects, spread, start, taken};
 ghost use Rattle.sp_rules.specs.Store.{oldest};
 ghost use Rattle.sp_rules.specs.Told.{told};
 ghost use Rattle.sp_prio.specs.Parcel.{AreBeside};
@@ -15,7 +17,7 @@ use crate::peer::Peer;
 use crate::rows::{count_to, expire_peers, expiring_in, have_ids, peers_of, place_of, spread};
 use crate::windows::{is_node, mark, seen_in, windows_of};
 use crate::{Parcel, Spare, place};
-use sp_base::{Memory, NodeId};
+use sp_base::{Four, Memory, NodeId};
 use sp_dedup::Window;
 use sp_msg::{Body, BodyRef, Effects, Kept, Prio};
 use sp_rules::{Entry, Neighbour, PrioJudged};
@@ -140,10 +142,10 @@ impl PrioTable {
         self.inbox.last() < 1 << 63 && have_ids(&self.peers)
     }
 
-    /// Whether a link number to a neighbour is left for one more.
+    /// Whether a link number to a neighbour is left for each of as many more as may be in flight.
     #[tactic(auto, using(sp_base::proofs::RowLemmas::placed))]
     pub fn has_number(&self, v: NodeId) -> bool
-        ensures { IsTrue result ↔ ((peer_in self.now v.0).number < 2 ^ 63) }
+        ensures { IsTrue result ↔ ((peer_in self.now v.0).number + MAX_MESSAGES ≤ 2 ^ 63) }
     {
         match place_of(&self.peers, v) {
             Some(place) => self.peers[place].has_number(),
@@ -166,21 +168,21 @@ impl PrioTable {
         self.spread(kept, came, beside, out);
     }
 
-    /// What a poll of a neighbour carries, with its link number: what is in flight, or else the entry that is served next.
+    /// What a poll of a neighbour carries, each with its link number: what is in flight, and the entries that are served next.
     #[tactic(auto, using(sp_base::proofs::RowLemmas::placed, crate::proofs::RowLemmas::nothing_waits))]
-    pub fn slot_for(&self, v: NodeId) -> Option<(u64, &Entry)>
-        ensures { option_map (λ p. (p.0, p.1.now)) result ≡ next_prio self.now v.0 }
+    pub fn messages_for(&self, v: NodeId) -> Four<(u64, &Kept)>
+        ensures { map (λ p. (p.0, p.1.now)) result ≡ map as_message (next_prios self.now v.0) }
     {
         match place_of(&self.peers, v) {
-            Some(place) => self.peers[place].next(),
-            None => None,
+            Some(place) => self.peers[place].messages(),
+            None => Four::new(),
         }
     }
 
-    /// Puts what a poll of a neighbour carries in flight. Nothing changes where it is already, or nothing waits.
+    /// Puts what a poll of a neighbour carries in flight. What is in flight already stays so, and nothing more goes where nothing waits.
     #[tactic(auto, using(sp_base::proofs::RowLemmas::placed, crate::proofs::RowLemmas::nothing_waits))]
     pub fn carry(&mut self, v: NodeId)
-        requires { (peer_in self.old v.0).number < 2 ^ 63 }
+        requires { (peer_in self.old v.0).number + MAX_MESSAGES ≤ 2 ^ 63 }
         ensures { self.new ≡ carried self.old v.0 }
     {
         if let Some(place) = place_of(&self.peers, v) {
@@ -191,9 +193,10 @@ impl PrioTable {
     /// A neighbour acknowledged all link numbers up to this one.
     #[tactic(auto, using(sp_base::proofs::RowLemmas::placed, crate::proofs::RowLemmas::nothing_waits))]
     pub fn acked(&mut self, v: NodeId, number: u64, out: &mut Effects)
-        requires { 1 ≤ out.old.room }
+        requires { MAX_MESSAGES ≤ out.old.room }
         ensures table { self.new ≡ acked self.old v.0 number }
         ensures told { out.new ≡ told out.old (acked_effects self.old v.0 number) }
+        ensures room { out.old.room ≤ out.new.room + MAX_MESSAGES }
     {
         if let Some(place) = place_of(&self.peers, v) {
             self.peers[place].acked(number, out);

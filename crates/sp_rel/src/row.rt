@@ -1,16 +1,15 @@
 // One flow at one node: each call is one of the rules' equations.
-ghost use Rattle.std.specs.Prelude.{◌≡◌, ◌==◌, ◌+◌, ◌<◌, ◌≤◌, true, false, length, option_copied, slice_get};
-ghost use Rattle.sp_base.specs.Position.{message_of};
+ghost use Rattle.std.specs.Prelude.{◌≡◌, ◌==◌, ◌+◌, ◌<◌, ◌≤◌, true, false, length, map, option_copied, slice_get};
 ghost use Rattle.sp_base.specs.declared.limits.TheConstants.{MAX_SEQ};
 ghost use Rattle.sp_rules.specs.Flow.{acknowledged_by, after_take, concluded, ends, is_flow, is_full, no_flow, number_said, pushed, received};
-ghost use Rattle.sp_rules.specs.Rel.{is_due};
+ghost use Rattle.sp_rules.specs.Rel.{is_due, messages_after};
 ghost use Rattle.sp_rel.specs.Changes.{CanChange, changed};
 ghost use Rattle.sp_rel.specs.Rows.{IsSeated, with_state};
 
 use crate::change::Change;
 use crate::held::Held;
 use crate::seat::Seat;
-use sp_base::{Bytes, Flow, NodeId};
+use sp_base::{Bytes, Flow, Four, NodeId};
 use sp_msg::{Body, Kept};
 use std::marker::Model;
 use std::mem::size_of;
@@ -134,19 +133,13 @@ impl FlowRow {
         self.ack.as_ref()
     }
 
-    /// The message that follows this number, where it is kept here.
-    #[tactic(auto, using(sp_base::proofs::PositionLemmas::message_past))]
-    pub fn message_after(&self, number: u64) -> Option<&Kept>
-        ensures { option_copied result ≡ message_of self.now.state.at (number + 1) }
+    /// The first messages after this number that are kept here, at most four.
+    pub fn messages_after(&self, number: u64) -> Four<&Kept>
+        ensures { map (λ message. message.now) result ≡ messages_after self.now.state.at number }
     {
         match &self.held {
-            Held::Relay(buffer) => {
-                if number >= buffer.have() {
-                    return None;
-                }
-                buffer.get(number + 1)
-            }
-            _ => None,
+            Held::Relay(buffer) => buffer.messages_after(number),
+            _ => Four::new(),
         }
     }
 

@@ -13,7 +13,7 @@ use crate::flows::Flows;
 use crate::pairs::pairs_of;
 use crate::peers::Peers;
 use crate::seat::Seat;
-use sp_base::{Bytes, Cursor, Flow, Memory, NodeId};
+use sp_base::{Bytes, Cursor, Flow, Four, Memory, NodeId};
 use sp_frame::OutSlot;
 use sp_msg::{Ack, Body, Effect, Effects, Kept};
 use sp_rules::{AckJudged, RelJudged, RelRefused};
@@ -247,10 +247,10 @@ impl RelTable {
                     } else {
                         None
                     },
-                    rel: if self.flows.me().0 == flow.dst.0 {
-                        None
+                    rels: if self.flows.me().0 == flow.dst.0 {
+                        Four::new()
                     } else {
-                        row.message_after(after)
+                        row.messages_after(after)
                     },
                 }
             }
@@ -259,7 +259,7 @@ impl RelTable {
                 base: 0,
                 have: 0,
                 ack: None,
-                rel: None,
+                rels: Four::new(),
             },
         }
     }

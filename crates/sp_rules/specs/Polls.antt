@@ -1,5 +1,5 @@
 -- A poll: the next frame to a neighbour. It carries what is next in turn of each part, and moves each cycle by what it carried.
-use Rattle.std.specs.Prelude.{ℕ, List, ◌++◌, option_map}
+use Rattle.std.specs.Prelude.{ℕ, List, ◌++◌, map}
 use Rattle.sp_base.specs.declared.id.NodeId.{NodeId}
 use Rattle.sp_frame.specs.Sections.{Contents}
 use Rattle.sp_frame.specs.Views.{as_list}
@@ -8,7 +8,7 @@ use Rattle.sp_rules.specs.Arts.{Arts}
 use Rattle.sp_rules.specs.Link.{advanced, next_head}
 use Rattle.sp_rules.specs.Node.{NodeState, call_refusal, called, kept_or, link_in, with_link}
 use Rattle.sp_rules.specs.Parts.{Fixed, Parts, place_of}
-use Rattle.sp_rules.specs.Prio.{carried, next_prio, peer_in}
+use Rattle.sp_rules.specs.Prio.{carried, next_prios, peer_in}
 use Rattle.sp_rules.specs.Rel.{served, slot_for}
 use Rattle.sp_rules.specs.Weights.{moved, next}
 use Rattle.sp_rules.specs.declared.store.Entry.{Entry}
@@ -20,7 +20,7 @@ abbrev pub contents_to : Fixed → Parts → NodeId → Contents
 contents_to f p v = record {
   weights = as_list (next p.weights (place_of f v));
   prio_ack = (peer_in p.prio v.0).heard;
-  prios = as_list (option_map as_message (next_prio p.prio v.0));
+  prios = map as_message (next_prios p.prio v.0);
   slot = slot_for p.rel v;
 }
 

@@ -48,7 +48,7 @@ is_peer v q = q.peer == v
 
 -- what stands for a neighbour that isn't there
 abbrev pub no_peer : PrioPeer
-no_peer = record { peer = 0; edge = 0; store = empty_store 0; number = 0; heard = 0; last = None; flight = None }
+no_peer = record { peer = 0; edge = 0; store = empty_store 0; number = 0; heard = 0; last = None; flight = [] }
 
 abbrev pub peer_in : PrioState → ℕ → PrioPeer
 peer_in s v = first_where (is_peer v) no_peer s.peers
@@ -133,8 +133,8 @@ prio_effects s kept came =
 
 -- ---- polls, and what neighbours acknowledge and send
 
-abbrev pub next_prio : PrioState → ℕ → Option (ℕ × Entry)
-next_prio s v = rows.next_prio (peer_in s v)
+abbrev pub next_prios : PrioState → ℕ → List (ℕ × Entry)
+next_prios s v = rows.next_prios (peer_in s v)
 
 abbrev pub carried : PrioState → ℕ → PrioState
 carried s v = with_peer s v (rows.carried (peer_in s v))

@@ -1,11 +1,15 @@
 -- What the priority part of a node keeps of one neighbour, and what each event does to it.
 --
--- At most one message is in flight: it is carried under one link number until the neighbour acknowledges that number, or a greater one,
--- or until its entry leaves the store.
-use Rattle.std.specs.Prelude.{ℕ, ◌==◌, ◌+◌, nat_le, max, Bool, false, not, ◌&&◌, List, [], ◌∷◌, ◌++◌, map, Option, Some, None, option_map, if◌then◌else◌}
-use Rattle.std.specs.Option.{option_and_then}
-use Rattle.sp_base.specs.Cursor.{or_else}
+-- A poll carries all that is in flight, at most four messages, each under the link number that it was given. It is in flight until the neighbour
+-- acknowledges that number, or a greater one, or until its entry leaves the store:
+--
+--     in flight     7: entry 31 | 8: entry 35 | 9: entry 33         the neighbour acknowledges 8: entries 31 and 35 leave the store
+--     then                                      9: entry 33 | 10: entry 36 | 11: entry 34 | 12: entry 40        the next poll fills up
+use Rattle.std.specs.Prelude.{ℕ, zero, suc, ◌==◌, ◌+◌, ◌-◌, nat_le, max, Bool, false, not, ◌&&◌, List, [], ◌∷◌, ◌++◌, length, map, filter, Option, Some, None, option_map, if◌then◌else◌}
+use Rattle.std.specs.List.{flat_map, list_any}
 use Rattle.sp_base.specs.declared.id.NodeId.{NodeId}
+use Rattle.sp_base.specs.declared.limits.TheConstants.{MAX_MESSAGES}
+use Rattle.sp_frame.specs.Views.{as_list}
 use Rattle.sp_msg.specs.Views.{names_edge}
 use Rattle.sp_msg.specs.declared.body.Body.{Body}
 use Rattle.sp_msg.specs.declared.body.Body.TheVariants as bodies
@@ -14,12 +18,12 @@ use Rattle.sp_msg.specs.declared.effect.Effect.TheVariants as effects
 use Rattle.sp_msg.specs.declared.effect.Why.{Why}
 use Rattle.sp_msg.specs.declared.effect.Why.TheVariants as whys
 use Rattle.sp_msg.specs.declared.kept.Kept.{Kept}
-use Rattle.sp_rules.specs.Store.{Store, empty_store, entry_in, evicted, expired_entries, less_expired, next_entry, put, removed, said, source}
+use Rattle.sp_rules.specs.Store.{Store, empty_store, entry_in, evicted, expired_entries, has_id, less_expired, next_besides, put, removed, said, source}
 use Rattle.sp_rules.specs.declared.prio.Neighbour.{Neighbour}
 use Rattle.sp_rules.specs.declared.store.Entry.{Entry}
 
 -- the neighbour and the edge to it, what waits for it, the last link number that was given, the greatest that was heard from it,
--- the source that was served last, and the id of the entry in flight
+-- the source that was served last, and what is in flight: pairs of a link number and the id of an entry, in the order of link numbers
 pub record PrioPeer : Type 0 where
   pub peer : ℕ
   pub edge : ℕ
@@ -27,11 +31,11 @@ pub record PrioPeer : Type 0 where
   pub number : ℕ
   pub heard : ℕ
   pub last : Option ℕ
-  pub flight : Option ℕ
+  pub flight : List (ℕ × ℕ)
 
 -- nothing waits for it yet, and nothing was heard
 abbrev pub new_peer : ℕ → Neighbour → PrioPeer
-new_peer capacity n = record { peer = n.id.0; edge = n.edge.0; store = empty_store capacity; number = 0; heard = 0; last = None; flight = None }
+new_peer capacity n = record { peer = n.id.0; edge = n.edge.0; store = empty_store capacity; number = 0; heard = 0; last = None; flight = [] }
 
 -- ---- what a place tells
 
@@ -72,45 +76,68 @@ given_effects kept came q = if goes_to kept.body came q then put_effects q.peer 
 
 -- ---- a poll
 
--- the entry in flight, where it is still in the store
-abbrev pub flying : PrioPeer → Option Entry
-flying q = option_and_then (entry_in q.store) q.flight
+-- the entry of a pair in flight is still in the store
+abbrev pub waits : Store → ℕ × ℕ → Bool
+waits s pair = list_any (has_id pair.1) s.entries
+
+-- pairs whose entry has gone are dropped
+abbrev pub settled : PrioPeer → PrioPeer
+settled q = record q { flight = filter (waits q.store) q.flight }
+
+-- this entry goes in flight under the next link number, and its source was served
+abbrev pub launched : PrioPeer → Option Entry → PrioPeer
+launched q None = q
+launched q (Some e) = record q { number = q.number + 1; last = Some (source e); flight = q.flight ++ (q.number + 1, e.id) ∷ [] }
+
+-- the entry that is next in turn, of those that aren't in flight, goes in flight
+abbrev pub launch : PrioPeer → PrioPeer
+launch q = launched q (next_besides q.store q.flight q.last)
+
+-- so many more go in flight, or as many as there are
+abbrev pub filled : ℕ → PrioPeer → PrioPeer
+filled zero q = q
+filled (suc room) q = filled room (launch q)
+
+-- the poll was made: as many are in flight as may be, and as there are
+abbrev pub carried : PrioPeer → PrioPeer
+carried q = filled (MAX_MESSAGES - length (settled q).flight) (settled q)
 
 abbrev pub numbered : ℕ → Entry → ℕ × Entry
 numbered number e = (number, e)
 
--- what a poll carries, with its link number: what is in flight, or else the entry that is next in turn
-abbrev pub next_prio : PrioPeer → Option (ℕ × Entry)
-next_prio q = or_else (option_map (numbered q.number) (flying q)) (option_map (numbered (q.number + 1)) (next_entry q.store q.last))
+-- the entries in flight with their link numbers, in the order of these
+abbrev pub in_flight : PrioPeer → List (ℕ × Entry)
+in_flight q = flat_map (λ pair. as_list (option_map (numbered pair.0) (entry_in q.store pair.1))) q.flight
 
--- this entry goes in flight, and its source was served
-abbrev pub launched : PrioPeer → Option Entry → PrioPeer
-launched q None = q
-launched q (Some e) = record q { number = q.number + 1; last = Some (source e); flight = Some e.id }
-
-abbrev pub carried_of : PrioPeer → Option Entry → PrioPeer
-carried_of q None = launched q (next_entry q.store q.last)
-carried_of q (Some e) = q
-
--- the poll was made. Nothing changes where a message is in flight already, or none waits
-abbrev pub carried : PrioPeer → PrioPeer
-carried q = carried_of q (flying q)
+-- what a poll carries
+abbrev pub next_prios : PrioPeer → List (ℕ × Entry)
+next_prios q = in_flight (carried q)
 
 -- ---- what the neighbour acknowledges and sends
 
--- the entry in flight, where this number acknowledges it
-abbrev pub landed : PrioPeer → ℕ → Option ℕ
-landed q number = if nat_le q.number number then q.flight else None
+-- this number acknowledges the one of a pair
+abbrev pub lands : ℕ → ℕ × ℕ → Bool
+lands number pair = nat_le pair.0 number
 
-abbrev pub acked_of : PrioPeer → Option ℕ → PrioPeer
-acked_of q None = q
-acked_of q (Some id) = record q { store = removed q.store id; flight = None }
+-- what is in flight and acknowledged
+abbrev pub landed : PrioPeer → ℕ → List (ℕ × ℕ)
+landed q number = filter (lands number) q.flight
+
+-- the store without the entries of these pairs
+abbrev pub less_all : Store → List (ℕ × ℕ) → Store
+less_all s [] = s
+less_all s (pair ∷ pairs) = less_all (removed s pair.1) pairs
+
+-- the entries of these pairs leave the store of a place, one after another
+abbrev pub left_effects : ℕ → Store → List (ℕ × ℕ) → List Effect
+left_effects place s [] = []
+left_effects place s (pair ∷ pairs) = gone place whys.Acked (entry_in s pair.1) ++ left_effects place (removed s pair.1) pairs
 
 abbrev pub acked : PrioPeer → ℕ → PrioPeer
-acked q number = acked_of q (landed q number)
+acked q number = record q { store = less_all q.store (landed q number); flight = filter (λ pair. not (lands number pair)) q.flight }
 
 abbrev pub acked_effects : PrioPeer → ℕ → List Effect
-acked_effects q number = gone q.peer whys.Acked (option_and_then (entry_in q.store) (landed q number))
+acked_effects q number = left_effects q.peer q.store (landed q number)
 
 -- the greatest link number that came
 abbrev pub heard : PrioPeer → ℕ → PrioPeer

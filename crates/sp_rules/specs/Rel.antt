@@ -5,16 +5,16 @@
 --     signed    the place of the flow to this node whose acknowledgement was signed last
 --
 -- Rows are only ever replaced, so each place stays that of its flow.
-use Rattle.std.specs.Prelude.{ℕ, ◌≡◌, ◌+◌, ◌==◌, Bool, not, ◌&&◌, nat_le, nat_lt, max, List, [], ◌∷◌, length, map, filter, Option, Some, None, Result, Ok, Err, slice_get, if◌then◌else◌}
+use Rattle.std.specs.Prelude.{ℕ, ◌≡◌, ◌+◌, ◌-◌, ◌==◌, Bool, not, ◌&&◌, nat_le, nat_lt, max, List, [], ◌∷◌, length, map, filter, take, drop, Option, Some, None, Result, Ok, Err, slice_get, if◌then◌else◌}
 use Rattle.std.specs.List.{All, flat_map, list_any}
 use Rattle.std.specs.Option.{option_and_then, option_map}
 use Rattle.sp_base.specs.Cursor.{next_after}
-use Rattle.sp_base.specs.Position.{message_of}
+use Rattle.sp_base.specs.Position.{Position}
 use Rattle.sp_base.specs.Rows.{first_where, replace_where}
 use Rattle.sp_base.specs.declared.id.Flow.{Flow}
 use Rattle.sp_base.specs.declared.id.NodeId.{NodeId}
+use Rattle.sp_base.specs.declared.limits.TheConstants.{MAX_MESSAGES}
 use Rattle.sp_frame.specs.Reliable.{Report}
-use Rattle.sp_frame.specs.Views.{as_list}
 use Rattle.sp_msg.specs.Bodies.{payload_of}
 use Rattle.sp_msg.specs.declared.body.Ack.{Ack}
 use Rattle.sp_msg.specs.declared.body.Body.{Body}
@@ -227,7 +227,11 @@ next_place r v = next_after (peer_in r.peers v).last (map (λ f. f.active) r.flo
 abbrev pub next_flow : RelState → NodeId → Option Flow
 next_flow r v = option_and_then (flow_at r.flows) (next_place r v)
 
--- where the flow stands, the kept acknowledgement unless the neighbour has its base, and, but at the destination, the message
+-- the first messages of a position after this number, at most four
+abbrev pub messages_after : {X : Type 0} → Position X → ℕ → List X
+messages_after at number = take MAX_MESSAGES (drop (number - at.base) at.list)
+
+-- where the flow stands, the kept acknowledgement unless the neighbour has its base, and, but at the destination, the first messages
 -- after those that the neighbour has
 abbrev pub slot_of : RelState → NodeId → Flow → Report
 slot_of r v flow =
@@ -238,7 +242,7 @@ slot_of r v flow =
       base = f.at.base;
       have = f.at.have;
       ack = if nat_lt w.base f.at.base then f.ack else None;
-      rels = if is_to r flow then [] else as_list (message_of f.at (max w.have f.at.base + 1));
+      rels = if is_to r flow then [] else messages_after f.at (max w.have f.at.base);
     }
 
 -- what a poll of a neighbour carries. None exactly where no flow is active

@@ -121,6 +121,18 @@ highest es id = first_by (λ a b. nat_lt (priority b) (priority a)) (filter (is_
 abbrev pub next_entry : Store → Option ℕ → Option Entry
 next_entry s last = option_and_then (highest s.entries) (next_source s.entries last)
 
+-- ---- service in turn, besides what is in flight: pairs of a link number and the id of an entry
+
+abbrev pub is_flying : List (ℕ × ℕ) → Entry → Bool
+is_flying flight e = list_any (λ p. has_id p.1 e) flight
+
+abbrev pub besides : Store → List (ℕ × ℕ) → Store
+besides s flight = record { capacity = s.capacity; last = s.last; entries = filter (λ e. not (is_flying flight e)) s.entries }
+
+-- the entry that is served next, of those that aren't in flight. None where all are
+abbrev pub next_besides : Store → List (ℕ × ℕ) → Option ℕ → Option Entry
+next_besides s flight last = next_entry (besides s flight) last
+
 -- ---- one less
 
 abbrev pub entry_in : Store → ℕ → Option Entry

@@ -2,6 +2,7 @@
 use Rattle.std.specs.Prelude.{ℕ, ◌≡◌, ◌≤◌, ◌*◌, List, Some, IfSome, length, map}
 use Rattle.std.specs.List.{All}
 use Rattle.sp_base.specs.declared.id.NodeId.{NodeId}
+use Rattle.sp_base.specs.declared.limits.TheConstants.{MAX_MESSAGES}
 use Rattle.sp_frame.specs.Views.{as_list}
 use Rattle.sp_rules.specs.Flow.{FlowState, ends}
 use Rattle.sp_rules.specs.Node.{NodeState}
@@ -21,10 +22,10 @@ pub record FlowIsBounded (buffer : ℕ) (f : FlowState) : Type 0 where
   pub inbox : length f.inbox ≤ buffer
   pub acknowledgement : length (as_list f.ack) ≤ 1
 
--- a neighbour has at most so many entries, and one message in flight
+-- a neighbour has at most so many entries, and four messages in flight
 pub record PeerIsBounded (store : ℕ) (q : PrioPeer) : Type 0 where
   pub entries : length q.store.entries ≤ store
-  pub flight : length (as_list q.flight) ≤ 1
+  pub flight : length q.flight ≤ MAX_MESSAGES
 
 pub record IsBounded (x : Setting) (u : NodeId) (n : NodeState) : Type 0 where
   -- each flow has one row

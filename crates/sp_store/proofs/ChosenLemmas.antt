@@ -1,10 +1,10 @@
 -- The wanted one of a source's entries, entry by entry.
-use Rattle.std.proofs.Common.{◌≡◌, ◌<◌, ℕ, ◌+◌, true, false, List, length, take, get_or, Option, Some, None, refl, sym, ap, ◌∙◌, arith, IfSome}
+use Rattle.std.proofs.Common.{◌≡◌, ◌<◌, ℕ, ◌+◌, true, false, List, [], ◌∷◌, ◌++◌, length, get_or, Option, Some, None, refl, sym, ap, ◌∙◌, arith, IfSome}
 use Rattle.std.specs.Prelude.{filter, IsSome}
 use Rattle.std.specs.List.{slice_get}
 use Rattle.std.specs.Option.{option_and_then}
 use Rattle.std.proofs.lemmas.List.{append-nil}
-use Rattle.std.proofs.lemmas.List.Elements.{filter_more}
+use Rattle.std.proofs.lemmas.List.Elements.{filter-append}
 use Rattle.std.proofs.lemmas.List.Sums.{length-filter}
 use Rattle.std.proofs.lemmas.Option.{slice_get_read}
 use Rattle.sp_rules.proofs.ChoiceLemmas.{IsOrder, first_by_push, fewer_first, more_first, some_first, with_last}
@@ -20,44 +20,43 @@ wanted_order LowestPriority = fewer_first priority
 wanted_order HighestPriority = more_first priority
 
 -- the entry of a place, where it is there
-read_at : (es : List Entry) (i : ℕ) (e : Entry) → i < length es → e ≡ get_or es i e → slice_get es i ≡ Some e
+pub read_at : (es : List Entry) (i : ℕ) (e : Entry) → i < length es → e ≡ get_or es i e → slice_get es i ≡ Some e
 read_at es i e inside is = slice_get_read es (length es) i e refl inside is
 
 -- one entry more of the source
-one_more : (wanted : Wanted) (es : List Entry) (src i : ℕ) (e : Entry) → i < length es → e ≡ get_or es i e → is_of src e ≡ true →
-    choice wanted (take (i + 1) es) src ≡ Some (with_last (goes_before wanted) (choice wanted (take i es) src) e)
-one_more wanted es src i e inside is mine =
-    ap (first_by (goes_before wanted)) (filter_more (is_of src) es i e inside ∙ rw (← is, mine) refl)
-    ∙ first_by_push (goes_before wanted) (wanted_order wanted) (filter (is_of src) (take i es)) e
+one_more : (wanted : Wanted) (es : List Entry) (src : ℕ) (e : Entry) → is_of src e ≡ true →
+    choice wanted (es ++ e ∷ []) src ≡ Some (with_last (goes_before wanted) (choice wanted es src) e)
+one_more wanted es src e mine =
+    ap (first_by (goes_before wanted)) (filter-append (is_of src) es (e ∷ []) ∙ rw mine refl)
+    ∙ first_by_push (goes_before wanted) (wanted_order wanted) (filter (is_of src) es) e
 
 -- it goes before the best so far
-pub better_chosen : (wanted : Wanted) (es : List Entry) (src i : ℕ) (e : Entry) (best : Option Entry) → i < length es → e ≡ get_or es i e →
-    is_of src e ≡ true → best ≡ choice wanted (take i es) src → comes_before wanted (slice_get es i) best ≡ true → slice_get es i
-    ≡ choice wanted (take (i + 1) es) src
-better_chosen wanted es src i e best inside is mine so_far better =
-    read_at es i e inside is ∙ go best (rw (read_at es i e inside is) at better)
-    ∙ ap (λ (b : Option Entry). Some (with_last (goes_before wanted) b e)) so_far ∙ sym (one_more wanted es src i e inside is mine)
+pub better_chosen : (wanted : Wanted) (es : List Entry) (src : ℕ) (e : Entry) (best at : Option Entry) → at ≡ Some e →
+    is_of src e ≡ true → best ≡ choice wanted es src → comes_before wanted at best ≡ true → at ≡ choice wanted (es ++ e ∷ []) src
+better_chosen wanted es src e best at is mine so_far better =
+    is ∙ go best (rw is at better)
+    ∙ ap (λ (b : Option Entry). Some (with_last (goes_before wanted) b e)) so_far ∙ sym (one_more wanted es src e mine)
   where
     go : (b : Option Entry) → comes_before wanted (Some e) b ≡ true → Some e ≡ Some (with_last (goes_before wanted) b e)
     go None better = refl
     go (Some other) better = rw better refl
 
 -- it doesn't
-pub best_kept : (wanted : Wanted) (es : List Entry) (src i : ℕ) (e : Entry) (best : Option Entry) → i < length es → e ≡ get_or es i e → is_of src e
-    ≡ true → best ≡ choice wanted (take i es) src → comes_before wanted (slice_get es i) best ≡ false → best ≡ choice wanted (take (i + 1) es) src
-best_kept wanted es src i e best inside is mine so_far not =
-    go best (rw (read_at es i e inside is) at not) ∙ ap (λ (b : Option Entry). Some (with_last (goes_before wanted) b e)) so_far
-    ∙ sym (one_more wanted es src i e inside is mine)
+pub best_kept : (wanted : Wanted) (es : List Entry) (src : ℕ) (e : Entry) (best at : Option Entry) → at ≡ Some e → is_of src e
+    ≡ true → best ≡ choice wanted es src → comes_before wanted at best ≡ false → best ≡ choice wanted (es ++ e ∷ []) src
+best_kept wanted es src e best at is mine so_far not =
+    go best (rw is at not) ∙ ap (λ (b : Option Entry). Some (with_last (goes_before wanted) b e)) so_far
+    ∙ sym (one_more wanted es src e mine)
   where
     go : (b : Option Entry) → comes_before wanted (Some e) b ≡ false → b ≡ Some (with_last (goes_before wanted) b e)
     go None not = absurd (cc)
     go (Some other) not = rw not refl
 
 -- an entry of another source
-pub other_kept : (wanted : Wanted) (es : List Entry) (src i : ℕ) (e : Entry) → i < length es → e ≡ get_or es i e → is_of src e ≡ false →
-    choice wanted (take (i + 1) es) src ≡ choice wanted (take i es) src
-other_kept wanted es src i e inside is not =
-    ap (first_by (goes_before wanted)) (filter_more (is_of src) es i e inside ∙ rw (← is, not) (append-nil (filter (is_of src) (take i es))))
+pub other_kept : (wanted : Wanted) (es : List Entry) (src : ℕ) (e : Entry) → is_of src e ≡ false →
+    choice wanted (es ++ e ∷ []) src ≡ choice wanted es src
+other_kept wanted es src e not =
+    ap (first_by (goes_before wanted)) (filter-append (is_of src) es (e ∷ []) ∙ rw not (append-nil (filter (is_of src) es)))
 
 -- the victim is the lowest of the fullest
 pub victim_is : (es : List Entry) (src : ℕ) → Some src ≡ fullest es → lowest es src ≡ victim es

@@ -5,7 +5,7 @@ use Rattle.std.specs.List.{range_with_len}
 use Rattle.std.proofs.lemmas.Bool.Decides.{nat_tests}
 use Rattle.std.proofs.lemmas.List.{get_or-replicate, length-replicate, length-set, take_all}
 use Rattle.std.proofs.lemmas.List.Elements.{All-from_get_or}
-use Rattle.std.proofs.lemmas.List.Folds.{list_any_more}
+use Rattle.std.proofs.lemmas.List.Folds.{list_any-append}
 use Rattle.std.proofs.lemmas.List.FromFn.{fill_by_all, get_or-range_with_len, length-range_with_len}
 use Rattle.std.proofs.lemmas.List.Sums.{count_by_more_no, count_by_more_yes, get_or-le-sum_by, sum_by-le, sum_by-set}
 use Rattle.sp_rules.proofs.ChoiceLemmas.{first_by_push, more_first, none_before, range_push, with_last}
@@ -127,47 +127,67 @@ fullest_has es counts id best places each all end is some = go (nat_lt 0 (count_
 
 -- ---- which sources have entries
 
-pub record IsFlagged (es : List Entry) (i : ℕ) (flags : List Bool) : Type 0 where
+-- the sources of these entries were marked
+pub record IsFlagged (es : List Entry) (flags : List Bool) : Type 0 where
   pub places : length flags ≡ 256
-  pub each : (id : ℕ) → id < 256 → get_or flags id false ≡ has_entries (take i es) id
+  pub each : (id : ℕ) → id < 256 → get_or flags id false ≡ has_entries es id
 
-pub none_flagged : (es : List Entry) → IsFlagged es 0 (replicate 256 false)
-none_flagged es = record {
+pub none_flagged : IsFlagged [] (replicate 256 false)
+none_flagged = record {
   places = length-replicate {A = Bool} 256 false;
   each = λ id inside. get_or-replicate {A = Bool} 256 id false false inside;
 }
 
-pub one_flagged : (es : List Entry) (i : ℕ) (flags : List Bool) (e : Entry) (s : ℕ) → IsFlagged es i flags → i < length es → e ≡ get_or es i e → s
-    ≡ source e → s < 256 → IsFlagged es (i + 1) (set flags s true)
-one_flagged es i flags e s so_far inside is from fits = record {
+has_one_more : (es : List Entry) (e : Entry) (id : ℕ) → has_entries (es ++ e ∷ []) id ≡ (has_entries es id || is_of id e)
+has_one_more es e id = list_any-append (is_of id) es (e ∷ []) ∙ ap (λ (b : Bool). has_entries es id || b) (alone (is_of id e))
+  where
+    alone : (b : Bool) → (b || false) ≡ b
+    alone true = refl
+    alone false = refl
+
+or_true : (b : Bool) → true ≡ (b || true)
+or_true true = refl
+or_true false = refl
+
+or_false : (b : Bool) → b ≡ (b || false)
+or_false true = refl
+or_false false = refl
+
+-- one more, which is marked now
+pub one_flagged : (es : List Entry) (flags : List Bool) (e : Entry) (s : ℕ) → IsFlagged es flags → s ≡ source e → s < 256 →
+    IsFlagged (es ++ e ∷ []) (set flags s true)
+one_flagged es flags e s so_far from fits = record {
   places = length-set flags s true ∙ so_far.places;
   each = λ id within. go id within (id == s) refl;
 }
   where
-    or_true : (b : Bool) → true ≡ (b || true)
-    or_true true = refl
-    or_true false = refl
-
-    or_false : (b : Bool) → b ≡ (b || false)
-    or_false true = refl
-    or_false false = refl
-
-    more : (id : ℕ) → has_entries (take (i + 1) es) id ≡ (has_entries (take i es) id || is_of id e)
-    more id = list_any_more (is_of id) es i e inside ∙ ap (λ (b : Bool). has_entries (take i es) id || b) (ap (is_of id) (sym is))
-
-    go : (id : ℕ) → id < 256 → (t : Bool) → (id == s) ≡ t → get_or (set flags s true) id false ≡ has_entries (take (i + 1) es) id
+    go : (id : ℕ) → id < 256 → (t : Bool) → (id == s) ≡ t → get_or (set flags s true) id false ≡ has_entries (es ++ e ∷ []) id
     go id within true same_id =
         let same : id ≡ s = grind (arith, nat_tests) in
         let mine : (source e == id) ≡ true = grind (arith, nat_tests) in
         ap (λ (n : ℕ). get_or (set flags s true) n false) same ∙ get_or-set_same flags s true false (omega (arith, so_far.places))
-        ∙ or_true (has_entries (take i es) id) ∙ ap (λ (b : Bool). has_entries (take i es) id || b) (sym mine) ∙ sym (more id)
+        ∙ or_true (has_entries es id) ∙ ap (λ (b : Bool). has_entries es id || b) (sym mine) ∙ sym (has_one_more es e id)
     go id within false other_id =
         let apart : id ≡ s → ⊥ = λ h. grind (arith, nat_tests) in
         let not_mine : (source e == id) ≡ false = grind (arith, nat_tests) in
-        get_or-set_other flags s id true false apart ∙ so_far.each id within ∙ or_false (has_entries (take i es) id)
-        ∙ ap (λ (b : Bool). has_entries (take i es) id || b) (sym not_mine) ∙ sym (more id)
+        get_or-set_other flags s id true false apart ∙ so_far.each id within ∙ or_false (has_entries es id)
+        ∙ ap (λ (b : Bool). has_entries es id || b) (sym not_mine) ∙ sym (has_one_more es e id)
 
-pub all_flagged : (es : List Entry) (i : ℕ) (flags : List Bool) → IsFlagged es i flags → length es ≤ i → flags ≡ map (has_entries es) ids
+-- one more, of a source that was marked before
+pub still_flagged : (es : List Entry) (flags : List Bool) (e : Entry) (s : ℕ) → IsFlagged es flags → s ≡ source e → s < 256 → get_or flags s false ≡ true →
+    IsFlagged (es ++ e ∷ []) flags
+still_flagged es flags e s so_far from fits marked = record { places = so_far.places; each = λ id within. go id within (id == s) refl }
+  where
+    go : (id : ℕ) → id < 256 → (t : Bool) → (id == s) ≡ t → get_or flags id false ≡ has_entries (es ++ e ∷ []) id
+    go id within true same_id =
+        let same : id ≡ s = grind (arith, nat_tests) in
+        let has : has_entries es id ≡ true = sym (so_far.each id within) ∙ ap (λ (n : ℕ). get_or flags n false) same ∙ marked in
+        ap (λ (n : ℕ). get_or flags n false) same ∙ marked ∙ ap (λ (b : Bool). b || is_of id e) (sym has) ∙ sym (has_one_more es e id)
+    go id within false other_id =
+        let not_mine : (source e == id) ≡ false = grind (arith, nat_tests) in
+        so_far.each id within ∙ or_false (has_entries es id) ∙ ap (λ (b : Bool). has_entries es id || b) (sym not_mine)
+        ∙ sym (has_one_more es e id)
+
+pub all_flagged : (es : List Entry) (flags : List Bool) → IsFlagged es flags → flags ≡ map (has_entries es) ids
 unfolding ids
-all_flagged es i flags so_far all = fill_by_all (has_entries es) flags 256 false so_far.places (λ k within. so_far.each k within
-    ∙ ap (λ (xs : List Entry). has_entries xs k) (take_all i es all))
+all_flagged es flags so_far = fill_by_all (has_entries es) flags 256 false so_far.places so_far.each

@@ -1,3 +1,4 @@
 pub mod ChosenLemmas
 pub mod CountLemmas
+pub mod FreeLemmas
 pub mod SoundLemmas

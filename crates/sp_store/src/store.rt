@@ -1,11 +1,11 @@
 // A store: its entries in order of arrival. All memory is taken at the start, for one entry more than it may hold.
 ghost use Rattle.std.specs.Prelude.{◌≡◌, ◌<◌, ◌≤◌, ◌^◌, IfOk, IfSome, filter, length, position, slice_get};
 ghost use Rattle.std.specs.Option.{option_copied};
-ghost use Rattle.sp_rules.specs.Store.{count_of, empty_store, entry_in, expired_entries, expired_entry, has_id, is_expired, less_expired_entry, less_oldest, next_entry, oldest, put, put_answer, removed};
+ghost use Rattle.sp_rules.specs.Store.{count_of, empty_store, entry_in, expired_entries, expired_entry, has_id, is_expired, less_expired_entry, less_oldest, next_besides, oldest, put, put_answer, removed};
 
 use crate::choice;
 use crate::said::{expiry, source};
-use sp_base::{Cursor, Memory, NodeId, push_in_room};
+use sp_base::{Cursor, Four, Memory, NodeId, push_in_room};
 use sp_msg::Kept;
 use sp_rules::{Entry, Put};
 use std::alloc::Global;
@@ -65,12 +65,12 @@ impl Store {
         }
     }
 
-    /// The entry that is served next: of the source that comes after the last one in the cycle of ids, the one of highest priority, and
-    /// the oldest of those.
-    pub fn next_for(&self, cursor: &Cursor) -> Option<&Entry>
-        ensures { option_copied result ≡ next_entry self.now cursor.now }
+    /// The entry that is served next, of those that aren't in flight: of the source that comes after the last one in the cycle of ids, the
+    /// one of highest priority, and the oldest of those. None exactly where every entry's id is in flight.
+    pub fn next_besides(&self, cursor: &Cursor, flight: &Four<(u64, u64)>) -> Option<&Entry>
+        ensures { option_copied result ≡ next_besides self.now flight.now cursor.now }
     {
-        match choice::next(self.entries.as_slice(), cursor) {
+        match choice::next(self.entries.as_slice(), cursor, flight) {
             Some(place) => self.entries.get(place),
             None => None,
         }

@@ -23,13 +23,13 @@ push_u64-requires c =
       c.push_weight.ensures.capacity,
     )
 
-pub push_prio-requires-clause-room : goal.push_prio-requires-clause-room
-push_prio-requires-clause-room c =
+pub push_prios-requires-clause-room : goal.push_prios-requires-clause-room
+push_prios-requires-clause-room c =
     omega (
       arith,
       head_long c.args.head.now,
       c.weight_len.ensures.exact,
-      c.prio_len.ensures.exact,
+      c.prios_len.ensures.exact,
       c.in_ok-out.ensures.capacity,
       c.in_ok-out.ensures.len,
       c.push_head.ensures.len,
@@ -46,7 +46,7 @@ push_slot-requires-clause-room c =
       arith,
       head_long c.args.head.now,
       c.weight_len.ensures.exact,
-      c.prio_len.ensures.exact,
+      c.prios_len.ensures.exact,
       c.slot_len.ensures.exact,
       c.in_ok-out.ensures.capacity,
       c.in_ok-out.ensures.len,
@@ -56,8 +56,8 @@ push_slot-requires-clause-room c =
       c.push_weight.ensures.capacity,
       c.push_u64.ensures.len,
       c.push_u64.ensures.capacity,
-      c.push_prio.ensures.len,
-      c.push_prio.ensures.capacity,
+      c.push_prios.ensures.len,
+      c.push_prios.ensures.capacity,
     )
 
 pub push_bytes-requires : goal.push_bytes-requires
@@ -66,7 +66,7 @@ push_bytes-requires c =
       arith,
       head_long c.args.head.now,
       c.weight_len.ensures.exact,
-      c.prio_len.ensures.exact,
+      c.prios_len.ensures.exact,
       c.slot_len.ensures.exact,
       c.in_ok-out.ensures.capacity,
       c.in_ok-out.ensures.len,
@@ -76,8 +76,8 @@ push_bytes-requires c =
       c.push_weight.ensures.capacity,
       c.push_u64.ensures.len,
       c.push_u64.ensures.capacity,
-      c.push_prio.ensures.len,
-      c.push_prio.ensures.capacity,
+      c.push_prios.ensures.len,
+      c.push_prios.ensures.capacity,
       c.push_slot.ensures.len,
       c.push_slot.ensures.capacity,
     )

@@ -1,11 +1,11 @@
-use Rattle.std.proofs.Common.{ℕ, ◌∙◌, ap}
-use Rattle.std.specs.Prelude.{option_map}
+use Rattle.std.proofs.Common.{ℕ, ◌∙◌, ap, map}
 use Rattle.sp_frame.specs.declared.kind.Kind.TheVariants as kinds
 use Rattle.sp_rules.specs.Parts.{Parts, place_of}
 use Rattle.sp_rules.specs.Polls.{as_message}
-use Rattle.sp_rules.specs.Prio.{next_prio}
+use Rattle.sp_rules.specs.Prio.{next_prios}
+use Rattle.sp_rules.specs.Rel.{slot_for}
 use Rattle.sp_rules.specs.Weights.{next}
-use Rattle.sp_node.proofs.Written.{writable_numbered, writable_one}
+use Rattle.sp_node.proofs.Written.{writable_all, writable_one, writable_slot}
 use Rattle.sp_node.proofs.poll.unsealed.Goals as goal
 
 pub write-requires-clause-weight : goal.write-requires-clause-weight
@@ -15,6 +15,10 @@ write-requires-clause-weight c = writable_one c.next-weight.result _ kinds.Weigh
     ∙ ap (λ (p : Parts). next p.weights (place_of c.args.fixed.now c.args.v)) c.core.view_is)
     c.requires.contents.weights
 
-pub write-requires-clause-prio : goal.write-requires-clause-prio
-write-requires-clause-prio c = writable_numbered c.message_to-prio.result _ c.args.fixed.now.signature_len
-    (c.message_to-prio.ensures ∙ ap (λ (p : Parts). option_map as_message (next_prio p.prio c.args.v.0)) c.core.view_is) c.requires.contents.prios
+pub write-requires-clause-prios : goal.write-requires-clause-prios
+write-requires-clause-prios c = writable_all c.messages_for-prios.result _ c.args.fixed.now.signature_len
+    (c.messages_for-prios.ensures ∙ ap (λ (p : Parts). map as_message (next_prios p.prio c.args.v.0)) c.core.view_is) c.requires.contents.prios
+
+pub write-requires-clause-slot : goal.write-requires-clause-slot
+write-requires-clause-slot c = writable_slot c.as_ref.result c.slot_for-slot.result _ c.args.fixed.now.signature_len c.as_ref.ensures.value
+    (c.slot_for-slot.ensures ∙ ap (λ (p : Parts). slot_for p.rel c.args.v) c.core.view_is) c.requires.contents.slot

@@ -1,25 +1,69 @@
-use Rattle.std.proofs.Common.{◌++◌, ◌∷◌, map}
+use Rattle.std.proofs.Common.{[], ◌++◌, ◌∷◌, length, map, refl, sym, subst, ap, ◌∙◌, arith}
 use Rattle.std.specs.Prelude.{option_map}
+use Rattle.sp_base.specs.declared.limits.TheConstants.{MAX_MESSAGES}
 use Rattle.sp_frame.specs.Views.{as_list, as_numbered, as_object, as_report}
+use Rattle.sp_rules.specs.Handle.{handle}
+use Rattle.sp_rules.specs.Parts.{Parts}
 use Rattle.sp_rules.specs.Pieces.{PrioAckPiece, WeightPiece, prio_piece, slot_pieces}
-use Rattle.sp_node_arrivals.proofs.DoneLemmas.{done_then}
-use Rattle.sp_node_arrivals.specs.Done.{slot_items}
+use Rattle.sp_rules.specs.Prio.{PrioState, acked}
+use Rattle.sp_node_arrivals.proofs.DoneLemmas.{done_then, one_done}
+use Rattle.sp_node_arrivals.proofs.PrioLemmas.{acked_follows, acked_ids, prios_follow}
+use Rattle.sp_node_arrivals.specs.Done.{IsDone, slot_items}
 use Rattle.sp_node_arrivals.specs.Arrival.{as_arrival}
+use Rattle.sp_node_arrivals.specs.Ready.{ArePriosReady}
+use Rattle.sp_node_arrivals.specs.Rooms.{HasIds}
 use Rattle.sp_node_core.specs.Format.{format}
 use Rattle.sp_node_arrivals.proofs.admitting.admit.Goals as goal
+
+pub admit_prios-prios-requires-clause-ready : goal.admit_prios-prios-requires-clause-ready
+admit_prios-prios-requires-clause-ready c =
+    let at = as_arrival c.args.at.now in
+    let s = c.args.core.now.prio in
+    let v = c.args.at.now.from.0 in
+    let number = c.args.sections.now.prio_ack in
+    let same = ap (λ (p : Parts). p.prio) c.admit_prio_ack.ensures.parts ∙ ap (λ (q : PrioState). acked q v number) c.admit_weights-weight.ensures.prio in
+    subst (λ (q : PrioState). ArePriosReady at q (map as_numbered c.args.sections.now.prios) c.args.ready.prios) (sym same)
+    (prios_follow at s (acked s v number) (map as_numbered c.args.sections.now.prios) c.args.ready.prios (acked_follows s v number) c.requires.ready.messages)
+
+pub admit_prios-prios-requires-clause-room : goal.admit_prios-prios-requires-clause-room
+admit_prios-prios-requires-clause-room c =
+    let s = c.args.core.now.prio in
+    let v = c.args.at.now.from.0 in
+    let number = c.args.sections.now.prio_ack in
+    let same = ap (λ (p : Parts). p.prio) c.admit_prio_ack.ensures.parts ∙ ap (λ (q : PrioState). acked q v number) c.admit_weights-weight.ensures.prio in
+    let long = ap (λ (q : PrioState). length q.peers) same ∙ (acked_follows s v number).peers in
+    record {
+      ids = subst (HasIds MAX_MESSAGES) (sym same) (acked_ids MAX_MESSAGES s v number c.requires.ids);
+      told = omega (arith, long, c.requires.room, c.admit_weights-weight.ensures.room, c.admit_prio_ack.ensures.room);
+    }
+
+pub admit_slot-slot-requires-clause-room : goal.admit_slot-slot-requires-clause-room
+admit_slot-slot-requires-clause-room c =
+    let s = c.args.core.now.prio in
+    let v = c.args.at.now.from.0 in
+    let number = c.args.sections.now.prio_ack in
+    let same = ap (λ (p : Parts). p.prio) c.admit_prio_ack.ensures.parts ∙ ap (λ (q : PrioState). acked q v number) c.admit_weights-weight.ensures.prio in
+    let long = ap (λ (q : PrioState). length q.peers) same ∙ (acked_follows s v number).peers in
+    omega (arith, long, c.requires.room, c.admit_weights-weight.ensures.room, c.admit_prio_ack.ensures.room, c.admit_prios-prios.ensures.room)
 
 pub returns : goal.returns
 returns c =
     let at = as_arrival c.args.at.now in
     let s = c.args.sections.now in
     let first = map WeightPiece (as_list (option_map as_object s.weight)) in
-    let second = PrioAckPiece s.prio_ack ∷ map prio_piece (as_list (option_map as_numbered s.prio)) in
+    let ack = PrioAckPiece s.prio_ack ∷ [] in
+    let second = map prio_piece (map as_numbered s.prios) in
     let third = slot_pieces (option_map as_report s.slot) in
     let p = c.args.core.now in
     let one = c.admit_weights-weight.new in
-    let two = c.admit_prios-prio.new in
+    let heard = c.admit_prio_ack.new in
+    let two = c.admit_prios-prios.new in
     let three = c.admit_slot-slot.new in
-    done_then format at p one.core three.core first (second ++ third) (as_list c.admit_weights-weight.result)
-    (as_list c.admit_prios-prio.result ++ slot_items c.admit_slot-slot.result) c.args.out.now one.out three.out c.admit_weights-weight.ensures.done
-    (done_then format at one.core two.core three.core second third (as_list c.admit_prios-prio.result) (slot_items c.admit_slot-slot.result)
-    one.out two.out three.out c.admit_prios-prio.ensures.done c.admit_slot-slot.ensures)
+    let acked_done : IsDone (handle format at one.core (PrioAckPiece s.prio_ack)) heard.self [] one.out heard.out =
+    record { parts = c.admit_prio_ack.ensures.parts; items = refl; effects = c.admit_prio_ack.ensures.told } in
+    done_then format at p one.core three.core first (ack ++ (second ++ third)) (as_list c.admit_weights-weight.result)
+    (c.admit_prios-prios.result ++ slot_items c.admit_slot-slot.result) c.args.out.now one.out three.out c.admit_weights-weight.ensures.done
+    (done_then format at one.core heard.self three.core ack (second ++ third) [] (c.admit_prios-prios.result ++ slot_items c.admit_slot-slot.result)
+    one.out heard.out three.out (one_done format at one.core heard.self (PrioAckPiece s.prio_ack) [] one.out heard.out acked_done)
+    (done_then format at heard.self two.core three.core second third c.admit_prios-prios.result (slot_items c.admit_slot-slot.result)
+    heard.out two.out three.out c.admit_prios-prios.ensures.done c.admit_slot-slot.ensures))

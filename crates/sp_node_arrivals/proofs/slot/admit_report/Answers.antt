@@ -6,18 +6,18 @@ use Rattle.sp_rules.specs.Parts.{Parts}
 use Rattle.sp_rules.specs.Pieces.{AckPiece, RelPiece, ReportPiece}
 use Rattle.sp_rules.specs.Rel.{reported}
 use Rattle.sp_node_arrivals.proofs.DoneLemmas.{quiet_then}
-use Rattle.sp_node_arrivals.proofs.RelLemmas.{rels_stay}
+use Rattle.sp_node_arrivals.proofs.RelLemmas.{slot_stays}
 use Rattle.sp_node_arrivals.specs.Done.{IsDone}
 use Rattle.sp_node_arrivals.specs.Arrival.{as_arrival}
 use Rattle.sp_node_core.specs.Format.{format}
 use Rattle.sp_node_arrivals.proofs.slot.admit_report.Goals as goal
 
-pub admit_rels-rel-requires-clause-ready : goal.admit_rels-rel-requires-clause-ready
-admit_rels-rel-requires-clause-ready c =
+pub admit_rels-rels-requires-clause-ready : goal.admit_rels-rels-requires-clause-ready
+admit_rels-rels-requires-clause-ready c =
     let s = c.args.slot.now in
-    rels_stay (is_some c.args.ready.ack) c.args.at.now.fixed.now.topology.nodes c.args.core.now.rel c.admit_report.new.self.rel c.admit_acks-ack.new.core.rel
-    c.args.at.now.from s.base s.have s.flow (option_map as_object s.rel) c.args.ready.rel (ap (λ (p : Parts). p.rel) c.admit_report.ensures)
-    c.admit_acks-ack.ensures.stays c.requires.ready.message
+    slot_stays (is_some c.args.ready.ack) c.args.at.now.fixed.now.topology.nodes c.args.core.now.rel c.admit_report.new.self.rel c.admit_acks-ack.new.core.rel
+    c.args.at.now.from s.base s.have s.flow (map as_object s.rels) c.args.ready.rels (ap (λ (p : Parts). p.rel) c.admit_report.ensures)
+    c.admit_acks-ack.ensures.stays c.requires.ready.messages
 
 pub returns : goal.returns
 returns c =
@@ -25,10 +25,10 @@ returns c =
     let s = c.args.slot.now in
     let p = c.args.core.now in
     let acks = map (AckPiece s.flow) (as_list (option_map as_object s.ack)) in
-    let rels = map (RelPiece s.flow) (as_list (option_map as_object s.rel)) in
+    let rels = map (RelPiece s.flow) (map as_object s.rels) in
     let left : Parts = record p { rel = reported p.rel c.args.at.now.from s.flow s.base s.have } in
     let acked : IsDone (handle_all format at left acks) c.admit_acks-ack.new.core (as_list c.admit_acks-ack.result) c.args.out.now c.args.out.now =
     subst (λ (q : Parts). IsDone (handle_all format at q acks) c.admit_acks-ack.new.core (as_list c.admit_acks-ack.result) c.args.out.now c.args.out.now)
     c.admit_report.ensures (c.admit_acks-ack.ensures.done c.args.out.now) in
-    quiet_then format at p left c.admit_acks-ack.new.core c.admit_rels-rel.new.core (ReportPiece s.flow s.base s.have) acks rels
-    (as_list c.admit_acks-ack.result) (as_list c.admit_rels-rel.result) c.args.out.now c.admit_rels-rel.new.out refl acked c.admit_rels-rel.ensures
+    quiet_then format at p left c.admit_acks-ack.new.core c.admit_rels-rels.new.core (ReportPiece s.flow s.base s.have) acks rels
+    (as_list c.admit_acks-ack.result) c.admit_rels-rels.result c.args.out.now c.admit_rels-rels.new.out refl acked c.admit_rels-rels.ensures.done

@@ -1,0 +1,42 @@
+use Rattle.std.proofs.Common.{None, Some, ap, sym, refl, ◌∙◌, arith, append-nil, rules}
+use Rattle.std.specs.Option.{option_copied}
+use Rattle.sp_base.proofs.FewLemmas.{at_place, drop_past}
+use Rattle.sp_frame.specs.Writing.{IsWritable}
+use Rattle.sp_frame.proofs.LengthLemmas.{objects_from}
+use Rattle.sp_frame.proofs.writing.+push_objects.Goals as goal
+
+pub returns-in_default-clause-bytes : goal.returns-in_default-clause-bytes
+returns-in_default-clause-bytes t c =
+    let none = sym c.get.ensures.value ∙ ap option_copied c.in_default.is in
+    rw (drop_past c.args.rels.now c.args.place none) (sym (append-nil c.args.out.now.items))
+
+pub returns-in_default-clause-len : goal.returns-in_default-clause-len
+returns-in_default-clause-len t c =
+    let none = sym c.get.ensures.value ∙ ap option_copied c.in_default.is in
+    rw (drop_past c.args.rels.now c.args.place none) (omega arith)
+
+pub push_object-requires-clause-fits : goal.push_object-requires-clause-fits
+push_object-requires-clause-fits t c =
+    let at = sym c.get.ensures.value ∙ ap option_copied c.in-Some.is in
+    at_place (λ o. IsWritable o.now) c.args.rels.now c.args.place c.in-Some.message.now c.requires.fits at
+
+pub push_object-requires-clause-room : goal.push_object-requires-clause-room
+push_object-requires-clause-room t c =
+    let at = sym c.get.ensures.value ∙ ap option_copied c.in-Some.is in
+    omega (arith, objects_from c.args.rels.now (λ o. o.now) c.args.place c.in-Some.message.now at, c.requires.room)
+
+pub push_objects-requires : goal.push_objects-requires
+push_objects-requires t c =
+    let at = sym c.get.ensures.value ∙ ap option_copied c.in-Some.is in (
+      search rules,
+      (
+        c.requires.fits,
+        omega (
+          arith,
+          objects_from c.args.rels.now (λ o. o.now) c.args.place c.in-Some.message.now at,
+          c.push_object.ensures.len,
+          c.push_object.ensures.capacity,
+          c.requires.room,
+        ),
+      ),
+    )
