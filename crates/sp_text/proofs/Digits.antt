@@ -5,7 +5,7 @@ use Rattle.std.specs.Char.{is_ascii_uppercase}
 use Rattle.std.specs.List.{list_all, list_any}
 use Rattle.std.specs.Result.{result_unwrap_or}
 use Rattle.std.proofs.lemmas.Bool.{and_parts, not-true, or_parts}
-use Rattle.std.proofs.lemmas.List.{append-nil, take_more}
+use Rattle.std.proofs.lemmas.List.{take_more}
 use Rattle.std.proofs.lemmas.List.Elements.{All-cons, All-nil}
 use Rattle.sp_base.specs.Spelling.{AreBytes}
 use Rattle.sp_text.specs.Spelling.{is_digit}
@@ -29,21 +29,10 @@ All-encode_lower P each (b ∷ bytes) =
     All-cons P _ (low ∷ encode_lower bytes) (each (b / 16)) (All-cons P low (encode_lower bytes) (each (b % 16)) (All-encode_lower P each bytes))
 
 -- texts in lower case are joined as their bytes are
-encode_lower-append : (front back : List ℕ) → encode_lower (front ++ back) ≡ encode_lower front ++ encode_lower back
+pub encode_lower-append : (front back : List ℕ) → encode_lower (front ++ back) ≡ encode_lower front ++ encode_lower back
 unfolding encode_with
 encode_lower-append [] back = refl
 encode_lower-append (b ∷ front) back = rw (encode_lower-append front back) refl
-
--- no byte is written yet
-pub nothing_written : (before : List ℕ) → before ≡ before ++ encode_lower []
-unfolding encode_with
-nothing_written before = sym (append-nil before)
-
--- one byte more is written
-pub byte_written : (before out after bytes : List ℕ) (i : ℕ) → i < length bytes → out ≡ before ++ encode_lower (take i bytes)
-    → after ≡ out ++ encode_lower (slice_index bytes i ∷ []) → after ≡ before ++ encode_lower (take (i + 1) bytes)
-byte_written before out after bytes i inside written more =
-    rw (more, written, take_more bytes i 0 inside, encode_lower-append, append_assoc) refl
 
 -- no digit is a capital
 no_capital_at : (k : ℕ) → is_ascii_uppercase (slice_index lower_digits k) ≡ false

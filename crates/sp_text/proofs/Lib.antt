@@ -5,5 +5,6 @@ pub mod HexWordLemmas
 pub mod LineLemmas
 pub mod NextLine
 pub mod Separators
+pub mod SpelledLemmas
 pub mod WordLemmas
 pub mod FieldLemmas

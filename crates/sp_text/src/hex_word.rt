@@ -1,5 +1,5 @@
 // Bytes in a line: two digits for each (RFC 4648, section 8, in lower case), and a dash for none.
-ghost use Rattle.std.specs.Prelude.{ℕ, ◌≡◌, ◌≢◌, ◌<◌, ◌++◌, ◌%◌, List, [], ◌∷◌, length, slice_index, true, IfNone, IfOk, IfSome, OnOk};
+ghost use Rattle.std.specs.Prelude.{ℕ, ◌≡◌, ◌≢◌, ◌<◌, ◌≤◌, ◌++◌, ◌*◌, ◌%◌, List, length, slice_index, take, true, IfNone, IfOk, IfSome, OnOk};
 ghost use Rattle.std.specs.Char.{is_ascii_uppercase};
 ghost use Rattle.std.specs.List.{list_all, list_any};
 ghost use Rattle.std.specs.String.{string_bytes};
@@ -7,11 +7,16 @@ ghost use Rattle.hex.specs.Hex.{encode_lower, lower_digits};
 ghost use Rattle.sp_base.specs.Spelling.{AreBytes};
 ghost use Rattle.sp_text.specs.Spelling.{hex_word, is_digit};
 ghost use Rattle.sp_text.specs.Texts.{ReadsHex};
+ghost use Rattle.sp_text.specs.declared.hex_word.TheConstants.{PIECE_BYTES};
 
 use crate::{At, TextRefused};
 use hex::FromHex;
 use sp_base::{Bytes, Memory};
 use std::alloc::Global;
+use std::str;
+
+/// How many bytes are spelled at once.
+const PIECE_BYTES: usize = 256;
 
 /// The bytes of a word in lower-case hexadecimal, or no bytes for a dash.
 /// `BadHex` at the place given exactly where the word is neither: upper case is refused, and so is the empty word.
@@ -96,20 +101,35 @@ pub fn push_hex(out: &mut String, bytes: &[u8]) -> Result<(), Memory>
     if bytes.is_empty() {
         return Ok(out.push('-')?);
     }
-    'bytes: for byte in bytes {
-        push_pair(out, *byte)?;
+    'pieces: for piece in bytes.chunks(PIECE_BYTES) {
+        push_piece(out, piece)?;
     }
     Ok(())
 }
 
-/// Appends the two digits of a byte. After an error the text is unspecified.
-#[tactic(auto, unfolding(hex::specs::Hex::encode_with))]
-fn push_pair(out: &mut String, byte: u8) -> Result<(), Memory>
-    ensures { OnOk result (string_bytes out.new ≡ string_bytes out.old ++ encode_lower (byte ∷ [])) }
+/// Appends the digits of a piece at once. After an error the text is unspecified.
+fn push_piece(out: &mut String, piece: &[u8]) -> Result<(), Memory>
+    requires { length piece.now ≤ PIECE_BYTES }
+    ensures { OnOk result (string_bytes out.new ≡ string_bytes out.old ++ encode_lower piece.now) }
 {
-    out.push(digit(byte / 16))?;
-    out.push(digit(byte % 16))?;
+    let mut digits = [0u8; 2 * PIECE_BYTES];
+    write_digits(&mut digits, piece);
+    let Ok(text) = str::from_utf8(&digits[..2 * piece.len()]) else {
+        unreachable!()
+    };
+    out.push_str(text)?;
     Ok(())
+}
+
+/// Writes the two digits of each byte.
+fn write_digits(digits: &mut [u8; 2 * PIECE_BYTES], piece: &[u8])
+    requires { length piece.now ≤ PIECE_BYTES }
+    ensures { take (2 * length piece.now) digits.new ≡ encode_lower piece.now }
+{
+    'bytes: for place in 0..piece.len() {
+        digits[2 * place] = digit(piece[place] / 16);
+        digits[2 * place + 1] = digit(piece[place] % 16);
+    }
 }
 
 /// Whether a letter of the word is a capital.
@@ -119,11 +139,10 @@ fn has_capital(word: &[u8]) -> bool
     word.iter().any(|byte| byte.is_ascii_uppercase())
 }
 
-/// The digit of a value below 16.
-fn digit(value: u8) -> char
+/// The digit of a value below 16: the letters stand 39 above what would follow the nine. It has no branch.
+fn digit(value: u8) -> u8
     requires { value < 16 }
-    ensures digit { result ≡ slice_index lower_digits value }
-    ensures ascii { result < 128 }
+    ensures { result ≡ slice_index lower_digits value }
 {
-    char::from(b"0123456789abcdef"[value as usize])
+    b'0' + value + 39 * u8::from(9 < value)
 }
