@@ -21,13 +21,15 @@ sys.path.insert(0, os.path.join(ROOT, "examples", "overlay"))
 from overlay import Overlay, line_of  # noqa: E402
 
 MANY_TURNS = 1_000_000
-RECORDED_TURNS = 10_000
+RECORDED_TURNS = 8_000
 PAYLOAD = "5a" * 64
+# how many requests of a client are on their way at a time
+ON_THEIR_WAY = 4
 TICKS = os.sysconf("SC_CLK_TCK")
 
 
 class Client:
-    """A session at a daemon, which asks one request after another."""
+    """A session at a daemon, which asks one request after another, and has a few on their way."""
 
     def __init__(self, port):
         self.socket, self.last = socket.socket(socket.AF_INET, socket.SOCK_DGRAM), 0
@@ -36,18 +38,36 @@ class Client:
         self.socket.settimeout(0.2)
         self.ask("open")
 
-    def ask(self, command):
-        """The answer. The request is sent again until its reply comes, so it runs once."""
-        front = b"%d " % (self.last + 1)
-        while True:
+    def send(self, number, command):
+        try:
+            self.socket.send(f"{number} {command}".encode())
+        except ConnectionRefusedError:
+            pass
+
+    def answers(self, command, until, most=ON_THEIR_WAY):
+        """Asks the same until then, and gives the answers in their order. A request is sent again where its reply doesn't come, so each runs once;
+        two seconds later nobody waits for it."""
+        sent = self.last
+        while time.monotonic() < until or self.last < sent and time.monotonic() < until + 2:
+            while sent < self.last + most and time.monotonic() < until:
+                sent += 1
+                self.send(sent, command)
             try:
-                self.socket.send(front + command.encode())
-                reply = self.socket.recv(65_535)
+                number, reply = self.socket.recv(65_535).decode().split(" ", 1)
             except (TimeoutError, ConnectionRefusedError):
+                for number in range(self.last + 1, sent + 1):
+                    self.send(number, command)
                 continue
-            if reply.startswith(front):
+            if int(number) == self.last + 1:
                 self.last += 1
-                return reply[len(front):].decode().split(" ")
+                yield reply.split(" ")
+
+    def ask(self, command):
+        """The answer to one request."""
+        answer = None
+        while answer is None:
+            answer = next(self.answers(command, time.monotonic() + 0.001, 1), None)
+        return answer
 
 
 def seconds_of(pid):
@@ -72,25 +92,19 @@ def drops_of(port):
 def carried(overlay, ways, seconds):
     """Messages go these ways for so long. Gives how many arrived."""
     arrived, until = [], time.monotonic() + seconds
-    clients = {node: Client(overlay.ports[node][1]) for way in ways for node in way}
-    for _, target in ways:
-        clients[target].ask("listen")
-    locks = {node: threading.Lock() for node in clients}
+    senders = [(Client(overlay.ports[source][1]), f"send {target} {PAYLOAD}") for source, target in ways]
+    takers = [(Client(overlay.ports[target][1]), f"take {source}") for source, target in ways]
+    for taker, _ in takers:
+        taker.ask("listen")
 
-    def ask(node, command):
-        with locks[node]:
-            return clients[node].ask(command)
+    def send(client, command):
+        for _ in client.answers(command, until):
+            pass
 
-    def send(source, target):
-        while time.monotonic() < until:
-            ask(source, f"send {target} {PAYLOAD}")
+    def take(client, command):
+        arrived.extend(1 for answer in client.answers(command, until) if answer[0] == "payload")
 
-    def take(source, target):
-        while time.monotonic() < until:
-            if ask(target, f"take {source}")[0] == "payload":
-                arrived.append(target)
-
-    threads = [threading.Thread(target=each, args=way) for way in ways for each in (send, take)]
+    threads = [threading.Thread(target=send, args=sender) for sender in senders] + [threading.Thread(target=take, args=taker) for taker in takers]
     for thread in threads:
         thread.start()
     for thread in threads:

@@ -2,7 +2,7 @@
 ghost use Rattle.std.specs.Prelude.{◌≡◌, ◌≤◌, IfOk, IfSome, None, length};
 ghost use Rattle.sp_outside.specs.declared.wire.TheConstants.{DATAGRAM_BYTES};
 
-use crate::pace::Pace;
+use crate::pace::{Pace, Pause};
 use sp_outside::{DATAGRAM_BYTES, Failed, Side, Wire};
 use std::io::ErrorKind;
 use std::net::{IpAddr, Ipv4Addr, Net, SocketAddr, SocketAddrV4, UdpSocket};
@@ -13,14 +13,19 @@ use std::{io, thread};
 /// How long a receive waits for a datagram, at most.
 const WAIT_MS: u64 = 5;
 
-/// The system's sockets of the two sides. A receive of the overlay side waits for a while; one of the client side doesn't, unless it is
-/// the only side that is open. Once in each cycle of the neighbours the overlay side naps first: so a daemon with many neighbours hears
-/// as many frames as they send. A datagram from another address than 127.0.0.1 is none, whatever port it comes from.
+/// How long a daemon naps, so that idle ones don't wake each other with each frame.
+const NAP_MS: u64 = 4;
+
+/// The system's sockets of the two sides. A receive of the overlay side naps, waits or does neither, as its pace wants it; one of the
+/// client side doesn't wait, unless it is the only side that is open. A datagram from another address than 127.0.0.1 is none, whatever
+/// port it comes from.
 #[derive(Drop)]
 pub struct UdpWire<'r, R: Net + Clock> {
     rt: &'r R,
     overlay: Option<UdpSocket>,
     client: Option<UdpSocket>,
+    /// Whether a receive of the overlay side waits.
+    waits: bool,
     pace: Pace,
     failed_opens: u64,
     faults: u64,
@@ -33,6 +38,7 @@ impl<'r, R: Net + Clock> UdpWire<'r, R> {
             rt,
             overlay: None,
             client: None,
+            waits: true,
             pace: Pace::new(),
             failed_opens: 0,
             faults: 0,
@@ -46,16 +52,30 @@ impl<'r, R: Net + Clock> UdpWire<'r, R> {
         }
     }
 
-    /// Sleeps before a receive of the overlay side, where its pace wants it.
-    fn nap(&mut self, side: Side)
+    /// Naps before a receive of the overlay side, and has it wait, as its pace wants it.
+    fn pause(&mut self)
         ensures { (self.new.faults ≡ self.old.faults) × (self.new.failed_opens ≡ self.old.failed_opens) }
     {
-        if side == Side::Client || self.overlay.is_none() {
+        let Some(socket) = &self.overlay else {
             return;
+        };
+        let pause = self.pace.pause();
+        if pause == Pause::Nap {
+            thread::sleep(self.rt, Duration::from_millis(NAP_MS));
         }
-        let millis = self.pace.nap_ms();
-        if 0 < millis {
-            thread::sleep(self.rt, Duration::from_millis(millis));
+        let waits = pause != Pause::No;
+        if waits != self.waits && socket.set_nonblocking(!waits).is_ok() {
+            self.waits = waits;
+        }
+    }
+
+    /// A datagram came from this port.
+    fn heard(&mut self, side: Side, port: u16, count: usize)
+        ensures { (self.new.faults ≡ self.old.faults) × (self.new.failed_opens ≡ self.old.failed_opens) }
+    {
+        match side {
+            Side::Overlay => self.pace.heard(port, count),
+            Side::Client => self.pace.asked(),
         }
     }
 }
@@ -142,6 +162,7 @@ impl<R: Net + Clock> Wire for UdpWire<'_, R> {
             Ok((overlay, client)) => {
                 self.overlay = overlay;
                 self.client = client;
+                self.waits = true;
                 Ok(())
             }
             Err(_) => {
@@ -152,10 +173,12 @@ impl<R: Net + Clock> Wire for UdpWire<'_, R> {
     }
 
     fn receive(&mut self, side: Side, buf: &mut [u8]) -> Result<Option<(u16, usize)>, Failed> {
-        self.nap(side);
+        if side == Side::Overlay {
+            self.pause();
+        }
         let got = received_on(self.socket(side), buf);
         match got {
-            Ok(Some((_, count))) => self.pace.heard(count),
+            Ok(Some((port, count))) => self.heard(side, port, count),
             Ok(None) => {}
             Err(_) => self.faults = self.faults.saturating_add(1),
         }
