@@ -28,8 +28,16 @@ const NEIGHBOURS: usize = 15;
 
 const FLOWS: usize = 240;
 
-/// The entries of a store, with the room for one more.
-const ENTRIES: usize = 257;
+/// The places of a store's entries, in the map and in its twin: 256, one for an entry that arrives, and 31 that may be empty.
+const PLACES: usize = 2 * 288;
+
+/// A place: an entry or none, its id, and the id's hash with where the map's index has it.
+const PLACE: usize = size_of::<Option<Entry>>() + 2 * size_of::<u64>();
+
+/// The index of a map has groups of 64 bytes, each for nine places.
+const GROUPS: usize = PLACES / 9;
+
+const GROUP: usize = 64;
 
 /// The nodes of the three trees of a signer at height 5, and the front of its signatures.
 const TREES: usize = 3 * 64 * 32;
@@ -46,7 +54,7 @@ const PEER: usize = size_of::<Store>()
 const PEER_ROW: usize = size_of::<u64>() + size_of::<Cursor>() + size_of::<Vec<u8>>();
 
 /// The parts: the node itself, and what it holds elsewhere.
-fn parts() -> [Part; 15] {
+fn parts() -> [Part; 16] {
     [
         sized("node", size_of::<Node>(), 1),
         sized("keys of nodes", size_of::<NodeKey>(), NODES),
@@ -59,7 +67,8 @@ fn parts() -> [Part; 15] {
         sized("cycles, ids", size_of::<Cursor>() + 2, NODES),
         sized("windows", size_of::<Window>(), NODES),
         sized("peers of stores", PEER, NEIGHBOURS),
-        sized("entries of stores", size_of::<Entry>(), NODES * ENTRIES),
+        sized("places of stores", PLACE, NODES * PLACES),
+        sized("indexes of stores", GROUP, NODES * GROUPS),
         sized("rows of flows", ROW_BYTES + 2, FLOWS),
         sized("peers of flows", PEER_ROW, NEIGHBOURS),
         sized("views of flows", VIEW_BYTES, NEIGHBOURS * FLOWS),

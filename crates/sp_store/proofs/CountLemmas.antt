@@ -1,64 +1,121 @@
--- Entries that are counted for all sources at once, and the source that has most.
-use Rattle.std.proofs.Common.{◌≡◌, ◌≤◌, ◌<◌, ℕ, ◌+◌, Bool, true, false, List, [], ◌∷◌, ◌++◌, length, map, take, set, replicate, get_or, Option, Some, refl, sym, ap, ◌∙◌, arith, cond, nat_lt, get_or-set_same, get_or-set_other, sum}
-use Rattle.std.specs.Prelude.{◌==◌, ◌||◌}
+-- The numbers of the entries of each source, where one comes and where one goes; and the source that has most.
+use Rattle.std.proofs.Common.{◌≡◌, ◌≤◌, ◌<◌, ℕ, ◌+◌, ◌-◌, Bool, true, false, List, [], ◌∷◌, ◌++◌, length, map, set, replicate, get_or, Option, Some, refl, sym, ap, ◌∙◌, arith, cond, nat_lt, get_or-set_same, get_or-set_other, sum, find}
+use Rattle.std.specs.Prelude.{◌==◌, ◌||◌, count_by}
 use Rattle.std.specs.List.{range_with_len}
 use Rattle.std.proofs.lemmas.Bool.Decides.{nat_tests}
-use Rattle.std.proofs.lemmas.List.{get_or-replicate, length-replicate, length-set, take_all}
+use Rattle.std.proofs.lemmas.List.{get_or-replicate, length-replicate, length-set, length_push}
 use Rattle.std.proofs.lemmas.List.Elements.{All-from_get_or}
 use Rattle.std.proofs.lemmas.List.Folds.{list_any-append}
 use Rattle.std.proofs.lemmas.List.FromFn.{fill_by_all, get_or-range_with_len, length-range_with_len}
-use Rattle.std.proofs.lemmas.List.Sums.{count_by_more_no, count_by_more_yes, get_or-le-sum_by, sum_by-le, sum_by-set}
+use Rattle.std.proofs.lemmas.List.Sums.{count_by-le-length, sum_by-append, sum_by-le, sum_by-set}
 use Rattle.sp_rules.proofs.ChoiceLemmas.{first_by_push, more_first, none_before, range_push, with_last}
-use Rattle.sp_rules.specs.Choices.{first_by}
+use Rattle.sp_rules.specs.Choices.{first_by, less_first}
 use Rattle.sp_rules.specs.Store.{count_of, fullest, has_entries, ids, is_of, source}
 use Rattle.sp_rules.specs.declared.store.Entry.{Entry}
+use Rattle.sp_store.proofs.LeftLemmas.{one_less}
+use Rattle.sp_store.specs.Sound.{IsCounted}
 
 -- ---- counts
 
--- the first i entries were counted
-pub record IsCounted (es : List Entry) (i : ℕ) (counts : List ℕ) : Type 0 where
-  pub places : length counts ≡ 256
-  pub each : (id : ℕ) → id < 256 → get_or counts id 0 ≡ count_of (take i es) id
-  pub all : sum counts ≡ i
-
-pub none_counted : (es : List Entry) → IsCounted es 0 (replicate 256 0)
-none_counted es = record {
+pub none_counted : IsCounted [] (replicate 256 0)
+none_counted = record {
   places = length-replicate {A = ℕ} 256 0;
   each = λ id inside. get_or-replicate {A = ℕ} 256 id 0 0 inside;
   all = refl;
 }
 
-pub one_counted : (es : List Entry) (i : ℕ) (counts : List ℕ) (e : Entry) (s : ℕ) → IsCounted es i counts → i < length es → e ≡ get_or es i e → s
-    ≡ source e → s < 256 → IsCounted es (i + 1) (set counts s (get_or counts s 0 + 1))
-one_counted es i counts e s so_far inside is from fits = record {
-  places = length-set counts s (get_or counts s 0 + 1) ∙ so_far.places;
+pub count_fits : (es : List Entry) (counts : List ℕ) (s : ℕ) → IsCounted es counts → s < 256 → get_or counts s 0 ≤ length es
+count_fits es counts s counted fits = omega (arith, counted.each s fits, count_by-le-length (is_of s) es)
+
+alone : (n : ℕ) → 0 + n ≡ n
+alone n = omega arith
+
+count_push : (p : Entry → Bool) (es : List Entry) (e : Entry) → count_by p (es ++ e ∷ []) ≡ count_by p es + cond (p e) 1 0
+count_push p es e = sum_by-append (λ (x : Entry). cond (p x) 1 0) es (e ∷ []) ∙ ap (λ (n : ℕ). count_by p es + n) (alone (cond (p e) 1 0))
+
+count_first : (p : Entry → Bool) (e : Entry) (es : List Entry) → count_by p (e ∷ es) ≡ cond (p e) 1 0 + count_by p es
+count_first p e es = sum_by-append (λ (x : Entry). cond (p x) 1 0) (e ∷ []) es ∙ ap (λ (n : ℕ). n + count_by p es) (alone (cond (p e) 1 0))
+
+-- one entry more
+pub one_counted : (es : List Entry) (counts : List ℕ) (e : Entry) (s : ℕ) → IsCounted es counts → s ≡ source e → s < 256 →
+    IsCounted (es ++ e ∷ []) (set counts s (get_or counts s 0 + 1))
+one_counted es counts e s counted from fits = record {
+  places = length-set counts s (get_or counts s 0 + 1) ∙ counted.places;
   each = λ id within. go id within (id == s) refl;
-  all = omega (arith, sum_by-set (λ (x : ℕ). x) counts s (get_or counts s 0 + 1) 0 (omega (arith, so_far.places)), so_far.all);
+  all = omega (arith, sum_by-set (λ (x : ℕ). x) counts s (get_or counts s 0 + 1) 0 (omega (arith, counted.places)), counted.all, length_push es e);
 }
   where
-    go : (id : ℕ) → id < 256 → (t : Bool) → (id == s) ≡ t → get_or (set counts s (get_or counts s 0 + 1)) id 0 ≡ count_of (take (i + 1) es) id
+    go : (id : ℕ) → id < 256 → (t : Bool) → (id == s) ≡ t → get_or (set counts s (get_or counts s 0 + 1)) id 0 ≡ count_of (es ++ e ∷ []) id
     go id within true same_id =
         let same : id ≡ s = grind (arith, nat_tests) in
         let mine : (source e == id) ≡ true = grind (arith, nat_tests) in
         ap (λ (n : ℕ). get_or (set counts s (get_or counts s 0 + 1)) n 0) same ∙ get_or-set_same counts s (get_or counts s 0 + 1) 0 (omega (
           arith,
-          so_far.places,
+          counted.places,
         ))
-        ∙ ap (λ (n : ℕ). get_or counts n 0 + 1) (sym same) ∙ ap (λ (n : ℕ). n + 1) (so_far.each id within)
-        ∙ sym (count_by_more_yes (is_of id) es i e inside (ap (is_of id) (sym is) ∙ mine))
+        ∙ ap (λ (n : ℕ). get_or counts n 0 + 1) (sym same) ∙ ap (λ (n : ℕ). n + 1) (counted.each id within)
+        ∙ ap (λ (t : Bool). count_of es id + cond t 1 0) (sym mine) ∙ sym (count_push (is_of id) es e)
     go id within false other_id =
         let apart : id ≡ s → ⊥ = λ h. grind (arith, nat_tests) in
         let not_mine : (source e == id) ≡ false = grind (arith, nat_tests) in
-        get_or-set_other counts s id (get_or counts s 0 + 1) 0 apart ∙ so_far.each id within
-        ∙ sym (count_by_more_no (is_of id) es i e inside (ap (is_of id) (sym is) ∙ not_mine))
+        let none : count_of es id ≡ count_of es id + 0 = omega arith in
+        get_or-set_other counts s id (get_or counts s 0 + 1) 0 apart ∙ counted.each id within ∙ none
+        ∙ ap (λ (t : Bool). count_of es id + cond t 1 0) (sym not_mine) ∙ sym (count_push (is_of id) es e)
 
--- all were counted
-pub each_counted : (es : List Entry) (i : ℕ) (counts : List ℕ) → IsCounted es i counts → length es ≤ i → (id : ℕ) → id < 256 → get_or counts id 0
-    ≡ count_of es id
-each_counted es i counts so_far all id fits = so_far.each id fits ∙ ap (λ (xs : List Entry). count_of xs id) (take_all i es all)
+count_less : (p test : Entry → Bool) (es : List Entry) (e : Entry) → find test es ≡ Some e → count_by p es ≡ count_by p (less_first test es) + cond (p e) 1 0
+count_less p test [] e found = absurd (cc)
+count_less p test (x ∷ es) e found = count_first p x es ∙ go (test x) found (λ rest. count_less p test es e rest)
+  where
+    go : (t : Bool) → cond t (Some x) (find test es) ≡ Some e → (find test es ≡ Some e → count_by p es ≡ count_by p (less_first test es) + cond (p e) 1 0) →
+        cond (p x) 1 0 + count_by p es ≡ count_by p (cond t es (x ∷ less_first test es)) + cond (p e) 1 0
+    go true found rest =
+        let same : x ≡ e = cc in
+        let alike = ap (λ (y : Entry). cond {A = ℕ} (p y) 1 0) same in
+        omega (arith, alike)
+    go false found rest = omega (arith, rest found, count_first p x (less_first test es))
 
-pub count_fits : (es : List Entry) (i : ℕ) (counts : List ℕ) (s : ℕ) → IsCounted es i counts → s < 256 → get_or counts s 0 ≤ i
-count_fits es i counts s so_far fits = omega (arith, get_or-le-sum_by (λ (x : ℕ). x) counts s 0 (omega (arith, so_far.places)), so_far.all)
+-- it is counted before it goes
+pub counted_once : (es : List Entry) (counts : List ℕ) (test : Entry → Bool) (e : Entry) (s : ℕ) → IsCounted es counts → find test es ≡ Some e → s
+    ≡ source e → s < 256 → 1 ≤ get_or counts s 0
+counted_once es counts test e s counted found from fits =
+    let mine : is_of s e ≡ true = grind (arith, nat_tests) in
+    let more : count_of es s ≡ count_of (less_first test es) s + 1 =
+    count_less (is_of s) test es e found ∙ ap (λ (t : Bool). count_of (less_first test es) s + cond t 1 0) mine in
+    omega (arith, more, counted.each s fits)
+
+-- one entry less
+pub one_uncounted : (es : List Entry) (counts : List ℕ) (test : Entry → Bool) (e : Entry) (s : ℕ) → IsCounted es counts → find test es ≡ Some e → s
+    ≡ source e → s < 256 → IsCounted (less_first test es) (set counts s (get_or counts s 0 - 1))
+one_uncounted es counts test e s counted found from fits = record {
+  places = length-set counts s (get_or counts s 0 - 1) ∙ counted.places;
+  each = λ id within. go id within (id == s) refl;
+  all = omega (
+    arith,
+    sum_by-set (λ (x : ℕ). x) counts s (get_or counts s 0 - 1) 0 (omega (arith, counted.places)),
+    counted.all,
+    one_less test es e found,
+    counted_once es counts test e s counted found from fits,
+  );
+}
+  where
+    go : (id : ℕ) → id < 256 → (t : Bool) → (id == s) ≡ t → get_or (set counts s (get_or counts s 0 - 1)) id 0 ≡ count_of (less_first test es) id
+    go id within true same_id =
+        let same : id ≡ s = grind (arith, nat_tests) in
+        let mine : is_of id e ≡ true = grind (arith, nat_tests) in
+        let more : count_of es id ≡ count_of (less_first test es) id + 1 =
+        count_less (is_of id) test es e found ∙ ap (λ (t : Bool). count_of (less_first test es) id + cond t 1 0) mine in
+        let left : get_or counts id 0 - 1 ≡ count_of (less_first test es) id = omega (arith, more, counted.each id within) in
+        ap (λ (n : ℕ). get_or (set counts s (get_or counts s 0 - 1)) n 0) same ∙ get_or-set_same counts s (get_or counts s 0 - 1) 0 (omega (
+          arith,
+          counted.places,
+        ))
+        ∙ ap (λ (n : ℕ). get_or counts n 0 - 1) (sym same) ∙ left
+    go id within false other_id =
+        let apart : id ≡ s → ⊥ = λ h. grind (arith, nat_tests) in
+        let not_mine : is_of id e ≡ false = grind (arith, nat_tests) in
+        let same : count_of es id ≡ count_of (less_first test es) id + 0 =
+        count_less (is_of id) test es e found ∙ ap (λ (t : Bool). count_of (less_first test es) id + cond t 1 0) not_mine in
+        get_or-set_other counts s id (get_or counts s 0 - 1) 0 apart ∙ counted.each id within ∙ (omega (arith, same))
 
 -- ---- the fullest
 
@@ -139,11 +196,11 @@ none_flagged = record {
 }
 
 has_one_more : (es : List Entry) (e : Entry) (id : ℕ) → has_entries (es ++ e ∷ []) id ≡ (has_entries es id || is_of id e)
-has_one_more es e id = list_any-append (is_of id) es (e ∷ []) ∙ ap (λ (b : Bool). has_entries es id || b) (alone (is_of id e))
+has_one_more es e id = list_any-append (is_of id) es (e ∷ []) ∙ ap (λ (b : Bool). has_entries es id || b) (only (is_of id e))
   where
-    alone : (b : Bool) → (b || false) ≡ b
-    alone true = refl
-    alone false = refl
+    only : (b : Bool) → (b || false) ≡ b
+    only true = refl
+    only false = refl
 
 or_true : (b : Bool) → true ≡ (b || true)
 or_true true = refl

@@ -1,9 +1,9 @@
 -- The entries that aren't in flight, entry by entry.
-use Rattle.std.proofs.Common.{◌≡◌, ◌<◌, ℕ, ◌+◌, Bool, true, false, List, [], ◌∷◌, ◌++◌, length, drop, take, get_or, Some, refl, sym, ap, subst, ◌∙◌, arith}
+use Rattle.std.proofs.Common.{◌≡◌, ℕ, ◌+◌, Bool, true, false, List, [], ◌∷◌, ◌++◌, drop, Some, refl, sym, ap, subst, ◌∙◌, arith}
 use Rattle.std.specs.Prelude.{◌==◌, ◌||◌, not, slice_get}
 use Rattle.std.proofs.lemmas.Bool.Decides.{nat_tests}
 use Rattle.std.proofs.lemmas.List.{append-nil}
-use Rattle.std.proofs.lemmas.List.Elements.{filter_more}
+use Rattle.std.proofs.lemmas.List.Elements.{filter-append}
 use Rattle.sp_base.proofs.FewLemmas.{drop_first}
 use Rattle.sp_rules.specs.Store.{is_flying}
 use Rattle.sp_rules.specs.declared.store.Entry.{Entry}
@@ -17,24 +17,21 @@ flying_here flight i pair e at same =
     here ∙ sym (ap (λ (pairs : List (ℕ × ℕ)). is_flying pairs e) (drop_first flight i pair at) ∙ ap (λ (b : Bool). b || is_flying (drop (i + 1) flight) e) here)
 
 -- one more that is in flight
-pub flying_more : (flight : List (ℕ × ℕ)) (es : List Entry) (i : ℕ) (e : Entry) → i < length es → e ≡ get_or es i e → is_flying flight e ≡ true →
-    free flight (take (i + 1) es) ≡ free flight (take i es)
-flying_more flight es i e inside is flies =
-    filter_more (λ x. not (is_flying flight x)) es i e inside ∙ rw (← is, flies) (append-nil (free flight (take i es)))
+pub flying_more : (flight : List (ℕ × ℕ)) (es : List Entry) (e : Entry) → is_flying flight e ≡ true → free flight (es ++ e ∷ []) ≡ free flight es
+flying_more flight es e flies = filter-append (λ x. not (is_flying flight x)) es (e ∷ []) ∙ rw flies (append-nil (free flight es))
 
 -- one more that isn't
-pub free_more : (flight : List (ℕ × ℕ)) (es : List Entry) (i : ℕ) (e : Entry) → i < length es → e ≡ get_or es i e → is_flying flight e ≡ false →
-    free flight (take (i + 1) es) ≡ free flight (take i es) ++ e ∷ []
-free_more flight es i e inside is stays = filter_more (λ x. not (is_flying flight x)) es i e inside ∙ rw (← is, stays) refl
+pub free_more : (flight : List (ℕ × ℕ)) (es : List Entry) (e : Entry) → is_flying flight e ≡ false → free flight (es ++ e ∷ []) ≡ free flight es ++ e ∷ []
+free_more flight es e stays = filter-append (λ x. not (is_flying flight x)) es (e ∷ []) ∙ rw stays refl
 
 -- what holds with the entry and without it
-pub either_more : (P : List Entry → Type 0) (flight : List (ℕ × ℕ)) (es : List Entry) (i : ℕ) (e : Entry) → i < length es → e ≡ get_or es i e →
-    P (free flight (take i es)) → P (free flight (take i es) ++ e ∷ []) → P (free flight (take (i + 1) es))
-either_more P flight es i e inside is without with_it = go (is_flying flight e) refl
+pub either_more : (P : List Entry → Type 0) (flight : List (ℕ × ℕ)) (es : List Entry) (e : Entry) → P (free flight es) → P (free flight es ++ e ∷ []) →
+    P (free flight (es ++ e ∷ []))
+either_more P flight es e without with_it = go (is_flying flight e) refl
   where
-    go : (t : Bool) → is_flying flight e ≡ t → P (free flight (take (i + 1) es))
-    go true flies = subst P (sym (flying_more flight es i e inside is flies)) without
-    go false stays = subst P (sym (free_more flight es i e inside is stays)) with_it
+    go : (t : Bool) → is_flying flight e ≡ t → P (free flight (es ++ e ∷ []))
+    go true flies = subst P (sym (flying_more flight es e flies)) without
+    go false stays = subst P (sym (free_more flight es e stays)) with_it
 
 -- where nothing is in flight all are free
 pub all_free : (es : List Entry) → free [] es ≡ es

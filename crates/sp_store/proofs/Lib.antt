@@ -1,4 +1,6 @@
 pub mod ChosenLemmas
 pub mod CountLemmas
 pub mod FreeLemmas
-pub mod SoundLemmas
+pub mod IdLemmas
+pub mod LeftLemmas
+pub mod PlaceLemmas

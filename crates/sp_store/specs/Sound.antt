@@ -1,13 +1,15 @@
--- What always holds of a store: it holds no more than it may, has room for one more, and its ids rise.
-use Rattle.std.specs.Prelude.{ℕ, ◌+◌, ◌<◌, ◌≤◌, List, [], ◌∷◌, length}
+-- What always holds of a store: it holds no more than it may, and the entries of each source are counted.
+use Rattle.std.specs.Prelude.{ℕ, ◌≡◌, ◌<◌, ◌≤◌, List, length, sum}
+use Rattle.std.specs.List.{slice_index}
+use Rattle.sp_rules.specs.Store.{Store, count_of}
 use Rattle.sp_rules.specs.declared.store.Entry.{Entry}
 
--- ids rise from above the first number up to at most the second
-abbrev pub Rises : ℕ → ℕ → List Entry → Type 0
-Rises below last [] = below ≤ last
-Rises below last (e ∷ es) = (below < e.id) × Rises e.id last es
+-- these are the numbers of the entries of each source
+pub record IsCounted (entries : List Entry) (counts : List ℕ) : Type 0 where
+  pub places : length counts ≡ 256
+  pub each : (id : ℕ) → id < 256 → slice_index counts id ≡ count_of entries id
+  pub all : sum counts ≡ length entries
 
-pub record IsSound (capacity last : ℕ) (entries : List Entry) (room : ℕ) : Type 0 where
-  pub bounded : length entries ≤ capacity
-  pub roomy : capacity + 1 ≤ room
-  pub rising : Rises 0 last entries
+pub record IsSound (store : Store) (counts : List ℕ) : Type 0 where
+  pub bounded : length store.entries ≤ store.capacity
+  pub counted : IsCounted store.entries counts

@@ -1,7 +1,10 @@
-// Which entry goes and which is served: entries are counted for all sources in one pass, and chosen among one source's in another.
-ghost use Rattle.std.specs.Prelude.{◌≡◌, ℕ, ◌<◌, ◌≤◌, IfSome, IsSome, Some, drop, length, map, option_map, slice_get, slice_index, sum};
-ghost use Rattle.std.specs.Option.{option_and_then};
+// Which entry goes and which is served: the first by the numbers of each source's entries, the second by a pass that tells whose turn it is;
+// each is then chosen among one source's entries in one pass.
+ghost use Rattle.std.specs.Prelude.{◌≡◌, ℕ, ◌<◌, IsSome, Some, drop, length, map};
+ghost use Rattle.std.specs.Option.{option_copied};
 ghost use Rattle.sp_rules.specs.Store.{count_of, fullest, has_entries, ids, is_flying, victim};
+ghost use Rattle.sp_store.specs.Places.{live};
+ghost use Rattle.sp_store.specs.Sound.{IsCounted};
 ghost use Rattle.sp_store.specs.Wanted.{choice, comes_before, free, goes_before, next_choice};
 
 use crate::said::{priority, source};
@@ -15,47 +18,36 @@ pub enum Wanted {
     HighestPriority,
 }
 
-/// The place of the entry that goes. None where there is no entry.
-pub fn victim(entries: &[Entry]) -> Option<usize>
-    ensures place { option_and_then (slice_get entries.now) result ≡ victim entries.now }
-    ensures within { IfSome result (λ place. place < length entries.now) }
-    ensures some { 0 < length entries.now → IsSome result }
+/// The entry that goes. None where there is no entry.
+pub fn victim<'a>(slots: &'a [Option<Entry>], counts: &[u32; 256]) -> Option<&'a Entry>
+    requires counted { IsCounted (live slots.now) counts.now }
+    ensures entry { option_copied result ≡ victim (live slots.now) }
+    ensures some { 0 < length (live slots.now) → IsSome result }
 {
-    let counts = counts(entries);
-    let src = fullest(entries, &counts);
-    chosen(entries, src, Wanted::LowestPriority, &Four::new())
+    let src = fullest(slots, counts);
+    chosen(slots, src, Wanted::LowestPriority, &Four::new())
 }
 
-/// The place of the entry that is served next, of those that aren't in flight. None where all are.
-pub fn next(entries: &[Entry], cursor: &Cursor, flight: &Four<(u64, u64)>) -> Option<usize>
-    ensures place { option_and_then (slice_get entries.now) result ≡ next_choice flight.now entries.now cursor.now }
-    ensures within { IfSome result (λ place. place < length entries.now) }
+/// The entry that is served next, of those that aren't in flight. None where all are.
+pub fn next<'a>(
+    slots: &'a [Option<Entry>],
+    cursor: &Cursor,
+    flight: &Four<(u64, u64)>,
+) -> Option<&'a Entry>
+    ensures { option_copied result ≡ next_choice flight.now (live slots.now) cursor.now }
 {
-    let active = active(entries, flight);
+    let active = active(slots, flight);
     match cursor.next(active.as_slice()) {
-        Some(src) => chosen(entries, src, Wanted::HighestPriority, flight),
+        Some(src) => chosen(slots, src, Wanted::HighestPriority, flight),
         None => None,
     }
 }
 
-/// How many entries each source has.
-fn counts(entries: &[Entry]) -> [usize; 256]
-    ensures each { (id : ℕ) → id < IDS → slice_index result id ≡ count_of entries.now id }
-    ensures all { sum result ≡ length entries.now }
-{
-    let mut counts = [0; IDS];
-    'entries: for entry in entries {
-        counts[source(entry) as usize] += 1;
-    }
-    counts
-}
-
 /// The source with most entries, the lowest of those that have most.
-fn fullest(entries: &[Entry], counts: &[usize; 256]) -> usize
-    requires each { (id : ℕ) → id < IDS → slice_index counts.now id ≡ count_of entries.now id }
-    requires all { sum counts.now ≡ length entries.now }
-    ensures source { Some result ≡ fullest entries.now }
-    ensures some { 0 < length entries.now → 0 < count_of entries.now result }
+fn fullest(slots: &[Option<Entry>], counts: &[u32; 256]) -> usize
+    requires counted { IsCounted (live slots.now) counts.now }
+    ensures source { Some result ≡ fullest (live slots.now) }
+    ensures some { 0 < length (live slots.now) → 0 < count_of (live slots.now) result }
 {
     let mut most = 0;
     'ids: for id in 1..IDS {
@@ -67,45 +59,51 @@ fn fullest(entries: &[Entry], counts: &[usize; 256]) -> usize
 }
 
 /// Which ids are those of sources with entries that aren't in flight.
-fn active(entries: &[Entry], flight: &Four<(u64, u64)>) -> [bool; 256]
-    ensures { result ≡ map (has_entries (free flight.now entries.now)) ids }
+fn active(slots: &[Option<Entry>], flight: &Four<(u64, u64)>) -> [bool; 256]
+    ensures { result ≡ map (has_entries (free flight.now (live slots.now))) ids }
 {
     let mut active = [false; IDS];
-    'entries: for entry in entries {
-        let src = source(entry) as usize;
-        if !active[src] && !is_flying(flight, entry) {
-            active[src] = true;
+    'slots: for slot in slots {
+        if let Some(entry) = slot {
+            let src = source(entry) as usize;
+            if !active[src] && !is_flying(flight, entry) {
+                active[src] = true;
+            }
         }
     }
     active
 }
 
-/// The place of the wanted one among a source's entries that aren't in flight. None where the source has none.
-fn chosen(entries: &[Entry], src: usize, wanted: Wanted, flight: &Four<(u64, u64)>) -> Option<usize>
-    ensures place { option_and_then (slice_get entries.now) result ≡ choice wanted (free flight.now entries.now) src }
-    ensures within { IfSome result (λ place. place < length entries.now) }
+/// The wanted one among a source's entries that aren't in flight. None where the source has none.
+fn chosen<'a>(
+    slots: &'a [Option<Entry>],
+    src: usize,
+    wanted: Wanted,
+    flight: &Four<(u64, u64)>,
+) -> Option<&'a Entry>
+    ensures { option_copied result ≡ choice wanted (free flight.now (live slots.now)) src }
 {
-    let mut best: Option<usize> = None;
-    'entries: for (place, entry) in entries.iter().enumerate() {
-        if source(entry) as usize == src
-            && is_better(entries, wanted, place, best)
-            && !is_flying(flight, entry)
-        {
-            best = Some(place);
+    let mut best: Option<&Entry> = None;
+    'slots: for slot in slots {
+        if let Some(entry) = slot {
+            if source(entry) as usize == src
+                && is_better(wanted, entry, best)
+                && !is_flying(flight, entry)
+            {
+                best = Some(entry);
+            }
         }
     }
     best
 }
 
-/// Whether the entry of a place goes before the best so far.
-fn is_better(entries: &[Entry], wanted: Wanted, place: usize, best: Option<usize>) -> bool
-    requires place { place < length entries.now }
-    requires best { IfSome best (λ other. other < length entries.now) }
-    ensures { result ≡ comes_before wanted (slice_get entries.now place) (option_and_then (slice_get entries.now) best) }
+/// Whether an entry goes before the best so far.
+fn is_better(wanted: Wanted, entry: &Entry, best: Option<&Entry>) -> bool
+    ensures { result ≡ comes_before wanted (Some entry.now) (option_copied best.entry) }
 {
     match best {
         None => true,
-        Some(other) => goes_before(wanted, &entries[place], &entries[other]),
+        Some(other) => goes_before(wanted, entry, other),
     }
 }
 

@@ -2,6 +2,8 @@
 #![tactic(auto)]
 
 mod choice;
+mod counted;
+mod places;
 mod said;
 mod store;
 

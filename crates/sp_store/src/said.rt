@@ -1,15 +1,22 @@
 // What the message of an entry says. Stores hold priority messages; any other says 0.
 ghost use Rattle.std.specs.Prelude.{◌≡◌};
-ghost use Rattle.sp_rules.specs.Store.{expiry, priority, source};
+ghost use Rattle.sp_rules.specs.Store.{expiry, priority, said, source};
 
-use sp_msg::Body;
+use sp_msg::{Body, Kept};
 use sp_rules::Entry;
 
 /// The id of the source.
 pub fn source(entry: &Entry) -> u8
     ensures { result ≡ source entry.now }
 {
-    match &entry.kept.body {
+    source_of(&entry.kept)
+}
+
+/// The same of a message that comes.
+pub fn source_of(kept: &Kept) -> u8
+    ensures { result ≡ said (λ p. p.src.0) kept.now.body }
+{
+    match &kept.body {
         Body::Prio(prio) => prio.src.0,
         _ => 0,
     }

@@ -1,34 +1,35 @@
-// A store: its entries in order of arrival. All memory is taken at the start, for one entry more than it may hold.
-ghost use Rattle.std.specs.Prelude.{◌≡◌, ◌<◌, ◌≤◌, ◌^◌, IfOk, IfSome, filter, length, position, slice_get};
+// A store: its entries in order of arrival, and how many each source has. All memory is taken at the start.
+ghost use Rattle.std.specs.Prelude.{◌≡◌, ◌+◌, ◌<◌, ◌≤◌, ◌^◌, IfOk, filter, find, length, slice_get};
 ghost use Rattle.std.specs.Option.{option_copied};
-ghost use Rattle.sp_rules.specs.Store.{count_of, empty_store, entry_in, expired_entries, expired_entry, has_id, is_expired, less_expired_entry, less_oldest, next_besides, oldest, put, put_answer, removed};
+ghost use Rattle.sp_rules.specs.Store.{count_of, empty_store, entry_in, expired_entries, expired_entry, is_expired, less_expired_entry, less_oldest, next_besides, oldest, put, put_answer, removed, victim, without};
+ghost use Rattle.sp_store.specs.Places.{live};
+ghost use Rattle.sp_store.specs.Sound.{IsCounted};
 
-use crate::choice;
-use crate::said::{expiry, source};
-use sp_base::{Cursor, Four, Memory, NodeId, push_in_room};
+use crate::places::Places;
+use crate::said::expiry;
+use crate::{choice, counted};
+use sp_base::{Cursor, Four, Memory, NodeId};
 use sp_msg::Kept;
-use sp_rules::{Entry, Put};
+use sp_rules::{Entry, IDS, Put};
 use std::alloc::Global;
 use std::marker::Model;
 
 /// Priority messages in order of arrival, at most so many.
 #[derive(Debug, Drop)]
 pub struct Store {
-    capacity: u16,
-    last: u64,
-    entries: Vec<Entry>,
+    places: Places,
+    counts: [u32; 256],
 }
 
 impl Model for Store {
-    ghost use Rattle.std.specs.Prelude.{vec_capacity};
     ghost use Rattle.sp_rules.specs.Store.{Store};
     ghost use Rattle.sp_store.specs.Sound.{IsSound};
 
     ghost Value = { Store };
 
-    ghost view = { λ s. record { capacity = s.capacity; last = s.last; entries = s.entries.items } };
+    ghost view = { λ s. s.places };
 
-    ghost invariant = { λ s. IsSound s.capacity s.last s.entries.items (vec_capacity s.entries) };
+    ghost invariant = { λ s. IsSound s.places s.counts };
 }
 
 impl Store {
@@ -37,9 +38,8 @@ impl Store {
         ensures { IfOk result (λ store. store ≡ empty_store capacity) }
     {
         Ok(Store {
-            capacity,
-            last: 0,
-            entries: Vec::with_capacity(alloc, capacity as usize + 1)?,
+            places: Places::new(alloc, capacity)?,
+            counts: [0; IDS],
         })
     }
 
@@ -50,17 +50,12 @@ impl Store {
         ensures answer { result ≡ put_answer self.old kept }
         ensures store { self.new ≡ put self.old kept }
     {
-        self.last += 1;
-        let id = self.last;
-        push_in_room(&mut self.entries, Entry { id, kept });
-        if self.entries.len() <= self.capacity as usize {
+        let id = counted::push(&mut self.places, &mut self.counts, kept);
+        if self.places.len() <= self.places.capacity() as usize {
             return Put::Stored { id };
         }
-        match choice::victim(self.entries.as_slice()) {
-            Some(place) => Put::StoredAfter {
-                id,
-                evicted: self.entries.remove(place),
-            },
+        match evict(&mut self.places, &mut self.counts) {
+            Some(evicted) => Put::StoredAfter { id, evicted },
             None => Put::Stored { id },
         }
     }
@@ -70,17 +65,14 @@ impl Store {
     pub fn next_besides(&self, cursor: &Cursor, flight: &Four<(u64, u64)>) -> Option<&Entry>
         ensures { option_copied result ≡ next_besides self.now flight.now cursor.now }
     {
-        match choice::next(self.entries.as_slice(), cursor, flight) {
-            Some(place) => self.entries.get(place),
-            None => None,
-        }
+        choice::next(self.places.slots(), cursor, flight)
     }
 
     /// The entry of this id. None exactly where there is none.
     pub fn get(&self, id: u64) -> Option<&Entry>
         ensures { option_copied result ≡ entry_in self.now id }
     {
-        self.entries.iter().find(|entry| entry.id == id)
+        self.places.get(id)
     }
 
     /// Takes out the entry of this id. None exactly where there is none.
@@ -88,10 +80,7 @@ impl Store {
         ensures entry { result ≡ entry_in self.old id }
         ensures store { self.new ≡ removed self.old id }
     {
-        match place_of(self.entries.as_slice(), id) {
-            Some(place) => Some(self.entries.remove(place)),
-            None => None,
-        }
+        counted::remove(&mut self.places, &mut self.counts, id)
     }
 
     /// Takes out the oldest entry. None exactly where the store is empty.
@@ -99,10 +88,8 @@ impl Store {
         ensures entry { result ≡ oldest self.old }
         ensures store { self.new ≡ less_oldest self.old }
     {
-        if self.entries.is_empty() {
-            return None;
-        }
-        Some(self.entries.remove(0))
+        let first = nth(self.places.slots(), 0)?.id;
+        self.remove(first)
     }
 
     /// Takes out the oldest entry whose expiry is before this time. None exactly where there is none.
@@ -110,10 +97,8 @@ impl Store {
         ensures entry { result ≡ expired_entry self.old now }
         ensures store { self.new ≡ less_expired_entry self.old now }
     {
-        match expired_place(self.entries.as_slice(), now) {
-            Some(place) => Some(self.entries.remove(place)),
-            None => None,
-        }
+        let gone = expired(self.places.slots(), now)?.id;
+        self.remove(gone)
     }
 
     /// How many entries have an expiry before this time.
@@ -121,25 +106,22 @@ impl Store {
         ensures count { result ≡ length (expired_entries self.now now) }
         ensures few { result < 2 ^ 16 }
     {
-        let _capacity = self.capacity;
-        expired_count(self.entries.as_slice(), now)
+        let _capacity = self.places.capacity();
+        expired_count(self.places.slots(), now)
     }
 
     /// The entry in this place from the oldest on, counted from 0. None exactly where there are no more than so many.
     pub fn at(&self, place: usize) -> Option<&Entry>
         ensures { option_copied result ≡ slice_get self.now.entries place }
     {
-        self.entries.get(place)
+        nth(self.places.slots(), place)
     }
 
     /// How many entries a source has.
     pub fn count(&self, src: NodeId) -> usize
         ensures { result ≡ count_of self.now.entries src.0 }
     {
-        self.entries
-            .iter()
-            .filter(|entry| source(entry) == src.0)
-            .count()
+        self.counts[src.0 as usize] as usize
     }
 
     /// How many entries there are.
@@ -147,38 +129,76 @@ impl Store {
         ensures count { result ≡ length self.now.entries }
         ensures bounded { length self.now.entries ≤ self.now.capacity }
     {
-        self.entries.len()
+        self.places.len()
     }
 
     /// The id that was given last, 0 before the first.
     pub fn last(&self) -> u64
         ensures { result ≡ self.now.last }
     {
-        self.last
+        self.places.last()
     }
 }
 
-/// The place of the entry of this id.
-fn place_of(entries: &[Entry], id: u64) -> Option<usize>
-    ensures place { result ≡ position (has_id id) entries.now }
-    ensures within { IfSome result (λ place. place < length entries.now) }
+/// Takes out the entry that goes. None exactly where there is no entry.
+fn evict(places: &mut Places, counts: &mut [u32; 256]) -> Option<Entry>
+    requires counted { IsCounted places.old.entries counts.old }
+    ensures entry { result ≡ victim places.old.entries }
+    ensures store { places.new ≡ record { capacity = places.old.capacity; last = places.old.last; entries = without (victim places.old.entries) places.old.entries } }
+    ensures counted { IsCounted places.new.entries counts.new }
+    ensures fewer { 0 < length places.old.entries → length places.new.entries + 1 ≡ length places.old.entries }
 {
-    entries.iter().position(|entry| entry.id == id)
+    match choice::victim(places.slots(), counts) {
+        Some(entry) => {
+            let id = entry.id;
+            counted::remove(places, counts, id)
+        }
+        None => None,
+    }
 }
 
-/// The place of the oldest entry whose expiry is before this time.
-fn expired_place(entries: &[Entry], now: u64) -> Option<usize>
-    ensures place { result ≡ position (is_expired now) entries.now }
-    ensures within { IfSome result (λ place. place < length entries.now) }
+/// The entry in this place from the oldest on, counted from 0. None exactly where there are no more than so many.
+fn nth(slots: &[Option<Entry>], place: usize) -> Option<&Entry>
+    ensures { option_copied result ≡ slice_get (live slots.now) place }
 {
-    entries.iter().position(|entry| expiry(entry) < now)
+    let mut left = place;
+    'slots: for slot in slots {
+        if let Some(entry) = slot {
+            if left == 0 {
+                return Some(entry);
+            }
+            left -= 1;
+        }
+    }
+    None
+}
+
+/// The oldest entry whose expiry is before this time.
+fn expired(slots: &[Option<Entry>], now: u64) -> Option<&Entry>
+    ensures { option_copied result ≡ find (is_expired now) (live slots.now) }
+{
+    'slots: for slot in slots {
+        if let Some(entry) = slot {
+            if expiry(entry) < now {
+                return Some(entry);
+            }
+        }
+    }
+    None
 }
 
 /// How many of these entries have an expiry before this time.
-#[tactic(auto, using(crate::proofs::SoundLemmas::expiring_counted, crate::proofs::SoundLemmas::expiring_within))]
-fn expired_count(entries: &[Entry], now: u64) -> usize
-    ensures count { result ≡ length (filter (is_expired now) entries.now) }
-    ensures within { result ≤ length entries.now }
+fn expired_count(slots: &[Option<Entry>], now: u64) -> usize
+    ensures count { result ≡ length (filter (is_expired now) (live slots.now)) }
+    ensures within { result ≤ length (live slots.now) }
 {
-    entries.iter().filter(|entry| expiry(entry) < now).count()
+    let mut count = 0usize;
+    'slots: for slot in slots {
+        if let Some(entry) = slot {
+            if expiry(entry) < now {
+                count += 1;
+            }
+        }
+    }
+    count
 }

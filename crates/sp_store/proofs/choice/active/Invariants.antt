@@ -1,7 +1,8 @@
 use Rattle.std.proofs.Common.{take}
+use Rattle.sp_store.specs.Places.{live}
 use Rattle.sp_store.specs.Wanted.{free}
 use Rattle.sp_store.proofs.CountLemmas.{IsFlagged}
 use Rattle.sp_store.proofs.choice.active.Given as goal
 
-abbrev pub invariant-entries : goal.invariant-entries
-invariant-entries l = IsFlagged (free l.flight (take l.entry-index l.entries)) l.active
+abbrev pub invariant-slots : goal.invariant-slots
+invariant-slots l = IsFlagged (free l.flight (live (take l.slot-index l.slots))) l.active

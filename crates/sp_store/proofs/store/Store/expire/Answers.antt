@@ -1,33 +1,39 @@
-use Rattle.std.proofs.Common.{◌∙◌, arith, ap, length, vec_capacity}
+use Rattle.std.proofs.Common.{◌≡◌, ◌∙◌, List, None, Some, ap, find, subst, sym}
+use Rattle.std.specs.Option.{option_copied}
 use Rattle.sp_rules.specs.Store.{Store, is_expired}
-use Rattle.sp_store.proofs.SoundLemmas.{found_at, less_at, none_found, none_less, sound_remove, with_entries}
+use Rattle.sp_rules.specs.declared.store.Entry.{Entry}
+use Rattle.sp_store.proofs.LeftLemmas.{none_left}
+use Rattle.sp_store.proofs.IdLemmas.{first_by_id, less_by_id}
+use Rattle.sp_store.specs.Places.{Rises}
 use Rattle.sp_store.proofs.store.Store.expire.Goals as goal
 
-pub invariant_of-self : goal.invariant_of-self
-invariant_of-self c =
-    rw (c.remove.ensures.items, c.remove.ensures.capacity)
-    (sound_remove c.self.inside.capacity c.self.inside.last (vec_capacity c.self.inside.entries) c.self.inside.entries.items c.in-Some.place
-    c.self.invariant (omega (arith, c.in-Some.ensures.within, ap length c.as_slice.ensures.value)))
+abbrev with_entries : Store → List Entry → Store
+with_entries s es = record { capacity = s.capacity; last = s.last; entries = es }
 
-pub returns-in-Some-clause-entry : goal.returns-in-Some-clause-entry
-returns-in-Some-clause-entry c =
-    rw (← c.self.view_is) (found_at (is_expired c.args.now) c.as_slice.result.now c.self.inside.entries.items c.in-Some.place c.remove.result
-    c.as_slice.ensures.value c.in-Some.ensures.place c.remove.ensures.value)
+pub returns-in_err-gone-clause-store : goal.returns-in_err-gone-clause-store
+returns-in_err-gone-clause-store c =
+    let s : Store = c.args.self.now in
+    let none : None ≡ find (is_expired c.args.now) s.entries =
+    ap (λ r. option_copied r) (sym c.in_err-gone.was) ∙ c.expired.ensures ∙ ap (find (is_expired c.args.now)) c.slots.ensures.entries
+    ∙ ap (λ (t : Store). find (is_expired c.args.now) t.entries) c.self.view_is in
+    ap (with_entries s) (sym (none_left (is_expired c.args.now) s.entries (sym none)))
 
-pub returns-in-Some-clause-store : goal.returns-in-Some-clause-store
-returns-in-Some-clause-store c =
-    let s : Store = record { capacity = c.self.inside.capacity; last = c.self.inside.last; entries = c.self.inside.entries.items } in
-    rw (← c.self.view_is) (ap (with_entries s) (c.remove.ensures.items
-    ∙ less_at (is_expired c.args.now) c.as_slice.result.now c.self.inside.entries.items c.in-Some.place c.as_slice.ensures.value
-    c.in-Some.ensures.place))
+pub returns-clause-entry : goal.returns-clause-entry
+returns-clause-entry c =
+    let s : Store = c.args.self.now in
+    let e : Entry = c.in_ok-gone.field-0.now in
+    let rises : Rises 0 s.entries = subst (λ (t : Store). Rises 0 t.entries) c.self.view_is c.slots.ensures.rising in
+    let first : Some e ≡ find (is_expired c.args.now) s.entries =
+    ap (λ r. option_copied r) (sym c.in_ok-gone.was) ∙ c.expired.ensures ∙ ap (find (is_expired c.args.now)) c.slots.ensures.entries
+    ∙ ap (λ (t : Store). find (is_expired c.args.now) t.entries) c.self.view_is in
+    c.remove.ensures.entry ∙ (first_by_id (is_expired c.args.now) 0 s.entries e rises (sym first)).1 ∙ first
 
-pub returns-in-None-clause-entry : goal.returns-in-None-clause-entry
-returns-in-None-clause-entry c =
-    rw (← c.self.view_is) (none_found (is_expired c.args.now) c.as_slice.result.now c.self.inside.entries.items c.as_slice.ensures.value
-    c.in-None.ensures.place)
-
-pub returns-in-None-clause-store : goal.returns-in-None-clause-store
-returns-in-None-clause-store c =
-    let s : Store = record { capacity = c.self.inside.capacity; last = c.self.inside.last; entries = c.self.inside.entries.items } in
-    rw (← c.self.view_is) (ap (with_entries s)
-    (none_less (is_expired c.args.now) c.as_slice.result.now c.self.inside.entries.items c.as_slice.ensures.value c.in-None.ensures.place))
+pub returns-clause-store : goal.returns-clause-store
+returns-clause-store c =
+    let s : Store = c.args.self.now in
+    let e : Entry = c.in_ok-gone.field-0.now in
+    let rises : Rises 0 s.entries = subst (λ (t : Store). Rises 0 t.entries) c.self.view_is c.slots.ensures.rising in
+    let first : Some e ≡ find (is_expired c.args.now) s.entries =
+    ap (λ r. option_copied r) (sym c.in_ok-gone.was) ∙ c.expired.ensures ∙ ap (find (is_expired c.args.now)) c.slots.ensures.entries
+    ∙ ap (λ (t : Store). find (is_expired c.args.now) t.entries) c.self.view_is in
+    c.remove.ensures.store ∙ ap (with_entries s) (less_by_id (is_expired c.args.now) 0 s.entries e rises (sym first)).1
