@@ -1,5 +1,5 @@
 -- The mask is read off the signed body.
-use Rattle.std.proofs.Common.{◌≡◌, ℕ, Bool, true, false, List, [], ◌∷◌, Option, Some, None, Result, Ok, Err, refl, sym, ap, ◌∙◌}
+use Rattle.std.proofs.Common.{◌≡◌, ℕ, Bool, true, false, List, [], ◌∷◌, Option, Some, None, refl, sym, ap, ◌∙◌}
 use Rattle.std.specs.Prelude.{IsTrue}
 use Rattle.sp_base.specs.Cursor.{or_else}
 use Rattle.sp_msg.proofs.EncodedIsRead.{no_other_has_its_bytes}
@@ -10,7 +10,7 @@ use Rattle.sp_msg.specs.declared.effect.Effect.{Effect}
 use Rattle.sp_msg.specs.declared.effect.Effect.TheVariants as effects
 use Rattle.sp_msg.specs.declared.refused.SendRefused.{SendRefused}
 use Rattle.sp_rules.specs.Arts.{Arts}
-use Rattle.sp_rules.specs.Masks.{IsChoice, graph_of}
+use Rattle.sp_rules.specs.Masks.{Choice, IsChoice, Mask, OnlyPaths, graph_of}
 use Rattle.sp_rules.specs.Node.{NodeState, kept_or, signed_once}
 use Rattle.sp_rules.specs.Parts.{is_signed}
 use Rattle.sp_rules.specs.Prio.{admit_prio}
@@ -34,30 +34,30 @@ abbrev was_accepted : Reply → Bool
 was_accepted (Accepted number) = true
 was_accepted _ = false
 
-abbrev step_by : Arts → NodeState → PrioSend → Result ℕ ℕ → Option SendRefused → NodeState
+abbrev step_by : Arts → NodeState → PrioSend → Choice → Option SendRefused → NodeState
 step_by arts n x c r = kept_or (or_else r (no_paths c)) n (signed_once n (record n.parts { prio = admit_prio n.parts.prio (own_prio arts n x c) None }))
 
-abbrev output_by : Arts → NodeState → PrioSend → Result ℕ ℕ → Option SendRefused → Output
+abbrev output_by : Arts → NodeState → PrioSend → Choice → Option SendRefused → Output
 output_by arts n x c r = refused_send (or_else r (no_paths c)) (accepted n.parts.prio.next (prio_sent arts n x c))
 
 module _ (arts : Arts) (n : NodeState) (x : PrioSend) (o : Output) (one two : NodeState) (fits : PrioSendFits x) (kept : IsKept arts n) where
-  fields : (mask : ℕ) → prio_refusal n x ≡ None → IsChoice (graph_of n.fixed.topology n.parts.weights) n.fixed.me x.dst x.paths (Ok mask) → HasGoodFields (prio_body n x mask)
+  fields : (mask : ℕ) → prio_refusal n x ≡ None → IsChoice (graph_of n.fixed.topology n.parts.weights) n.fixed.me x.dst x.paths (Mask mask) → HasGoodFields (prio_body n x mask)
   fields mask e is =
-      (prio_sent_fits (sizes_of (λ k. IsTrue (is_signed arts n.fixed k)) n) n x (Ok mask) fits (ap (λ (r : Option SendRefused). or_else r None) e) is kept).fields
+      (prio_sent_fits (sizes_of (λ k. IsTrue (is_signed arts n.fixed k)) n) n x (Mask mask) fits (ap (λ (r : Option SendRefused). or_else r None) e) is kept).fields
 
-  by_choice : prio_refusal n x ≡ None → (c d : Result ℕ ℕ)
+  by_choice : prio_refusal n x ≡ None → (c d : Choice)
       → IsChoice (graph_of n.fixed.topology n.parts.weights) n.fixed.me x.dst x.paths c → IsChoice (graph_of n.fixed.topology n.parts.weights) n.fixed.me x.dst x.paths d
       → o ≡ output_by arts n x c None → o ≡ output_by arts n x d None → one ≡ step_by arts n x c None → two ≡ step_by arts n x d None → one ≡ two
-  by_choice e (Err f) (Err g) is also o1 o2 n1 n2 = n1 ∙ sym n2
-  by_choice e (Err f) (Ok l) is also o1 o2 n1 n2 = absurd (let same : false ≡ true = ap (λ (q : Output). was_accepted q.reply) (sym o1 ∙ o2) in cc)
-  by_choice e (Ok k) (Err g) is also o1 o2 n1 n2 = absurd (let same : true ≡ false = ap (λ (q : Output). was_accepted q.reply) (sym o1 ∙ o2) in cc)
-  by_choice e (Ok k) (Ok l) is also o1 o2 n1 n2 =
+  by_choice e (OnlyPaths f) (OnlyPaths g) is also o1 o2 n1 n2 = n1 ∙ sym n2
+  by_choice e (OnlyPaths f) (Mask l) is also o1 o2 n1 n2 = absurd (let same : false ≡ true = ap (λ (q : Output). was_accepted q.reply) (sym o1 ∙ o2) in cc)
+  by_choice e (Mask k) (OnlyPaths g) is also o1 o2 n1 n2 = absurd (let same : true ≡ false = ap (λ (q : Output). was_accepted q.reply) (sym o1 ∙ o2) in cc)
+  by_choice e (Mask k) (Mask l) is also o1 o2 n1 n2 =
       let bytes : encoded (prio_body n x k) ≡ encoded (prio_body n x l) = ap (λ (q : Output). first_signed q.effects) (sym o1 ∙ o2) in
       let body = no_other_has_its_bytes (prio_body n x k) (prio_body n x l) (fields k e is) (fields l e also) bytes in
       let mask : k ≡ l = ap mask_of body in
-      n1 ∙ (ap (λ (m : ℕ). step_by arts n x (Ok m) None) mask ∙ sym n2)
+      n1 ∙ (ap (λ (m : ℕ). step_by arts n x (Mask m) None) mask ∙ sym n2)
 
-  by_refusal : (r : Option SendRefused) → prio_refusal n x ≡ r → (c d : Result ℕ ℕ)
+  by_refusal : (r : Option SendRefused) → prio_refusal n x ≡ r → (c d : Choice)
       → (prio_refusal n x ≡ None → IsChoice (graph_of n.fixed.topology n.parts.weights) n.fixed.me x.dst x.paths c)
       → (prio_refusal n x ≡ None → IsChoice (graph_of n.fixed.topology n.parts.weights) n.fixed.me x.dst x.paths d)
       → o ≡ output_by arts n x c r → o ≡ output_by arts n x d r → one ≡ step_by arts n x c r → two ≡ step_by arts n x d r → one ≡ two

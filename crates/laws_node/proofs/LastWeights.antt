@@ -12,7 +12,8 @@ use Rattle.sp_msg.specs.declared.kept.Kept.{Kept}
 use Rattle.sp_topology.specs.declared.topology.Edge.{Edge}
 use Rattle.sp_rules.specs.declared.weights.Offer.{Offer}
 use Rattle.sp_rules.specs.declared.weights.Offer.TheVariants as offers
-use Rattle.sp_rules.specs.Weights.{WeightState, held, held_in, offer_of, row_for, row_if, row_of, rows_with, weight_of, weight_said}
+use Rattle.sp_rules.specs.Handle.{offer_of}
+use Rattle.sp_rules.specs.Weights.{WeightState, held, held_in, row_for, row_of, rows_with, weight_of, weight_said}
 use Rattle.laws_node.specs.HeldUpdates.{after, after_one, held_if, is_of, last_weight, taken, taken_if}
 use Rattle.laws_node.proofs.UpdateRows.{IsRow, get_set_same, get_set_other, row_is, row_within, same_edge, same_end}
 
@@ -68,7 +69,7 @@ held_said s kept edge end row whole here at = go (is_of edge end kept.body) refl
     sees = ap (is_of edge end) at.is
 
     row_is_for : row_for s.edges kept.body ≡ Some at.row
-    row_is_for = ap (row_for s.edges) at.is ∙ ap (λ (found : Option Edge). row_if at.update.edge.0 found at.update.origin.0) at.there ∙ at.placed
+    row_is_for = ap (row_for s.edges) at.is ∙ ap (option_and_then (λ (f : Edge). row_of at.update.edge.0 f at.update.origin.0)) at.there ∙ at.placed
 
     written : said (held s kept) row ≡ weight_of (held_in (set s.rows at.row (Some kept)) row)
     written = ap (λ (r : Option ℕ). weight_of (held_in (rows_with r s.rows kept) row)) row_is_for

@@ -1,6 +1,7 @@
 -- What each step says of a link, and a life of all of them.
 use Rattle.std.proofs.Common.{◌≡◌, ℕ, ◌==◌, Bool, true, false, cond, not, List, [], ◌∷◌, ◌++◌, map, Option, Some, None, Result, Ok, Err, refl, sym, ap, subst, ◌∙◌, inl, inr}
-use Rattle.std.specs.Prelude.{zip}
+use Rattle.std.specs.Prelude.{option_map, unwrap_or, zip}
+use Rattle.std.specs.Result.{result_err}
 use Rattle.std.proofs.lemmas.Bool.{cases_Bool, eqb-true, eq-eqb}
 use Rattle.std.proofs.lemmas.List.{append-nil}
 use Rattle.sp_base.specs.Rows.{first_where}
@@ -14,7 +15,8 @@ use Rattle.sp_frame.specs.declared.refused.FrameRefused.TheVariants as frames
 use Rattle.sp_frame.specs.declared.refused.SectionRefused.{SectionRefused}
 use Rattle.sp_msg.specs.declared.body.Ack.{Ack}
 use Rattle.sp_msg.specs.declared.refused.SendRefused.{SendRefused}
-use Rattle.sp_rules.specs.Arrivals.{handled, link_after, link_says, link_with, no_frame, of_frame, of_fresh, of_link, of_sections, reply_at, sections_in}
+use Rattle.sp_rules.proofs.ArrivalLemmas.{link_stays, link_with, of_frame, of_fresh, of_link}
+use Rattle.sp_rules.specs.Arrivals.{handled, link_after, link_says, not_read, reply_at, sections_in}
 use Rattle.sp_rules.specs.Arts.{Arts, is_right}
 use Rattle.sp_rules.specs.Link.{Link, advanced, after_answer, is_above, new_link, pair_of}
 use Rattle.sp_rules.specs.Node.{NodeState, booted, call_refusal, called, is_link, is_neighbour, kept_or, link_in, link_of, with_link}
@@ -48,13 +50,14 @@ rests old new seen boot known = record { known = ap (λ (p : ℕ × ℕ). p.0) s
 fresh_told : (p : ℕ × ℕ) (mine theirs : ℕ) (s : Result Contents SectionRefused) → pair_told p (of_fresh mine theirs s) ≡ p ∷ []
 fresh_told p mine theirs s = by (not (theirs == mine)) s
   where
-    by : (t : Bool) (s : Result Contents SectionRefused) → pair_told p (cond t (replies.OtherTopology theirs) (of_sections s)) ≡ p ∷ []
+    by : (t : Bool) (s : Result Contents SectionRefused)
+        → pair_told p (unwrap_or (cond t (Some (replies.OtherTopology theirs)) (option_map replies.Section (result_err s))) replies.Fresh) ≡ p ∷ []
     by true s = refl
     by false (Ok contents) = refl
     by false (Err refused) = refl
 
 answer_told : (arts : Arts) (f : Fixed) (bytes : List ℕ) (a : LinkAnswer)
-    → pair_told (pair_of (arts.head bytes)) (of_link a (of_fresh f.topology.version (arts.head bytes).topology (sections_in arts f bytes)))
+    → pair_told (pair_of (arts.head bytes)) (of_link a (not_read f.topology.version (arts.head bytes).topology (sections_in arts f bytes)))
     ≡ fresh_pair (arts.head bytes) a ++ learned_pair a
 answer_told arts f bytes answers.NotForMe = refl
 answer_told arts f bytes answers.BadTag = refl
@@ -62,20 +65,17 @@ answer_told arts f bytes (answers.Learned boot) = refl
 answer_told arts f bytes (answers.Stale boot counter) = refl
 answer_told arts f bytes answers.Fresh = fresh_told (pair_of (arts.head bytes)) f.topology.version (arts.head bytes).topology (sections_in arts f bytes)
 
-none_told : (p : ℕ × ℕ) (e : FrameRefused) → pair_told p (no_frame e) ≡ []
-none_told p frames.TooLong = refl
-none_told p (frames.Short short) = refl
-none_told p frames.Magic = refl
-none_told p frames.Version = refl
-
 comes : (arts : Arts) (f : Fixed) (l : Link) (bytes : List ℕ) (o : Result (List ℕ) FrameRefused) → l.seen.0 ≡ l.peer_boot
     → Goes l (pair_told (pair_of (arts.head bytes)) (of_frame arts f l bytes o)) (link_with arts l bytes o)
-comes arts f l bytes (Err e) known = subst (λ (ps : List (ℕ × ℕ)). Goes l ps l) (sym (none_told (pair_of (arts.head bytes)) e)) (rests l l refl refl known)
+comes arts f l bytes (Err frames.TooLong) known = rests l l refl refl known
+comes arts f l bytes (Err (frames.Short short)) known = rests l l refl refl known
+comes arts f l bytes (Err frames.Magic) known = rests l l refl refl known
+comes arts f l bytes (Err frames.Version) known = rests l l refl refl known
 comes arts f l bytes (Ok frame) known =
     let h = arts.head bytes in
     let a = link_says arts l bytes in
     let goes = one l h (is_right arts l.key bytes) known in
-    let all : (fresh_pair h a ++ learned_pair a) ++ [] ≡ pair_told (pair_of h) (of_link a (of_fresh f.topology.version h.topology (sections_in arts f bytes))) =
+    let all : (fresh_pair h a ++ learned_pair a) ++ [] ≡ pair_told (pair_of h) (of_link a (not_read f.topology.version h.topology (sections_in arts f bytes))) =
     append-nil (fresh_pair h a ++ learned_pair a) ∙ sym (answer_told arts f bytes a) in
     record { known = goes.known; most = sym (goes.most []) ∙ ap (greatest l.seen) all }
 
@@ -95,7 +95,7 @@ answer_peer l h (answers.Stale boot counter) = refl
 answer_peer l h answers.Fresh = refl
 
 comes_peer : (arts : Arts) (l : Link) (bytes : List ℕ) (o : Result (List ℕ) FrameRefused) → (link_with arts l bytes o).peer ≡ l.peer
-comes_peer arts l bytes (Err e) = refl
+comes_peer arts l bytes (Err e) = ap (λ (k : Link). k.peer) (link_stays arts l bytes e)
 comes_peer arts l bytes (Ok frame) = answer_peer l (arts.head bytes) (link_says arts l bytes)
 
 -- what is read for a neighbour is its link, also where there is none

@@ -1,5 +1,6 @@
 -- What each step tells of weights, and a life of all of them.
 use Rattle.std.proofs.Common.{◌≡◌, ℕ, ◌+◌, ◌*◌, ◌==◌, ◌&&◌, max, Bool, true, false, cond, List, [], ◌∷◌, ◌++◌, length, map, Option, Some, None, refl, sym, ap, subst, ◌∙◌, inl, inr, nat_lt}
+use Rattle.std.specs.Option.{option_and_then}
 use Rattle.std.specs.List.{flat_map, slice_get}
 use Rattle.std.proofs.lemmas.Bool.{cases_Bool}
 use Rattle.std.proofs.lemmas.List.{length-replicate}
@@ -18,7 +19,7 @@ use Rattle.sp_rules.specs.Answers.{ack_answer, is_new, prio_answer, rel_answer, 
 use Rattle.sp_rules.specs.Arrivals.{arrival_at, handled, link_after, pieces_in, pieces_where, reply_at, sections_in}
 use Rattle.sp_rules.specs.Arts.{Arts}
 use Rattle.sp_rules.specs.Flow.{flow_said}
-use Rattle.sp_rules.specs.Handle.{Arrival, handle, handle_all, heard_where, offer_to, weight_effects}
+use Rattle.sp_rules.specs.Handle.{Arrival, handle, handle_all, heard_where, offer_of, offer_to, weight_effects}
 use Rattle.sp_rules.specs.Link.{advanced}
 use Rattle.sp_rules.specs.Node.{NodeState, booted, call_refusal, called, kept_or, link_in, signed_now, signed_once, with_link}
 use Rattle.sp_rules.specs.Parts.{Parts, edge_to, is_signed}
@@ -33,7 +34,7 @@ use Rattle.sp_rules.specs.Sends.{after_take_prio, after_take_rel, edge_or, mask_
 use Rattle.sp_rules.specs.Steps.{Input, NodeStep, Output, Poll, Datagram, Tick, SendRel, SendPrio, SetWeight, TakeRel, TakePrio, Frame, accepted, arrived, refused_call, refused_send, replied}
 use Rattle.sp_rules.specs.Store.{Store, entry_in, evicted, expired_entries, oldest, removed}
 use Rattle.sp_rules.specs.Ticks.{ack_effects, at_time, settled_by, time_after}
-use Rattle.sp_rules.specs.Weights.{WeightState, held, held_in, minimum, minimum_of, offer, offer_of, row_for, row_if, row_in, start, weight_of}
+use Rattle.sp_rules.specs.Weights.{WeightState, held, held_in, minimum, minimum_of, offer, row_for, row_in, row_of, start, weight_of}
 use Rattle.sp_rules.specs.declared.answers.Item.TheVariants as items
 use Rattle.sp_rules.specs.declared.answers.PrioAnswer.{PrioAnswer}
 use Rattle.sp_rules.specs.declared.answers.PrioAnswer.TheVariants as prios
@@ -184,7 +185,7 @@ offered me s (bodies.Ack u) e = absurd (cc)
 own_at : (s : WeightState) (u : WeightBody) (row : ℕ) → row_for s.edges (bodies.Weight u) ≡ Some row → IsUpdateAt s (bodies.Weight u)
 own_at s u row e = go (slice_get s.edges u.edge.0) refl e
   where
-    go : (o : Option Edge) → slice_get s.edges u.edge.0 ≡ o → row_if u.edge.0 o u.origin.0 ≡ Some row → IsUpdateAt s (bodies.Weight u)
+    go : (o : Option Edge) → slice_get s.edges u.edge.0 ≡ o → option_and_then (λ (f : Edge). row_of u.edge.0 f u.origin.0) o ≡ Some row → IsUpdateAt s (bodies.Weight u)
     go None there e = absurd (cc)
     go (Some f) there e = record { update = u; is = refl; edge = f; there = there; row = row; placed = e }
 

@@ -1,5 +1,5 @@
 -- What each frame keeps of a link.
-use Rattle.std.proofs.Common.{◌≡◌, ◌<◌, ◌≤◌, ℕ, ◌+◌, ◌^◌, ◌==◌, ◌&&◌, not, max, Bool, true, List, [], Result, Ok, Err, arith}
+use Rattle.std.proofs.Common.{◌≡◌, ◌<◌, ◌≤◌, ℕ, ◌+◌, ◌^◌, ◌==◌, ◌&&◌, not, max, Bool, true, List, [], Result, Ok, Err, arith, subst, sym}
 use Rattle.std.specs.List.{All}
 use Rattle.std.proofs.lemmas.Bool.Decides.{nat_tests}
 use Rattle.sp_base.specs.Spelling.{AreBytes}
@@ -8,7 +8,8 @@ use Rattle.sp_frame.specs.Frames.{opened}
 use Rattle.sp_frame.specs.Ranges.{IsHead}
 use Rattle.sp_frame.specs.declared.head.Head.{Head}
 use Rattle.sp_frame.specs.declared.refused.FrameRefused.{FrameRefused}
-use Rattle.sp_rules.specs.Arrivals.{link_after, link_with}
+use Rattle.sp_rules.proofs.ArrivalLemmas.{link_stays, link_with}
+use Rattle.sp_rules.specs.Arrivals.{link_after}
 use Rattle.sp_rules.specs.Arts.{Arts, is_right}
 use Rattle.sp_rules.specs.Link.{Link, advanced, after_answer, after_frame, is_above, new_link, pair_of}
 use Rattle.sp_rules.specs.Node.{NodeState, is_link, link_in, with_link}
@@ -36,7 +37,7 @@ after_frame_holds calls l h right small holds =
 
 link_with_holds : (arts : Arts) → ((bytes : List ℕ) → AreBytes bytes → IsHead (arts.head bytes)) → (calls : ℕ) (l : Link) (bytes : List ℕ)
     → AreBytes bytes → LinkHolds calls l → (o : Result (List ℕ) FrameRefused) → LinkHolds calls (link_with arts l bytes o)
-link_with_holds arts heads calls l bytes are h (Err refused) = h
+link_with_holds arts heads calls l bytes are h (Err refused) = subst (LinkHolds calls) (sym (link_stays arts l bytes refused)) h
 link_with_holds arts heads calls l bytes are h (Ok frame) =
     after_frame_holds calls l (arts.head bytes) (is_right arts l.key bytes) (heads bytes are).boot h
 

@@ -1,5 +1,5 @@
 -- The mask of an own message names edges alone, so it has room in its field.
-use Rattle.std.proofs.Common.{◌≡◌, ◌<◌, ◌≤◌, ℕ, zero, suc, ◌+◌, ◌*◌, ◌-◌, ◌^◌, ◌/◌, ◌%◌, false, List, [], ◌∷◌, length, Ok, refl, sym, ap, ◌∙◌, subst, arith}
+use Rattle.std.proofs.Common.{◌≡◌, ◌<◌, ◌≤◌, ℕ, zero, suc, ◌+◌, ◌*◌, ◌-◌, ◌^◌, ◌/◌, ◌%◌, false, List, [], ◌∷◌, length, refl, sym, ap, ◌∙◌, subst, arith}
 use Rattle.std.proofs.Math.Nat.{pow-suc}
 use Rattle.std.specs.Int.{bit_at}
 use Rattle.std.proofs.lemmas.Bool.Decides.{nat_tests}
@@ -9,7 +9,8 @@ use Rattle.sp_base.specs.declared.id.NodeId.{NodeId}
 use Rattle.sp_base.specs.declared.limits.TheConstants.{MAX_EDGES}
 use Rattle.sp_graph.specs.declared.graph.Graph.{Graph}
 use Rattle.sp_msg.specs.Views.{names_edge}
-use Rattle.sp_rules.specs.Masks.{IsChoice, IsMaskOf, all_edges, graph_of, is_used, weighed}
+use Rattle.sp_rules.proofs.MaskLemmas.{none_used}
+use Rattle.sp_rules.specs.Masks.{IsChoice, IsMaskOf, Mask, all_edges, graph_of, is_used, weighed}
 use Rattle.sp_rules.specs.Weights.{WeightState}
 use Rattle.sp_topology.specs.declared.topology.Edge.{Edge}
 use Rattle.sp_topology.specs.declared.topology.Topology.{Topology}
@@ -52,7 +53,7 @@ no_bit n i e = grind (arith, nat_tests, bit_at-lt n i)
 -- no edge stands after the last
 past_none : (g : Graph) (paths : List (List NodeId)) (mask : ℕ) → IsMaskOf g paths mask → (i : ℕ) → length g.edges ≤ i → bit_at mask i ≡ 0
 past_none g paths mask is i from =
-    no_bit mask i (is i ∙ ap (is_used paths) (slice_get_past g.edges i from))
+    no_bit mask i (is i ∙ ap (is_used paths) (slice_get_past g.edges i from) ∙ none_used paths)
 
 length_weighed : (w : WeightState) (place : ℕ) (edges : List Edge) → length (weighed w place edges) ≡ length edges
 length_weighed w place [] = refl
@@ -60,7 +61,7 @@ length_weighed w place (e ∷ edges) = ap suc (length_weighed w (place + 1) edge
 
 -- the mask that was chosen has room in its field
 pub mask_small : (t : Topology) (w : WeightState) (s d : NodeId) (count mask : ℕ) → length t.edges ≤ MAX_EDGES
-    → IsChoice (graph_of t w) s d count (Ok mask) → mask < 2 ^ MAX_EDGES
+    → IsChoice (graph_of t w) s d count (Mask mask) → mask < 2 ^ MAX_EDGES
 mask_small t w s d count mask few is =
     let long = length_weighed w 0 t.edges in
     let room : 2 ^ length (weighed w 0 t.edges) ≤ 2 ^ MAX_EDGES =
@@ -69,7 +70,7 @@ mask_small t w s d count mask few is =
     subst (λ (n : ℕ). 2 ^ length (weighed w 0 t.edges) ≤ 2 ^ n) same more in
     go count is room
   where
-    go : (count : ℕ) → IsChoice (graph_of t w) s d count (Ok mask) → 2 ^ length (weighed w 0 t.edges) ≤ 2 ^ MAX_EDGES → mask < 2 ^ MAX_EDGES
+    go : (count : ℕ) → IsChoice (graph_of t w) s d count (Mask mask) → 2 ^ length (weighed w 0 t.edges) ≤ 2 ^ MAX_EDGES → mask < 2 ^ MAX_EDGES
     go zero is room =
         let same : mask ≡ all_edges (weighed w 0 t.edges) = cc in
         omega (arith, same, room, positive (length (weighed w 0 t.edges)))

@@ -14,7 +14,7 @@ use Rattle.sp_msg.specs.declared.refused.SendRefused.{SendRefused}
 use Rattle.sp_msg.specs.declared.refused.SendRefused.TheVariants as refusals
 use Rattle.sp_rules.proofs.FlowJudged.{both_nodes, found_ends, room_is}
 use Rattle.sp_rules.specs.Arts.{Arts}
-use Rattle.sp_rules.specs.Masks.{IsChoice, graph_of}
+use Rattle.sp_rules.specs.Masks.{Choice, IsChoice, Mask, OnlyPaths, graph_of}
 use Rattle.sp_rules.specs.Node.{NodeState, Signer, signed_now}
 use Rattle.sp_rules.specs.Parts.{edge_to, is_signed, is_signed_by}
 use Rattle.sp_rules.specs.Prio.{is_node}
@@ -112,7 +112,7 @@ rel_sent_fits k n dst payload short e h =
 
 -- ---- a priority message
 
-pub record PrioSent (n : NodeState) (m : PrioSend) (choice : Result ℕ ℕ) : Type 0 where
+pub record PrioSent (n : NodeState) (m : PrioSend) (choice : Choice) : Type 0 where
   pub free : signer_refusal n.signer ≡ None
   pub fields : HasGoodFields (prio_body n m (mask_in choice))
 
@@ -121,12 +121,12 @@ split true b e = absurd (cc)
 split false true e = refl
 split false false e = absurd (cc)
 
-mask_fits : (k : Sizes) (n : NodeState) (m : PrioSend) (choice : Result ℕ ℕ) → no_paths choice ≡ None → NodeHolds k n
+mask_fits : (k : Sizes) (n : NodeState) (m : PrioSend) (choice : Choice) → no_paths choice ≡ None → NodeHolds k n
     → IsChoice (graph_of n.fixed.topology n.parts.weights) n.fixed.me m.dst m.paths choice → mask_in choice < 2 ^ MAX_EDGES
-mask_fits k n m (Ok mask) e h is = mask_small n.fixed.topology n.parts.weights n.fixed.me m.dst m.paths mask h.fixed.topology.graph.edge_count is
-mask_fits k n m (Err found) e h is = absurd (cc)
+mask_fits k n m (Mask mask) e h is = mask_small n.fixed.topology n.parts.weights n.fixed.me m.dst m.paths mask h.fixed.topology.graph.edge_count is
+mask_fits k n m (OnlyPaths found) e h is = absurd (cc)
 
-pub prio_sent_fits : (k : Sizes) (n : NodeState) (m : PrioSend) (choice : Result ℕ ℕ) → PrioSendFits m → send_prio_refusal n m choice ≡ None
+pub prio_sent_fits : (k : Sizes) (n : NodeState) (m : PrioSend) (choice : Choice) → PrioSendFits m → send_prio_refusal n m choice ≡ None
     → IsChoice (graph_of n.fixed.topology n.parts.weights) n.fixed.me m.dst m.paths choice → NodeHolds k n → PrioSent n m choice
 prio_sent_fits k n m choice fits e is h =
     let both = either (prio_refusal n m) (no_paths choice) e in

@@ -16,7 +16,8 @@ use Rattle.sp_msg.specs.declared.body.Body.{Body}
 use Rattle.sp_msg.specs.declared.body.Body.TheVariants as bodies
 use Rattle.sp_msg.specs.declared.kept.Kept.{Kept}
 use Rattle.sp_msg.specs.declared.refused.SendRefused.{SendRefused}
-use Rattle.sp_rules.specs.Arrivals.{arrival_at, handled, link_after, link_with, pieces_in, pieces_where, reply_at, sections_in}
+use Rattle.sp_rules.proofs.ArrivalLemmas.{link_stays, link_with}
+use Rattle.sp_rules.specs.Arrivals.{arrival_at, handled, link_after, pieces_in, pieces_where, reply_at, sections_in}
 use Rattle.sp_rules.specs.Answers.{ack_answer, is_new, prio_answer, rel_answer, weight_answer}
 use Rattle.sp_rules.specs.Arts.{Arts, is_right}
 use Rattle.sp_rules.specs.declared.answers.Item.TheVariants as items
@@ -87,7 +88,7 @@ answer_shape l h (answers.Stale boot counter) = refl
 answer_shape l h answers.Fresh = refl
 
 arrived_shape : (arts : Arts) (bytes : List ℕ) (o : Result (List ℕ) FrameRefused) (l : Link) → link_shape (link_with arts l bytes o) ≡ link_shape l
-arrived_shape arts bytes (Err refused) l = refl
+arrived_shape arts bytes (Err refused) l = ap link_shape (link_stays arts l bytes refused)
 arrived_shape arts bytes (Ok frame) l = answer_shape l (arts.head bytes) (link_answer l (arts.head bytes) (is_right arts l.key bytes))
 
 links_polled : (n : NodeState) (v : NodeId) → map link_shape (with_link n v (advanced (link_in n v))) ≡ map link_shape n.links

@@ -1,6 +1,7 @@
 -- What each change of the weights keeps.
 use Rattle.std.proofs.Common.{◌≡◌, ◌<◌, ◌≤◌, ℕ, zero, suc, ◌+◌, ◌*◌, ◌==◌, ◌&&◌, Bool, true, false, List, [], ◌∷◌, length, get_or, Option, Some, None, inl, inr, refl, sym, ap, ◌∙◌, subst, arith, cond, nat_lt}
-use Rattle.std.specs.Prelude.{◌⊎◌, IfSome, position}
+use Rattle.std.specs.Prelude.{◌⊎◌, IfSome, is_none, position}
+use Rattle.std.specs.Option.{option_and_then}
 use Rattle.std.specs.List.{slice_get, slice_set}
 use Rattle.std.proofs.lemmas.Bool.Decides.{nat_tests}
 use Rattle.sp_base.proofs.RowLemmas.{is_first}
@@ -10,7 +11,7 @@ use Rattle.sp_msg.specs.declared.body.Body.TheVariants as bodies
 use Rattle.sp_msg.specs.declared.body.WeightBody.{WeightBody}
 use Rattle.sp_msg.specs.declared.kept.Kept.{Kept}
 use Rattle.sp_rules.specs.Handle.{offer_to}
-use Rattle.sp_rules.specs.Weights.{WeightState, held, held_in, moved, offer, offer_at, offer_on, row_for, row_if, row_in, row_of, rows_with, seq_after, seq_of, seq_said, next_seq}
+use Rattle.sp_rules.specs.Weights.{WeightState, held, held_in, moved, offer, row_for, row_in, row_of, rows_with, seq_of, seq_said, next_seq}
 use Rattle.sp_rules.specs.declared.weights.Offer.{Offer}
 use Rattle.sp_rules.specs.declared.weights.Offer.TheVariants as offers
 use Rattle.sp_rules.specs.declared.weights.TheConstants.{MAX_OWN_HEARD}
@@ -79,17 +80,12 @@ record HasRow (edges : List Edge) (u : WeightBody) : Type 0 where
   row : ℕ
   is : row_for edges (bodies.Weight u) ≡ Some row
 
-offered_row : (rows : List (Option Kept)) (edges : List Edge) (u : WeightBody) → offer_on (slice_get edges u.edge.0) rows u ≡ offers.New → HasRow edges u
-offered_row rows edges u new = go (slice_get edges u.edge.0) refl new
+offered_row : (w : WeightState) (u : WeightBody) → offer w u ≡ offers.New → HasRow w.edges u
+offered_row w u new = go (row_in w.edges u.edge.0 u.origin.0) refl _ new
   where
-    at : (e : Edge) (o : Option ℕ) → slice_get edges u.edge.0 ≡ Some e → row_of u.edge.0 e u.origin.0 ≡ o → offer_at o e.weight rows u ≡ offers.New
-        → HasRow edges u
-    at e None there is new = absurd (cc)
-    at e (Some row) there is new = record { row = row; is = rw there is }
-
-    go : (o : Option Edge) → slice_get edges u.edge.0 ≡ o → offer_on o rows u ≡ offers.New → HasRow edges u
-    go None there new = absurd (cc)
-    go (Some e) there new = at e (row_of u.edge.0 e u.origin.0) there refl new
+    go : (o : Option ℕ) → row_in w.edges u.edge.0 u.origin.0 ≡ o → (known : Offer) → cond (is_none o) offers.Foreign known ≡ offers.New → HasRow w.edges u
+    go None is known new = absurd (cc)
+    go (Some row) is known new = record { row = row; is = is }
 
 up_to : (mine : Bool) (most seq : ℕ) → (mine && nat_lt most seq) ≡ false → mine ≡ true → seq ≤ most
 up_to true most seq e is = grind (arith, nat_tests)
@@ -108,7 +104,7 @@ new_update k index w o new fits h = go o.body refl new
     go : (body : Body) → o.body ≡ body → offer_to k.me w body ≡ offers.New → NewUpdate k index o
     go (bodies.Weight u) is new =
         let outside = passes ((u.origin.0 == k.me.0) && nat_lt MAX_OWN_HEARD u.seq) offers.Foreign (offer w u) refl new in
-        let there = offered_row w.rows w.edges u outside.1 in
+        let there = offered_row w u outside.1 in
         record {
           row = there.row;
           holds = record {
@@ -133,7 +129,7 @@ record IsEndOf (edges : List Edge) (edge end row : ℕ) : Type 0 where
 end_of : (edges : List Edge) (edge end row : ℕ) → row_in edges edge end ≡ Some row → IsEndOf edges edge end row
 end_of edges edge end row is = go (slice_get edges edge) refl is
   where
-    go : (o : Option Edge) → slice_get edges edge ≡ o → row_if edge o end ≡ Some row → IsEndOf edges edge end row
+    go : (o : Option Edge) → slice_get edges edge ≡ o → option_and_then (λ (f : Edge). row_of edge f end) o ≡ Some row → IsEndOf edges edge end row
     go None there is = absurd (cc)
     go (Some e) there is = record { e = e; there = there; is = is }
 
@@ -194,7 +190,8 @@ own_next_seq k index edge w h = go (row_in w.edges edge k.me.0) refl
         let most = own_seq k index row edge o (ap (λ (es : List Edge). row_in es edge k.me.0) (sym h.edges) ∙ mine) holds in
         (omega arith, omega (arith, most))
 
-    go : (o : Option ℕ) → row_in w.edges edge k.me.0 ≡ o → (1 ≤ seq_after w.rows o) × (seq_after w.rows o ≤ MAX_OWN_HEARD + index + 1)
+    go : (o : Option ℕ) → row_in w.edges edge k.me.0 ≡ o
+        → (1 ≤ seq_of (option_and_then (held_in w.rows) o) + 1) × (seq_of (option_and_then (held_in w.rows) o) + 1 ≤ MAX_OWN_HEARD + index + 1)
     go None mine = (omega arith, omega arith)
     go (Some row) mine = at row mine (held_in w.rows row) refl
 

@@ -2,7 +2,7 @@
 use Rattle.std.proofs.Common.{◌≡◌, ◌≤◌, ◌<◌, ℕ, ◌+◌, Bool, true, false, List, [], ◌∷◌, max, refl, sym, ap, ◌∙◌, arith, nat_le}
 use Rattle.std.specs.Prelude.{◌==◌, ◌||◌, fold}
 use Rattle.std.proofs.lemmas.Bool.Decides.{nat_tests}
-use Rattle.sp_rules.proofs.WindowLemmas.{greatest_of_last, in_last, not_in_last}
+use Rattle.sp_rules.proofs.WindowLemmas.{greatest_mark, in_mark}
 use Rattle.sp_rules.specs.Window.{greatest, is_in, is_seen, with_mark}
 use Rattle.sp_rules.specs.declared.window.TheConstants.{WINDOW}
 use Rattle.laws_node.specs.PriorityLaws.{MarkedIsSeen, SeenStaysSeen, WindowSeesItsMarks}
@@ -23,9 +23,6 @@ same_number x = grind (arith, nat_tests)
 turned : (x y : ℕ) → (x == y) ≡ (y == x)
 turned x y = grind (arith, nat_tests)
 
-above_not : (x y : ℕ) → y < x → (y == x) ≡ false
-above_not x y above = grind (arith, nat_tests)
-
 at_most : (m n : ℕ) → nat_le m n ≡ true → m ≤ n
 at_most m n e = grind (arith, nat_tests)
 
@@ -35,56 +32,17 @@ not_at_most m n e = grind (arith, nat_tests)
 is_at_most : (m n : ℕ) → m ≤ n → nat_le m n ≡ true
 is_at_most m n e = grind (arith, nat_tests)
 
--- ---- the greatest of a list
-
-below_greatest : (ms : List ℕ) (x : ℕ) → greatest ms < x → is_in x ms ≡ false
-below_greatest [] x above = refl
-below_greatest (m ∷ ms) x above = rw (above_not x m (omega arith)) (below_greatest ms x (omega arith))
-
-greatest_is_in : (ms : List ℕ) → 0 < greatest ms → is_in (greatest ms) ms ≡ true
-greatest_is_in [] some = absurd (omega arith)
-greatest_is_in (m ∷ ms) some = go (nat_le (greatest ms) m) refl (greatest_is_in ms)
-  where
-    go : (t : Bool) → nat_le (greatest ms) m ≡ t → (0 < greatest ms → is_in (greatest ms) ms ≡ true) →
-        ((m == max m (greatest ms)) || is_in (max m (greatest ms)) ms) ≡ true
-    go true is rest =
-        let first : max m (greatest ms) ≡ m = omega (arith, at_most (greatest ms) m is) in
-        rw first (rw (same_number m) refl)
-    go false is rest =
-        let later : max m (greatest ms) ≡ greatest ms = omega (arith, not_at_most (greatest ms) m is) in
-        rw later (rw (rest (omega (arith, not_at_most (greatest ms) m is))) (or_true (m == greatest ms)))
-
 -- ---- one mark
-
--- the test of a mark
-abbrev stays : List ℕ → ℕ → ℕ → Bool
-stays ms q x = (x == q) || is_in x ms
-
-greatest_with_mark : (ms : List ℕ) (q : ℕ) → greatest (with_mark ms q) ≡ max q (greatest ms)
-greatest_with_mark ms q = greatest_of_last (stays ms q) (max q (greatest ms)) (go (nat_le (greatest ms) q) refl)
-  where
-    go : (t : Bool) → nat_le (greatest ms) q ≡ t → stays ms q (max q (greatest ms)) ≡ true
-    go true is =
-        let new : max q (greatest ms) ≡ q = omega (arith, at_most (greatest ms) q is) in
-        rw new (rw (same_number q) refl)
-    go false is =
-        let old : max q (greatest ms) ≡ greatest ms = omega (arith, not_at_most (greatest ms) q is) in
-        rw old (rw (greatest_is_in ms (omega (arith, not_at_most (greatest ms) q is))) (or_true (greatest ms == q)))
 
 -- the window has what was marked, as far as it reaches
 in_with_mark : (ms : List ℕ) (q x : ℕ) → max q (greatest ms) < x + WINDOW → is_in x (with_mark ms q) ≡ ((x == q) || is_in x ms)
-in_with_mark ms q x near = go (nat_le x (max q (greatest ms))) refl
-  where
-    go : (t : Bool) → nat_le x (max q (greatest ms)) ≡ t → is_in x (with_mark ms q) ≡ ((x == q) || is_in x ms)
-    go true is = in_last (stays ms q) (max q (greatest ms)) x (at_most x (max q (greatest ms)) is) near
-    go false is =
-        let above : max q (greatest ms) < x = not_at_most x (max q (greatest ms)) is in
-        let other : (x == q) ≡ false = turned x q ∙ above_not x q (omega arith) in
-        not_in_last (stays ms q) (max q (greatest ms)) x (λ low high. omega (arith, above, low)) ∙ sym (rw other (below_greatest ms x (omega (arith, above))))
+in_with_mark ms q x near =
+    let here : nat_le (x + WINDOW) (max q (greatest ms)) ≡ false = grind (arith, nat_tests) in
+    in_mark ms q x ∙ rw here (ap (λ (t : Bool). t || is_in x ms) (turned q x))
 
 -- what is seen after a mark
 pub seen_with_mark : (ms : List ℕ) (q x : ℕ) → is_seen (with_mark ms q) x ≡ (((x == q) || is_in x ms) || nat_le (x + WINDOW) (max q (greatest ms)))
-seen_with_mark ms q x = rw (greatest_with_mark ms q) (go (nat_le (x + WINDOW) (max q (greatest ms))) refl)
+seen_with_mark ms q x = rw (greatest_mark ms q) (go (nat_le (x + WINDOW) (max q (greatest ms))) refl)
   where
     go : (t : Bool) → nat_le (x + WINDOW) (max q (greatest ms)) ≡ t → (is_in x (with_mark ms q) || nat_le (x + WINDOW) (max q (greatest ms)))
         ≡ (((x == q) || is_in x ms) || nat_le (x + WINDOW) (max q (greatest ms)))
@@ -115,7 +73,7 @@ after_all : (ms marks : List ℕ) (q : ℕ) → is_seen (fold with_mark ms marks
 after_all ms [] q =
     let n : max (greatest ms) 0 ≡ greatest ms = omega arith in
     rw (or_false (is_in q ms), n) refl
-after_all ms (m ∷ marks) q = after_all (with_mark ms m) marks q ∙ rw (greatest_with_mark ms m) (go (nat_le (q + WINDOW) (max (max m (greatest ms))
+after_all ms (m ∷ marks) q = after_all (with_mark ms m) marks q ∙ rw (greatest_mark ms m) (go (nat_le (q + WINDOW) (max (max m (greatest ms))
     (greatest marks))) refl)
   where
     same : max (max m (greatest ms)) (greatest marks) ≡ max (greatest ms) (max m (greatest marks))

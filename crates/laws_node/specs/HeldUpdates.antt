@@ -5,7 +5,8 @@ use Rattle.sp_msg.specs.declared.body.Body.TheVariants as bodies
 use Rattle.sp_msg.specs.declared.kept.Kept.{Kept}
 use Rattle.sp_rules.specs.declared.weights.Offer.{Offer}
 use Rattle.sp_rules.specs.declared.weights.Offer.TheVariants as offers
-use Rattle.sp_rules.specs.Weights.{WeightState, held, offer_of, weight_said}
+use Rattle.sp_rules.specs.Handle.{offer_of}
+use Rattle.sp_rules.specs.Weights.{WeightState, held, weight_said}
 
 -- ---- one update
 

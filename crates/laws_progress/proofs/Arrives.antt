@@ -1,6 +1,6 @@
 -- What comes to a correct node from a correct neighbour in a clean run: nothing that counts, or one of its frames.
 use Rattle.std.proofs.Common.{◌≡◌, ◌≤◌, ◌⊎◌, ℕ, ◌+◌, ◌==◌, Bool, true, false, cond, max, List, [], Option, Some, None, Result, Ok, Err, refl, sym, ap, subst, ◌∙◌, inl, inr, arith}
-use Rattle.std.specs.Prelude.{nat_lt, slice_get}
+use Rattle.std.specs.Prelude.{nat_lt, slice_get, unwrap_or}
 use Rattle.std.proofs.lemmas.Bool.{cases_Bool, eq-eqb}
 use Rattle.sp_base.specs.declared.id.Flow.{Flow}
 use Rattle.sp_base.specs.declared.id.NodeId.{NodeId}
@@ -9,7 +9,8 @@ use Rattle.sp_frame.specs.declared.head.Head.{Head}
 use Rattle.sp_frame.specs.declared.refused.FrameRefused.{FrameRefused}
 use Rattle.sp_frame.specs.declared.refused.FrameRefused.TheVariants as frames
 use Rattle.sp_rules.specs.Arts.{Arts, is_right}
-use Rattle.sp_rules.specs.Arrivals.{link_after, link_with, no_frame, of_fresh, of_frame, of_link, pieces_where, reply_at, sections_in}
+use Rattle.sp_rules.proofs.ArrivalLemmas.{link_stays, link_with, of_frame, of_link}
+use Rattle.sp_rules.specs.Arrivals.{link_after, not_read, pieces_where, reply_at, sections_in}
 use Rattle.sp_rules.specs.Link.{Link, after_answer, kept, link_answer}
 use Rattle.sp_rules.specs.Node.{NodeState, link_in}
 use Rattle.sp_rules.specs.Parts.{Fixed}
@@ -18,6 +19,7 @@ use Rattle.sp_rules.specs.Steps.{Datagram, Input}
 use Rattle.sp_rules.specs.declared.link.LinkAnswer.{LinkAnswer}
 use Rattle.sp_rules.specs.declared.link.LinkAnswer.TheVariants as answers
 use Rattle.sp_rules.specs.declared.node.LinkReply.{LinkReply}
+use Rattle.sp_rules.specs.declared.node.LinkReply.TheVariants as replies
 use Rattle.laws_runs.proofs.Lives.{step_stays}
 use Rattle.laws_runs.proofs.Goods.{unforged_tag}
 use Rattle.laws_runs.proofs.Signed.{signs}
@@ -47,7 +49,7 @@ pub record Untold (arts : Arts) (n : NodeState) (u : NodeId) (bytes : List ℕ) 
   pub link : link_after arts n u bytes ≡ link_in n u
   pub pieces : (ps : List Piece) → pieces_where (reply_at arts n u bytes) ps ≡ []
 
-untold_answer : (l : Link) (h : Head) (a : LinkAnswer) (after : LinkReply) → is_tagged after ≡ true → is_tagged (of_link a after) ≡ false
+untold_answer : (l : Link) (h : Head) (a : LinkAnswer) (after : Option LinkReply) → is_tagged (unwrap_or after replies.Fresh) ≡ true → is_tagged (of_link a after) ≡ false
     → (after_answer l h a ≡ l) × ((ps : List Piece) → pieces_where (of_link a after) ps ≡ [])
 untold_answer l h answers.NotForMe after fresh off = (refl, λ ps. refl)
 untold_answer l h answers.BadTag after fresh off = (refl, λ ps. refl)
@@ -55,22 +57,22 @@ untold_answer l h (answers.Learned boot) after fresh off = absurd (let e : true 
 untold_answer l h (answers.Stale boot counter) after fresh off = absurd (let e : true ≡ false = off in cc)
 untold_answer l h answers.Fresh after fresh off = absurd (let e : true ≡ false = sym fresh ∙ off in cc)
 
-no_pieces : (r : FrameRefused) (ps : List Piece) → pieces_where (no_frame r) ps ≡ []
-no_pieces frames.TooLong ps = refl
-no_pieces (frames.Short short) ps = refl
-no_pieces frames.Magic ps = refl
-no_pieces frames.Version ps = refl
+no_pieces : (arts : Arts) (f : Fixed) (l : Link) (bytes : List ℕ) (r : FrameRefused) (ps : List Piece) → pieces_where (of_frame arts f l bytes (Err r)) ps ≡ []
+no_pieces arts f l bytes frames.TooLong ps = refl
+no_pieces arts f l bytes (frames.Short short) ps = refl
+no_pieces arts f l bytes frames.Magic ps = refl
+no_pieces arts f l bytes frames.Version ps = refl
 
 untold : (arts : Arts) (n : NodeState) (u : NodeId) (bytes : List ℕ) → is_tagged (reply_at arts n u bytes) ≡ false → Untold arts n u bytes
 untold arts n u bytes off = let g = go (opened bytes) off in record { link = g.0; pieces = g.1 }
   where
     go : (o : Result (List ℕ) FrameRefused) → is_tagged (of_frame arts n.fixed (link_in n u) bytes o) ≡ false
         → (link_with arts (link_in n u) bytes o ≡ link_in n u) × ((ps : List Piece) → pieces_where (of_frame arts n.fixed (link_in n u) bytes o) ps ≡ [])
-    go (Err refused) off = (refl, no_pieces refused)
+    go (Err refused) off = (link_stays arts (link_in n u) bytes refused, no_pieces arts n.fixed (link_in n u) bytes refused)
     go (Ok frame) off =
         let l = link_in n u in
         let h = arts.head bytes in
-        untold_answer l h (link_answer l h (is_right arts l.key bytes)) (of_fresh n.fixed.topology.version h.topology (sections_in arts n.fixed bytes))
+        untold_answer l h (link_answer l h (is_right arts l.key bytes)) (not_read n.fixed.topology.version h.topology (sections_in arts n.fixed bytes))
         (tagged_fresh n.fixed.topology.version h.topology (sections_in arts n.fixed bytes)) off
 
 -- frame k + 1 of u came to v

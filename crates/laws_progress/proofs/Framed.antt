@@ -1,17 +1,20 @@
 -- A frame that a correct node made for a correct neighbour passes each test there: its length, its ends, its tag, its topology and its sections.
-use Rattle.std.proofs.Common.{◌≡◌, ℕ, ◌+◌, ◌==◌, Bool, true, false, List, max, Some, Ok, refl, sym, ap, subst, ◌∙◌, inl, inr}
+use Rattle.std.proofs.Common.{◌≡◌, ℕ, ◌+◌, ◌==◌, Bool, true, false, List, max, Some, Ok, refl, sym, ap, subst, ◌∙◌, inl, inr, Option, None}
+use Rattle.std.specs.Prelude.{unwrap_or}
 use Rattle.std.proofs.lemmas.Bool.{cases_Bool, eq-eqb}
 use Rattle.sp_base.specs.declared.id.NodeId.{NodeId}
 use Rattle.sp_frame.specs.Frames.{opened}
 use Rattle.sp_frame.specs.Ranges.{IsContents}
 use Rattle.sp_frame.specs.declared.head.Head.{Head}
 use Rattle.sp_rules.specs.Arts.{Arts, is_right}
-use Rattle.sp_rules.specs.Arrivals.{link_after, link_with, of_fresh, of_frame, of_link, reply_at, sections_in}
+use Rattle.sp_rules.proofs.ArrivalLemmas.{link_with, of_frame, of_link}
+use Rattle.sp_rules.specs.Arrivals.{link_after, not_read, reply_at, sections_in}
 use Rattle.sp_rules.specs.Link.{Link, after_answer, is_above, link_answer, next_head, pair_of}
 use Rattle.sp_rules.specs.Node.{NodeState, link_in}
 use Rattle.sp_rules.specs.Parts.{Fixed}
 use Rattle.sp_rules.specs.Polls.{contents_to, frame_to}
 use Rattle.sp_rules.specs.declared.link.LinkAnswer.TheVariants as answers
+use Rattle.sp_rules.specs.declared.node.LinkReply.{LinkReply}
 use Rattle.sp_rules.specs.declared.node.LinkReply.TheVariants as replies
 use Rattle.laws_node.proofs.Frames.{contents_fit}
 use Rattle.laws_runs.specs.Signs.{Good, sizes_at}
@@ -114,10 +117,10 @@ came arts x es js w fits reads run u v number hop n at node bytes f =
     let left : link_after arts n u bytes ≡ after_answer l h (link_answer l h right) = ap (link_with arts l bytes) f.opens in
     let topology : (h.topology == n.fixed.topology.version) ≡ true = eq-eqb _ _ (f.topology ∙ ap (λ (g : Fixed). g.topology.version) (sym is.fixed)) in
     let sections : sections_in arts n.fixed bytes ≡ Ok (contents_to node.fixed node.parts v) = ap (λ (g : Fixed). sections_in arts g bytes) is.fixed ∙ f.sections in
-    let fresh : of_fresh n.fixed.topology.version h.topology (sections_in arts n.fixed bytes) ≡ replies.Fresh = rw (topology, sections) refl in
-    let said : reply_at arts n u bytes ≡ of_link (link_answer l h right) (of_fresh n.fixed.topology.version h.topology (sections_in arts n.fixed bytes)) = ap (of_frame arts n.fixed l bytes) f.opens in
+    let fresh : not_read n.fixed.topology.version h.topology (sections_in arts n.fixed bytes) ≡ None = rw (topology, sections) refl in
+    let said : reply_at arts n u bytes ≡ of_link (link_answer l h right) (not_read n.fixed.topology.version h.topology (sections_in arts n.fixed bytes)) = ap (of_frame arts n.fixed l bytes) f.opens in
     elim (answers_for l h right u v number f.head (link_is n u) link.me link.boot r) [
-      | Learn off a ↦ Learns off (left ∙ ap (after_answer l h) a) (said ∙ ap (λ z. of_link z (of_fresh n.fixed.topology.version h.topology (sections_in arts n.fixed bytes))) a)
-      | Late on below a ↦ Too_late on below (left ∙ ap (after_answer l h) a) (said ∙ ap (λ z. of_link z (of_fresh n.fixed.topology.version h.topology (sections_in arts n.fixed bytes))) a)
-      | Take on above a ↦ Taken on above (left ∙ ap (after_answer l h) a) (said ∙ ap (λ z. of_link z (of_fresh n.fixed.topology.version h.topology (sections_in arts n.fixed bytes))) a ∙ fresh)
+      | Learn off a ↦ Learns off (left ∙ ap (after_answer l h) a) (said ∙ ap (λ z. of_link z (not_read n.fixed.topology.version h.topology (sections_in arts n.fixed bytes))) a)
+      | Late on below a ↦ Too_late on below (left ∙ ap (after_answer l h) a) (said ∙ ap (λ z. of_link z (not_read n.fixed.topology.version h.topology (sections_in arts n.fixed bytes))) a)
+      | Take on above a ↦ Taken on above (left ∙ ap (after_answer l h) a) (said ∙ ap (λ z. of_link z (not_read n.fixed.topology.version h.topology (sections_in arts n.fixed bytes))) a ∙ ap (λ (r : Option LinkReply). unwrap_or r replies.Fresh) fresh)
     ]

@@ -1,12 +1,13 @@
 -- A row that is found by a neighbour is that neighbour's, and whatever arrives leaves it so.
-use Rattle.std.proofs.Common.{◌≡◌, ℕ, Bool, true, List, [], ◌∷◌, Result, Ok, Err, refl, ◌∙◌, inl, inr}
+use Rattle.std.proofs.Common.{◌≡◌, ℕ, Bool, true, List, [], ◌∷◌, Result, Ok, Err, refl, ◌∙◌, inl, inr, ap}
 use Rattle.std.proofs.lemmas.Bool.{cases_Bool, eqb-true, eq-eqb}
 use Rattle.sp_base.specs.Rows.{first_where}
 use Rattle.sp_base.specs.declared.id.NodeId.{NodeId}
 use Rattle.sp_frame.specs.Frames.{opened}
 use Rattle.sp_frame.specs.declared.head.Head.{Head}
 use Rattle.sp_frame.specs.declared.refused.FrameRefused.{FrameRefused}
-use Rattle.sp_rules.specs.Arrivals.{link_after, link_with}
+use Rattle.sp_rules.proofs.ArrivalLemmas.{link_stays, link_with}
+use Rattle.sp_rules.specs.Arrivals.{link_after}
 use Rattle.sp_rules.specs.Arts.{Arts, is_right}
 use Rattle.sp_rules.specs.Link.{Link, after_answer, link_answer}
 use Rattle.sp_rules.specs.Node.{NodeState, is_link, link_in}
@@ -39,5 +40,5 @@ pub after_peer : (arts : Arts) (n : NodeState) (v : NodeId) (bytes : List ℕ) �
 after_peer arts n v bytes = go (opened bytes) ∙ link_is n v
   where
     go : (o : Result (List ℕ) FrameRefused) → (link_with arts (link_in n v) bytes o).peer ≡ (link_in n v).peer
-    go (Err refused) = refl
+    go (Err refused) = ap (λ (l : Link). l.peer) (link_stays arts (link_in n v) bytes refused)
     go (Ok frame) = answered_peer (link_in n v) (arts.head bytes) (link_answer (link_in n v) (arts.head bytes) (is_right arts (link_in n v).key bytes))

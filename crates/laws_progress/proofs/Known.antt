@@ -1,6 +1,7 @@
 -- A node knows a correct neighbour's boot as 1 or not at all, and once it knows it, it stays known.
-use Rattle.std.proofs.Common.{◌≡◌, ◌≤◌, ◌⊎◌, ℕ, suc, ◌==◌, ◌&&◌, Bool, true, false, List, [], ◌∷◌, Some, Result, Ok, Err, refl, ap, ◌∙◌, inl, inr, arith}
-use Rattle.std.specs.Prelude.{max, nat_eq, not, slice_get}
+use Rattle.std.proofs.Common.{◌≡◌, ◌≤◌, ◌⊎◌, ℕ, suc, ◌==◌, ◌&&◌, Bool, true, false, List, [], ◌∷◌, Some, Result, Ok, Err, refl, ap, ◌∙◌, inl, inr, arith, Option}
+use Rattle.std.specs.Prelude.{max, nat_eq, not, option_map, slice_get, unwrap_or}
+use Rattle.std.specs.Result.{result_err}
 use Rattle.std.specs.Cmp.Lexicographic.{pointwise}
 use Rattle.std.proofs.lemmas.Bool.{cases_Bool}
 use Rattle.sp_base.specs.declared.id.NodeId.{NodeId}
@@ -10,7 +11,8 @@ use Rattle.sp_frame.specs.Sections.{Contents}
 use Rattle.sp_frame.specs.declared.refused.FrameRefused.{FrameRefused}
 use Rattle.sp_frame.specs.declared.refused.SectionRefused.{SectionRefused}
 use Rattle.sp_rules.specs.Arts.{Arts, is_right}
-use Rattle.sp_rules.specs.Arrivals.{link_after, link_with, of_fresh, of_frame, of_link, of_sections, reply_at, sections_in}
+use Rattle.sp_rules.proofs.ArrivalLemmas.{link_stays, link_with, of_frame, of_fresh, of_link}
+use Rattle.sp_rules.specs.Arrivals.{link_after, reply_at, sections_in}
 use Rattle.sp_rules.specs.Link.{Link, after_answer, is_above, link_answer, pair_of}
 use Rattle.sp_rules.specs.Node.{NodeState, link_in}
 use Rattle.sp_rules.specs.declared.link.LinkAnswer.{LinkAnswer}
@@ -37,9 +39,10 @@ data BootAfter (l k : Link) (h : Head) (reply : LinkReply) : Type 0 where
   Comes_new : is_tagged reply ≡ true → (k.peer_boot ≡ h.boot) ⊎ (k.peer_boot ≡ max l.peer_boot h.boot) → BootAfter l k h reply
 
 pub tagged_fresh : (mine theirs : ℕ) (s : Result Contents SectionRefused) → is_tagged (of_fresh mine theirs s) ≡ true
-tagged_fresh mine theirs s = cond_either (λ r. is_tagged r ≡ true) (not (theirs == mine)) (replies.OtherTopology theirs) (of_sections s) refl (each s)
+tagged_fresh mine theirs s =
+    cond_either (λ (r : Option LinkReply). is_tagged (unwrap_or r replies.Fresh) ≡ true) (not (theirs == mine)) (Some (replies.OtherTopology theirs)) (option_map replies.Section (result_err s)) refl (each s)
   where
-    each : (s : Result Contents SectionRefused) → is_tagged (of_sections s) ≡ true
+    each : (s : Result Contents SectionRefused) → is_tagged (unwrap_or (option_map replies.Section (result_err s)) replies.Fresh) ≡ true
     each (Ok contents) = refl
     each (Err refused) = refl
 
@@ -58,7 +61,7 @@ learned_is l h right boot e = elim (cases_Bool (not ((h.from.0 == l.peer.0) && (
   ]
 ]
 
-boot_after : (l : Link) (h : Head) (right : Bool) (a : LinkAnswer) (after : LinkReply) → link_answer l h right ≡ a → is_tagged after ≡ true → BootAfter l (after_answer l h a) h (of_link a after)
+boot_after : (l : Link) (h : Head) (right : Bool) (a : LinkAnswer) (after : Option LinkReply) → link_answer l h right ≡ a → is_tagged (unwrap_or after replies.Fresh) ≡ true → BootAfter l (after_answer l h a) h (of_link a after)
 boot_after l h right answers.NotForMe after e fresh = Stays_so refl
 boot_after l h right answers.BadTag after e fresh = Stays_so refl
 boot_after l h right (answers.Learned boot) after e fresh = Comes_new refl (inr (learned_is l h right boot e))
@@ -69,7 +72,7 @@ after_is : (arts : Arts) (n : NodeState) (v : NodeId) (bytes : List ℕ) → Boo
 after_is arts n v bytes = go (opened bytes)
   where
     go : (o : Result (List ℕ) FrameRefused) → BootAfter (link_in n v) (link_with arts (link_in n v) bytes o) (arts.head bytes) (of_frame arts n.fixed (link_in n v) bytes o)
-    go (Err refused) = Stays_so refl
+    go (Err refused) = Stays_so (ap (λ (l : Link). l.peer_boot) (link_stays arts (link_in n v) bytes refused))
     go (Ok frame) =
         let l = link_in n v in
         let right = is_right arts l.key bytes in

@@ -9,7 +9,8 @@ use Rattle.sp_frame.specs.Frames.{opened}
 use Rattle.sp_frame.specs.declared.head.Head.{Head}
 use Rattle.sp_frame.specs.declared.refused.FrameRefused.{FrameRefused}
 use Rattle.sp_rules.specs.Arts.{Arts, is_right}
-use Rattle.sp_rules.specs.Arrivals.{link_after, link_with}
+use Rattle.sp_rules.proofs.ArrivalLemmas.{link_stays, link_with}
+use Rattle.sp_rules.specs.Arrivals.{link_after}
 use Rattle.sp_rules.specs.Link.{Link, after_answer, link_answer, new_link}
 use Rattle.sp_rules.specs.Node.{NodeState, is_link, link_in, link_of}
 use Rattle.sp_rules.specs.Parts.{Fixed, neighbours_of}
@@ -66,7 +67,7 @@ after_same : (arts : Arts) (n : NodeState) (v : NodeId) (bytes : List ℕ) → S
 after_same arts n v bytes = go (opened bytes)
   where
     go : (o : Result (List ℕ) FrameRefused) → SameEnd (link_in n v) (link_with arts (link_in n v) bytes o)
-    go (Err refused) = record { me = refl; boot = refl; sent = refl }
+    go (Err refused) = subst (SameEnd (link_in n v)) (sym (link_stays arts (link_in n v) bytes refused)) (record { me = refl; boot = refl; sent = refl })
     go (Ok frame) = answer_same (link_in n v) (arts.head bytes) (link_answer (link_in n v) (arts.head bytes) (is_right arts (link_in n v).key bytes))
 
 -- the count of polls after one event more

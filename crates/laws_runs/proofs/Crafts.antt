@@ -1,5 +1,5 @@
 -- What compromised nodes craft in their own names is never forged, and neither is what is no frame.
-use Rattle.std.proofs.Common.{◌≡◌, ◌<◌, ◌≤◌, ◌==◌, ◌^◌, ℕ, Bool, true, false, cond, List, [], ◌∷◌, length, Some, None, option_map, Ok, refl, sym, ap, subst, ◌∙◌, arith}
+use Rattle.std.proofs.Common.{◌≡◌, ◌<◌, ◌≤◌, ◌==◌, ◌^◌, ℕ, Bool, true, false, cond, List, [], ◌∷◌, length, Some, None, option_map, Ok, Err, refl, sym, ap, subst, ◌∙◌, arith}
 use Rattle.std.specs.Prelude.{◌&&◌, not, nat_lt}
 use Rattle.std.proofs.lemmas.List.Elements.{All-cons, All-nil}
 use Rattle.sp_base.specs.declared.id.Flow.{Flow}
@@ -16,8 +16,10 @@ use Rattle.sp_msg.specs.declared.body.Body.{Body}
 use Rattle.sp_msg.specs.declared.body.Body.TheVariants as bodies
 use Rattle.sp_msg.specs.declared.kept.Kept.{Kept}
 use Rattle.sp_rules.specs.Answers.{is_new}
-use Rattle.sp_rules.specs.Arrivals.{arrival_at, no_frame, of_frame, pieces_in, pieces_where, reply_at, sections_in}
+use Rattle.sp_rules.proofs.ArrivalLemmas.{of_frame}
+use Rattle.sp_rules.specs.Arrivals.{arrival_at, pieces_in, pieces_where, reply_at, sections_in}
 use Rattle.sp_rules.specs.Arts.{Arts}
+use Rattle.sp_rules.specs.Link.{Link}
 use Rattle.sp_rules.specs.Node.{call_refusal, link_in}
 use Rattle.sp_rules.specs.Parts.{Fixed, nodes_of}
 use Rattle.sp_rules.specs.Pieces.{Piece, pieces_of}
@@ -93,17 +95,18 @@ arrived_unforged arts x es js w new e j m c contents carries len bad good only i
 
 -- ---- what is no frame
 
-untagged : (refused : FrameRefused) → is_tagged (no_frame refused) ≡ false
-untagged frames.TooLong = refl
-untagged (frames.Short short) = refl
-untagged frames.Magic = refl
-untagged frames.Version = refl
+untagged : (arts : Arts) (f : Fixed) (l : Link) (bytes : List ℕ) (refused : FrameRefused) → is_tagged (of_frame arts f l bytes (Err refused)) ≡ false
+untagged arts f l bytes frames.TooLong = refl
+untagged arts f l bytes (frames.Short short) = refl
+untagged arts f l bytes frames.Magic = refl
+untagged arts f l bytes frames.Version = refl
 
-no_pieces : (P : Kept → Type 0) (refused : FrameRefused) (pieces : List Piece) → AllKeep P (pieces_where (no_frame refused) pieces)
-no_pieces P frames.TooLong pieces = tt
-no_pieces P (frames.Short short) pieces = tt
-no_pieces P frames.Magic pieces = tt
-no_pieces P frames.Version pieces = tt
+no_pieces : (P : Kept → Type 0) (arts : Arts) (f : Fixed) (l : Link) (bytes : List ℕ) (refused : FrameRefused) (pieces : List Piece)
+    → AllKeep P (pieces_where (of_frame arts f l bytes (Err refused)) pieces)
+no_pieces P arts f l bytes frames.TooLong pieces = tt
+no_pieces P arts f l bytes (frames.Short short) pieces = tt
+no_pieces P arts f l bytes frames.Magic pieces = tt
+no_pieces P arts f l bytes frames.Version pieces = tt
 
 pub no_frame_is_forged : NoFrameIsForged
 no_frame_is_forged arts x es js w new u v bytes j none (Stays s) = refl
@@ -112,14 +115,14 @@ no_frame_is_forged arts x es js w new u v bytes j none (Moves m) =
     let P = IsOfCompromised x in
     let is : m.input ≡ steps.Datagram u bytes = one_input _ m.input m.reaches in
     let moves : NodeStep arts n (steps.Datagram u bytes) m.output m.after = subst (λ i. NodeStep arts n i m.output m.after) is m.step in
-    let reply : reply_at arts n u bytes ≡ no_frame none.0 = ap (of_frame arts n.fixed (link_in n u) bytes) none.1 in
+    let reply : reply_at arts n u bytes ≡ of_frame arts n.fixed (link_in n u) bytes (Err none.0) = ap (of_frame arts n.fixed (link_in n u) bytes) none.1 in
     let read = pieces_in (sections_in arts n.fixed bytes) in
-    let pieces : AllKeep P (pieces_where (reply_at arts n u bytes) read) = subst (λ r. AllKeep P (pieces_where r read)) (sym reply) (no_pieces P none.0 read) in
+    let pieces : AllKeep P (pieces_where (reply_at arts n u bytes) read) = subst (λ r. AllKeep P (pieces_where r read)) (sym reply) (no_pieces P arts n.fixed (link_in n u) bytes none.0 read) in
     let news : NewKeep P m.output.answered =
     subst (λ (o : Output). NewKeep P o.answered) (sym moves.0) (called_good P (arrived arts n u bytes) (call_refusal n u)
     (pieces_new P arts (arrival_at n u) n.parts (pieces_where (reply_at arts n u bytes) read) pieces)) in
     let tag : has_forged_tag arts x w n m.input ≡ false =
-    ap (has_forged_tag arts x w n) is ∙ never_second (is_correct x u) (is_tagged (reply_at arts n u bytes)) (is_among bytes (frames_in w.directions u n.fixed.me)) (ap is_tagged reply ∙ untagged none.0) in
+    ap (has_forged_tag arts x w n) is ∙ never_second (is_correct x u) (is_tagged (reply_at arts n u bytes)) (is_among bytes (frames_in w.directions u n.fixed.me)) (ap is_tagged reply ∙ untagged arts n.fixed (link_in n u) bytes none.0) in
     neither _ _ tag (none_forged x es js m.output.answered news)
   where
     never_second : (a b c : Bool) → b ≡ false → (a && b && not c) ≡ false

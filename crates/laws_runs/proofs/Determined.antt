@@ -1,5 +1,5 @@
 -- A journal says all that was left open: so it determines each step, and the run.
-use Rattle.std.proofs.Common.{◌≡◌, ◌<◌, ◌≤◌, ℕ, Bool, true, false, cond, List, [], ◌∷◌, ◌++◌, length, length-append, Option, Some, None, Result, Ok, Err, refl, sym, ap, ap₂, subst, ◌∙◌, arith}
+use Rattle.std.proofs.Common.{◌≡◌, ◌<◌, ◌≤◌, ℕ, Bool, true, false, cond, List, [], ◌∷◌, ◌++◌, length, length-append, Option, Some, None, refl, sym, ap, ap₂, subst, ◌∙◌, arith}
 use Rattle.std.specs.Prelude.{IsTrue, nat_lt}
 use Rattle.std.proofs.lemmas.Bool.Decides.{nat_tests}
 use Rattle.sp_base.specs.Cursor.{or_else}
@@ -10,6 +10,7 @@ use Rattle.sp_msg.specs.declared.refused.SendRefused.{SendRefused}
 use Rattle.sp_rules.specs.Arts.{Arts}
 use Rattle.sp_rules.specs.Node.{NodeState}
 use Rattle.sp_rules.specs.Parts.{Fixed, is_signed}
+use Rattle.sp_rules.specs.Masks.{Choice, Mask, OnlyPaths}
 use Rattle.sp_rules.specs.Sends.{PrioSend, no_paths, prio_refusal, prio_sent}
 use Rattle.sp_rules.specs.Steps as steps
 use Rattle.sp_rules.specs.Steps.{Input, NodeStep, Output, accepted, refused_send, send_prio_output}
@@ -33,25 +34,25 @@ use Rattle.laws_runs.proofs.Signed.{reached, signs}
 
 -- ---- one output
 
-abbrev by : NodeState → Arts → PrioSend → Result ℕ ℕ → Option SendRefused → Output
+abbrev by : NodeState → Arts → PrioSend → Choice → Option SendRefused → Output
 by n arts m c r = refused_send (or_else r (no_paths c)) (accepted n.parts.prio.next (prio_sent arts n m c))
 
 module _ (x : Setting) (number : ℕ) (j : Entry) where
   same_word : (a b : steps.Reply) → reply_word x number a ≡ Some j.reply → reply_word x number b ≡ Some j.reply → reply_word x number a ≡ reply_word x number b
   same_word a b p q = p ∙ sym q
 
-  by_choice : (arts : Arts) (n : NodeState) (m : PrioSend) (c d : Result ℕ ℕ) → Says x number (by n arts m c None) j → Says x number (by n arts m d None) j
+  by_choice : (arts : Arts) (n : NodeState) (m : PrioSend) (c d : Choice) → Says x number (by n arts m c None) j → Says x number (by n arts m d None) j
       → by n arts m c None ≡ by n arts m d None
-  by_choice arts n m (Ok k) (Ok l) p q =
+  by_choice arts n m (Mask k) (Mask l) p q =
       ap (λ (es : List Effect). accepted n.parts.prio.next es) (sym p.effects ∙ q.effects)
-  by_choice arts n m (Err f) (Err g) p q =
+  by_choice arts n m (OnlyPaths f) (OnlyPaths g) p q =
       let words = p.reply ∙ sym q.reply in
       let same : f ≡ g = cc in
-      ap (λ (k : ℕ). by n arts m (Err k) None) same
-  by_choice arts n m (Ok k) (Err g) p q = absurd (let words = p.reply ∙ sym q.reply in cc)
-  by_choice arts n m (Err f) (Ok l) p q = absurd (let words = p.reply ∙ sym q.reply in cc)
+      ap (λ (k : ℕ). by n arts m (OnlyPaths k) None) same
+  by_choice arts n m (Mask k) (OnlyPaths g) p q = absurd (let words = p.reply ∙ sym q.reply in cc)
+  by_choice arts n m (OnlyPaths f) (Mask l) p q = absurd (let words = p.reply ∙ sym q.reply in cc)
 
-  by_refusal : (arts : Arts) (n : NodeState) (m : PrioSend) (r : Option SendRefused) (c d : Result ℕ ℕ) → Says x number (by n arts m c r) j
+  by_refusal : (arts : Arts) (n : NodeState) (m : PrioSend) (r : Option SendRefused) (c d : Choice) → Says x number (by n arts m c r) j
       → Says x number (by n arts m d r) j → by n arts m c r ≡ by n arts m d r
   by_refusal arts n m (Some f) c d p q = refl
   by_refusal arts n m None c d p q = by_choice arts n m c d p q

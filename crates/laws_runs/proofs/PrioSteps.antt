@@ -1,5 +1,5 @@
 -- What each step tells and keeps of priority messages.
-use Rattle.std.proofs.Common.{◌≡◌, ℕ, ◌==◌, Bool, true, false, cond, List, [], ◌∷◌, ◌++◌, Option, Some, None, Result, refl, sym, ap, subst, ◌∙◌, inl, inr}
+use Rattle.std.proofs.Common.{◌≡◌, ℕ, ◌==◌, Bool, true, false, cond, List, [], ◌∷◌, ◌++◌, Option, Some, None, refl, sym, ap, subst, ◌∙◌, inl, inr}
 use Rattle.std.specs.Prelude.{◌&&◌, ◌||◌}
 use Rattle.std.specs.List.{flat_map}
 use Rattle.std.proofs.lemmas.Bool.{eq-eqb}
@@ -31,6 +31,7 @@ use Rattle.sp_rules.specs.Prio as prio
 use Rattle.sp_rules.specs.Prio.{PrioState, admit_prio, expired_effects, is_here, judge_prio, marked, place_of, prio_effects, windows_with}
 use Rattle.sp_rules.specs.PrioPeer.{gone}
 use Rattle.sp_rules.specs.Rel.{delivery, due, is_to, judge_ack_of, judge_rel_of, pushed_in, rel_effects}
+use Rattle.sp_rules.specs.Masks.{Choice}
 use Rattle.sp_rules.specs.Sends.{PrioSend, mask_in, no_paths, own_prio, prio_body, prio_refusal, prio_sent as prio_told, rel_body, rel_number, rel_refusal, rel_sent, send_prio_refusal, signer_refusal, weight_body, weight_number, weight_refusal, weight_sent}
 use Rattle.sp_rules.specs.Steps as steps
 use Rattle.sp_rules.specs.Steps.{Input, NodeStep, Output, accepted, arrived, refused_call, refused_send, replied}
@@ -280,7 +281,7 @@ not_accepted s d from to a b c payload refusals.BadEnd reply e = absurd (cc)
 not_accepted s d from to a b c payload (refusals.NotReserved bound) reply e = absurd (cc)
 not_accepted s d from to a b c payload refusals.Memory reply e = absurd (cc)
 
-pub accepted_is : (C : Type 0) (x : Setting) (P : Kept → Type 0) (arts : Arts) (s d from : NodeId) (S : List Message) (told : List ℕ) (number : ℕ) (m : PrioSend) (n : NodeState) (choice : Result ℕ ℕ) (output : Output) (j : Entry) (r : Option SendRefused)
+pub accepted_is : (C : Type 0) (x : Setting) (P : Kept → Type 0) (arts : Arts) (s d from : NodeId) (S : List Message) (told : List ℕ) (number : ℕ) (m : PrioSend) (n : NodeState) (choice : Choice) (output : Output) (j : Entry) (r : Option SendRefused)
     → Says x number output j → output ≡ refused_send r (accepted n.parts.prio.next (prio_told arts n m choice))
     → prio_accepted_in s d (events.Prio from m.dst m.prio m.expiry m.paths m.payload) j.reply ≡ sent_if C x P arts s d S told from r n m
 accepted_is C x P arts s d from S told number m n choice output j None says e =

@@ -1,11 +1,11 @@
 -- Each event in its range has a turn.
-use Rattle.std.proofs.Common.{◌≡◌, ◌<◌, ◌≤◌, ℕ, zero, suc, Bool, true, false, cond, List, [], ◌∷◌, length, Option, Some, None, option_map, Result, refl, sym, ap, subst, arith}
+use Rattle.std.proofs.Common.{◌≡◌, ◌<◌, ◌≤◌, ℕ, zero, suc, Bool, true, false, cond, List, [], ◌∷◌, length, Option, Some, None, option_map, refl, sym, ap, subst, arith}
 use Rattle.std.specs.Prelude.{IsTrue, nat_lt, slice_get}
 use Rattle.std.proofs.lemmas.Bool.{ltb-false}
 use Rattle.sp_base.specs.declared.id.NodeId.{NodeId}
 use Rattle.sp_rules.specs.Arrivals.{after_datagram}
 use Rattle.sp_rules.specs.Arts.{Arts}
-use Rattle.sp_rules.specs.Masks.{IsChoice, graph_of}
+use Rattle.sp_rules.specs.Masks.{Choice, IsChoice, graph_of}
 use Rattle.sp_rules.specs.Node.{NodeState}
 use Rattle.sp_rules.specs.Parts.{Fixed}
 use Rattle.sp_rules.specs.Polls.{after_poll}
@@ -33,7 +33,7 @@ use Rattle.laws_runs.proofs.Words.{each_reply_has_words}
 
 -- and for a priority message where there is a choice of edges
 abbrev Choosable : NodeState → Input → Type 0
-Choosable n (steps.SendPrio m) = (choice : Result ℕ ℕ) × IsChoice (graph_of n.fixed.topology n.parts.weights) n.fixed.me m.dst m.paths choice
+Choosable n (steps.SendPrio m) = (choice : Choice) × IsChoice (graph_of n.fixed.topology n.parts.weights) n.fixed.me m.dst m.paths choice
 Choosable n _ = Unit {0}
 
 record Stepped (arts : Arts) (n : NodeState) (input : Input) : Type 0 where
@@ -76,7 +76,7 @@ frame_there es ds u v (suc before) count made = there_at (frames_in ds u v) befo
 reached : (arts : Arts) (x : Setting) (es : List Event) (w : World) (n : NodeState) (e : Event) → InRange x es e
     → ((u v : NodeId) → length (frames_in w.directions u v) ≡ polls es u v)
     → ((d : NodeId) (paths : ℕ) (s : NodeId) → acting e ≡ s → IsTrue (is_correct x s) → IsTrue (is_other x s d)
-    → (choice : Result ℕ ℕ) × IsChoice (graph_of n.fixed.topology n.parts.weights) n.fixed.me d paths choice)
+    → (choice : Choice) × IsChoice (graph_of n.fixed.topology n.parts.weights) n.fixed.me d paths choice)
     → Reached arts x es w n e
 reached arts x es w n (events.Rel s d payload) range count choices = Comes (steps.SendRel d payload) refl tt
 reached arts x es w n (events.Prio s d p expiry paths payload) range count choices = Comes _ refl (choices d paths s refl range.0 range.1)
@@ -129,7 +129,7 @@ each_event_has_a_turn arts x es js w fits carries choices run few e range = go (
     n = there.0
 
     choose : (d : NodeId) (paths : ℕ) (s : NodeId) → acting e ≡ s → IsTrue (is_correct x s) → IsTrue (is_other x s d)
-        → (choice : Result ℕ ℕ) × IsChoice (graph_of n.fixed.topology n.parts.weights) n.fixed.me d paths choice
+        → (choice : Choice) × IsChoice (graph_of n.fixed.topology n.parts.weights) n.fixed.me d paths choice
     choose d paths s me correct other =
         let fixed = ((signs arts x es js w fits carries run).nodes (acting e) n there.1).fixed in
         let c = choices n.parts.weights s d paths correct other in (

@@ -1,5 +1,5 @@
 -- Each answer to an event in its range has words.
-use Rattle.std.proofs.Common.{◌≡◌, ◌≢◌, ◌<◌, ℕ, ◌==◌, ◌&&◌, Bool, true, false, cond, not, nat_lt, List, [], ◌∷◌, length, Option, Some, None, Result, Ok, Err, refl, sym, ap, subst, ◌∙◌, inl, inr, arith}
+use Rattle.std.proofs.Common.{◌≡◌, ◌≢◌, ◌<◌, ℕ, ◌==◌, ◌&&◌, Bool, true, false, cond, not, nat_lt, List, [], ◌∷◌, length, Option, Some, None, refl, sym, ap, subst, ◌∙◌, inl, inr, arith}
 use Rattle.std.specs.Prelude.{IsTrue, slice_get, position}
 use Rattle.std.specs.List.{All, list_any, position_or_len}
 use Rattle.std.proofs.lemmas.Bool.{cases_Bool, eq-eqb, ne_eqb}
@@ -20,6 +20,7 @@ use Rattle.sp_rules.specs.Polls.{frame_to}
 use Rattle.sp_rules.specs.Prio as prio
 use Rattle.sp_rules.specs.Rel as rel
 use Rattle.sp_rules.specs.Rel.{RelState, flow_in, own_flow, room}
+use Rattle.sp_rules.specs.Masks.{Choice, Mask, OnlyPaths}
 use Rattle.sp_rules.specs.Sends.{PrioSend, no_paths, no_room, prio_refusal, rel_refusal, send_prio_refusal, signer_refusal, weight_refusal, weight_refusal_at}
 use Rattle.sp_rules.specs.Steps as steps
 use Rattle.sp_rules.specs.Steps.{Input, NodeStep, Output}
@@ -123,11 +124,11 @@ rel_words x P u dst n is ends =
 
 -- ---- a priority message
 
-paths_words : (r : Result ℕ ℕ) → HasWords (no_paths r)
-paths_words (Ok mask) = tt
-paths_words (Err found) = told _
+paths_words : (r : Choice) → HasWords (no_paths r)
+paths_words (Mask mask) = tt
+paths_words (OnlyPaths found) = told _
 
-prio_words : (x : Setting) (P : Kept → Type 0) (u : NodeId) (n : NodeState) (m : PrioSend) (choice : Result ℕ ℕ) → NodeIs x P u n → IsAnother x u m.dst
+prio_words : (x : Setting) (P : Kept → Type 0) (u : NodeId) (n : NodeState) (m : PrioSend) (choice : Choice) → NodeIs x P u n → IsAnother x u m.dst
     → HasWords (send_prio_refusal n m choice)
 prio_words x P u n m choice is ends =
     let me : n.fixed.me ≡ u = ap (λ f. f.me) is.fixed in

@@ -1,10 +1,10 @@
 -- Worked stories of a whole run over toy arts, all computed: the first message and its acknowledgement, an object that a compromised node forges, and the same
 -- object where its signer signed it before.
-use Rattle.std.specs.Prelude.{ℕ, ◌≡◌, ◌+◌, Bool, true, false, List, [], ◌∷◌, ◌++◌, map, Option, None, Some, Ok}
+use Rattle.std.specs.Prelude.{ℕ, ◌≡◌, ◌+◌, Bool, true, false, List, [], ◌∷◌, ◌++◌, map, Option, None, Some}
 use Rattle.sp_base.specs.declared.id.NodeId.{NodeId}
 use Rattle.sp_msg.specs.declared.body.Body.TheVariants as bodies
 use Rattle.sp_rules.specs.Arrivals.{after_datagram}
-use Rattle.sp_rules.specs.Masks.{all_edges}
+use Rattle.sp_rules.specs.Masks.{Mask, all_edges}
 use Rattle.sp_rules.specs.Node.{NodeState}
 use Rattle.sp_rules.specs.Polls.{after_poll}
 use Rattle.sp_rules.specs.Rel as rel
@@ -41,7 +41,7 @@ output_of n (steps.Poll v) = steps.poll_output toys n v
 output_of n (steps.Datagram v bytes) = steps.datagram_output toys n v bytes
 output_of n (steps.Tick now) = steps.tick_output n now
 output_of n (steps.SendRel dst payload) = steps.send_rel_output n dst payload
-output_of n (steps.SendPrio message) = steps.send_prio_output toys n message (Ok (all_edges n.fixed.topology.edges))
+output_of n (steps.SendPrio message) = steps.send_prio_output toys n message (Mask (all_edges n.fixed.topology.edges))
 output_of n (steps.SetWeight v weight) = steps.set_weight_output n v weight
 output_of n (steps.TakeRel src) = steps.replied (steps.Payload (rel.oldest n.parts.rel src))
 output_of n steps.TakePrio = steps.take_prio_output n
@@ -51,7 +51,7 @@ after n (steps.Poll v) = after_poll n v
 after n (steps.Datagram v bytes) = after_datagram toys n v bytes
 after n (steps.Tick now) = after_tick toys n now
 after n (steps.SendRel dst payload) = after_send_rel toys n dst payload
-after n (steps.SendPrio message) = after_send_prio toys n message (Ok (all_edges n.fixed.topology.edges))
+after n (steps.SendPrio message) = after_send_prio toys n message (Mask (all_edges n.fixed.topology.edges))
 after n (steps.SetWeight v weight) = after_set_weight toys n v weight
 after n (steps.TakeRel src) = after_take_rel n src
 after n steps.TakePrio = after_take_prio n

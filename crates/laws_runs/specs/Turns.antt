@@ -1,8 +1,8 @@
 -- Each event that may happen has a turn: so the definitions of runs leave no event of a schedule without one.
-use Rattle.std.specs.Prelude.{ℕ, ◌<◌, IsTrue, List, Result, length}
+use Rattle.std.specs.Prelude.{ℕ, ◌<◌, IsTrue, List, length}
 use Rattle.sp_base.specs.declared.id.NodeId.{NodeId}
 use Rattle.sp_rules.specs.Arts.{Arts}
-use Rattle.sp_rules.specs.Masks.{IsChoice, graph_of}
+use Rattle.sp_rules.specs.Masks.{Choice, IsChoice, graph_of}
 use Rattle.sp_rules.specs.Weights.{WeightState}
 use Rattle.sp_rules.specs.declared.node.TheConstants.{MAX_CALLS}
 use Rattle.sp_runs.specs.Runs.{Clean, InRange, Turn, is_other}
@@ -16,7 +16,7 @@ use Rattle.laws_runs.specs.Premises.{Carries}
 -- there are
 abbrev pub HaveChoices : Setting → Type 0
 HaveChoices x = (weights : WeightState) (s d : NodeId) (paths : ℕ) → IsTrue (is_correct x s) → IsTrue (is_other x s d)
-    → (choice : Result ℕ ℕ) × IsChoice (graph_of x.topology weights) s d paths choice
+    → (choice : Choice) × IsChoice (graph_of x.topology weights) s d paths choice
 
 -- the event has a turn there
 pub record Happens (arts : Arts) (x : Setting) (es : List Event) (old : World) (event : Event) : Type 0 where

@@ -1,11 +1,12 @@
 -- There is a choice of edges: of all sets of so many paths the cheapest, or where there is none, how many paths there are at most.
-use Rattle.std.proofs.Common.{◌≡◌, ◌<◌, ℕ, zero, suc, Bool, true, false, List, [], ◌∷◌, filter, length, Option, Some, None, Result, Ok, Err, refl, sym, ap, subst, ◌∙◌, arith}
+use Rattle.std.proofs.Common.{◌≡◌, ◌<◌, ℕ, zero, suc, Bool, true, false, List, [], ◌∷◌, filter, length, Option, Some, None, refl, sym, ap, subst, ◌∙◌, arith}
 use Rattle.std.specs.Prelude.{◌==◌, nat_lt, slice_get}
 use Rattle.std.proofs.lemmas.Bool.{eqb-true, ltb-false, ltb-true}
 use Rattle.sp_base.specs.declared.id.NodeId.{NodeId}
 use Rattle.sp_graph.specs.declared.graph.Graph.{Graph}
 use Rattle.sp_graph.specs.Disjoint.{Disjoint, cost}
-use Rattle.sp_rules.specs.Masks.{AreFewer, IsCheapestMask, IsChoice, IsMaskOf, all_edges, is_used}
+use Rattle.sp_rules.proofs.MaskLemmas.{none_used}
+use Rattle.sp_rules.specs.Masks.{AreFewer, Choice, IsCheapestMask, IsChoice, IsMaskOf, Mask, OnlyPaths, all_edges, is_used}
 use Rattle.sp_topology.specs.declared.topology.Edge.{Edge}
 use Rattle.laws_paths.proofs.Kept.{has_filter, same_number}
 use Rattle.laws_paths.proofs.Lists.{Has}
@@ -17,7 +18,7 @@ use Rattle.laws_runs_format.specs.Turns.{EachRequestHasAChoice}
 -- ---- the mask of some paths
 
 used_at : (paths : List (List NodeId)) (e : Option Edge) → passes_at (λ (f : Edge). is_used paths (Some f)) e ≡ is_used paths e
-used_at paths None = refl
+used_at paths None = sym (none_used paths)
 used_at paths (Some e) = refl
 
 has_mask : (g : Graph) (paths : List (List NodeId)) → IsMaskOf g paths (bits (λ (f : Edge). is_used paths (Some f)) g.edges)
@@ -77,13 +78,13 @@ fewer g s t count first rest are none =
         absurd (subst (λ (sets : List (List (List NodeId))). Has sets some.0) none (is_with g s t count some.0 some.1))
 
 pub each_request_has_a_choice : EachRequestHasAChoice
-each_request_has_a_choice g s t zero = (Ok (all_edges g.edges), refl)
+each_request_has_a_choice g s t zero = (Mask (all_edges g.edges), refl)
 each_request_has_a_choice g s t (suc more) = go (sets_with g s t (suc more)) refl
   where
-    none : sets_with g s t (suc more) ≡ [] → (sets : List (List (List NodeId))) → sets_of g s t ≡ sets → (choice : Result ℕ ℕ) × IsChoice g s t (suc more) choice
+    none : sets_with g s t (suc more) ≡ [] → (sets : List (List (List NodeId))) → sets_of g s t ≡ sets → (choice : Choice) × IsChoice g s t (suc more) choice
     none empty [] are = absurd (subst (λ (all : List (List (List NodeId))). Has all []) are (set_is_listed g s t 0 [] (no_paths g s t)))
-    none empty (first ∷ rest) are = let found = fewer g s t (suc more) first rest are empty in (Err found.0, found.1)
+    none empty (first ∷ rest) are = let found = fewer g s t (suc more) first rest are empty in (OnlyPaths found.0, found.1)
 
-    go : (with : List (List (List NodeId))) → sets_with g s t (suc more) ≡ with → (choice : Result ℕ ℕ) × IsChoice g s t (suc more) choice
+    go : (with : List (List (List NodeId))) → sets_with g s t (suc more) ≡ with → (choice : Choice) × IsChoice g s t (suc more) choice
     go [] are = none are (sets_of g s t) refl
-    go (first ∷ rest) are = let found = cheapest g s t (suc more) first rest are in (Ok found.0, found.1)
+    go (first ∷ rest) are = let found = cheapest g s t (suc more) first rest are in (Mask found.0, found.1)

@@ -1,12 +1,14 @@
 -- A ring's marks as a window: what it sees, and what one mark more leaves.
 use Rattle.std.proofs.Common.{◌≡◌, ◌≤◌, ◌<◌, ℕ, ◌+◌, ◌-◌, ◌%◌, Bool, true, false, List, [], length, replicate, max, refl, sym, ap, subst, ◌∙◌, arith, inl, inr, nat_le, get_or-set_same, get_or-set_other}
-use Rattle.std.specs.Prelude.{◌==◌, ◌⊎◌, ◌||◌, filter, slice_set}
+use Rattle.std.specs.Prelude.{◌==◌, ◌⊎◌, ◌&&◌, ◌||◌, not, slice_set}
 use Rattle.std.proofs.lemmas.Bool.Decides.{nat_tests}
 use Rattle.std.proofs.lemmas.List.{get_or-replicate, length-set, length-replicate}
-use Rattle.sp_rules.proofs.WindowLemmas.{filters_alike, greatest_of_last, in_last, none_pass, not_in_last}
-use Rattle.sp_rules.specs.Window.{greatest, is_in, is_seen, last_numbers, with_mark}
+use Rattle.std.proofs.lemmas.Bool.{ne_eqb}
+use Rattle.sp_rules.proofs.WindowLemmas.{Ascends, filter_ascends, in_mark, put_ascends, same_numbers}
+use Rattle.sp_rules.specs.Window.{greatest, is_in, is_past, is_seen, put_in, with_mark}
 use Rattle.sp_rules.specs.declared.window.TheConstants.{WINDOW}
 use Rattle.sp_dedup.specs.Ring.{IsRing, held_for, marked_in}
+use Rattle.sp_dedup.proofs.RangeLemmas.{greatest_of_last, in_last, none_pass, not_in_last, range_ascends}
 
 -- the greatest mark
 pub greatest_in : (top : ℕ) (ring : List ℕ) → IsRing top ring → greatest (marked_in top ring) ≡ top
@@ -123,14 +125,55 @@ stays_ring top ring q sound not = record {
         let apart : top % WINDOW ≡ q % WINDOW → ⊥ = λ same. omega (arith, same_place top q same near (omega (arith, below)), below) in
         ap (held_for (slice_set ring (q % WINDOW) q)) old ∙ held_other ring q top apart ∙ held_before sound.greatest below ∙ sym old
 
+-- the marks ascend
+marked_ascend : (top : ℕ) (ring : List ℕ) → Ascends (marked_in top ring)
+marked_ascend top ring = range_ascends (λ x. held_for ring x == x) (top + 1 - WINDOW) (top + 1 - (top + 1 - WINDOW))
+
+mark_ascends : (top : ℕ) (ring : List ℕ) (q : ℕ) → Ascends (with_mark (marked_in top ring) q)
+mark_ascends top ring q =
+    filter_ascends (λ x. not (is_past (max q (greatest (marked_in top ring))) x)) (put_in q (marked_in top ring))
+    (put_ascends q (marked_in top ring) (marked_ascend top ring))
+
+-- which numbers are marked then
+in_both : (top : ℕ) (ring : List ℕ) (q x : ℕ) → IsRing top ring
+    → is_in x (with_mark (marked_in top ring) q) ≡ (not (is_past (max q top) x) && ((q == x) || is_in x (marked_in top ring)))
+in_both top ring q x sound =
+    in_mark (marked_in top ring) q x
+    ∙ ap (λ (n : ℕ). not (is_past (max q n) x) && ((q == x) || is_in x (marked_in top ring))) (greatest_in top ring sound)
+
+turned : (x q : ℕ) → (x == q) ≡ (q == x)
+turned x q = grind (arith, nat_tests)
+
+-- a ring up to the greatest has the same numbers, where it has them among the last ones
+same_marks : (top : ℕ) (ring : List ℕ) (q last : ℕ) (next : List ℕ) (x : ℕ) → IsRing top ring → last ≡ max q top
+    → (x ≤ last → last < x + WINDOW → (held_for next x == x) ≡ ((x == q) || is_in x (marked_in top ring)))
+    → is_in x (marked_in last next) ≡ is_in x (with_mark (marked_in top ring) q)
+same_marks top ring q last next x sound is alike =
+    go (nat_le x last) (is_past last x) refl refl
+    ∙ ap (λ (n : ℕ). not (is_past n x) && ((q == x) || is_in x (marked_in top ring))) is ∙ sym (in_both top ring q x sound)
+  where
+    go : (a b : Bool) → nat_le x last ≡ a → is_past last x ≡ b
+        → is_in x (marked_in last next) ≡ (not (is_past last x) && ((q == x) || is_in x (marked_in top ring)))
+    go a true low past =
+        let far : x + WINDOW ≤ last = grind (arith, nat_tests) in
+        rw past (not_in_marked last next x (λ under near. omega (arith, far, near)))
+    go false false low past =
+        let above : last < x = grind (arith, nat_tests) in
+        let other : (q == x) ≡ false = ne_eqb q x (λ same. omega (arith, same, above, is)) in
+        let out : is_in x (marked_in top ring) ≡ false = not_in_marked top ring x (λ under near. omega (arith, under, above, is)) in
+        rw (past, other, out) (not_in_marked last next x (λ under near. omega (arith, under, above)))
+    go true false low past =
+        let under : x ≤ last = grind (arith, nat_tests) in
+        let near : last < x + WINDOW = grind (arith, nat_tests) in
+        rw past (in_marked last next x under near ∙ alike under near ∙ ap (λ (t : Bool). t || is_in x (marked_in top ring)) (turned x q))
+
 -- the marks then are those of the window with that number
 pub marked_so : (top : ℕ) (ring : List ℕ) (q : ℕ) → IsRing top ring → is_seen (marked_in top ring) q ≡ false → marked_in (max top q)
     (slice_set ring (q % WINDOW) q) ≡ with_mark (marked_in top ring) q
 marked_so top ring q sound not =
-    ap (λ n. marked_in n (slice_set ring (q % WINDOW) q)) (let e : max top q ≡ max q top = omega arith in e)
-    ∙ filters_alike (λ x. held_for (slice_set ring (q % WINDOW) q) x == x) (λ x. (x == q) || is_in x (marked_in top ring))
-    (max q top + 1 - WINDOW) (max q top + 1 - (max q top + 1 - WINDOW)) (λ x from below. alike x (omega arith) (omega arith))
-    ∙ ap (λ n. filter (λ x. (x == q) || is_in x (marked_in top ring)) (last_numbers (max q n))) (sym (greatest_in top ring sound))
+    same_numbers (marked_in (max top q) (slice_set ring (q % WINDOW) q)) (with_mark (marked_in top ring) q)
+    (marked_ascend (max top q) (slice_set ring (q % WINDOW) q)) (mark_ascends top ring q)
+    (λ x. same_marks top ring q (max top q) (slice_set ring (q % WINDOW) q) x sound (omega arith) (λ under near. alike x (omega (arith, under)) (omega (arith, near))))
   where
     fresh : IsUnseen top ring q
     fresh = unseen top ring q sound not
@@ -175,13 +218,9 @@ marked_so top ring q sound not =
 pub marked_again : (top : ℕ) (ring : List ℕ) (q : ℕ) → IsRing top ring → is_seen (marked_in top ring) q ≡ true → marked_in top ring
     ≡ with_mark (marked_in top ring) q
 marked_again top ring q sound seen =
-    filters_alike (λ x. held_for ring x == x) (λ x. (x == q) || is_in x (marked_in top ring)) (top + 1 - WINDOW) (top + 1 - (top + 1 - WINDOW))
-    (λ x from below. alike x (omega arith) (omega arith) (x == q) refl)
-    ∙ ap (λ n. filter (λ x. (x == q) || is_in x (marked_in top ring)) (last_numbers n)) (let e : top ≡ max q top = omega (
-      arith,
-      low (held_for ring q == q) (nat_le (q + WINDOW) top) refl refl by_place,
-    ) in e)
-    ∙ ap (λ n. filter (λ x. (x == q) || is_in x (marked_in top ring)) (last_numbers (max q n))) (sym (greatest_in top ring sound))
+    let under : q ≤ top = low (held_for ring q == q) (nat_le (q + WINDOW) top) refl refl by_place in
+    same_numbers (marked_in top ring) (with_mark (marked_in top ring) q) (marked_ascend top ring) (mark_ascends top ring q)
+    (λ x. same_marks top ring q top ring x sound (omega (arith, under)) (λ below near. alike x below near (x == q) refl))
   where
     by_place : ((held_for ring q == q) || nat_le (q + WINDOW) top) ≡ true
     by_place = sym (seen_by_place top ring q sound) ∙ seen

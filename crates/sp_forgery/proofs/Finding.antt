@@ -7,9 +7,12 @@ use Rattle.sp_frame.specs.declared.refused.FrameRefused.{FrameRefused}
 use Rattle.sp_frame.specs.declared.refused.FrameRefused.TheVariants as frames
 use Rattle.sp_frame.specs.declared.refused.SectionRefused.{SectionRefused}
 use Rattle.sp_msg.specs.declared.kept.Kept.{Kept}
-use Rattle.sp_rules.specs.Arrivals.{arrival_at, handled, no_frame, of_frame, pieces_in, pieces_where, reply_at, sections_in}
+use Rattle.sp_rules.proofs.ArrivalLemmas.{of_frame}
+use Rattle.sp_rules.specs.Arrivals.{arrival_at, handled, pieces_in, pieces_where, reply_at, sections_in}
 use Rattle.sp_rules.specs.Handle.{handle_all}
+use Rattle.sp_rules.specs.Link.{Link}
 use Rattle.sp_rules.specs.Node.{NodeState, link_in}
+use Rattle.sp_rules.specs.Parts.{Fixed}
 use Rattle.sp_rules.specs.Pieces.{Piece}
 use Rattle.sp_rules.specs.declared.answers.Item.{Item}
 use Rattle.sp_rules.specs.declared.node.LinkReply.{LinkReply}
@@ -29,11 +32,11 @@ same_sections : (n : NodeState) (bytes : List ℕ) → sections_in format n.fixe
 same_sections n bytes = refl
 
 -- bytes that are no frame aren't fresh
-no_fresh : (refused : FrameRefused) → no_frame refused ≢ links.Fresh
-no_fresh frames.TooLong e = cc
-no_fresh (frames.Short short) e = cc
-no_fresh frames.Magic e = cc
-no_fresh frames.Version e = cc
+no_fresh : (f : Fixed) (l : Link) (bytes : List ℕ) (refused : FrameRefused) → of_frame format f l bytes (Err refused) ≢ links.Fresh
+no_fresh f l bytes frames.TooLong e = cc
+no_fresh f l bytes (frames.Short short) e = cc
+no_fresh f l bytes frames.Magic e = cc
+no_fresh f l bytes frames.Version e = cc
 
 module _ (x : Setting) (es : List Event) (js : List Entry) where
   found_there : (o : Result (List ℕ) FrameRefused) (r : Result Contents SectionRefused) (items : List Item) → ((refused : FrameRefused) → o ≢ Err refused)
@@ -47,7 +50,7 @@ module _ (x : Setting) (es : List Event) (js : List Entry) where
       → found_at x es js (opened bytes) (sections_of len (sections_part bytes)) items ≡ forged_object x es js (handled format n u bytes).answered
   fresh_is n u bytes len items long fresh are =
       let good : (refused : FrameRefused) → opened bytes ≢ Err refused =
-      λ refused e. no_fresh refused (sym (fresh ∙ ap (of_frame format n.fixed (link_in n u) bytes) e)) in
+      λ refused e. no_fresh n.fixed (link_in n u) bytes refused (sym (fresh ∙ ap (of_frame format n.fixed (link_in n u) bytes) e)) in
       let there : found_at x es js (opened bytes) (sections_of len (sections_part bytes)) items ≡ forged_in_turn x es js (objects_in (pieces_in (sections_of len (sections_part bytes)))) items =
       found_there (opened bytes) (sections_of len (sections_part bytes)) items good in
       let pieces : pieces_where (reply_at format n u bytes) (pieces_in (sections_in format n.fixed bytes)) ≡ pieces_in (sections_of len (sections_part bytes)) =

@@ -31,12 +31,12 @@ unfoldable pub rels_bytes : List Kept → List ℕ
 rels_bytes objects = counted_bytes object_bytes objects
 
 abbrev pub report_from : ((((ℕ × ℕ) × ℕ) × ℕ) × Option Kept) × List Kept → Report
-report_from parts = record {
-  flow = record { src = record { 0 = parts.0.0.0.0.0 }; dst = record { 0 = parts.0.0.0.0.1 } };
-  base = parts.0.0.0.1;
-  have = parts.0.0.1;
-  ack = parts.0.1;
-  rels = parts.1;
+report_from (((((src, dst), base), have), acked), objects) = record {
+  flow = record { src = record { 0 = src }; dst = record { 0 = dst } };
+  base = base;
+  have = have;
+  ack = acked;
+  rels = objects;
 }
 
 unfoldable pub report : ℕ → List ℕ → Result (Report × List ℕ) SectionRefused

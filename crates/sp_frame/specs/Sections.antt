@@ -19,7 +19,7 @@ pub record Contents : Type 0 where
   pub slot : Option Report
 
 abbrev pub contents_from : ((List Kept × ℕ) × List (ℕ × Kept)) × Option Report → Contents
-contents_from parts = record { weights = parts.0.0.0; prio_ack = parts.0.0.1; prios = parts.0.1; slot = parts.1 }
+contents_from (((updates, heard), messages), reported) = record { weights = updates; prio_ack = heard; prios = messages; slot = reported }
 
 -- the sections that bytes begin with, with signatures of this length, and the bytes after them, or the first refusal from the left
 unfoldable pub sections_at : ℕ → List ℕ → Result (Contents × List ℕ) SectionRefused

@@ -1,5 +1,7 @@
 -- What its link makes of a datagram is what the rules say.
-use Rattle.std.proofs.Common.{rules, ◌≡◌, ◌≤◌, ◌+◌, ◌==◌, ◌∙◌, ℕ, Bool, true, false, not, List, [], Result, Ok, Err, refl, sym, ap, cond, arith}
+use Rattle.std.proofs.Common.{rules, ◌≡◌, ◌≤◌, ◌+◌, ◌==◌, ◌∙◌, ℕ, Bool, true, false, not, List, [], Some, Result, Ok, Err, refl, sym, ap, cond, arith}
+use Rattle.std.specs.Prelude.{option_map, unwrap_or}
+use Rattle.std.specs.Result.{result_err}
 use Rattle.sp_base.specs.declared.id.NodeId.{NodeId}
 use Rattle.sp_node_core.specs.Format.{format}
 use Rattle.sp_frame.specs.Frames.{head_of, opened}
@@ -9,7 +11,8 @@ use Rattle.sp_link.specs.Work.{tags_after}
 use Rattle.sp_node.specs.Life.{reply_tags}
 use Rattle.sp_frame.specs.declared.refused.FrameRefused.{FrameRefused}
 use Rattle.sp_frame.specs.declared.refused.FrameRefused.TheVariants as frames
-use Rattle.sp_rules.specs.Arrivals.{link_after, link_says, link_with, no_frame, of_frame, of_fresh, of_link, of_sections, pieces_in, pieces_where, reply_at, sections_in}
+use Rattle.sp_rules.proofs.ArrivalLemmas.{link_stays, link_with, of_frame, of_link}
+use Rattle.sp_rules.specs.Arrivals.{link_after, link_says, no_frame, not_read, pieces_in, pieces_where, reply_at, sections_in}
 use Rattle.sp_rules.specs.Link.{Link}
 use Rattle.sp_rules.specs.Node.{NodeState, link_in}
 use Rattle.sp_rules.specs.Parts.{Fixed}
@@ -34,22 +37,31 @@ opened_whole bytes frame is = search (rules, none_refuses)
 
 -- ---- one that is no frame
 
-pub no_reply : (n : NodeState) (v : NodeId) (bytes : List ℕ) (refused : FrameRefused) → opened bytes ≡ Err refused → no_frame refused ≡ reply_at format n v bytes
-no_reply n v bytes refused is = sym (ap (of_frame format n.fixed (link_in n v) bytes) is)
+pub no_reply : (n : NodeState) (v : NodeId) (bytes : List ℕ) (refused : FrameRefused) (reply : LinkReply) → opened bytes ≡ Err refused
+    → Some reply ≡ no_frame (Err refused) → reply ≡ reply_at format n v bytes
+no_reply n v bytes refused reply is says =
+    says_it refused reply says ∙ sym (ap (of_frame format n.fixed (link_in n v) bytes) is)
+  where
+    says_it : (refused : FrameRefused) (reply : LinkReply) → Some reply ≡ no_frame (Err refused) → reply ≡ of_frame format n.fixed (link_in n v) bytes (Err refused)
+    says_it frames.TooLong reply e = cc
+    says_it (frames.Short short) reply e = cc
+    says_it frames.Magic reply e = cc
+    says_it frames.Version reply e = cc
 
 pub same_link : (n : NodeState) (v : NodeId) (bytes : List ℕ) (refused : FrameRefused) → opened bytes ≡ Err refused → link_in n v ≡ link_after format n v bytes
-same_link n v bytes refused is = sym (ap (link_with format (link_in n v) bytes) is)
+same_link n v bytes refused is = sym (ap (link_with format (link_in n v) bytes) is ∙ link_stays format (link_in n v) bytes refused)
 
-none_of : (refused : FrameRefused) (pieces : List Piece) → [] ≡ pieces_where (no_frame refused) pieces
-none_of frames.TooLong pieces = refl
-none_of (frames.Short short) pieces = refl
-none_of frames.Magic pieces = refl
-none_of frames.Version pieces = refl
+none_of : (f : Fixed) (l : Link) (bytes : List ℕ) (refused : FrameRefused) (pieces : List Piece) → [] ≡ pieces_where (of_frame format f l bytes (Err refused)) pieces
+none_of f l bytes frames.TooLong pieces = refl
+none_of f l bytes (frames.Short short) pieces = refl
+none_of f l bytes frames.Magic pieces = refl
+none_of f l bytes frames.Version pieces = refl
 
 pub no_pieces : (n : NodeState) (v : NodeId) (bytes : List ℕ) (refused : FrameRefused) (pieces : List Piece) → opened bytes ≡ Err refused
     → [] ≡ pieces_where (reply_at format n v bytes) pieces
 no_pieces n v bytes refused pieces is =
-    none_of refused pieces ∙ ap (λ (r : LinkReply). pieces_where r pieces) (no_reply n v bytes refused is)
+    none_of n.fixed (link_in n v) bytes refused pieces
+    ∙ ap (λ (r : LinkReply). pieces_where r pieces) (sym (ap (of_frame format n.fixed (link_in n v) bytes) is))
 
 -- ---- a frame
 
@@ -63,10 +75,10 @@ link_is n v bytes frame is = sym (ap (link_with format (link_in n v) bytes) is)
 
 pub passed_reply : (n : NodeState) (v : NodeId) (bytes frame : List ℕ) (f : Fixed) (l : Link) (answer : LinkAnswer) (reply : LinkReply) → opened bytes ≡ Ok frame → f ≡ n.fixed
     → l ≡ link_in n v → answer ≡ link_says format l frame
-    → reply ≡ of_link answer (of_fresh f.topology.version (head_of frame).topology (sections_in format f frame)) → reply ≡ reply_at format n v bytes
+    → reply ≡ of_link answer (not_read f.topology.version (head_of frame).topology (sections_in format f frame)) → reply ≡ reply_at format n v bytes
 passed_reply n v bytes frame f l answer reply is fixed link says gives =
     gives
-    ∙ ap (λ (a : LinkAnswer). of_link a (of_fresh f.topology.version (head_of frame).topology (sections_in format f frame))) says
+    ∙ ap (λ (a : LinkAnswer). of_link a (not_read f.topology.version (head_of frame).topology (sections_in format f frame))) says
     ∙ ap (λ (k : Link). of_frame format f k frame (Ok frame)) link
     ∙ ap (λ (g : Fixed). of_frame format g (link_in n v) frame (Ok frame)) fixed
     ∙ ap (λ (b : List ℕ). of_frame format n.fixed (link_in n v) b (Ok frame)) (opened_whole bytes frame is)
@@ -91,14 +103,15 @@ passed_pieces n v bytes frame f reply pieces is fixed replied gives =
 
 -- ---- the tag of a frame
 
-of_fresh_once : (differs : Bool) (theirs : ℕ) (sections : Result Contents SectionRefused) → reply_tags (cond differs (replies.OtherTopology theirs) (of_sections sections)) ≡ 1
+of_fresh_once : (differs : Bool) (theirs : ℕ) (sections : Result Contents SectionRefused)
+    → reply_tags (unwrap_or (cond differs (Some (replies.OtherTopology theirs)) (option_map replies.Section (result_err sections))) replies.Fresh) ≡ 1
 of_fresh_once true theirs sections = refl
 of_fresh_once false theirs (Ok contents) = refl
 of_fresh_once false theirs (Err refused) = refl
 
 -- it is checked once, whatever the link answers but that the frame isn't for it
 pub tag_is_counted : (tags : ℕ) (answer : LinkAnswer) (mine theirs : ℕ) (sections : Result Contents SectionRefused)
-    → tags_after tags answer ≤ tags + reply_tags (of_link answer (of_fresh mine theirs sections))
+    → tags_after tags answer ≤ tags + reply_tags (of_link answer (not_read mine theirs sections))
 tag_is_counted tags answers.NotForMe mine theirs sections = omega arith
 tag_is_counted tags answers.BadTag mine theirs sections = omega arith
 tag_is_counted tags (answers.Learned boot) mine theirs sections = omega arith

@@ -1,5 +1,6 @@
 // A datagram arrives from a neighbour.
-ghost use Rattle.std.specs.Prelude.{◌≡◌, ◌≤◌, ◌<◌, ◌+◌, [], IfOk, OnErr, Some as There, length, position};
+ghost use Rattle.std.specs.Prelude.{◌≡◌, ◌≤◌, ◌<◌, ◌+◌, [], IfOk, OnErr, Some as There, length, position, unwrap_or};
+ghost use Rattle.sp_base.specs.Cursor.{or_else};
 ghost use Rattle.sp_base.specs.Rows.{replace_where};
 ghost use Rattle.sp_rules.specs.Node.{called, is_link, with_link};
 ghost use Rattle.sp_rules.specs.declared.node.TheConstants.{MAX_CALLS};
@@ -13,7 +14,7 @@ ghost use Rattle.sp_node.specs.Life.{datagram_checks, datagram_tags};
 ghost use Rattle.sp_node_arrivals.specs.Work.{frame_checks};
 ghost use Rattle.sp_node_arrivals.specs.declared.answers.TheConstants.{MOST_OBJECTS};
 ghost use Rattle.sp_node_state.specs.ReadyStates.{IsAnswered};
-ghost use Rattle.sp_rules.specs.Arrivals.{arrival_at, link_after, no_frame, of_fresh, of_link, pieces_in, pieces_where, reply_at, sections_in};
+ghost use Rattle.sp_rules.specs.Arrivals.{arrival_at, link_after, no_frame, not_fresh, not_read, pieces_in, pieces_where, reply_at, sections_in};
 ghost use Rattle.sp_rules.specs.Handle.{handle_all};
 
 use sp_base::{Listed, Memory, NodeId};
@@ -167,7 +168,7 @@ fn nothing_admitted(alloc: Global) -> Result<Arrived, Memory>
 
 /// Why the bytes are no frame.
 fn no_frame(refused: FrameRefused) -> LinkReply
-    ensures { result ≡ no_frame refused }
+    ensures { There result ≡ no_frame (Err refused) }
 {
     match refused {
         FrameRefused::TooLong => LinkReply::TooLong,
@@ -183,7 +184,7 @@ fn after_link<'a>(
     answer: LinkAnswer,
     frame: &Frame<'a>,
 ) -> (LinkReply, Option<Sections<'a>>)
-    ensures reply { result.0 ≡ of_link answer (of_fresh fixed.now.topology.version (head_of frame.now).topology (sections_in format fixed.now frame.now)) }
+    ensures reply { result.0 ≡ unwrap_or (or_else (not_fresh answer) (not_read fixed.now.topology.version (head_of frame.now).topology (sections_in format fixed.now frame.now))) LinkReply.Fresh }
     ensures pieces { pieces_with result.1 ≡ pieces_where result.0 (pieces_in (sections_in format fixed.now frame.now)) }
 {
     match answer {
@@ -197,7 +198,7 @@ fn after_link<'a>(
 
 /// What becomes of a fresh frame.
 fn of_fresh<'a>(fixed: &Fixed, frame: &Frame<'a>) -> (LinkReply, Option<Sections<'a>>)
-    ensures reply { result.0 ≡ of_fresh fixed.now.topology.version (head_of frame.now).topology (sections_in format fixed.now frame.now) }
+    ensures reply { result.0 ≡ unwrap_or (not_read fixed.now.topology.version (head_of frame.now).topology (sections_in format fixed.now frame.now)) LinkReply.Fresh }
     ensures pieces { pieces_with result.1 ≡ pieces_where result.0 (pieces_in (sections_in format fixed.now frame.now)) }
 {
     let theirs = frame.head().topology;

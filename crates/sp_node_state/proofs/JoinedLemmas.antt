@@ -12,6 +12,7 @@ use Rattle.sp_graph.proofs.MaskLemmas.{named_or, regroup}
 use Rattle.sp_graph.specs.Masks.{is_walked}
 use Rattle.sp_graph.specs.Walks.{is_between}
 use Rattle.sp_msg.specs.Views.{names_edge}
+use Rattle.sp_rules.proofs.MaskLemmas.{none_used}
 use Rattle.sp_rules.specs.Masks.{is_used}
 use Rattle.sp_topology.specs.declared.topology.Edge.{Edge}
 use Rattle.sp_node_state.specs.Joined.{Adds, HasFlag, joins, joins_at}
@@ -137,4 +138,4 @@ mask_is flags edges paths mask ends are is place = is place ∙ go (slice_get_ca
   where
     go : StandsAt edges place → joins_at flags (slice_get edges place) ≡ is_used paths (slice_get edges place)
     go (inl (x, within, got, read)) = rw got (are x (subst HasFlag read (ends place x within)))
-    go (inr (far, none)) = rw none refl
+    go (inr (far, none)) = rw none (sym (none_used paths))

@@ -1,20 +1,21 @@
 -- What a client may send is in its ranges, and is new to the part that takes it.
-use Rattle.std.proofs.Common.{◌≡◌, ◌≤◌, ◌∙◌, ℕ, ◌+◌, Bool, true, false, List, length, Option, Some, None, Ok, refl, sym, ap, arith, cond, nat_lt, nat_le}
-use Rattle.std.specs.Prelude.{slice_get}
+use Rattle.std.proofs.Common.{◌≡◌, ◌≤◌, ◌∙◌, ℕ, ◌+◌, Bool, true, false, List, length, Option, Some, None, refl, sym, ap, arith, cond, nat_lt, nat_le}
+use Rattle.std.specs.Prelude.{is_none}
 use Rattle.std.proofs.lemmas.Bool.Decides.{nat_tests}
 use Rattle.sp_base.specs.Cursor.{or_else}
 use Rattle.sp_base.specs.declared.id.NodeId.{NodeId}
 use Rattle.sp_base.specs.declared.limits.TheConstants.{MAX_PAYLOAD_BYTES}
 use Rattle.sp_node_core.specs.Format.{format}
 use Rattle.sp_msg.specs.Bodies.{HasGoodFields}
-use Rattle.sp_msg.specs.declared.kept.Kept.{Kept}
+use Rattle.sp_msg.specs.declared.body.WeightBody.{WeightBody}
 use Rattle.sp_msg.specs.declared.refused.SendRefused.{SendRefused}
 use Rattle.sp_msg.specs.declared.refused.SendRefused.TheVariants as refusals
-use Rattle.sp_rules.specs.Masks.{IsChoice, graph_of}
+use Rattle.sp_rules.specs.Masks.{IsChoice, Mask, graph_of}
 use Rattle.sp_rules.specs.Node.{NodeState}
 use Rattle.sp_rules.specs.Parts.{edge_to}
 use Rattle.sp_rules.specs.Sends.{PrioSend, no_paths, prio_body, prio_refusal, rel_refusal, send_prio_refusal, signer_refusal, weight_body, weight_refusal, weight_refusal_at}
-use Rattle.sp_rules.specs.Weights.{held_in, minimum, minimum_of, next_seq, offer_of, offer_on, row_if, row_in, seq_after, seq_of}
+use Rattle.sp_rules.specs.Handle.{offer_of}
+use Rattle.sp_rules.specs.Weights.{WeightState, last_seq, minimum, next_seq, offer, row_in}
 use Rattle.sp_rules.specs.declared.weights.Offer.TheVariants as offers
 use Rattle.sp_topology.specs.declared.topology.Edge.{Edge}
 use Rattle.laws_node.proofs.Own.{RelSent, prio_sent_fits, rel_sent_fits}
@@ -29,17 +30,19 @@ rel_sent n dst payload short free kept = rel_sent_fits (sizes n) n dst payload s
 
 -- ---- an own update is new
 
-offer_new : (edge seq weight : ℕ) (me : NodeId) (o : Option Edge) (rows : List (Option Kept)) (row : ℕ) → row_if edge o me.0 ≡ Some row
-    → nat_lt weight (minimum_of o) ≡ false → seq ≡ seq_of (held_in rows row) + 1
-    → offer_on o rows (record { origin = me; edge = record { 0 = edge }; seq = seq; weight = weight }) ≡ offers.New
-offer_new edge seq weight me None rows row is low next = absurd (cc)
-offer_new edge seq weight me (Some e) rows row is low next =
-    let old : nat_le seq (seq_of (held_in rows row)) ≡ false = grind (arith, nat_tests, next) in
-    rw (is, low, old) refl
+-- the next update of an end of an edge
+abbrev next_update : WeightState → NodeId → ℕ → ℕ → WeightBody
+next_update s me edge weight = record { origin = me; edge = record { 0 = edge }; seq = next_seq s edge me.0; weight = weight }
 
--- the number of the next update of this node's end of an edge
-abbrev own_seq : NodeState → ℕ → ℕ
-own_seq n edge = next_seq n.parts.weights edge n.fixed.me.0
+offer_new : (s : WeightState) (me : NodeId) (edge weight row : ℕ) → row_in s.edges edge me.0 ≡ Some row → nat_lt weight (minimum s edge) ≡ false
+    → offer s (next_update s me edge weight) ≡ offers.New
+offer_new s me edge weight row is low = go (row_in s.edges edge me.0) is (minimum s edge) low (last_seq s edge me.0)
+  where
+    go : (o : Option ℕ) → o ≡ Some row → (least : ℕ) → nat_lt weight least ≡ false → (last : ℕ)
+        → cond (is_none o) offers.Foreign (cond (nat_lt weight least) (offers.Low least) (cond (nat_le (last + 1) last) (offers.Old last) offers.New)) ≡ offers.New
+    go o is least low last =
+        let old : nat_le (last + 1) last ≡ false = grind (arith, nat_tests) in
+        rw (is, low, old) refl
 
 pub own_is_new : (n : NodeState) (v : NodeId) (weight : ℕ) → weight_refusal n v weight ≡ None → IsKept format n
     → offer_of n.parts.weights (weight_body n v weight) ≡ offers.New
@@ -50,14 +53,12 @@ own_is_new n v weight free kept = go (edge_to n.fixed v) refl free
     low_is false x e = refl
 
     at : (edge : ℕ) → edge_to n.fixed v ≡ Some edge → nat_lt weight (minimum n.parts.weights edge) ≡ false
-        → offer_on (slice_get n.parts.weights.edges edge) n.parts.weights.rows
-        (record { origin = n.fixed.me; edge = record { 0 = edge }; seq = own_seq n edge; weight = weight }) ≡ offers.New
+        → offer n.parts.weights (next_update n.parts.weights n.fixed.me edge weight) ≡ offers.New
     at edge is low =
         let row = own_row n.fixed.topology.edges edge n.fixed.me.0 v.0 is in
         let same : n.parts.weights.edges ≡ n.fixed.topology.edges = kept.parts.weights.edges ∙ sym kept.fixed.edges in
         let place : row_in n.parts.weights.edges edge n.fixed.me.0 ≡ Some row.0 = ap (λ (es : List Edge). row_in es edge n.fixed.me.0) same ∙ row.1 in
-        offer_new edge (own_seq n edge) weight n.fixed.me (slice_get n.parts.weights.edges edge) n.parts.weights.rows row.0 place low
-        (ap (seq_after n.parts.weights.rows) place)
+        offer_new n.parts.weights n.fixed.me edge weight row.0 place low
 
     go : (o : Option ℕ) → edge_to n.fixed v ≡ o → weight_refusal_at n o weight ≡ None → offer_of n.parts.weights (weight_body n v weight) ≡ offers.New
     go None is e = absurd (cc)
@@ -68,7 +69,7 @@ own_is_new n v weight free kept = go (edge_to n.fixed v) refl free
 -- ---- an own priority message
 
 pub prio_sent : (n : NodeState) (m : PrioSend) (mask : ℕ) → PrioSendFits m → prio_refusal n m ≡ None
-    → IsChoice (graph_of n.fixed.topology n.parts.weights) n.fixed.me m.dst m.paths (Ok mask) → IsKept format n → HasGoodFields (prio_body n m mask)
+    → IsChoice (graph_of n.fixed.topology n.parts.weights) n.fixed.me m.dst m.paths (Mask mask) → IsKept format n → HasGoodFields (prio_body n m mask)
 prio_sent n m mask fits free is kept =
-    let none : send_prio_refusal n m (Ok mask) ≡ None = ap (λ (o : Option SendRefused). or_else o (no_paths (Ok mask))) free in
-    (prio_sent_fits (sizes n) n m (Ok mask) fits none is kept).fields
+    let none : send_prio_refusal n m (Mask mask) ≡ None = ap (λ (o : Option SendRefused). or_else o (no_paths (Mask mask))) free in
+    (prio_sent_fits (sizes n) n m (Mask mask) fits none is kept).fields

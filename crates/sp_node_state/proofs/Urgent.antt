@@ -7,7 +7,7 @@ use Rattle.sp_msg.specs.declared.body.Body.{Body}
 use Rattle.sp_msg.specs.declared.effect.Effect.{Effect}
 use Rattle.sp_msg.specs.declared.refused.SendRefused.{SendRefused}
 use Rattle.sp_msg.specs.declared.refused.SendRefused.TheVariants as sends
-use Rattle.sp_rules.specs.Masks.{IsChoice, graph_of}
+use Rattle.sp_rules.specs.Masks.{Choice, IsChoice, Mask, OnlyPaths, graph_of}
 use Rattle.sp_rules.specs.Node.{NodeState, kept_or, signed_now, signed_once}
 use Rattle.sp_rules.specs.Prio.{admit_prio, prio_effects}
 use Rattle.sp_rules.specs.Sends.{PrioSend, no_paths, own_prio, prio_body, prio_refusal, prio_sent, send_prio_refusal, signed_effect}
@@ -15,16 +15,16 @@ use Rattle.sp_rules.specs.Steps.{NodeStep, Output, Refused, SendPrio, accepted, 
 use Rattle.sp_rules.specs.declared.node.Step.{Step}
 use Rattle.sp_node_state.specs.Sends.{Sends}
 
-abbrev Chooses : NodeState → PrioSend → Result ℕ ℕ → Type 0
+abbrev Chooses : NodeState → PrioSend → Choice → Type 0
 Chooses n m choice = IsChoice (graph_of n.fixed.topology n.parts.weights) n.fixed.me m.dst m.paths choice
 
-abbrev done : NodeState → PrioSend → Result ℕ ℕ → NodeState
+abbrev done : NodeState → PrioSend → Choice → NodeState
 done n m choice = signed_once n (record n.parts { prio = admit_prio n.parts.prio (own_prio format n m choice) None })
 
-abbrev told : NodeState → PrioSend → Result ℕ ℕ → Output
+abbrev told : NodeState → PrioSend → Choice → Output
 told n m choice = accepted n.parts.prio.next (prio_sent format n m choice)
 
-refused_by : (n : NodeState) (m : PrioSend) (choice : Result ℕ ℕ) (r : SendRefused) → send_prio_refusal n m choice ≡ Some r
+refused_by : (n : NodeState) (m : PrioSend) (choice : Choice) (r : SendRefused) → send_prio_refusal n m choice ≡ Some r
     → (prio_refusal n m ≡ None → Chooses n m choice) → NodeStep format n (SendPrio m) (replied (Refused r)) n
 refused_by n m choice r is chosen = record {
   choice = choice;
@@ -35,7 +35,7 @@ refused_by n m choice r is chosen = record {
 
 at_once : (n : NodeState) (m : PrioSend) (r : SendRefused) → prio_refusal n m ≡ Some r → NodeStep format n (SendPrio m) (replied (Refused r)) n
 at_once n m r is =
-    refused_by n m (Ok 0) r (ap (λ (o : Option SendRefused). or_else o (no_paths (Ok 0))) is) (λ free. absurd (let e : Some r ≡ None = sym is ∙ free in cc))
+    refused_by n m (Mask 0) r (ap (λ (o : Option SendRefused). or_else o (no_paths (Mask 0))) is) (λ free. absurd (let e : Some r ≡ None = sym is ∙ free in cc))
 
 refused_prio : (n : NodeState) (m : PrioSend) (r : SendRefused) → prio_refusal n m ≡ Some r → r ≢ sends.Memory
     → Sends (SendPrio m) (prio_refusal n m) n (Err r) n
@@ -48,30 +48,30 @@ refused_prio n m (sends.Spent index) is other = at_once n m (sends.Spent index) 
 refused_prio n m (sends.NotReserved bound) is other = at_once n m (sends.NotReserved bound) is
 refused_prio n m sends.Memory is other = absurd (other refl)
 
-pub few_paths : (n : NodeState) (m : PrioSend) (found : ℕ) → prio_refusal n m ≡ None → Chooses n m (Err found)
+pub few_paths : (n : NodeState) (m : PrioSend) (found : ℕ) → prio_refusal n m ≡ None → Chooses n m (OnlyPaths found)
     → Sends (SendPrio m) (prio_refusal n m) n (Err (sends.NoPaths found)) n
 few_paths n m found free is =
-    refused_by n m (Err found) (sends.NoPaths found) (ap (λ (o : Option SendRefused). or_else o (no_paths (Err found))) free) (λ _. is)
+    refused_by n m (OnlyPaths found) (sends.NoPaths found) (ap (λ (o : Option SendRefused). or_else o (no_paths (OnlyPaths found))) free) (λ _. is)
 
-pub accepted_prio : (n new : NodeState) (m : PrioSend) (mask : ℕ) (body : Body) (step : Step ℕ) → prio_refusal n m ≡ None → Chooses n m (Ok mask)
+pub accepted_prio : (n new : NodeState) (m : PrioSend) (mask : ℕ) (body : Body) (step : Step ℕ) → prio_refusal n m ≡ None → Chooses n m (Mask mask)
     → body ≡ prio_body n m mask → step.reply ≡ n.parts.prio.next
     → step.effects.list ≡ signed_effect body ∷ prio_effects n.parts.prio (signed_now format n body) None
     → new ≡ signed_once n (record n.parts { prio = admit_prio n.parts.prio (signed_now format n body) None })
     → Sends (SendPrio m) (prio_refusal n m) n (Ok step) new
 accepted_prio n new m mask body step free chosen is number effects after =
-    let none : send_prio_refusal n m (Ok mask) ≡ None = ap (λ (o : Option SendRefused). or_else o (no_paths (Ok mask))) free in
+    let none : send_prio_refusal n m (Mask mask) ≡ None = ap (λ (o : Option SendRefused). or_else o (no_paths (Mask mask))) free in
     record {
-      choice = Ok mask;
+      choice = Mask mask;
       is_choice = λ _. chosen;
       output_is =
           ap (λ (q : ℕ). accepted q step.effects.list) number
           ∙ ap (λ (es : List Effect). accepted n.parts.prio.next es)
           (effects ∙ ap (λ (b : Body). signed_effect b ∷ prio_effects n.parts.prio (signed_now format n b) None) is)
-          ∙ sym (ap (λ (o : Option SendRefused). refused_send o (told n m (Ok mask))) none);
+          ∙ sym (ap (λ (o : Option SendRefused). refused_send o (told n m (Mask mask))) none);
       new_is =
           after
           ∙ ap (λ (b : Body). signed_once n (record n.parts { prio = admit_prio n.parts.prio (signed_now format n b) None })) is
-          ∙ sym (ap (λ (o : Option SendRefused). kept_or o n (done n m (Ok mask))) none);
+          ∙ sym (ap (λ (o : Option SendRefused). kept_or o n (done n m (Mask mask))) none);
     }
 
 -- what may_send answers

@@ -5,12 +5,12 @@ use Rattle.sp_msg.specs.declared.refused.SendRefused.TheVariants as refusals
 use Rattle.sp_prio.specs.Spare.{IsSpareOf}
 use Rattle.sp_rel.specs.Seated.{IsSeated}
 use Rattle.sp_rules.specs.Flow.{flow_said}
-use Rattle.sp_rules.specs.Masks.{IsChoice, graph_of}
+use Rattle.sp_rules.specs.Masks.{IsChoice, Mask, OnlyPaths, graph_of}
 use Rattle.sp_rules.specs.Node.{NodeState}
 use Rattle.sp_rules.specs.Prio.{places}
 use Rattle.sp_rules.specs.Rel.{IsNextOwn}
 use Rattle.sp_rules.specs.Sends.{PrioSend}
-use Rattle.sp_rules.specs.Weights.{offer_of}
+use Rattle.sp_rules.specs.Handle.{offer_of}
 use Rattle.sp_rules.specs.declared.weights.Offer.TheVariants as offers
 use Rattle.sp_node_state.specs.declared.priority.ReadyPrio.{ReadyPrio}
 use Rattle.sp_node_state.specs.declared.reliable.ReadyRel.{ReadyRel}
@@ -36,8 +36,8 @@ pub record IsReadyUpdate (n : NodeState) (ready : ReadyUpdate) : Type 0 where
 
 -- how the search for its edges ends: with those of a choice that the rules leave, with fewer paths, or for want of memory
 abbrev pub IsMaskFor : NodeState → PrioSend → Result ℕ SendRefused → Type 0
-IsMaskFor n m (Ok mask) = IsChoice (graph_of n.fixed.topology n.parts.weights) n.fixed.me m.dst m.paths (Ok mask)
-IsMaskFor n m (Err (refusals.NoPaths found)) = IsChoice (graph_of n.fixed.topology n.parts.weights) n.fixed.me m.dst m.paths (Err found)
+IsMaskFor n m (Ok mask) = IsChoice (graph_of n.fixed.topology n.parts.weights) n.fixed.me m.dst m.paths (Mask mask)
+IsMaskFor n m (Err (refusals.NoPaths found)) = IsChoice (graph_of n.fixed.topology n.parts.weights) n.fixed.me m.dst m.paths (OnlyPaths found)
 IsMaskFor n m (Err refused) = refused ≡ refusals.Memory
 
 pub record IsReadyPrio (n : NodeState) (ready : ReadyPrio) : Type 0 where

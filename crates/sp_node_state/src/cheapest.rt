@@ -8,7 +8,7 @@ ghost use Rattle.sp_node_state.specs.Fewer.{SaysFewer};
 ghost use Rattle.sp_paths.specs.Cheapest.{AreEnds};
 ghost use Rattle.sp_paths.specs.Fewer as searched;
 ghost use Rattle.sp_paths.specs.declared.limits.TheConstants.{MAX_PATHS};
-ghost use Rattle.sp_rules.specs.Masks.{IsChoice};
+ghost use Rattle.sp_rules.specs.Masks.{IsChoice, Mask};
 
 use crate::refused::NoMask;
 use crate::union::mask_of_all;
@@ -57,7 +57,7 @@ fn mask_in(
     requires graph { IsGraph graph.now }
     requires ends { AreEnds graph.now s t }
     requires count { (1 ≤ count) × (count ≤ MAX_PATHS) }
-    ensures mask { IfOk result (λ mask. IsChoice graph.now s t count (Ok mask)) }
+    ensures mask { IfOk result (λ mask. IsChoice graph.now s t count (Mask mask)) }
     ensures known { result ≢ Err PathRefused.Unknown }
     ensures two { result ≢ Err PathRefused.SameEnds }
     ensures fewer { IfErr result (searched.SaysFewer graph.now s t count) }
@@ -78,7 +78,7 @@ pub fn cheapest_mask(
     requires graph { IsGraph graph.now }
     requires ends { AreEnds graph.now s t }
     requires count { (1 ≤ count) × (count ≤ MAX_PATHS) }
-    ensures mask { IfOk result (λ mask. IsChoice graph.now s t count (Ok mask)) }
+    ensures mask { IfOk result (λ mask. IsChoice graph.now s t count (Mask mask)) }
     ensures fewer { IfErr result (SaysFewer graph.now s t count) }
 {
     match mask_in(book, alloc, graph, s, t, count) {

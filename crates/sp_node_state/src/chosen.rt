@@ -3,7 +3,7 @@ ghost use Rattle.std.specs.Prelude.{◌≡◌, ◌≢◌, ◌≤◌, ◌-◌, �
 ghost use Rattle.sp_base.specs.declared.limits.TheConstants.{MAX_EDGES, MAX_WEIGHT};
 ghost use Rattle.sp_node_state.specs.Fewer.{SaysFewer};
 ghost use Rattle.sp_paths.specs.declared.limits.TheConstants.{MAX_PATHS};
-ghost use Rattle.sp_rules.specs.Masks.{IsChoice, graph_of};
+ghost use Rattle.sp_rules.specs.Masks.{IsChoice, Mask, graph_of};
 ghost use Rattle.sp_rules.specs.Parts.{nodes_of};
 ghost use Rattle.sp_rules.specs.Prio.{is_node};
 ghost use Rattle.sp_rules.specs.Weights.{effective};
@@ -45,7 +45,7 @@ pub fn mask_to(
     requires small { (edge : ℕ) → effective weights.now edge ≤ MAX_WEIGHT }
     requires ends { (is_node (nodes_of topology.now) from.0 ≡ true) × (is_node (nodes_of topology.now) to.0 ≡ true) × (from ≢ to) }
     requires few { paths ≤ MAX_PATHS }
-    ensures mask { IfOk result (λ mask. IsChoice (graph_of topology.now weights.now) from to paths (Ok mask)) }
+    ensures mask { IfOk result (λ mask. IsChoice (graph_of topology.now weights.now) from to paths (Mask mask)) }
     ensures fewer { IfErr result (SaysFewer (graph_of topology.now weights.now) from to paths) }
     ensures none { paths ≡ 0 → IsOk result }
 {

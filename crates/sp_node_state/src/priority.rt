@@ -11,7 +11,7 @@ ghost use Rattle.sp_node_state.specs.Messages.{as_send};
 ghost use Rattle.sp_node_state.specs.ReadySends.{IsMaskFor, IsReadyPrio};
 ghost use Rattle.sp_paths.specs.declared.limits.TheConstants.{MAX_PATHS};
 ghost use Rattle.sp_prio.specs.Spare.{IsSpareFor};
-ghost use Rattle.sp_rules.specs.Masks.{IsChoice, graph_of};
+ghost use Rattle.sp_rules.specs.Masks.{IsChoice, Mask, graph_of};
 ghost use Rattle.sp_rules.specs.Node.{signed_now, signed_once};
 ghost use Rattle.sp_rules.specs.Parts.{nodes_of};
 ghost use Rattle.sp_rules.specs.Prio.{admit_prio, is_node, places, prio_effects};
@@ -199,7 +199,7 @@ fn choose(
     requires to { is_node (nodes_of fixed.now.topology) message.now.dst.0 ≡ true }
     requires other { fixed.now.me ≢ message.now.dst }
     requires few { message.now.paths ≤ MAX_PATHS }
-    ensures mask { IfOk result (λ mask. IsChoice (graph_of fixed.now.topology core.now.weights) fixed.now.me message.now.dst message.now.paths (Ok mask)) }
+    ensures mask { IfOk result (λ mask. IsChoice (graph_of fixed.now.topology core.now.weights) fixed.now.me message.now.dst message.now.paths (Mask mask)) }
     ensures fewer { IfErr result (SaysFewer (graph_of fixed.now.topology core.now.weights) fixed.now.me message.now.dst message.now.paths) }
 {
     mask_to(

@@ -1,5 +1,7 @@
+pub mod ArrivalLemmas
 pub mod ChoiceLemmas
 pub mod FlowDue
 pub mod FlowJudged
+pub mod MaskLemmas
 pub mod Standing
 pub mod WindowLemmas

@@ -1,101 +1,202 @@
--- Ranges of numbers of which some pass a test: which are in, and which is the greatest.
-use Rattle.std.proofs.Common.{◌≡◌, ◌≤◌, ◌<◌, ℕ, zero, suc, ◌+◌, ◌-◌, Bool, true, false, List, [], ◌∷◌, refl, ap, ◌∙◌, arith, cond}
-use Rattle.std.specs.Prelude.{◌==◌, ◌&&◌, ◌||◌, filter}
-use Rattle.std.specs.List.{range_with_len}
+-- Marks as ascending lists: which numbers a list has after a mark, and which is the greatest.
+use Rattle.std.proofs.Common.{◌≡◌, ◌≤◌, ◌<◌, ℕ, ◌+◌, Bool, true, false, List, [], ◌∷◌, max, refl, sym, ap, ◌∙◌, arith, cond, nat_lt, nat_le}
+use Rattle.std.specs.Prelude.{◌==◌, ◌&&◌, ◌||◌, filter, not}
 use Rattle.std.proofs.lemmas.Bool.Decides.{nat_tests}
-use Rattle.sp_rules.specs.Window.{greatest, is_in, last_numbers}
+use Rattle.sp_rules.specs.Window.{greatest, is_in, is_past, put_in, with_mark}
 use Rattle.sp_rules.specs.declared.window.TheConstants.{WINDOW}
+
+-- ---- which numbers are in
 
 in_more : (t : Bool) (y x : ℕ) (ys : List ℕ) → is_in x (cond t (y ∷ ys) ys) ≡ ((t && (y == x)) || is_in x ys)
 in_more true y x ys = refl
 in_more false y x ys = refl
 
--- a number outside the range isn't among those that pass
-pub not_among : (p : ℕ → Bool) (first count x : ℕ) → (first ≤ x → x < first + count → ⊥) → is_in x (filter p (range_with_len first count)) ≡ false
-not_among p first zero x out = refl
-not_among p first (suc count) x out =
-    let apart : (first == x) ≡ false = go (first == x) refl in
-    let rest : is_in x (filter p (range_with_len (first + 1) count)) ≡ false = not_among p (first + 1) count x (λ from below. out (omega arith)
-    (omega arith)) in
-    in_more (p first) first x (filter p (range_with_len (first + 1) count)) ∙ rw (apart, rest) (never (p first))
+-- of a list those that pass
+pub in_filter : (p : ℕ → Bool) (ys : List ℕ) (x : ℕ) → is_in x (filter p ys) ≡ (p x && is_in x ys)
+in_filter p [] x = none (p x)
   where
-    go : (t : Bool) → (first == x) ≡ t → (first == x) ≡ false
-    go false is = is
-    go true is = absurd (out (grind (arith, nat_tests)) (grind (arith, nat_tests)))
-
-    never : (t : Bool) → ((t && false) || false) ≡ false
-    never true = refl
-    never false = refl
-
--- a number of the range is among those that pass where it passes
-pub among : (p : ℕ → Bool) (first count x : ℕ) → first ≤ x → x < first + count → is_in x (filter p (range_with_len first count)) ≡ p x
-among p first zero x from below = absurd (omega arith)
-among p first (suc count) x from below = in_more (p first) first x (filter p (range_with_len (first + 1) count))
-    ∙ go (first == x) refl (λ after. among p (first + 1) count x after (omega arith))
+    none : (t : Bool) → false ≡ (t && false)
+    none true = refl
+    none false = refl
+in_filter p (y ∷ ys) x = in_more (p y) y x (filter p ys) ∙ go (y == x) refl (in_filter p ys x)
   where
-    here : (t : Bool) → ((t && true) || false) ≡ t
-    here true = refl
-    here false = refl
+    here : (t b : Bool) → ((t && true) || (t && b)) ≡ (t && true)
+    here true b = refl
+    here false b = refl
 
-    there : (t : Bool) (b : Bool) → ((t && false) || b) ≡ b
+    there : (t b : Bool) → ((t && false) || b) ≡ b
     there true b = refl
     there false b = refl
 
-    go : (t : Bool) → (first == x) ≡ t → (first + 1 ≤ x → is_in x (filter p (range_with_len (first + 1) count)) ≡ p x) →
-        ((p first && (first == x)) || is_in x (filter p (range_with_len (first + 1) count))) ≡ p x
+    go : (t : Bool) → (y == x) ≡ t → is_in x (filter p ys) ≡ (p x && is_in x ys) → ((p y && (y == x)) || is_in x (filter p ys)) ≡ (p x && ((y == x) || is_in x ys))
     go true is rest =
-        let same : first ≡ x = grind (arith, nat_tests) in
-        let past : is_in x (filter p (range_with_len (first + 1) count)) ≡ false = not_among p (first + 1) count x (λ after within. omega (
-          arith,
-          same,
-          after,
-        )) in
-        rw (is, past) (here (p first) ∙ ap p same)
-    go false is rest =
-        let apart : first ≡ x → ⊥ = λ same. grind (arith, nat_tests) in
-        rw (is, rest (omega (arith, apart))) (there (p first) (p x))
+        let same : y ≡ x = grind (arith, nat_tests) in
+        rw (is, rest, same) (here (p x) (is_in x ys))
+    go false is rest = rw is (there (p y) (is_in x (filter p ys)) ∙ rest)
 
--- tests that agree on the range let the same numbers pass
-pub filters_alike : (p q : ℕ → Bool) (first count : ℕ) → ((x : ℕ) → first ≤ x → x < first + count → p x ≡ q x) →
-    filter p (range_with_len first count) ≡ filter q (range_with_len first count)
-filters_alike p q first zero alike = refl
-filters_alike p q first (suc count) alike =
-    let rest = filters_alike p q (first + 1) count (λ x from below. alike x (omega arith) (omega arith)) in
-    let here : p first ≡ q first = alike first (omega arith) (omega arith) in
-    rw (here, rest) refl
-
--- where the last number of the range passes it is the greatest
-pub last_is_greatest : (p : ℕ → Bool) (first count : ℕ) → p (first + count) ≡ true → greatest (filter p (range_with_len first (suc count))) ≡ first + count
-last_is_greatest p first zero passes =
-    let here : p first ≡ true = ap p (let e : first ≡ first + 0 = omega arith in e) ∙ passes in
-    rw here (omega arith)
-last_is_greatest p first (suc count) passes =
-    let last : p (first + 1 + count) ≡ true = ap p (let e : first + 1 + count ≡ first + suc count = omega arith in e) ∙ passes in
-    go (p first) (last_is_greatest p (first + 1) count last)
+-- a list and one number more
+pub in_put : (q : ℕ) (ms : List ℕ) (x : ℕ) → is_in x (put_in q ms) ≡ ((q == x) || is_in x ms)
+in_put q [] x = refl
+in_put q (m ∷ ms) x = go (nat_lt q m) (m == q) refl refl (in_put q ms x)
   where
-    go : (t : Bool) → greatest (filter p (range_with_len (first + 1) (suc count))) ≡ first + 1 + count →
-        greatest (cond t (first ∷ filter p (range_with_len (first + 1) (suc count))) (filter p (range_with_len (first + 1) (suc count))))
-        ≡ first + suc count
+    twice : (t b : Bool) → (t || b) ≡ (t || (t || b))
+    twice true b = refl
+    twice false b = refl
+
+    turned : (a b c : Bool) → (a || (b || c)) ≡ (b || (a || c))
+    turned true true c = refl
+    turned true false c = refl
+    turned false true c = refl
+    turned false false c = refl
+
+    go : (a b : Bool) → nat_lt q m ≡ a → (m == q) ≡ b → is_in x (put_in q ms) ≡ ((q == x) || is_in x ms)
+        → is_in x (cond a (q ∷ m ∷ ms) (cond b (m ∷ ms) (m ∷ put_in q ms))) ≡ ((q == x) || ((m == x) || is_in x ms))
+    go true b less same rest = refl
+    go false true less same rest =
+        let is : m ≡ q = grind (arith, nat_tests) in
+        rw is (twice (q == x) (is_in x ms))
+    go false false less same rest = ap (λ (t : Bool). (m == x) || t) rest ∙ turned (m == x) (q == x) (is_in x ms)
+
+-- a window and one mark more
+pub in_mark : (ms : List ℕ) (q x : ℕ) → is_in x (with_mark ms q) ≡ (not (is_past (max q (greatest ms)) x) && ((q == x) || is_in x ms))
+in_mark ms q x =
+    in_filter (λ n. not (is_past (max q (greatest ms)) n)) (put_in q ms) x
+    ∙ ap (λ (t : Bool). not (is_past (max q (greatest ms)) x) && t) (in_put q ms x)
+
+-- ---- which is the greatest
+
+at_most : (m n : ℕ) → nat_le m n ≡ true → m ≤ n
+at_most m n e = grind (arith, nat_tests)
+
+not_at_most : (m n : ℕ) → nat_le m n ≡ false → n < m
+not_at_most m n e = grind (arith, nat_tests)
+
+fewer_below : (p : ℕ → Bool) (ys : List ℕ) → greatest (filter p ys) ≤ greatest ys
+fewer_below p [] = omega arith
+fewer_below p (y ∷ ys) = go (p y) (fewer_below p ys)
+  where
+    go : (t : Bool) → greatest (filter p ys) ≤ greatest ys → greatest (cond t (y ∷ filter p ys) (filter p ys)) ≤ max y (greatest ys)
     go true rest = omega (arith, rest)
     go false rest = omega (arith, rest)
 
--- where none passes nothing is left
-pub none_pass : (p : ℕ → Bool) (first count : ℕ) → ((x : ℕ) → p x ≡ false) → filter p (range_with_len first count) ≡ []
-none_pass p first zero fails = refl
-none_pass p first (suc count) fails = rw (fails first) (none_pass p (first + 1) count fails)
+-- it stays where it passes
+greatest_stays : (p : ℕ → Bool) (ys : List ℕ) → p (greatest ys) ≡ true → greatest (filter p ys) ≡ greatest ys
+greatest_stays p [] passes = refl
+greatest_stays p (y ∷ ys) passes = go (nat_le (greatest ys) y) refl (greatest_stays p ys)
+  where
+    either : (t : Bool) → y < greatest ys → greatest (filter p ys) ≡ greatest ys → greatest (cond t (y ∷ filter p ys) (filter p ys)) ≡ max y (greatest ys)
+    either true below rest = omega (arith, below, rest)
+    either false below rest = omega (arith, below, rest)
 
--- ---- the last numbers up to one
+    go : (t : Bool) → nat_le (greatest ys) y ≡ t → (p (greatest ys) ≡ true → greatest (filter p ys) ≡ greatest ys)
+        → greatest (cond (p y) (y ∷ filter p ys) (filter p ys)) ≡ max y (greatest ys)
+    go true is rest =
+        let first : max y (greatest ys) ≡ y = omega (arith, at_most (greatest ys) y is) in
+        let here : p y ≡ true = ap p (sym first) ∙ passes in
+        let fewer = fewer_below p ys in
+        rw here (omega (arith, fewer, at_most (greatest ys) y is))
+    go false is rest =
+        let below = not_at_most (greatest ys) y is in
+        let later : max y (greatest ys) ≡ greatest ys = omega (arith, below) in
+        either (p y) below (rest (ap p (sym later) ∙ passes))
 
--- a number that a window knows is among those that pass where it passes
-pub in_last : (p : ℕ → Bool) (top x : ℕ) → x ≤ top → top < x + WINDOW → is_in x (filter p (last_numbers top)) ≡ p x
-in_last p top x low high = among p (top + 1 - WINDOW) (top + 1 - (top + 1 - WINDOW)) x (omega arith) (omega arith)
+greatest_put : (q : ℕ) (ms : List ℕ) → greatest (put_in q ms) ≡ max q (greatest ms)
+greatest_put q [] = omega arith
+greatest_put q (m ∷ ms) = go (nat_lt q m) (m == q) refl refl (greatest_put q ms)
+  where
+    go : (a b : Bool) → nat_lt q m ≡ a → (m == q) ≡ b → greatest (put_in q ms) ≡ max q (greatest ms)
+        → greatest (cond a (q ∷ m ∷ ms) (cond b (m ∷ ms) (m ∷ put_in q ms))) ≡ max q (max m (greatest ms))
+    go true b less same rest = refl
+    go false true less same rest = let is : m ≡ q = grind (arith, nat_tests) in omega (arith, is)
+    go false false less same rest = omega (arith, rest)
 
-pub not_in_last : (p : ℕ → Bool) (top x : ℕ) → (x ≤ top → top < x + WINDOW → ⊥) → is_in x (filter p (last_numbers top)) ≡ false
-not_in_last p top x out = not_among p (top + 1 - WINDOW) (top + 1 - (top + 1 - WINDOW)) x (λ from below. out (omega arith) (omega arith))
+pub greatest_mark : (ms : List ℕ) (q : ℕ) → greatest (with_mark ms q) ≡ max q (greatest ms)
+greatest_mark ms q =
+    let top = max q (greatest ms) in
+    let near : nat_le (top + WINDOW) top ≡ false = grind (arith, nat_tests) in
+    let stays : not (is_past top (greatest (put_in q ms))) ≡ true = ap (λ (n : ℕ). not (is_past top n)) (greatest_put q ms) ∙ ap not near in
+    greatest_stays (λ n. not (is_past top n)) (put_in q ms) stays ∙ greatest_put q ms
 
--- where the last one passes it is the greatest
-pub greatest_of_last : (p : ℕ → Bool) (top : ℕ) → p top ≡ true → greatest (filter p (last_numbers top)) ≡ top
-greatest_of_last p top passes =
-    let count : top + 1 - (top + 1 - WINDOW) ≡ suc (top - (top + 1 - WINDOW)) = omega arith in
-    let end : top + 1 - WINDOW + (top - (top + 1 - WINDOW)) ≡ top = omega arith in
-    rw count (last_is_greatest p (top + 1 - WINDOW) (top - (top + 1 - WINDOW)) (ap p end ∙ passes) ∙ end)
+-- ---- ascending lists
+
+-- each number is below all after it
+abbrev pub Ascends : List ℕ → Type 0
+Ascends [] = Unit {0}
+Ascends (x ∷ xs) = ((y : ℕ) → is_in y xs ≡ true → x < y) × Ascends xs
+
+pub filter_ascends : (p : ℕ → Bool) (xs : List ℕ) → Ascends xs → Ascends (filter p xs)
+filter_ascends p [] up = tt
+filter_ascends p (x ∷ xs) up = go (p x) (filter_ascends p xs up.1)
+  where
+    passed : (y : ℕ) → is_in y (filter p xs) ≡ true → is_in y xs ≡ true
+    passed y is = both (p y) (is_in y xs) (sym (in_filter p xs y) ∙ is)
+      where
+        both : (a b : Bool) → (a && b) ≡ true → b ≡ true
+        both true b e = e
+        both false b e = absurd (cc)
+
+    go : (t : Bool) → Ascends (filter p xs) → Ascends (cond t (x ∷ filter p xs) (filter p xs))
+    go true rest = (λ y is. up.0 y (passed y is), rest)
+    go false rest = rest
+
+pub put_ascends : (q : ℕ) (ms : List ℕ) → Ascends ms → Ascends (put_in q ms)
+put_ascends q [] up = (λ y is. absurd (cc), tt)
+put_ascends q (m ∷ ms) up = go (nat_lt q m) (m == q) refl refl (put_ascends q ms up.1)
+  where
+    after : (y : ℕ) → q < m → (t : Bool) → (m == y) ≡ t → (t || is_in y ms) ≡ true → q < y
+    after y less true is e = grind (arith, nat_tests)
+    after y less false is e = let more = up.0 y e in omega (arith, less, more)
+
+    among : (y : ℕ) → m < q → (t : Bool) → (q == y) ≡ t → (t || is_in y ms) ≡ true → m < y
+    among y less true is e = grind (arith, nat_tests)
+    among y less false is e = up.0 y e
+
+    go : (a b : Bool) → nat_lt q m ≡ a → (m == q) ≡ b → Ascends (put_in q ms) → Ascends (cond a (q ∷ m ∷ ms) (cond b (m ∷ ms) (m ∷ put_in q ms)))
+    go true b less same rest = (λ y is. after y (grind (arith, nat_tests)) (m == y) refl is, up)
+    go false true less same rest = up
+    go false false less same rest =
+        let below : m < q = grind (arith, nat_tests) in
+        (λ y is. among y below (q == y) refl (sym (in_put q ms y) ∙ is), rest)
+
+-- two ascending lists with the same numbers are one
+pub same_numbers : (xs ys : List ℕ) → Ascends xs → Ascends ys → ((n : ℕ) → is_in n xs ≡ is_in n ys) → xs ≡ ys
+same_numbers [] [] up also same = refl
+same_numbers [] (y ∷ ys) up also same =
+    let is : (y == y) ≡ true = grind (arith, nat_tests) in
+    absurd (let no : false ≡ true = rw is at (same y) in cc)
+same_numbers (x ∷ xs) [] up also same =
+    let is : (x == x) ≡ true = grind (arith, nat_tests) in
+    absurd (let no : true ≡ false = rw is at (same x) in cc)
+same_numbers (x ∷ xs) (y ∷ ys) up also same =
+    let heads : x ≡ y = first (nat_lt x y) (nat_lt y x) refl refl in
+    ap (λ (n : ℕ). n ∷ xs) heads ∙ ap (λ (ns : List ℕ). y ∷ ns) (same_numbers xs ys up.1 also.1 (λ n. rest n heads (x == n) refl))
+  where
+    itself : (n : ℕ) → (n == n) ≡ true
+    itself n = grind (arith, nat_tests)
+
+    -- a number before the first isn't in
+    before : (n m : ℕ) (ms : List ℕ) → ((k : ℕ) → is_in k ms ≡ true → m < k) → n ≤ m → is_in n ms ≡ false
+    before n m ms after low = go (is_in n ms) refl
+      where
+        go : (t : Bool) → is_in n ms ≡ t → is_in n ms ≡ false
+        go false is = is
+        go true is = let more = after n is in absurd (omega (arith, more, low))
+
+    first : (a b : Bool) → nat_lt x y ≡ a → nat_lt y x ≡ b → x ≡ y
+    first true b less more =
+        let apart : (y == x) ≡ false = grind (arith, nat_tests) in
+        let none = before x y ys also.0 (let low : x < y = grind (arith, nat_tests) in omega (arith, low)) in
+        absurd (let no : true ≡ false = rw (itself x, apart, none) at (same x) in cc)
+    first false true less more =
+        let apart : (x == y) ≡ false = grind (arith, nat_tests) in
+        let none = before y x xs up.0 (let low : y < x = grind (arith, nat_tests) in omega (arith, low)) in
+        absurd (let no : false ≡ true = rw (itself y, apart, none) at (same y) in cc)
+    first false false less more = grind (arith, nat_tests)
+
+    rest : (n : ℕ) → x ≡ y → (t : Bool) → (x == n) ≡ t → is_in n xs ≡ is_in n ys
+    rest n heads true is =
+        let at : n ≤ x = (let e : x ≡ n = grind (arith, nat_tests) in omega (arith, e)) in
+        before n x xs up.0 at ∙ sym (before n y ys also.0 (omega (arith, at, heads)))
+    rest n heads false is =
+        let other : (y == n) ≡ false = ap (λ (m : ℕ). m == n) (sym heads) ∙ is in
+        rw (is, other) at (same n)

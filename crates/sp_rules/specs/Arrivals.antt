@@ -6,7 +6,9 @@
 --                                            Stale                              nothing changes
 --     the topology, the sections             OtherTopology, Section             the link keeps it as its last frame
 --     none of these                          Fresh                              the same, and its pieces are handled
-use Rattle.std.specs.Prelude.{ℕ, ◌==◌, not, List, [], Result, Ok, Err, if◌then◌else◌}
+use Rattle.std.specs.Prelude.{ℕ, ◌==◌, not, List, [], Option, None, Some, option_map, unwrap_or, Result, Ok, Err, if◌then◌else◌}
+use Rattle.std.specs.Result.{result_err}
+use Rattle.sp_base.specs.Cursor.{or_else}
 use Rattle.sp_base.specs.declared.id.NodeId.{NodeId}
 use Rattle.sp_frame.specs.Frames.{opened}
 use Rattle.sp_frame.specs.Sections.{Contents}
@@ -24,26 +26,27 @@ use Rattle.sp_rules.specs.declared.link.LinkAnswer.TheVariants as answers
 use Rattle.sp_rules.specs.declared.node.LinkReply.{LinkReply}
 use Rattle.sp_rules.specs.declared.node.LinkReply.TheVariants as replies
 
-abbrev pub no_frame : FrameRefused → LinkReply
-no_frame frames.TooLong = replies.TooLong
-no_frame (frames.Short short) = replies.Short short
-no_frame frames.Magic = replies.Magic
-no_frame frames.Version = replies.Version
+-- ---- the tests, in three groups. None where the tests of a group are passed
 
-abbrev pub of_sections : Result Contents SectionRefused → LinkReply
-of_sections (Ok contents) = replies.Fresh
-of_sections (Err refused) = replies.Section refused
+abbrev pub no_frame : Result (List ℕ) FrameRefused → Option LinkReply
+no_frame (Err frames.TooLong) = Some replies.TooLong
+no_frame (Err (frames.Short short)) = Some (replies.Short short)
+no_frame (Err frames.Magic) = Some replies.Magic
+no_frame (Err frames.Version) = Some replies.Version
+no_frame (Ok frame) = None
 
--- a fresh frame, by the topology version of its sender
-abbrev pub of_fresh : (mine theirs : ℕ) → Result Contents SectionRefused → LinkReply
-of_fresh mine theirs sections = if not (theirs == mine) then replies.OtherTopology theirs else of_sections sections
+abbrev pub not_fresh : LinkAnswer → Option LinkReply
+not_fresh answers.NotForMe = Some replies.NotForMe
+not_fresh answers.BadTag = Some replies.BadTag
+not_fresh (answers.Learned boot) = Some (replies.Learned boot)
+not_fresh (answers.Stale boot counter) = Some (replies.Stale boot counter)
+not_fresh answers.Fresh = None
 
-abbrev pub of_link : LinkAnswer → LinkReply → LinkReply
-of_link answers.NotForMe after = replies.NotForMe
-of_link answers.BadTag after = replies.BadTag
-of_link (answers.Learned boot) after = replies.Learned boot
-of_link (answers.Stale boot counter) after = replies.Stale boot counter
-of_link answers.Fresh after = after
+-- by the topology version of this node, and that of the sender
+abbrev pub not_read : (mine theirs : ℕ) → Result Contents SectionRefused → Option LinkReply
+not_read mine theirs sections = if not (theirs == mine) then Some (replies.OtherTopology theirs) else option_map replies.Section (result_err sections)
+
+-- ---- what becomes of a datagram
 
 abbrev pub link_says : Arts → Link → List ℕ → LinkAnswer
 link_says arts l bytes = link_answer l (arts.head bytes) (is_right arts l.key bytes)
@@ -52,22 +55,19 @@ link_says arts l bytes = link_answer l (arts.head bytes) (is_right arts l.key by
 abbrev pub sections_in : Arts → Fixed → List ℕ → Result Contents SectionRefused
 sections_in arts f bytes = arts.sections f.signature_len bytes
 
-abbrev pub of_frame : Arts → Fixed → Link → List ℕ → Result (List ℕ) FrameRefused → LinkReply
-of_frame arts f l bytes (Err refused) = no_frame refused
-of_frame arts f l bytes (Ok frame) =
-    of_link (link_says arts l bytes) (of_fresh f.topology.version (arts.head bytes).topology (sections_in arts f bytes))
-
--- what becomes of a datagram at its link
+-- the first test that isn't passed, or that it is fresh
 abbrev pub reply_at : Arts → NodeState → NodeId → List ℕ → LinkReply
-reply_at arts n v bytes = of_frame arts n.fixed (link_in n v) bytes (opened bytes)
+reply_at arts n v bytes =
+    unwrap_or
+    (or_else (no_frame (opened bytes))
+    (or_else (not_fresh (link_says arts (link_in n v) bytes))
+    (not_read n.fixed.topology.version (arts.head bytes).topology (sections_in arts n.fixed bytes))))
+    replies.Fresh
 
 -- what it makes of the link
-abbrev pub link_with : Arts → Link → List ℕ → Result (List ℕ) FrameRefused → Link
-link_with arts l bytes (Err refused) = l
-link_with arts l bytes (Ok frame) = after_frame l (arts.head bytes) (is_right arts l.key bytes)
-
 abbrev pub link_after : Arts → NodeState → NodeId → List ℕ → Link
-link_after arts n v bytes = link_with arts (link_in n v) bytes (opened bytes)
+link_after arts n v bytes =
+    kept_or (no_frame (opened bytes)) (link_in n v) (after_frame (link_in n v) (arts.head bytes) (is_right arts (link_in n v).key bytes))
 
 abbrev pub pieces_in : Result Contents SectionRefused → List Piece
 pieces_in (Ok contents) = pieces_of contents

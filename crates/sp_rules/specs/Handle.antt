@@ -51,6 +51,11 @@ where_new answer o old new effects = record {
 
 -- ---- updates of weights
 
+-- the answer of the weights to a message. Only an update of a weight is one
+abbrev pub offer_of : WeightState → Body → Offer
+offer_of s (bodies.Weight u) = offer s u
+offer_of s _ = offers.Foreign
+
 -- an own update under a number that this node never gave is foreign, so that the own next number keeps its range
 abbrev pub offer_to : NodeId → WeightState → Body → Offer
 offer_to me s (bodies.Weight u) = if (u.origin.0 == me.0) && nat_lt MAX_OWN_HEARD u.seq then offers.Foreign else offer s u

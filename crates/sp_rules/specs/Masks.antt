@@ -1,10 +1,10 @@
 -- The edges over which an own priority message goes: all of them, or those of the cheapest paths to its destination that share no node.
 -- Where several sets of paths cost the least, the node may take any: this is the one choice that the rules leave it.
-use Rattle.std.specs.Prelude.{ℕ, zero, suc, ◌≡◌, ◌+◌, ◌-◌, ◌^◌, ◌<◌, ◌≤◌, Bool, false, max, List, [], ◌∷◌, length, Option, None, Some, Result, Ok, Err, slice_get}
+use Rattle.std.specs.Prelude.{ℕ, zero, suc, ◌≡◌, ◌+◌, ◌-◌, ◌^◌, ◌<◌, ◌≤◌, Bool, max, List, [], ◌∷◌, length, Option, slice_get}
 use Rattle.std.specs.List.{list_any}
 use Rattle.sp_base.specs.declared.id.NodeId.{NodeId}
 use Rattle.sp_graph.specs.Disjoint.{Disjoint, Least}
-use Rattle.sp_graph.specs.Walks.{is_between, steps}
+use Rattle.sp_graph.specs.Masks.{is_walked_at}
 use Rattle.sp_graph.specs.declared.graph.Graph.{Graph}
 use Rattle.sp_msg.specs.Views.{names_edge}
 use Rattle.sp_topology.specs.declared.topology.Edge.{Edge}
@@ -29,13 +29,17 @@ graph_of t s = record { nodes = greatest_id t.nodes; edges = weighed s 0 t.edges
 
 -- ---- masks
 
+-- what a message goes over: the edges of a mask, or no edge, since only so many paths are there
+pub data Choice : Type 0 where
+  Mask : (mask : ℕ) → Choice
+  OnlyPaths : (found : ℕ) → Choice
+
 abbrev pub all_edges : List Edge → ℕ
 all_edges edges = 2 ^ length edges - 1
 
--- some path goes along the edge, either way
+-- there is an edge at this place, and some path goes along it
 abbrev pub is_used : List (List NodeId) → Option Edge → Bool
-is_used paths None = false
-is_used paths (Some e) = list_any (λ path. list_any (λ step. is_between step.0 step.1 e) (steps path)) paths
+is_used paths place = list_any (is_walked_at place) paths
 
 -- the mask names exactly the edges of the paths
 abbrev pub IsMaskOf : Graph → List (List NodeId) → ℕ → Type 0
@@ -55,8 +59,8 @@ pub record AreFewer (g : Graph) (s t : NodeId) (count found : ℕ) : Type 0 wher
   pub disjoint : Disjoint g s t found paths
   pub no_more : (n : ℕ) (others : List (List NodeId)) → Disjoint g s t n others → n ≤ found
 
--- so many paths were asked for, and none of them means all edges: the mask, or how many paths there are where those are fewer
-abbrev pub IsChoice : Graph → NodeId → NodeId → ℕ → Result ℕ ℕ → Type 0
-IsChoice g s t zero choice = choice ≡ Ok (all_edges g.edges)
-IsChoice g s t (suc more) (Ok mask) = IsCheapestMask g s t (suc more) mask
-IsChoice g s t (suc more) (Err found) = AreFewer g s t (suc more) found
+-- so many paths were asked for, and none of them means all edges
+abbrev pub IsChoice : Graph → NodeId → NodeId → ℕ → Choice → Type 0
+IsChoice g s t zero choice = choice ≡ Mask (all_edges g.edges)
+IsChoice g s t (suc more) (Mask mask) = IsCheapestMask g s t (suc more) mask
+IsChoice g s t (suc more) (OnlyPaths found) = AreFewer g s t (suc more) found

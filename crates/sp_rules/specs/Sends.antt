@@ -14,6 +14,7 @@ use Rattle.sp_msg.specs.declared.refused.SendRefused.{SendRefused}
 use Rattle.sp_msg.specs.declared.refused.SendRefused.TheVariants as refusals
 use Rattle.sp_rules.specs.Arts.{Arts}
 use Rattle.sp_rules.specs.Handle.{weight_effects}
+use Rattle.sp_rules.specs.Masks.{Choice, Mask, OnlyPaths}
 use Rattle.sp_rules.specs.Node.{NodeState, Signer, kept_or, signed_now, signed_once}
 use Rattle.sp_rules.specs.Parts.{edge_to}
 use Rattle.sp_rules.specs.Prio.{admit_prio, is_node, prio_effects, taken}
@@ -78,22 +79,22 @@ prio_body n m mask = bodies.Prio (record {
 })
 
 -- the paths that were asked for aren't there
-abbrev pub no_paths : Result ℕ ℕ → Option SendRefused
-no_paths (Ok mask) = None
-no_paths (Err found) = Some (refusals.NoPaths found)
+abbrev pub no_paths : Choice → Option SendRefused
+no_paths (Mask mask) = None
+no_paths (OnlyPaths found) = Some (refusals.NoPaths found)
 
-abbrev pub mask_in : Result ℕ ℕ → ℕ
-mask_in (Ok mask) = mask
-mask_in (Err found) = 0
+abbrev pub mask_in : Choice → ℕ
+mask_in (Mask mask) = mask
+mask_in (OnlyPaths found) = 0
 
 -- paths are sought only where nothing else refuses
-abbrev pub send_prio_refusal : NodeState → PrioSend → Result ℕ ℕ → Option SendRefused
+abbrev pub send_prio_refusal : NodeState → PrioSend → Choice → Option SendRefused
 send_prio_refusal n m choice = or_else (prio_refusal n m) (no_paths choice)
 
-abbrev pub own_prio : Arts → NodeState → PrioSend → Result ℕ ℕ → Kept
+abbrev pub own_prio : Arts → NodeState → PrioSend → Choice → Kept
 own_prio arts n m choice = signed_now arts n (prio_body n m (mask_in choice))
 
-abbrev pub after_send_prio : Arts → NodeState → PrioSend → Result ℕ ℕ → NodeState
+abbrev pub after_send_prio : Arts → NodeState → PrioSend → Choice → NodeState
 after_send_prio arts n m choice =
     kept_or (send_prio_refusal n m choice) n (signed_once n (record n.parts { prio = admit_prio n.parts.prio (own_prio arts n m choice) None }))
 
@@ -136,7 +137,7 @@ signed_effect body = Signed (encoded body)
 abbrev pub rel_sent : NodeState → NodeId → List ℕ → List Effect
 rel_sent n dst payload = signed_effect (rel_body n dst payload) ∷ []
 
-abbrev pub prio_sent : Arts → NodeState → PrioSend → Result ℕ ℕ → List Effect
+abbrev pub prio_sent : Arts → NodeState → PrioSend → Choice → List Effect
 prio_sent arts n m choice = signed_effect (prio_body n m (mask_in choice)) ∷ prio_effects n.parts.prio (own_prio arts n m choice) None
 
 abbrev pub weight_sent : NodeState → NodeId → ℕ → List Effect

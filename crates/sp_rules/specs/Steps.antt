@@ -1,12 +1,12 @@
 -- One step of a node: what it answers to a call, what that causes, and what is left. There are eight cases.
-use Rattle.std.specs.Prelude.{ℕ, ◌≡◌, List, [], map, Option, None, Some, Result}
+use Rattle.std.specs.Prelude.{ℕ, ◌≡◌, List, [], map, Option, None, Some}
 use Rattle.sp_base.specs.declared.id.NodeId.{NodeId}
 use Rattle.sp_msg.specs.declared.effect.Effect.{Effect}
 use Rattle.sp_msg.specs.declared.kept.Kept.{Kept}
 use Rattle.sp_msg.specs.declared.refused.SendRefused.{SendRefused}
 use Rattle.sp_rules.specs.Arrivals.{after_datagram, handled, reply_at}
 use Rattle.sp_rules.specs.Arts.{Arts}
-use Rattle.sp_rules.specs.Masks.{IsChoice, graph_of}
+use Rattle.sp_rules.specs.Masks.{Choice, IsChoice, graph_of}
 use Rattle.sp_rules.specs.Node.{NodeState, call_refusal}
 use Rattle.sp_rules.specs.Polls.{after_poll, frame_to}
 use Rattle.sp_rules.specs.Rel as rel
@@ -81,7 +81,7 @@ tick_output n now = record { reply = Ticked (tick_reply n); effects = tick_effec
 abbrev pub send_rel_output : NodeState → NodeId → List ℕ → Output
 send_rel_output n dst payload = refused_send (rel_refusal n dst) (accepted (rel_number n dst) (rel_sent n dst payload))
 
-abbrev pub send_prio_output : Arts → NodeState → PrioSend → Result ℕ ℕ → Output
+abbrev pub send_prio_output : Arts → NodeState → PrioSend → Choice → Output
 send_prio_output arts n m choice = refused_send (send_prio_refusal n m choice) (accepted n.parts.prio.next (prio_sent arts n m choice))
 
 abbrev pub set_weight_output : NodeState → NodeId → ℕ → Output
@@ -94,7 +94,7 @@ take_prio_output n = record { reply = Message (oldest n.parts.prio.inbox); effec
 
 -- the one case with a choice: which of the cheapest paths a message takes. They are sought only where nothing else refuses
 pub record SendsPrio (arts : Arts) (old : NodeState) (m : PrioSend) (output : Output) (new : NodeState) : Type 0 where
-  pub choice : Result ℕ ℕ
+  pub choice : Choice
   pub is_choice : prio_refusal old m ≡ None → IsChoice (graph_of old.fixed.topology old.parts.weights) old.fixed.me m.dst m.paths choice
   pub output_is : output ≡ send_prio_output arts old m choice
   pub new_is : new ≡ after_send_prio arts old m choice

@@ -2,7 +2,7 @@
 --
 --     row 2e       the lower end of edge e
 --     row 2e + 1   its higher end
-use Rattle.std.specs.Prelude.{ℕ, ◌==◌, ◌+◌, ◌*◌, nat_lt, nat_le, max, List, map, length, replicate, Option, Some, None, is_some, slice_get, slice_set, if◌then◌else◌}
+use Rattle.std.specs.Prelude.{ℕ, ◌==◌, ◌+◌, ◌*◌, nat_lt, nat_le, max, List, map, length, replicate, Option, Some, None, is_none, is_some, slice_get, slice_set, if◌then◌else◌}
 use Rattle.std.specs.Option.{option_and_then}
 use Rattle.sp_base.specs.Cursor.{next_after}
 use Rattle.sp_msg.specs.declared.body.Body.{Body}
@@ -26,18 +26,13 @@ start t = record { edges = t.edges; rows = replicate (2 * length t.edges) None; 
 
 -- ---- rows
 
--- the row of an end of this edge
+-- the row of an end of this edge. None where this is no end of it
 abbrev pub row_of : ℕ → Edge → ℕ → Option ℕ
 row_of edge e end = if e.low.0 == end then Some (2 * edge) else if e.high.0 == end then Some (2 * edge + 1) else None
 
--- the same, where the edge may not be there
-abbrev pub row_if : ℕ → Option Edge → ℕ → Option ℕ
-row_if edge None end = None
-row_if edge (Some e) end = row_of edge e end
-
--- the row of an end of an edge. None where there is no such edge, or this is no end of it
+-- the same for the edge in this place. None also where there is no such edge
 abbrev pub row_in : List Edge → ℕ → ℕ → Option ℕ
-row_in edges edge end = row_if edge (slice_get edges edge) end
+row_in edges edge end = option_and_then (λ e. row_of edge e end) (slice_get edges edge)
 
 -- what a row holds
 abbrev pub held_in : List (Option Kept) → ℕ → Option Kept
@@ -62,29 +57,31 @@ abbrev pub weight_of : Option Kept → ℕ
 weight_of None = 0
 weight_of (Some kept) = weight_said kept.body
 
+-- the number of the update that is held of an end of an edge, 0 where there is none
+abbrev pub last_seq : WeightState → ℕ → ℕ → ℕ
+last_seq s edge end = seq_of (option_and_then (held_in s.rows) (row_in s.edges edge end))
+
+-- the number of the next update of an end of an edge
+abbrev pub next_seq : WeightState → ℕ → ℕ → ℕ
+next_seq s edge end = last_seq s edge end + 1
+
+abbrev pub minimum_of : Option Edge → ℕ
+minimum_of None = 0
+minimum_of (Some e) = e.weight
+
+-- the administrator's minimum of an edge
+abbrev pub minimum : WeightState → ℕ → ℕ
+minimum s edge = minimum_of (slice_get s.edges edge)
+
 -- ---- updates
-
--- the answer to an update of this row, where it has one
-abbrev pub offer_at : Option ℕ → ℕ → List (Option Kept) → WeightBody → Offer
-offer_at None least rows u = offers.Foreign
-offer_at (Some row) least rows u =
-    if nat_lt u.weight least then offers.Low least
-    else if nat_le u.seq (seq_of (held_in rows row)) then offers.Old (seq_of (held_in rows row))
-    else offers.New
-
--- the answer to an update of this edge, where it is there
-abbrev pub offer_on : Option Edge → List (Option Kept) → WeightBody → Offer
-offer_on None rows u = offers.Foreign
-offer_on (Some e) rows u = offer_at (row_of u.edge.0 e u.origin.0) e.weight rows u
 
 -- the answer to an update: the first that applies
 abbrev pub offer : WeightState → WeightBody → Offer
-offer s u = offer_on (slice_get s.edges u.edge.0) s.rows u
-
--- the answer to a message. Only an update of a weight is one
-abbrev pub offer_of : WeightState → Body → Offer
-offer_of s (bodies.Weight u) = offer s u
-offer_of s _ = offers.Foreign
+offer s u =
+    if is_none (row_in s.edges u.edge.0 u.origin.0) then offers.Foreign
+    else if nat_lt u.weight (minimum s u.edge.0) then offers.Low (minimum s u.edge.0)
+    else if nat_le u.seq (last_seq s u.edge.0 u.origin.0) then offers.Old (last_seq s u.edge.0 u.origin.0)
+    else offers.New
 
 -- the row that a message is for
 abbrev pub row_for : List Edge → Body → Option ℕ
@@ -102,26 +99,9 @@ held s kept = record s { rows = rows_with (row_for s.edges kept.body) s.rows kep
 
 -- ---- weights
 
-abbrev pub minimum_of : Option Edge → ℕ
-minimum_of None = 0
-minimum_of (Some e) = e.weight
-
--- the administrator's minimum of an edge
-abbrev pub minimum : WeightState → ℕ → ℕ
-minimum s edge = minimum_of (slice_get s.edges edge)
-
 -- the greatest of the minimum and the weights that are held of both ends
 abbrev pub effective : WeightState → ℕ → ℕ
 effective s edge = max (minimum s edge) (max (weight_of (held_in s.rows (2 * edge))) (weight_of (held_in s.rows (2 * edge + 1))))
-
--- the number of the next update of a row
-abbrev pub seq_after : List (Option Kept) → Option ℕ → ℕ
-seq_after rows None = 1
-seq_after rows (Some row) = seq_of (held_in rows row) + 1
-
--- the number of the next update of an end of an edge, which is 1 where there is no such end
-abbrev pub next_seq : WeightState → ℕ → ℕ → ℕ
-next_seq s edge end = seq_after s.rows (row_in s.edges edge end)
 
 -- ---- the cycle of a link
 

@@ -4,8 +4,8 @@
 --     all seen                     | seen where marked                         | none seen
 --
 -- The value of a window is the list of the marks in the middle, ascending.
-use Rattle.std.specs.Prelude.{ℕ, ◌==◌, ◌+◌, ◌-◌, nat_le, max, Bool, ◌||◌, List, [], ◌∷◌, filter, fold}
-use Rattle.std.specs.List.{list_any, range_with_len}
+use Rattle.std.specs.Prelude.{ℕ, ◌==◌, ◌+◌, nat_lt, nat_le, max, Bool, not, ◌||◌, List, [], ◌∷◌, filter, fold, if◌then◌else◌}
+use Rattle.std.specs.List.{list_any}
 use Rattle.sp_rules.specs.declared.window.TheConstants.{WINDOW}
 
 -- the greatest of these numbers, 0 where there is none
@@ -16,17 +16,22 @@ greatest (x ∷ xs) = max x (greatest xs)
 abbrev pub is_in : ℕ → List ℕ → Bool
 is_in x ms = list_any (λ m. m == x) ms
 
--- the last numbers up to this one, of which a window knows each one
-abbrev pub last_numbers : ℕ → List ℕ
-last_numbers top = range_with_len (top + 1 - WINDOW) (top + 1 - (top + 1 - WINDOW))
+-- a number is too far below the greatest mark for the window
+abbrev pub is_past : (top x : ℕ) → Bool
+is_past top x = nat_le (x + WINDOW) top
 
--- a number counts as seen where it is marked, or too far below the greatest mark for the window
+-- a number counts as seen where it is marked, or past
 abbrev pub is_seen : List ℕ → ℕ → Bool
-is_seen ms q = is_in q ms || nat_le (q + WINDOW) (greatest ms)
+is_seen ms q = is_in q ms || is_past (greatest ms) q
 
--- the number is marked: of the last numbers up to the new greatest those stay that were marked
+-- the number in its place among ascending ones, unless it is there
+abbrev pub put_in : ℕ → List ℕ → List ℕ
+put_in q [] = q ∷ []
+put_in q (m ∷ ms) = if nat_lt q m then q ∷ m ∷ ms else if m == q then m ∷ ms else m ∷ put_in q ms
+
+-- the number is marked, and the marks that are past then leave
 abbrev pub with_mark : List ℕ → ℕ → List ℕ
-with_mark ms q = filter (λ x. (x == q) || is_in x ms) (last_numbers (max q (greatest ms)))
+with_mark ms q = filter (λ x. not (is_past (max q (greatest ms)) x)) (put_in q ms)
 
 -- the window after these marks, in their order
 abbrev pub window_of : List ℕ → List ℕ

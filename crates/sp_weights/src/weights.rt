@@ -1,7 +1,8 @@
 // The updates of weights that a node holds. All memory is taken at the start.
 ghost use Rattle.std.specs.Prelude.{◌≡◌, ◌+◌, ◌*◌, ◌<◌, ◌≤◌, IfOk, length, map, option_copied, replicate, None as Nothing, false};
 ghost use Rattle.sp_msg.specs.Bodies.{HasGoodFields};
-ghost use Rattle.sp_rules.specs.Weights.{cycle_at, effective, held, moved, next, next_row, next_seq, offer, offer_of, start};
+ghost use Rattle.sp_rules.specs.Handle.{offer_of};
+ghost use Rattle.sp_rules.specs.Weights.{cycle_at, effective, held, moved, next, next_row, next_seq, offer, start};
 ghost use Rattle.sp_topology.specs.Ranges.{IsTopology};
 
 use crate::held::{effective_by, held_in, row_in, row_of, seq_in};

@@ -1,6 +1,6 @@
 use Rattle.std.proofs.Common.{◌≡◌, ◌∙◌, sym, subst}
 use Rattle.sp_msg.specs.declared.body.Body.{Body}
-use Rattle.sp_rules.specs.Weights.{offer_of}
+use Rattle.sp_rules.specs.Handle.{offer_of}
 use Rattle.sp_rules.specs.declared.weights.Offer.TheVariants as offers
 use Rattle.sp_node_state.proofs.Sent.{own_is_new}
 use Rattle.sp_node_state.proofs.weight.ready_update.Goals as goal
