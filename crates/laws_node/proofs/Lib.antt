@@ -19,6 +19,7 @@ pub mod Own
 pub mod Priority
 pub mod Reliable
 pub mod Shapes
+pub mod Spellings
 pub mod Steps
 pub mod TableReads
 pub mod Tables

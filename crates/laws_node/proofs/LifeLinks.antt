@@ -7,7 +7,6 @@ use Rattle.std.proofs.lemmas.List.{append-nil}
 use Rattle.sp_base.specs.Rows.{first_where}
 use Rattle.sp_base.specs.declared.id.EdgeId.{EdgeId}
 use Rattle.sp_base.specs.declared.id.NodeId.{NodeId}
-use Rattle.sp_frame.specs.Frames.{opened}
 use Rattle.sp_frame.specs.Sections.{Contents}
 use Rattle.sp_frame.specs.declared.head.Head.{Head}
 use Rattle.sp_frame.specs.declared.refused.FrameRefused.{FrameRefused}
@@ -168,7 +167,7 @@ step_goes arts v n (Datagram u bytes) output new s known =
     go (Some refused) e = rests (link_in n v) (link_in n v) refl refl known
     go None e =
         one_link n u v (link_after arts n u bytes) (pair_told (pair_of (arts.head bytes)) (reply_at arts n u bytes)) (neighbours n u _ e)
-        (comes_peer arts (link_in n u) bytes (opened bytes)) known (λ k. comes arts n.fixed (link_in n u) bytes (opened bytes) k)
+        (comes_peer arts (link_in n u) bytes (arts.opened bytes)) known (λ k. comes arts n.fixed (link_in n u) bytes (arts.opened bytes) k)
 step_goes arts v n (Tick now) output new s known =
     subst (λ (m : NodeState). Goes (link_in n v) [] (link_in m v)) (sym s.1) (go (due n.parts.rel) (signer_refusal n.signer))
   where

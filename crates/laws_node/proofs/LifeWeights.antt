@@ -261,8 +261,8 @@ by n output new m es e f turns =
 plain : (n : NodeState) (es : List Effect) → Silent es → HasRows n.parts.weights → Turns n.parts.weights es n.parts.weights
 plain n es none h = stays n.parts.weights n.parts.weights es none refl refl h
 
-signed_alone : (body : Body) → Silent (signed_effect body ∷ [])
-signed_alone body = λ edge end w. refl
+signed_alone : (arts : Arts) (body : Body) → Silent (signed_effect arts body ∷ [])
+signed_alone arts body = λ edge end w. refl
 
 -- the row of an own update that isn't refused
 own_placed : (n : NodeState) (v : NodeId) (weight : ℕ) → n.parts.weights.edges ≡ n.fixed.topology.edges → weight_refusal n v weight ≡ None
@@ -301,26 +301,26 @@ step_turns arts n (Datagram v bytes) output new s same h = go (call_refusal n v)
     go (Some refused) e f = by n output new n [] e f (plain n [] nothing h)
 step_turns arts n (Tick now) output new s same h =
     by n output new (settled_by arts (at_time n now) (due n.parts.rel) (signer_refusal n.signer))
-    (prio.expired_effects n.parts.prio (time_after n now) ++ ack_effects (due n.parts.rel) (signer_refusal n.signer)) (ap (λ (o : Output). o.effects) s.0) s.1
+    (prio.expired_effects n.parts.prio (time_after n now) ++ ack_effects arts (due n.parts.rel) (signer_refusal n.signer)) (ap (λ (o : Output). o.effects) s.0) s.1
     (go (due n.parts.rel) (signer_refusal n.signer))
   where
     expired : List Effect
     expired = prio.expired_effects n.parts.prio (time_after n now)
 
-    go : (o : Option Ack) (r : Option SendRefused) → Turns n.parts.weights (expired ++ ack_effects o r) (settled_by arts (at_time n now) o r).parts.weights
+    go : (o : Option Ack) (r : Option SendRefused) → Turns n.parts.weights (expired ++ ack_effects arts o r) (settled_by arts (at_time n now) o r).parts.weights
     go None r = plain n (expired ++ []) (silent_both expired [] (silent_expired n.parts.prio (time_after n now)) nothing) h
     go (Some ack) (Some refusal) = plain n (expired ++ []) (silent_both expired [] (silent_expired n.parts.prio (time_after n now)) nothing) h
     go (Some ack) None =
-        plain n (expired ++ signed_effect (bodies.Ack ack) ∷ [])
-        (silent_both expired (signed_effect (bodies.Ack ack) ∷ []) (silent_expired n.parts.prio (time_after n now)) (signed_alone (bodies.Ack ack))) h
+        plain n (expired ++ signed_effect arts (bodies.Ack ack) ∷ [])
+        (silent_both expired (signed_effect arts (bodies.Ack ack) ∷ []) (silent_expired n.parts.prio (time_after n now)) (signed_alone arts (bodies.Ack ack))) h
 step_turns arts n (SendRel dst payload) output new s same h = go (rel_refusal n dst) (ap (λ (o : Output). o.effects) s.0) s.1
   where
     done : NodeState
     done = signed_once n (record n.parts { rel = pushed_in n.parts.rel (signed_now arts n (rel_body n dst payload)) })
 
-    go : (r : Option SendRefused) → output.effects ≡ (refused_send r (accepted (rel_number n dst) (rel_sent n dst payload))).effects → new ≡ kept_or r n done
+    go : (r : Option SendRefused) → output.effects ≡ (refused_send r (accepted (rel_number n dst) (rel_sent arts n dst payload))).effects → new ≡ kept_or r n done
         → Done n output new
-    go None e f = by n output new done (rel_sent n dst payload) e f (plain n (rel_sent n dst payload) (signed_alone (rel_body n dst payload)) h)
+    go None e f = by n output new done (rel_sent arts n dst payload) e f (plain n (rel_sent arts n dst payload) (signed_alone arts (rel_body n dst payload)) h)
     go (Some refused) e f = by n output new n [] e f (plain n [] nothing h)
 step_turns arts n (SendPrio m) output new s same h = go (send_prio_refusal n m s.choice) (ap (λ (o : Output). o.effects) s.output_is) s.new_is
   where
@@ -335,7 +335,7 @@ step_turns arts n (SendPrio m) output new s same h = go (send_prio_refusal n m s
     go None e f =
         by n output new done (prio_sent arts n m s.choice) e f
         (plain n (prio_sent arts n m s.choice)
-        (silent_both (signed_effect (prio_body n m (mask_in s.choice)) ∷ []) (prio_effects n.parts.prio own None) (signed_alone (prio_body n m (mask_in s.choice)))
+        (silent_both (signed_effect arts (prio_body n m (mask_in s.choice)) ∷ []) (prio_effects n.parts.prio own None) (signed_alone arts (prio_body n m (mask_in s.choice)))
         (silent_prio n.parts.prio own None)) h)
     go (Some refused) e f = by n output new n [] e f (plain n [] nothing h)
 step_turns arts n (SetWeight v weight) output new s same h = go (weight_refusal n v weight) refl (ap (λ (o : Output). o.effects) s.0) s.1
@@ -346,13 +346,13 @@ step_turns arts n (SetWeight v weight) output new s same h = go (weight_refusal 
     done : NodeState
     done = signed_once n (record n.parts { weights = held n.parts.weights (signed_now arts n body) })
 
-    go : (r : Option SendRefused) → weight_refusal n v weight ≡ r → output.effects ≡ (refused_send r (accepted (weight_number n v) (weight_sent n v weight))).effects
+    go : (r : Option SendRefused) → weight_refusal n v weight ≡ r → output.effects ≡ (refused_send r (accepted (weight_number n v) (weight_sent arts n v weight))).effects
         → new ≡ kept_or r n done → Done n output new
     go None free e f =
         let placed = own_placed n v weight same free in
-        by n output new done (weight_sent n v weight) e f
-        (on n.parts.weights n.parts.weights (held n.parts.weights (signed_now arts n body)) (signed_effect body ∷ []) (weight_effects body)
-        (plain n (signed_effect body ∷ []) (signed_alone body) h)
+        by n output new done (weight_sent arts n v weight) e f
+        (on n.parts.weights n.parts.weights (held n.parts.weights (signed_now arts n body)) (signed_effect arts body ∷ []) (weight_effects body)
+        (plain n (signed_effect arts body ∷ []) (signed_alone arts body) h)
         (held_turns n.parts.weights (signed_now arts n body) (own_at n.parts.weights _ placed.0 placed.1) h))
     go (Some refused) free e f = by n output new n [] e f (plain n [] nothing h)
 step_turns arts n (TakeRel src) output new s same h = by n output new (after_take_rel n src) [] (ap (λ (o : Output). o.effects) s.0) s.1 (plain n [] nothing h)

@@ -311,7 +311,7 @@ module _ (src : ℕ) where
       done : NodeState
       done = signed_once n (record n.parts { rel = pushed_in n.parts.rel (signed_now arts n (rel_body n dst payload)) })
 
-      go : (r : Option SendRefused) → Done n (SendRel dst payload) (refused_send r (accepted (rel_number n dst) (rel_sent n dst payload))) (kept_or r n done)
+      go : (r : Option SendRefused) → Done n (SendRel dst payload) (refused_send r (accepted (rel_number n dst) (rel_sent arts n dst payload))) (kept_or r n done)
       go None = none n.parts.prio n.parts.prio refl refl
       go (Some refused) = none n.parts.prio n.parts.prio refl refl
   step_marks arts n (SendPrio m) output new s h there = by n (SendPrio m) output _ new _ s.output_is s.new_is (go (send_prio_refusal n m s.choice))
@@ -327,7 +327,7 @@ module _ (src : ℕ) where
       done : NodeState
       done = signed_once n (record n.parts { weights = held n.parts.weights (signed_now arts n (weight_body n v weight)) })
 
-      go : (r : Option SendRefused) → Done n (SetWeight v weight) (refused_send r (accepted (weight_number n v) (weight_sent n v weight))) (kept_or r n done)
+      go : (r : Option SendRefused) → Done n (SetWeight v weight) (refused_send r (accepted (weight_number n v) (weight_sent arts n v weight))) (kept_or r n done)
       go None = none n.parts.prio n.parts.prio refl refl
       go (Some refused) = none n.parts.prio n.parts.prio refl refl
   step_marks arts n (TakeRel from) output new s h there = by n (TakeRel from) output _ new _ s.0 s.1 (none n.parts.prio n.parts.prio refl refl)

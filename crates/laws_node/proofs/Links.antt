@@ -4,7 +4,6 @@ use Rattle.std.specs.List.{All}
 use Rattle.std.proofs.lemmas.Bool.Decides.{nat_tests}
 use Rattle.sp_base.specs.Spelling.{AreBytes}
 use Rattle.sp_base.specs.declared.id.NodeId.{NodeId}
-use Rattle.sp_frame.specs.Frames.{opened}
 use Rattle.sp_frame.specs.Ranges.{IsHead}
 use Rattle.sp_frame.specs.declared.head.Head.{Head}
 use Rattle.sp_frame.specs.declared.refused.FrameRefused.{FrameRefused}
@@ -61,4 +60,4 @@ pub link_after_holds : (arts : Arts) (n : NodeState) (calls : ℕ) (v : NodeId) 
     → ((bs : List ℕ) → AreBytes bs → IsHead (arts.head bs)) → AreBytes bytes → LinkHolds calls (link_in n v)
     → LinkHolds (calls + 1) (link_after arts n v bytes)
 link_after_holds arts n calls v bytes heads are h =
-    link_more calls (calls + 1) (link_after arts n v bytes) (omega arith) (link_with_holds arts heads calls (link_in n v) bytes are h (opened bytes))
+    link_more calls (calls + 1) (link_after arts n v bytes) (omega arith) (link_with_holds arts heads calls (link_in n v) bytes are h (arts.opened bytes))

@@ -6,7 +6,7 @@ use Rattle.sp_base.specs.Cursor.{or_else}
 use Rattle.sp_base.specs.declared.id.Flow.{Flow}
 use Rattle.sp_base.specs.declared.id.NodeId.{NodeId}
 use Rattle.sp_base.specs.declared.limits.TheConstants.{MAX_EDGES, MAX_PAYLOAD_BYTES, MAX_WEIGHT}
-use Rattle.sp_msg.specs.Bodies.{HasGoodFields, encoded}
+use Rattle.sp_msg.specs.Bodies.{HasGoodFields}
 use Rattle.sp_msg.specs.Views.{signer_of}
 use Rattle.sp_msg.specs.declared.body.Body.{Body}
 use Rattle.sp_msg.specs.declared.body.Body.TheVariants as bodies
@@ -59,7 +59,7 @@ pub own_fits : (arts : Arts) (n : NodeState) (k : Sizes) (body : Body) → ArtsF
     → k.keeps (signed_now arts n body) → HasGoodFields body → Fits k (signed_now arts n body)
 own_fits arts n k body arts_fit long keeps fields = record {
   fields = fields;
-  long = arts_fit.long n.signer.index (encoded body) ∙ long;
+  long = arts_fit.long n.signer.index (arts.spell body) ∙ long;
   holds = keeps;
 }
 
@@ -69,9 +69,9 @@ pub own_is_signed : (arts : Arts) (n : NodeState) (body : Body) → ArtsFit arts
 own_is_signed arts n body arts_fit left mine =
     is_valid (key_of (signer_of body).0 n.fixed.topology.nodes) (ap (λ (u : NodeId). key_of u.0 n.fixed.topology.nodes) mine ∙ arts_fit.is_mine)
   where
-    is_valid : (key : Option (List ℕ)) → key ≡ Some arts_fit.key → IsTrue (is_signed_by arts key (encoded body) (signed_now arts n body).signature)
-    is_valid key is = subst (λ (o : Option (List ℕ)). IsTrue (is_signed_by arts o (encoded body) (signed_now arts n body).signature)) (sym is)
-        (arts_fit.valid n.signer.index (encoded body) left)
+    is_valid : (key : Option (List ℕ)) → key ≡ Some arts_fit.key → IsTrue (is_signed_by arts key (arts.spell body) (signed_now arts n body).signature)
+    is_valid key is = subst (λ (o : Option (List ℕ)). IsTrue (is_signed_by arts o (arts.spell body) (signed_now arts n body).signature)) (sym is)
+        (arts_fit.valid n.signer.index (arts.spell body) left)
 
 -- ---- a reliable message
 

@@ -7,7 +7,6 @@ use Rattle.sp_base.specs.Rows.{first_where, replace_where}
 use Rattle.sp_base.specs.declared.id.Flow.{Flow}
 use Rattle.sp_base.specs.declared.id.NodeId.{NodeId}
 use Rattle.sp_base.specs.declared.limits.TheConstants.{MAX_MESSAGES}
-use Rattle.sp_frame.specs.Frames.{opened}
 use Rattle.sp_frame.specs.declared.head.Head.{Head}
 use Rattle.sp_frame.specs.declared.refused.FrameRefused.{FrameRefused}
 use Rattle.sp_msg.specs.Bodies.{payload_of}
@@ -96,7 +95,7 @@ links_polled n v = replace_first link_shape (is_link v) (new_link n.fixed.me v 0
 
 links_arrived : (arts : Arts) (n : NodeState) (v : NodeId) (bytes : List ℕ) → map link_shape (with_link n v (link_after arts n v bytes)) ≡ map link_shape n.links
 links_arrived arts n v bytes =
-    replace_first link_shape (is_link v) (new_link n.fixed.me v 0 []) (λ l. link_with arts l bytes (opened bytes)) (arrived_shape arts bytes (opened bytes)) n.links
+    replace_first link_shape (is_link v) (new_link n.fixed.me v 0 []) (λ l. link_with arts l bytes (arts.opened bytes)) (arrived_shape arts bytes (arts.opened bytes)) n.links
 
 -- ---- weights
 

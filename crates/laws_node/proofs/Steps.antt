@@ -10,7 +10,7 @@ use Rattle.sp_msg.specs.declared.kept.Kept.{Kept}
 use Rattle.sp_msg.specs.declared.effect.Effect.{Effect}
 use Rattle.sp_msg.specs.declared.effect.Effect.TheVariants.{Signed}
 use Rattle.sp_msg.specs.declared.refused.SendRefused.{SendRefused}
-use Rattle.sp_msg.specs.Bodies.{HasGoodFields, encoded, payload_of}
+use Rattle.sp_msg.specs.Bodies.{HasGoodFields, payload_of}
 use Rattle.sp_msg.specs.Views.{signer_of}
 use Rattle.sp_msg.specs.declared.body.Body.{Body}
 use Rattle.sp_rules.specs.Arrivals.{arrival_at, handled, link_after, pieces_in, pieces_where, reply_at, sections_in}
@@ -253,12 +253,12 @@ or_holds P old done None h new = new refl
 
 -- the message that was signed first
 first_own : (k : Sizes) (arts : Arts) (n : NodeState) (input : Input) (output : Output) (body : Body) (after : List Effect)
-    → payload_of body ≡ payload_in input → output.effects ≡ Signed (encoded body) ∷ after → OwnKeep arts k.keeps n input output.effects → Owns k arts n body
+    → payload_of body ≡ payload_in input → output.effects ≡ Signed (arts.spell body) ∷ after → OwnKeep arts k.keeps n input output.effects → Owns k arts n body
 first_own k arts n input output body after payload told own mine fields left =
     own body (record { mine = mine; fields = fields; payload = payload; left = left; before = []; after = after; told = told })
 
 -- after what expired
-tick_holds : (k : Sizes) (arts : Arts) (n : NodeState) (now : ℕ) (output : Output) → ArtsFit arts n.fixed n.signer → now < 2 ^ 64 → output ≡ tick_output n now
+tick_holds : (k : Sizes) (arts : Arts) (n : NodeState) (now : ℕ) (output : Output) → ArtsFit arts n.fixed n.signer → now < 2 ^ 64 → output ≡ tick_output arts n now
     → OwnKeep arts k.keeps n (Tick now) output.effects → NodeHolds k n → NodeHolds k (after_tick arts n now)
 tick_holds k arts n now output fits small is own h = go (due n.parts.rel) refl (signer_refusal n.signer) refl
   where
@@ -279,8 +279,8 @@ tick_holds k arts n now output fits small is own h = go (due n.parts.rel) refl (
           before = expired_effects n.parts.prio (time_after n now);
           after = [];
           told = ap (λ (o : Output). o.effects) is
-              ∙ ap (λ (o : Option Ack). expired_effects n.parts.prio (time_after n now) ++ ack_effects o (signer_refusal n.signer)) is_due
-              ∙ ap (λ (r : Option SendRefused). expired_effects n.parts.prio (time_after n now) ++ ack_effects (Some ack) r) e;
+              ∙ ap (λ (o : Option Ack). expired_effects n.parts.prio (time_after n now) ++ ack_effects arts o (signer_refusal n.signer)) is_due
+              ∙ ap (λ (r : Option SendRefused). expired_effects n.parts.prio (time_after n now) ++ ack_effects arts (Some ack) r) e;
         }))
         is_due e later
 
@@ -298,7 +298,7 @@ step_holds k arts n (SendRel dst payload) output new fits input news own s h =
     subst (NodeHolds k) (sym s.1) (or_holds (NodeHolds k) n _ (rel_refusal n dst) h
     (λ e. rel_sent_keeps k arts n dst payload fits input
     (first_own k arts n (SendRel dst payload) output (rel_body n dst payload) [] refl
-    (ap (λ (o : Output). o.effects) s.0 ∙ ap (λ (r : Option SendRefused). (refused_send r (accepted (rel_number n dst) (rel_sent n dst payload))).effects) e) own) e h))
+    (ap (λ (o : Output). o.effects) s.0 ∙ ap (λ (r : Option SendRefused). (refused_send r (accepted (rel_number n dst) (rel_sent arts n dst payload))).effects) e) own) e h))
 step_holds k arts n (SendPrio m) output new fits input news own s h =
     subst (NodeHolds k) (sym s.new_is) (or_holds (NodeHolds k) n _ (send_prio_refusal n m s.choice) h
     (λ e. prio_sent_keeps k arts n m s.choice fits input
@@ -309,7 +309,7 @@ step_holds k arts n (SetWeight v weight) output new fits input news own s h =
     subst (NodeHolds k) (sym s.1) (or_holds (NodeHolds k) n _ (weight_refusal n v weight) h
     (λ e. weight_sent_keeps k arts n v weight fits input.0 input.1
     (first_own k arts n (SetWeight v weight) output (weight_body n v weight) (weight_effects (weight_body n v weight)) refl
-    (ap (λ (o : Output). o.effects) s.0 ∙ ap (λ (r : Option SendRefused). (refused_send r (accepted (weight_number n v) (weight_sent n v weight))).effects) e) own) e h))
+    (ap (λ (o : Output). o.effects) s.0 ∙ ap (λ (r : Option SendRefused). (refused_send r (accepted (weight_number n v) (weight_sent arts n v weight))).effects) e) own) e h))
 step_holds k arts n (TakeRel src) output new fits input news own s h =
     subst (NodeHolds k) (sym s.1) (record {
       fixed = h.fixed;

@@ -1,6 +1,6 @@
 -- What is asked of each message that a node takes or signs: where each new one and each own one has it, all that the node keeps has it.
 use Rattle.std.specs.Prelude.{ℕ, ◌≡◌, ◌<◌, Bool, true, IsTrue, List, [], ◌∷◌, ◌++◌}
-use Rattle.sp_msg.specs.Bodies.{HasGoodFields, encoded, payload_of}
+use Rattle.sp_msg.specs.Bodies.{HasGoodFields, payload_of}
 use Rattle.sp_msg.specs.Views.{signer_of}
 use Rattle.sp_msg.specs.declared.body.Body.{Body}
 use Rattle.sp_msg.specs.declared.effect.Effect.{Effect}
@@ -26,18 +26,18 @@ payload_in (SendPrio m) = m.payload
 payload_in _ = []
 
 -- the node signed this message in a step on this input with these effects
-pub record IsOwn (n : NodeState) (input : Input) (effects : List Effect) (body : Body) : Type 0 where
+pub record IsOwn (arts : Arts) (n : NodeState) (input : Input) (effects : List Effect) (body : Body) : Type 0 where
   pub mine : signer_of body ≡ n.fixed.me
   pub fields : HasGoodFields body
   pub payload : payload_of body ≡ payload_in input
   pub left : n.signer.index < n.signer.total
   pub before : List Effect
   pub after : List Effect
-  pub told : effects ≡ before ++ Signed (encoded body) ∷ after
+  pub told : effects ≡ before ++ Signed (arts.spell body) ∷ after
 
 -- each message that it signed has this
 abbrev pub OwnKeep : Arts → (Kept → Type 0) → NodeState → Input → List Effect → Type 0
-OwnKeep arts P n input effects = (body : Body) → IsOwn n input effects body → P (signed_now arts n body)
+OwnKeep arts P n input effects = (body : Body) → IsOwn arts n input effects body → P (signed_now arts n body)
 
 -- whatever is asked: beside it a node keeps what it always keeps
 abbrev pub WhatIsNewIsKept : Type 0

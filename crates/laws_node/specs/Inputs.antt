@@ -4,6 +4,8 @@ use Rattle.sp_base.specs.Spelling.{AreBytes}
 use Rattle.sp_base.specs.declared.limits.TheConstants.{MAX_PAYLOAD_BYTES, MAX_PRIORITY, MAX_WEIGHT}
 use Rattle.sp_frame.specs.Ranges.{IsContents, IsHead}
 use Rattle.sp_frame.specs.Sections.{Contents}
+use Rattle.sp_msg.specs.Bodies.{HasGoodFields}
+use Rattle.sp_msg.specs.declared.body.Body.{Body}
 use Rattle.sp_rules.specs.Arts.{Arts}
 use Rattle.sp_rules.specs.Node.{Signer}
 use Rattle.sp_rules.specs.Parts.{Fixed}
@@ -22,6 +24,10 @@ pub record ArtsFit (arts : Arts) (f : Fixed) (s : Signer) : Type 0 where
   pub valid : (index : ℕ) (message : List ℕ) → index < s.total → IsTrue (arts.valid key message (arts.sign f.topology.height s.seed index message))
   pub heads : (bytes : List ℕ) → AreBytes bytes → IsHead (arts.head bytes)
   pub sections : (bytes : List ℕ) (s : Contents) → AreBytes bytes → arts.sections f.signature_len bytes ≡ Ok s → IsContents f.signature_len s
+
+-- each message in its ranges is read back from its bytes, so no other one has them
+abbrev pub ReadsBack : Arts → Type 0
+ReadsBack arts = (body : Body) → HasGoodFields body → arts.read (arts.spell body) ≡ Ok body
 
 abbrev pub PrioSendFits : PrioSend → Type 0
 PrioSendFits m = (1 ≤ m.prio) × (m.prio ≤ MAX_PRIORITY) × (m.expiry < 2 ^ 64) × (length m.payload ≤ MAX_PAYLOAD_BYTES)

@@ -5,9 +5,11 @@
 use Rattle.std.specs.Prelude.{ℕ, ◌==◌, List, [], ◌∷◌, ◌++◌, replicate, Option, None, Some, Ok, nat_eq, slice_index, if◌then◌else◌}
 use Rattle.std.specs.Cmp.Lexicographic.{pointwise}
 use Rattle.sp_base.specs.declared.id.NodeId.{NodeId}
+use Rattle.sp_frame.specs.Frames.{opened}
 use Rattle.sp_frame.specs.Reliable.{Report}
 use Rattle.sp_frame.specs.Sections.{Contents}
 use Rattle.sp_frame.specs.declared.head.Head.{Head}
+use Rattle.sp_msg.specs.Bodies.{encoded, read_body}
 use Rattle.sp_msg.specs.declared.body.Body.TheVariants as bodies
 use Rattle.sp_msg.specs.declared.effect.Effect.{Effect}
 use Rattle.sp_msg.specs.declared.kept.Kept.{Kept}
@@ -82,10 +84,13 @@ toy_slot b = if slice_index b 9 == 1 then Some (record {
 
 abbrev pub toys : Arts
 toys = record {
+  opened = opened;
   head = toy_head;
   sections = λ len b. Ok (record { weights = []; prio_ack = 0; prios = []; slot = toy_slot b });
   frame = toy_frame;
   tag = λ key bytes. replicate 32 (slice_index key 0);
+  spell = encoded;
+  read = λ bytes. read_body bytes;
   sign = λ height seed index message. seed;
   valid = λ key message signature. pointwise nat_eq key signature;
 }
@@ -143,9 +148,9 @@ frame_of (Frame bytes) = bytes
 frame_of _ = []
 
 abbrev pub output_of : Three → Event → Output
-output_of w (Rel s d payload) = send_rel_output (at w s) (node d) payload
+output_of w (Rel s d payload) = send_rel_output toys (at w s) (node d) payload
 output_of w (Take d s) = replied (Payload (rel.oldest (at w d).parts.rel (node s)))
-output_of w (Tick u now) = tick_output (at w u) now
+output_of w (Tick u now) = tick_output toys (at w u) now
 output_of w (Poll u v) = poll_output toys (at w u) (node v)
 output_of w (Pass u v) = datagram_output toys (at w v) (node u) w.frame
 

@@ -4,7 +4,6 @@ use Rattle.std.specs.Prelude.{nat_lt, slice_get, unwrap_or}
 use Rattle.std.proofs.lemmas.Bool.{cases_Bool, eq-eqb}
 use Rattle.sp_base.specs.declared.id.Flow.{Flow}
 use Rattle.sp_base.specs.declared.id.NodeId.{NodeId}
-use Rattle.sp_frame.specs.Frames.{opened}
 use Rattle.sp_frame.specs.declared.head.Head.{Head}
 use Rattle.sp_frame.specs.declared.refused.FrameRefused.{FrameRefused}
 use Rattle.sp_frame.specs.declared.refused.FrameRefused.TheVariants as frames
@@ -64,7 +63,7 @@ no_pieces arts f l bytes frames.Magic ps = refl
 no_pieces arts f l bytes frames.Version ps = refl
 
 untold : (arts : Arts) (n : NodeState) (u : NodeId) (bytes : List ℕ) → is_tagged (reply_at arts n u bytes) ≡ false → Untold arts n u bytes
-untold arts n u bytes off = let g = go (opened bytes) off in record { link = g.0; pieces = g.1 }
+untold arts n u bytes off = let g = go (arts.opened bytes) off in record { link = g.0; pieces = g.1 }
   where
     go : (o : Result (List ℕ) FrameRefused) → is_tagged (of_frame arts n.fixed (link_in n u) bytes o) ≡ false
         → (link_with arts (link_in n u) bytes o ≡ link_in n u) × ((ps : List Piece) → pieces_where (of_frame arts n.fixed (link_in n u) bytes o) ps ≡ [])
@@ -145,7 +144,7 @@ seen_is arts x es js w fits reads (Turned {es = es'} {js = js'} {old = old} {e =
           let before = seen_is arts x es' js' old fits reads run u v hop m.node node_there in
           let there = link_there x v u m.node (rows_are arts x es' js' old fits reads.carries run v m.node node_there) (both_ways x u v hop).joined in
           let step = link_step arts x m.node m.input m.output m.after u (next_frame old e) j.reply there m.step m.journal.reply in
-          let none = (unforged_tag (has_forged_tag arts x old m.node m.input) (forged_object x es' js' m.output.answered) unforged).0 in
+          let none = (unforged_tag (has_forged_tag arts x old m.node m.input) (forged_object arts x es' js' m.output.answered) unforged).0 in
           subst (λ (q : NodeState). SeenIs (link_in q u)) (sym here.1) (seen_after arts x es' js' old fits reads run u v hop m.node m.after node_there m.input none step before)
       | inr other ↦ seen_is arts x es' js' old fits reads run u v hop n other.1
     ]

@@ -87,7 +87,7 @@ change arts x all fits reads w y e (Follow j events journal range (Moves m) unfo
         step = m.step;
         entry = j;
         journal = m.journal;
-        unforged = (unforged_tag (has_forged_tag arts x w.world m.node m.input) (forged_object x w.events w.journal m.output.answered) unforged).0;
+        unforged = (unforged_tag (has_forged_tag arts x w.world m.node m.input) (forged_object arts x w.events w.journal m.output.answered) unforged).0;
         left = world ∙ here.1;
       })
       | inr other ↦ inl (record { same = world ∙ other.1; why = inl (λ acts. other.0 (sym acts)) })

@@ -191,7 +191,7 @@ is_delivered S T D rest (suc i) same numbered pos sent long =
 -- ---- the laws
 
 claims : (arts : Arts) (x : Setting) (s d : NodeId) → SettingFits arts x → ComesThrough arts x.signature_len → IsRight x (record { src = s; dst = d })
-    → (es : List Event) (js : List Entry) (w : World) → Clean arts x es js w → FlowClaims x s d es js w
+    → (es : List Event) (js : List Entry) (w : World) → Clean arts x es js w → FlowClaims arts x s d es js w
 claims arts x s d fits through right es js w run =
     flows_are_kept arts x es js w fits through.carries run s d (both _ _ right.from).0 right.to (λ same. right.different same)
 
@@ -247,9 +247,9 @@ acknowledgements_return arts x fits through one es js w after more v early run s
     let end_is = ap (λ (f : FlowState). f.at.base) (seen_there flow _ to.0 there) in
     let source_is = ap (λ (f : FlowState). f.at.base) (seen_there flow _ n at) in
     let count : hops path + 1 ≡ suc (hops path) = omega arith in
-    let it : acknowledged es js s d ≤ seen.base y s = paths.acknowledged (State arts x all) (Follows arts x all) (IsHop x) seen (place_at x flow) x.buffer least s d
+    let it : acknowledged arts es js s d ≤ seen.base y s = paths.acknowledged (State arts x all) (Follows arts x all) (IsHop x) seen (place_at x flow) x.buffer least s d
     (facts arts x all flow fits through one right least enough) (omega (arith, enough)) path (hops path) (are_hops x s d path is) (are_inner x s d path is)
-    ends_at.long ends_at.begins ends_at.ends (acknowledged es js s d) es after start.mid y start.goes (λ u v hop. ap (λ zs. polls zs u v) start.events)
+    ends_at.long ends_at.begins ends_at.ends (acknowledged arts es js s d) es after start.mid y start.goes (λ u v hop. ap (λ zs. polls zs u v) start.events)
     (omega (arith, end, end_is)) (subst (λ k. CompleteRounds least s d path k es after) count rounds) in
-    let base : acknowledged es js s d ≤ (flow_at n s d).at.base = omega (arith, it, source_is) in
+    let base : acknowledged arts es js s d ≤ (flow_at n s d).at.base = omega (arith, it, source_is) in
     record { base = base; room = λ low. ne_eqb _ _ (λ full. omega (arith, full, low, base, one)) }

@@ -3,7 +3,6 @@ use Rattle.std.proofs.Common.{◌≡◌, ℕ, ◌+◌, ◌==◌, Bool, true, fal
 use Rattle.std.specs.Prelude.{unwrap_or}
 use Rattle.std.proofs.lemmas.Bool.{cases_Bool, eq-eqb}
 use Rattle.sp_base.specs.declared.id.NodeId.{NodeId}
-use Rattle.sp_frame.specs.Frames.{opened}
 use Rattle.sp_frame.specs.Ranges.{IsContents}
 use Rattle.sp_frame.specs.declared.head.Head.{Head}
 use Rattle.sp_rules.specs.Arts.{Arts, is_right}
@@ -40,7 +39,7 @@ pub record Framed (arts : Arts) (x : Setting) (u v : NodeId) (number : ℕ) (nod
   pub topology : (arts.head bytes).topology ≡ x.topology.version
   pub echo : (arts.head bytes).echo ≡ (link_in node v).peer_boot
   pub sections : arts.sections x.signature_len bytes ≡ Ok (contents_to node.fixed node.parts v)
-  pub opens : opened bytes ≡ Ok bytes
+  pub opens : arts.opened bytes ≡ Ok bytes
   pub right : is_right arts (x.link_key (first_edge u v 0 x.topology.edges)) bytes ≡ true
 
 pub frame_at : (arts : Arts) (x : Setting) (es : List Event) (js : List Entry) (w : World) → SettingFits arts x → ComesThrough arts x.signature_len → Clean arts x es js w

@@ -3,7 +3,6 @@ use Rattle.std.proofs.Common.{◌≡◌, ℕ, Bool, true, List, [], ◌∷◌, R
 use Rattle.std.proofs.lemmas.Bool.{cases_Bool, eqb-true, eq-eqb}
 use Rattle.sp_base.specs.Rows.{first_where}
 use Rattle.sp_base.specs.declared.id.NodeId.{NodeId}
-use Rattle.sp_frame.specs.Frames.{opened}
 use Rattle.sp_frame.specs.declared.head.Head.{Head}
 use Rattle.sp_frame.specs.declared.refused.FrameRefused.{FrameRefused}
 use Rattle.sp_rules.proofs.ArrivalLemmas.{link_stays, link_with}
@@ -37,7 +36,7 @@ answered_peer l h (links.Stale boot counter) = refl
 answered_peer l h links.Fresh = refl
 
 pub after_peer : (arts : Arts) (n : NodeState) (v : NodeId) (bytes : List ℕ) → (link_after arts n v bytes).peer ≡ v
-after_peer arts n v bytes = go (opened bytes) ∙ link_is n v
+after_peer arts n v bytes = go (arts.opened bytes) ∙ link_is n v
   where
     go : (o : Result (List ℕ) FrameRefused) → (link_with arts (link_in n v) bytes o).peer ≡ (link_in n v).peer
     go (Err refused) = ap (λ (l : Link). l.peer) (link_stays arts (link_in n v) bytes refused)

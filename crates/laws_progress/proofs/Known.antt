@@ -5,7 +5,6 @@ use Rattle.std.specs.Result.{result_err}
 use Rattle.std.specs.Cmp.Lexicographic.{pointwise}
 use Rattle.std.proofs.lemmas.Bool.{cases_Bool}
 use Rattle.sp_base.specs.declared.id.NodeId.{NodeId}
-use Rattle.sp_frame.specs.Frames.{opened}
 use Rattle.sp_frame.specs.declared.head.Head.{Head}
 use Rattle.sp_frame.specs.Sections.{Contents}
 use Rattle.sp_frame.specs.declared.refused.FrameRefused.{FrameRefused}
@@ -69,7 +68,7 @@ boot_after l h right (answers.Stale boot counter) after e fresh = Stays_so refl
 boot_after l h right answers.Fresh after e fresh = Comes_new fresh (inl refl)
 
 after_is : (arts : Arts) (n : NodeState) (v : NodeId) (bytes : List ℕ) → BootAfter (link_in n v) (link_after arts n v bytes) (arts.head bytes) (reply_at arts n v bytes)
-after_is arts n v bytes = go (opened bytes)
+after_is arts n v bytes = go (arts.opened bytes)
   where
     go : (o : Result (List ℕ) FrameRefused) → BootAfter (link_in n v) (link_with arts (link_in n v) bytes o) (arts.head bytes) (of_frame arts n.fixed (link_in n v) bytes o)
     go (Err refused) = Stays_so (ap (λ (l : Link). l.peer_boot) (link_stays arts (link_in n v) bytes refused))

@@ -70,7 +70,7 @@ low_boot arts x es js w fits reads heads (Turned {es = es'} {js = js'} {old = ol
           let before = low_boot arts x es' js' old fits reads heads run u v hop m.node node_there in
           let there = link_there x u v m.node (rows_are arts x es' js' old fits reads run u m.node node_there) hop.joined in
           let step = link_step arts x m.node m.input m.output m.after v (next_frame old e) j.reply there m.step m.journal.reply in
-          let none = (unforged_tag (has_forged_tag arts x old m.node m.input) (forged_object x es' js' m.output.answered) unforged).0 in
+          let none = (unforged_tag (has_forged_tag arts x old m.node m.input) (forged_object arts x es' js' m.output.answered) unforged).0 in
           subst (λ (q : NodeState). (link_in q v).peer_boot ≤ 1) (sym here.1)
           (elim (known_after arts x es' js' old fits reads heads run u v hop m.node m.after node_there m.input none step before) [
             | inl same ↦ omega (arith, same, before)

@@ -5,7 +5,6 @@ use Rattle.std.proofs.lemmas.Bool.{cases_Bool}
 use Rattle.sp_base.specs.Rows.{first_where}
 use Rattle.sp_base.specs.declared.id.EdgeId.{EdgeId}
 use Rattle.sp_base.specs.declared.id.NodeId.{NodeId}
-use Rattle.sp_frame.specs.Frames.{opened}
 use Rattle.sp_frame.specs.declared.head.Head.{Head}
 use Rattle.sp_frame.specs.declared.refused.FrameRefused.{FrameRefused}
 use Rattle.sp_rules.specs.Arts.{Arts, is_right}
@@ -64,7 +63,7 @@ answer_same l h (links.Stale boot counter) = record { me = refl; boot = refl; se
 answer_same l h links.Fresh = record { me = refl; boot = refl; sent = refl }
 
 after_same : (arts : Arts) (n : NodeState) (v : NodeId) (bytes : List ℕ) → SameEnd (link_in n v) (link_after arts n v bytes)
-after_same arts n v bytes = go (opened bytes)
+after_same arts n v bytes = go (arts.opened bytes)
   where
     go : (o : Result (List ℕ) FrameRefused) → SameEnd (link_in n v) (link_with arts (link_in n v) bytes o)
     go (Err refused) = subst (SameEnd (link_in n v)) (sym (link_stays arts (link_in n v) bytes refused)) (record { me = refl; boot = refl; sent = refl })

@@ -47,7 +47,7 @@ from_laws arts x all flow fits reads from to different = record {
       let end = is_there arts x w.events w.journal w.world fits reads w.run flow.dst to in
       let top = h.base_at_end end.0 end.1 in
       let there = ap (λ (f : FlowState). f.at.base) (seen_there flow _ end.0 end.1) in
-      let low = seen_is (λ f. f.at.base ≤ acknowledged w.events w.journal flow.src flow.dst) flow (node_in w.world.nodes u) (omega arith) (λ n at. h.base u n at) in
+      let low = seen_is (λ f. f.at.base ≤ acknowledged arts w.events w.journal flow.src flow.dst) flow (node_in w.world.nodes u) (omega arith) (λ n at. h.base u n at) in
       omega (arith, low, top, there);
   sent = λ w u.
       let h = claims w in
@@ -58,5 +58,5 @@ from_laws arts x all flow fits reads from to different = record {
       omega (arith, low, top, there);
 }
   where
-    claims : (w : State arts x all) → FlowClaims x flow.src flow.dst w.events w.journal w.world
+    claims : (w : State arts x all) → FlowClaims arts x flow.src flow.dst w.events w.journal w.world
     claims w = flows_are_kept arts x w.events w.journal w.world fits reads w.run flow.src flow.dst (both _ _ from).0 to different

@@ -52,7 +52,7 @@ ReturnsInRounds arts x =
     → (s d : NodeId) (path : List NodeId) → IsCorrectPath x s d path
     → (n : NodeState) → node_in v.nodes s ≡ Some n
     → (least : ℕ) → flow_count x (es ++ after) ≤ least → CompleteRounds least s d path (hops path + 1) es after
-    → HasReturned x.buffer (acknowledged es js s d) (flow_at n s d)
+    → HasReturned x.buffer (acknowledged arts es js s d) (flow_at n s d)
 
 -- ---- the laws, of any arts by which frames come through
 

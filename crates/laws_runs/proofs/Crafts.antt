@@ -10,7 +10,7 @@ use Rattle.sp_frame.specs.Sections.{Contents}
 use Rattle.sp_frame.specs.declared.kind.Kind.TheVariants as kinds
 use Rattle.sp_frame.specs.declared.refused.FrameRefused.{FrameRefused}
 use Rattle.sp_frame.specs.declared.refused.FrameRefused.TheVariants as frames
-use Rattle.sp_msg.specs.Bodies.{HasGoodFields, encoded}
+use Rattle.sp_msg.specs.Bodies.{HasGoodFields}
 use Rattle.sp_msg.specs.Views.{signer_of}
 use Rattle.sp_msg.specs.declared.body.Body.{Body}
 use Rattle.sp_msg.specs.declared.body.Body.TheVariants as bodies
@@ -58,12 +58,12 @@ never_all true true c h = absurd (let e : true ≡ false = h refl in cc)
 never_all true false c h = refl
 never_all false b c h = refl
 
-none_forged : (x : Setting) (es : List Event) (js : List Entry) (answered : List (Kept × Item)) → NewKeep (IsOfCompromised x) answered → forged_object x es js answered ≡ None
-none_forged x es js [] h = refl
-none_forged x es js (a ∷ others) h =
-    let fine : is_forged x es js a ≡ false =
-    never_all (is_new a.1) (is_correct x (signer_of a.0.body)) (is_among (encoded a.0.body) (signed es js (signer_of a.0.body))) h.0 in
-    rw fine (none_forged x es js others h.1)
+none_forged : (arts : Arts) (x : Setting) (es : List Event) (js : List Entry) (answered : List (Kept × Item)) → NewKeep (IsOfCompromised x) answered → forged_object arts x es js answered ≡ None
+none_forged arts x es js [] h = refl
+none_forged arts x es js (a ∷ others) h =
+    let fine : is_forged arts x es js a ≡ false =
+    never_all (is_new a.1) (is_correct x (signer_of a.0.body)) (is_among (arts.spell a.0.body) (signed es js (signer_of a.0.body))) h.0 in
+    rw fine (none_forged arts x es js others h.1)
 
 -- ---- a datagram of a compromised node that carries only such objects
 
@@ -73,7 +73,7 @@ one_input a b e = cc
 arrived_unforged : (arts : Arts) (x : Setting) (es : List Event) (js : List Entry) (w new : World) (e : Event) (j : Entry) (m : Move arts x es w e j new) (c : NodeId) (contents : Contents)
     → Carries arts → m.node.fixed.signature_len ≡ x.signature_len → is_correct x c ≡ false → IsContents x.signature_len contents → AllKeep (IsOfCompromised x) (pieces_of contents)
     → m.input ≡ steps.Datagram c (crafted_frame arts m.node c contents)
-    → cond (has_forged_tag arts x w m.node m.input) (Some whats.Tag) (option_map whats.Object (forged_object x es js m.output.answered)) ≡ None
+    → cond (has_forged_tag arts x w m.node m.input) (Some whats.Tag) (option_map whats.Object (forged_object arts x es js m.output.answered)) ≡ None
 arrived_unforged arts x es js w new e j m c contents carries len bad good only is =
     let n = m.node in
     let P = IsOfCompromised x in
@@ -87,7 +87,7 @@ arrived_unforged arts x es js w new e j m c contents carries len bad good only i
     (pieces_new P arts (arrival_at n c) n.parts (pieces_where (reply_at arts n c bytes) (pieces_in (sections_in arts n.fixed bytes)))
     (where_keep P (reply_at arts n c bytes) (pieces_in (sections_in arts n.fixed bytes)) pieces))) in
     let tag : has_forged_tag arts x w n m.input ≡ false = ap (has_forged_tag arts x w n) is ∙ never_first (is_correct x c) (is_tagged (reply_at arts n c bytes)) (is_among bytes (frames_in w.directions c n.fixed.me)) bad in
-    neither _ _ tag (none_forged x es js m.output.answered news)
+    neither _ _ tag (none_forged arts x es js m.output.answered news)
   where
     never_first : (a b c : Bool) → a ≡ false → (a && b && not c) ≡ false
     never_first true b c e = absurd cc
@@ -123,7 +123,7 @@ no_frame_is_forged arts x es js w new u v bytes j none (Moves m) =
     (pieces_new P arts (arrival_at n u) n.parts (pieces_where (reply_at arts n u bytes) read) pieces)) in
     let tag : has_forged_tag arts x w n m.input ≡ false =
     ap (has_forged_tag arts x w n) is ∙ never_second (is_correct x u) (is_tagged (reply_at arts n u bytes)) (is_among bytes (frames_in w.directions u n.fixed.me)) (ap is_tagged reply ∙ untagged arts n.fixed (link_in n u) bytes none.0) in
-    neither _ _ tag (none_forged x es js m.output.answered news)
+    neither _ _ tag (none_forged arts x es js m.output.answered news)
   where
     never_second : (a b c : Bool) → b ≡ false → (a && b && not c) ≡ false
     never_second true true c e = absurd cc
@@ -223,11 +223,11 @@ own_crafts_forge_nothing arts x es js w fits carries lengths run (events.Craft c
     len = ap (λ (f : Fixed). f.signature_len) ((signs arts x es js w fits carries run).nodes v m.node m.is_there).fixed
 
     go : (t : Bool) → cond t (Some (steps.Datagram c (crafted_frame arts m.node c (object_alone body o)))) None ≡ Some m.input
-        → cond (has_forged_tag arts x w m.node m.input) (Some whats.Tag) (option_map whats.Object (forged_object x es js m.output.answered)) ≡ None
+        → cond (has_forged_tag arts x w m.node m.input) (Some whats.Tag) (option_map whats.Object (forged_object arts x es js m.output.answered)) ≡ None
     go false is = absurd cc
     go true is =
         arrived_unforged arts x es js w new (events.Craft c v key body) j m c (object_alone body o) carries len names.0
-        (object_fits x.signature_len body o.signature range.3 (lengths key range.2 (crafts es key) (encoded body)) fits.short)
+        (object_fits x.signature_len body o.signature range.3 (lengths key range.2 (crafts es key) (arts.spell body)) fits.short)
         (only_it (IsOfCompromised x) body o.signature names.1) (one_input _ m.input is)
 own_crafts_forge_nothing arts x es js w fits carries lengths run (events.CraftStatus c v s d base have) j new range names (Moves m) =
     let len = ap (λ (f : Fixed). f.signature_len) ((signs arts x es js w fits carries run).nodes v m.node m.is_there).fixed in

@@ -9,7 +9,6 @@ use Rattle.sp_base.specs.Lists.{IsPrefix}
 use Rattle.sp_base.specs.Position.{Position, start}
 use Rattle.sp_base.specs.declared.id.Flow.{Flow}
 use Rattle.sp_base.specs.declared.id.NodeId.{NodeId}
-use Rattle.sp_msg.specs.Bodies.{encoded}
 use Rattle.sp_msg.specs.declared.body.Body.TheVariants as bodies
 use Rattle.sp_msg.specs.declared.effect.Effect.{Effect}
 use Rattle.sp_msg.specs.declared.kept.Kept.{Kept}
@@ -109,8 +108,8 @@ row_of_keys nodes s d fs different from to keys =
         ap (λ (z : Flow). ((z.src.0 == s.0) && (z.dst.0 == d.0)) || list_any (is_flow (flow_of s d)) fs) first
         ∙ ap (λ t. is_flow (flow_of s d) g || t) (by_ends fs gs rest)
 
-starts : (x : Setting) (s d : NodeId) → (s ≡ d → ⊥) → is_node x s ≡ true → is_node x d ≡ true → FlowsHold x s d [] [] (at_start x)
-starts x s d different from to = record {
+starts : (arts : Arts) (x : Setting) (s d : NodeId) → (s ≡ d → ⊥) → is_node x s ≡ true → is_node x d ≡ true → FlowsHold arts x s d [] [] (at_start x)
+starts arts x s d different from to = record {
   nodes = λ u n at.
       let is = started x (nodes_of x.topology) u n at in
       subst (λ (m : NodeState). RelIs (IsTrue (is_correct x s)) s d [] [] 0 u m.parts.rel) (sym is.0) (record {
@@ -149,28 +148,28 @@ pub here_is : {X : Type 0} (v : NodeId) (tells : Effect → List X) (e : Event) 
 here_is v tells e j es is = ap (λ (xs : List Effect). cond ((acting e).0 == v.0) (flat_map tells xs) []) is
 
 moved_on : (arts : Arts) (x : Setting) (s d : NodeId) (es : List Event) (js : List Entry) (w new : World) (e : Event) (j : Entry) (m : Move arts x es w e j new) → length es ≡ length js
-    → m.after.fixed.me ≡ acting e → FlowsHold x s d es js w
-    → Stepped (IsTrue (is_correct x s)) s d (sent es js s d) (accepted_in s d e j.reply) (delivered es js s d) (acknowledged es js s d) (acting e) m.output.effects m.after.parts.rel
-    → FlowsHold x s d (es ++ e ∷ []) (js ++ j ∷ []) new
+    → m.after.fixed.me ≡ acting e → FlowsHold arts x s d es js w
+    → Stepped arts (IsTrue (is_correct x s)) s d (sent es js s d) (accepted_in s d e j.reply) (delivered es js s d) (acknowledged arts es js s d) (acting e) m.output.effects m.after.parts.rel
+    → FlowsHold arts x s d (es ++ e ∷ []) (js ++ j ∷ []) new
 moved_on arts x s d es js w new e j m same me h done =
     let C = IsTrue (is_correct x s) in
     let S = sent es js s d in
     let D = delivered es js s d in
-    let c = acknowledged es js s d in
+    let c = acknowledged arts es js s d in
     let u = acting e in
     let T = accepted_in s d e j.reply in
     let E = told_here u s d m.output.effects in
-    let c2 = max c (acked_here u s d m.output.effects) in
+    let c2 = max c (acked_here arts u s d m.output.effects) in
     let es2 = es ++ e ∷ [] in
     let js2 = js ++ j ∷ [] in
     let s_is : sent es2 js2 s d ≡ S ++ T = told_more (λ p. accepted_in s d p.0 p.1.reply) es js e j same in
     let d_is : delivered es2 js2 s d ≡ D ++ E = told_more (told_at d (delivered_by s)) es js e j same ∙ ap (λ t. D ++ t) (here_is d (delivered_by s) e j m.output.effects m.journal.effects) in
-    let c_is : acknowledged es2 js2 s d ≡ c2 =
-    ap (λ xs. greatest (acks_in s d xs)) (told_more (told_at d signed_by) es js e j same ∙ ap (λ t. signed es js d ++ t) (here_is d signed_by e j m.output.effects m.journal.effects))
-    ∙ acks_both s d (signed es js d) (cond (u.0 == d.0) (flat_map signed_by m.output.effects) []) in
-    let grown : (v : NodeId) (n : NodeState) → RelIs C s d (S ++ T) (D ++ E) c2 v n.parts.rel → RelIs C s d (sent es2 js2 s d) (delivered es2 js2 s d) (acknowledged es2 js2 s d) v n.parts.rel =
-    λ v n r. subst (λ X. RelIs C s d X (delivered es2 js2 s d) (acknowledged es2 js2 s d) v n.parts.rel) (sym s_is)
-    (subst (λ Y. RelIs C s d (S ++ T) Y (acknowledged es2 js2 s d) v n.parts.rel) (sym d_is) (subst (λ q. RelIs C s d (S ++ T) (D ++ E) q v n.parts.rel) (sym c_is) r)) in
+    let c_is : acknowledged arts es2 js2 s d ≡ c2 =
+    ap (λ xs. greatest (acks_in arts s d xs)) (told_more (told_at d signed_by) es js e j same ∙ ap (λ t. signed es js d ++ t) (here_is d signed_by e j m.output.effects m.journal.effects))
+    ∙ acks_both arts s d (signed es js d) (cond (u.0 == d.0) (flat_map signed_by m.output.effects) []) in
+    let grown : (v : NodeId) (n : NodeState) → RelIs C s d (S ++ T) (D ++ E) c2 v n.parts.rel → RelIs C s d (sent es2 js2 s d) (delivered es2 js2 s d) (acknowledged arts es2 js2 s d) v n.parts.rel =
+    λ v n r. subst (λ X. RelIs C s d X (delivered es2 js2 s d) (acknowledged arts es2 js2 s d) v n.parts.rel) (sym s_is)
+    (subst (λ Y. RelIs C s d (S ++ T) Y (acknowledged arts es2 js2 s d) v n.parts.rel) (sym d_is) (subst (λ q. RelIs C s d (S ++ T) (D ++ E) q v n.parts.rel) (sym c_is) r)) in
     record {
       nodes = λ v n at. elim (node_put v u m.after n w.nodes me (subst (λ (y : World). node_in y.nodes v ≡ Some n) m.world at)) [
         | inl here ↦ grown v n (subst (λ (y : NodeState). RelIs C s d (S ++ T) (D ++ E) c2 v y.parts.rel) (sym here.1) (subst (λ y. RelIs C s d (S ++ T) (D ++ E) c2 y m.after.parts.rel) (sym here.0) done.rel))
@@ -182,17 +181,17 @@ moved_on arts x s d es js w new e j m same me h done =
               row = old.row;
               flow = flow_grown C s d S T D E c c2 v (flow_in n.parts.rel.flows (flow_of s d)) (λ z. done.no_t (λ y. other.0 (z ∙ sym y)))
                   (λ z. let off : (u.0 == d.0) ≡ false = ne_eqb u.0 d.0 (λ y. away z (same_node u d y)) in rw off refl) (omega arith)
-                  (λ z. let zero = acked_away u s d m.output.effects (away z) in omega (arith, zero)) old.flow;
+                  (λ z. let zero = acked_away arts u s d m.output.effects (away z) in omega (arith, zero)) old.flow;
             })
       ];
       prefix = λ k. subst (λ X. IsPrefix X (sent es2 js2 s d)) (sym d_is) (subst (λ Y. IsPrefix (D ++ E) Y) (sym s_is) (done.prefix k));
-      low = subst (λ (X : List Message). acknowledged es2 js2 s d ≤ length X) (sym d_is) (subst (λ q. q ≤ length (D ++ E)) (sym c_is) done.low);
+      low = subst (λ (X : List Message). acknowledged arts es2 js2 s d ≤ length X) (sym d_is) (subst (λ q. q ≤ length (D ++ E)) (sym c_is) done.low);
       numbers = λ k. subst (AreNumbered 0) (sym s_is) (numbered_both 0 S T (h.numbers k) (subst (λ n. AreNumbered n T) (let z : length S ≡ 0 + length S = omega arith in z) (done.numbers k)));
       messages = λ k w2 good src dst among.
-          let split : is_among (encoded (bodies.Rel w2)) (signed es js s ++ cond (u.0 == s.0) (flat_map signed_by m.output.effects) []) ≡ true =
-          subst (λ xs. is_among (encoded (bodies.Rel w2)) xs ≡ true) (told_more (told_at s signed_by) es js e j same ∙ ap (λ t. signed es js s ++ t) (here_is s signed_by e j m.output.effects m.journal.effects)) among in
+          let split : is_among (arts.spell (bodies.Rel w2)) (signed es js s ++ cond (u.0 == s.0) (flat_map signed_by m.output.effects) []) ≡ true =
+          subst (λ xs. is_among (arts.spell (bodies.Rel w2)) xs ≡ true) (told_more (told_at s signed_by) es js e j same ∙ ap (λ t. signed es js s ++ t) (here_is s signed_by e j m.output.effects m.journal.effects)) among in
           subst (λ X. IsIn X w2.seq w2.payload) (sym s_is)
-          (elim (among_or (encoded (bodies.Rel w2)) (signed es js s) (cond (u.0 == s.0) (flat_map signed_by m.output.effects) []) split) [
+          (elim (among_or (arts.spell (bodies.Rel w2)) (signed es js s) (cond (u.0 == s.0) (flat_map signed_by m.output.effects) []) split) [
             | inl old ↦ in_more S T w2.seq w2.payload (h.messages k w2 good src dst old)
             | inr now ↦ elim (cases_Bool (u.0 == s.0)) [
               | inl t ↦ done.messages k (same_node u s (eqb-true u.0 s.0 t)) w2 good src dst (rw t at now)
@@ -226,9 +225,9 @@ nothing_told v tells es js e j same none =
     told_more (told_at v tells) es js e j same ∙ ap (λ t. flat_map (told_at v tells) (zip es js) ++ t) (here_is v tells e j [] none ∙ none_either ((acting e).0 == v.0))
     ∙ append-nil (flat_map (told_at v tells) (zip es js))
 
-stayed_on : (x : Setting) (s d : NodeId) (es : List Event) (js : List Entry) (w new : World) (e : Event) (j : Entry) → length es ≡ length js → Spends x es w e j new → FlowsHold x s d es js w
-    → FlowsHold x s d (es ++ e ∷ []) (js ++ j ∷ []) new
-stayed_on x s d es js w new e j same m h =
+stayed_on : (arts : Arts) (x : Setting) (s d : NodeId) (es : List Event) (js : List Entry) (w new : World) (e : Event) (j : Entry) → length es ≡ length js → Spends x es w e j new → FlowsHold arts x s d es js w
+    → FlowsHold arts x s d (es ++ e ∷ []) (js ++ j ∷ []) new
+stayed_on arts x s d es js w new e j same m h =
     let C = IsTrue (is_correct x s) in
     let es2 = es ++ e ∷ [] in
     let js2 = js ++ j ∷ [] in
@@ -236,37 +235,37 @@ stayed_on x s d es js w new e j same m h =
     told_more (λ p. accepted_in s d p.0 p.1.reply) es js e j same ∙ ap (λ t. sent es js s d ++ t) (quiet_craft s d m.key e j m.is_craft) ∙ append-nil (sent es js s d) in
     let d_is : delivered es2 js2 s d ≡ delivered es js s d = nothing_told d (delivered_by s) es js e j same m.effects in
     let signed_is : (v : NodeId) → signed es2 js2 v ≡ signed es js v = λ v. nothing_told v signed_by es js e j same m.effects in
-    let c_is : acknowledged es2 js2 s d ≡ acknowledged es js s d = ap (λ xs. greatest (acks_in s d xs)) (signed_is d) in
+    let c_is : acknowledged arts es2 js2 s d ≡ acknowledged arts es js s d = ap (λ xs. greatest (acks_in arts s d xs)) (signed_is d) in
     record {
       nodes = λ v n at.
           let old = h.nodes v n (subst (λ (y : World). node_in y.nodes v ≡ Some n) m.world at) in
-          subst (λ X. RelIs C s d X (delivered es2 js2 s d) (acknowledged es2 js2 s d) v n.parts.rel) (sym s_is)
-          (subst (λ Y. RelIs C s d (sent es js s d) Y (acknowledged es2 js2 s d) v n.parts.rel) (sym d_is)
+          subst (λ X. RelIs C s d X (delivered es2 js2 s d) (acknowledged arts es2 js2 s d) v n.parts.rel) (sym s_is)
+          (subst (λ Y. RelIs C s d (sent es js s d) Y (acknowledged arts es2 js2 s d) v n.parts.rel) (sym d_is)
           (subst (λ q. RelIs C s d (sent es js s d) (delivered es js s d) q v n.parts.rel) (sym c_is) old));
       prefix = λ k. subst (λ X. IsPrefix X (sent es2 js2 s d)) (sym d_is) (subst (λ Y. IsPrefix (delivered es js s d) Y) (sym s_is) (h.prefix k));
-      low = subst (λ (X : List Message). acknowledged es2 js2 s d ≤ length X) (sym d_is) (subst (λ q. q ≤ length (delivered es js s d)) (sym c_is) h.low);
+      low = subst (λ (X : List Message). acknowledged arts es2 js2 s d ≤ length X) (sym d_is) (subst (λ q. q ≤ length (delivered es js s d)) (sym c_is) h.low);
       numbers = λ k. subst (AreNumbered 0) (sym s_is) (h.numbers k);
       messages = λ k w2 good src dst among.
-          subst (λ X. IsIn X w2.seq w2.payload) (sym s_is) (h.messages k w2 good src dst (subst (λ xs. is_among (encoded (bodies.Rel w2)) xs ≡ true) (signed_is s) among));
+          subst (λ X. IsIn X w2.seq w2.payload) (sym s_is) (h.messages k w2 good src dst (subst (λ xs. is_among (arts.spell (bodies.Rel w2)) xs ≡ true) (signed_is s) among));
     }
 
 -- ---- a whole run
 
 flows_on : (arts : Arts) (x : Setting) (es : List Event) (js : List Entry) (old : World) (e : Event) (j : Entry) (new : World) → SettingFits arts x → Carries arts
     → Signs arts x es js old → InRange x es e → (turn : Turn arts x es old e j new) → forged_in arts x es js old e j new turn ≡ None
-    → (s d : NodeId) → IsTrue (is_correct x d) → (s ≡ d → ⊥) → FlowsHold x s d es js old → FlowsHold x s d (es ++ e ∷ []) (js ++ j ∷ []) new
+    → (s d : NodeId) → IsTrue (is_correct x d) → (s ≡ d → ⊥) → FlowsHold arts x s d es js old → FlowsHold arts x s d (es ++ e ∷ []) (js ++ j ∷ []) new
 flows_on arts x es js old e j new fits reads signs range (Moves m) unforged s d to different h =
     let is = signs.nodes (acting e) m.node m.is_there in
-    let nothing = unforged_tag (has_forged_tag arts x old m.node m.input) (forged_object x es js m.output.answered) unforged in
+    let nothing = unforged_tag (has_forged_tag arts x old m.node m.input) (forged_object arts x es js m.output.answered) unforged in
     let me : m.after.fixed.me ≡ acting e = ap (λ (f : Fixed). f.me) ((step_stays arts m.node m.input m.output m.after m.step).fixed ∙ is.fixed) in
     moved_on arts x s d es js old new e j m signs.entries me h
-    (stepped arts x s d different fits to es js old new j e m.node (next_frame old e) m.input m.output m.after m.reaches (input_fits arts x es old m.node e m.input reads signs.bytes range m.reaches)
-    m.step m.journal is (new_known x es js m.output.answered nothing.1) h (h.nodes (acting e) m.node m.is_there))
-flows_on arts x es js old e j new fits reads signs range (Stays m) unforged s d to different h = stayed_on x s d es js old new e j signs.entries m h
+    (stepped arts x s d different fits reads.bodies to es js old new j e m.node (next_frame old e) m.input m.output m.after m.reaches (input_fits arts x es old m.node e m.input reads signs.bytes range m.reaches)
+    m.step m.journal is (new_known arts x es js m.output.answered nothing.1) h (h.nodes (acting e) m.node m.is_there))
+flows_on arts x es js old e j new fits reads signs range (Stays m) unforged s d to different h = stayed_on arts x s d es js old new e j signs.entries m h
 
 pub flows_hold : (arts : Arts) (x : Setting) (es : List Event) (js : List Entry) (w : World) → SettingFits arts x → Carries arts → Clean arts x es js w
-    → (s d : NodeId) → is_node x s ≡ true → IsTrue (is_correct x d) → (s ≡ d → ⊥) → FlowsHold x s d es js w
-flows_hold arts x es js w fits reads Starts s d from to different = starts x s d different from (first _ _ to)
+    → (s d : NodeId) → is_node x s ≡ true → IsTrue (is_correct x d) → (s ≡ d → ⊥) → FlowsHold arts x s d es js w
+flows_hold arts x es js w fits reads Starts s d from to different = starts arts x s d different from (first _ _ to)
   where
     first : (a b : Bool) → (a && b) ≡ true → a ≡ true
     first true b e = refl
@@ -281,7 +280,7 @@ first_true false b e = absurd (let f : false ≡ true = e in cc)
 
 -- the claims, and what they come from
 claims_of : (arts : Arts) (x : Setting) (es : List Event) (js : List Entry) (w : World) → SettingFits arts x → Signs arts x es js w
-    → (s d : NodeId) → IsTrue (is_node x s) → IsTrue (is_correct x d) → FlowsHold x s d es js w → FlowClaims x s d es js w
+    → (s d : NodeId) → IsTrue (is_node x s) → IsTrue (is_correct x d) → FlowsHold arts x s d es js w → FlowClaims arts x s d es js w
 claims_of arts x es js w fits signs s d from to h = record {
   base = λ u n at. (h.nodes u n at).flow.base;
   base_at_end = λ n at. (h.nodes d n at).flow.base_end refl;
@@ -298,7 +297,7 @@ claims_of arts x es js w fits signs s d from to h = record {
 }
 
 of_claims : (arts : Arts) (x : Setting) (es : List Event) (js : List Entry) (w : World) → Signs arts x es js w
-    → (s d : NodeId) → IsTrue (is_node x s) → IsTrue (is_correct x d) → (s ≡ d → ⊥) → FlowClaims x s d es js w → FlowsHold x s d es js w
+    → (s d : NodeId) → IsTrue (is_node x s) → IsTrue (is_correct x d) → (s ≡ d → ⊥) → FlowClaims arts x s d es js w → FlowsHold arts x s d es js w
 of_claims arts x es js w signs s d from to different c = record {
   nodes = λ u n at.
       let is = signs.nodes u n at in

@@ -9,8 +9,7 @@ use Rattle.std.proofs.lemmas.List.Concat.{flat_map-append}
 use Rattle.sp_base.specs.Lists.{IsPrefix}
 use Rattle.sp_base.specs.declared.id.Flow.{Flow}
 use Rattle.sp_base.specs.declared.id.NodeId.{NodeId}
-use Rattle.sp_msg.proofs.EncodedIsRead.{no_other_has_its_bytes, whole_is_read}
-use Rattle.sp_msg.specs.Bodies.{HasGoodFields, encoded, read_body}
+use Rattle.sp_msg.specs.Bodies.{HasGoodFields}
 use Rattle.sp_msg.specs.declared.body.Ack.{Ack}
 use Rattle.sp_msg.specs.declared.body.Body.{Body}
 use Rattle.sp_msg.specs.declared.body.Body.TheVariants as bodies
@@ -25,6 +24,8 @@ use Rattle.sp_rules.specs.Node.{NodeState, signed_now}
 use Rattle.sp_rules.specs.Rel.{RelState, ack_of, due, due_place, flow_at, flow_in, flow_to_me, own_flow, pushed_in, served, served_at, next_place, settled, settled_at, took}
 use Rattle.sp_rules.specs.Sends.{rel_body, rel_number}
 use Rattle.sp_rules.specs.Window.{greatest}
+use Rattle.laws_node.proofs.Spellings.{no_other_is_spelled_so}
+use Rattle.laws_node.specs.Inputs.{ReadsBack}
 use Rattle.laws_node.specs.Sizes.{Sizes}
 use Rattle.sp_runs.specs.Forgery.{is_among}
 use Rattle.sp_runs.specs.Told.{Message, delivered_by, signed_by}
@@ -37,32 +38,32 @@ use Rattle.laws_runs.proofs.Tables.{same_node}
 
 -- ---- what the effects at u say that d acknowledged
 
-abbrev pub acked_here : NodeId → NodeId → NodeId → List Effect → ℕ
-acked_here u s d es = greatest (acks_in s d (cond (u.0 == d.0) (flat_map signed_by es) []))
+abbrev pub acked_here : Arts → NodeId → NodeId → NodeId → List Effect → ℕ
+acked_here arts u s d es = greatest (acks_in arts s d (cond (u.0 == d.0) (flat_map signed_by es) []))
 
-pub record Stepped (C : Type 0) (s d : NodeId) (S T D : List Message) (c : ℕ) (u : NodeId) (es : List Effect) (r : RelState) : Type 0 where
-  pub rel : RelIs C s d (S ++ T) (D ++ told_here u s d es) (max c (acked_here u s d es)) u r
+pub record Stepped (arts : Arts) (C : Type 0) (s d : NodeId) (S T D : List Message) (c : ℕ) (u : NodeId) (es : List Effect) (r : RelState) : Type 0 where
+  pub rel : RelIs C s d (S ++ T) (D ++ told_here u s d es) (max c (acked_here arts u s d es)) u r
   pub prefix : C → IsPrefix (D ++ told_here u s d es) (S ++ T)
-  pub low : max c (acked_here u s d es) ≤ length (D ++ told_here u s d es)
+  pub low : max c (acked_here arts u s d es) ≤ length (D ++ told_here u s d es)
   pub no_t : (u ≡ s → ⊥) → T ≡ []
   pub numbers : C → AreNumbered (length S) T
-  pub messages : C → u ≡ s → (m : Rel) → HasGoodFields (bodies.Rel m) → m.src ≡ s → m.dst ≡ d → is_among (encoded (bodies.Rel m)) (flat_map signed_by es) ≡ true
+  pub messages : C → u ≡ s → (m : Rel) → HasGoodFields (bodies.Rel m) → m.src ≡ s → m.dst ≡ d → is_among (arts.spell (bodies.Rel m)) (flat_map signed_by es) ≡ true
       → IsIn (S ++ T) m.seq m.payload
 
 -- nothing of this flow is acknowledged
-pub acked_none : (u s d : NodeId) (es : List Effect) → flat_map signed_by es ≡ [] → acked_here u s d es ≡ 0
-acked_none u s d es e = elim (cases_Bool (u.0 == d.0)) [ inl t ↦ rw (t, e) refl | inr t ↦ rw t refl ]
+pub acked_none : (arts : Arts) (u s d : NodeId) (es : List Effect) → flat_map signed_by es ≡ [] → acked_here arts u s d es ≡ 0
+acked_none arts u s d es e = elim (cases_Bool (u.0 == d.0)) [ inl t ↦ rw (t, e) refl | inr t ↦ rw t refl ]
 
 -- a message that was signed is read as it is
-pub acked_one : (u s d : NodeId) (es : List Effect) (body : Body) → HasGoodFields body → flat_map signed_by es ≡ encoded body ∷ [] → u ≡ d
-    → acked_here u s d es ≡ greatest (ack_in s d (Ok body))
-acked_one u s d es body good e z =
+pub acked_one : (arts : Arts) → ReadsBack arts → (u s d : NodeId) (es : List Effect) (body : Body) → HasGoodFields body → flat_map signed_by es ≡ arts.spell body ∷ [] → u ≡ d
+    → acked_here arts u s d es ≡ greatest (ack_in s d (Ok body))
+acked_one arts reads u s d es body good e z =
     let here : (u.0 == d.0) ≡ true = eq-eqb _ _ (ap (λ (v : NodeId). v.0) z) in
-    let read : ack_in s d (read_body (encoded body)) ≡ ack_in s d (Ok body) = ap (ack_in s d) (whole_is_read body good) in
-    rw (here, e) (ap greatest (append-nil (ack_in s d (read_body (encoded body)))) ∙ ap greatest read)
+    let read : ack_in s d (arts.read (arts.spell body)) ≡ ack_in s d (Ok body) = ap (ack_in s d) (reads body good) in
+    rw (here, e) (ap greatest (append-nil (ack_in s d (arts.read (arts.spell body)))) ∙ ap greatest read)
 
-pub acked_away : (u s d : NodeId) (es : List Effect) → (u ≡ d → ⊥) → acked_here u s d es ≡ 0
-acked_away u s d es never = let away : (u.0 == d.0) ≡ false = ne_eqb _ _ (λ e. never (same_node u d e)) in rw away refl
+pub acked_away : (arts : Arts) (u s d : NodeId) (es : List Effect) → (u ≡ d → ⊥) → acked_here arts u s d es ≡ 0
+acked_away arts u s d es never = let away : (u.0 == d.0) ≡ false = ne_eqb _ _ (λ e. never (same_node u d e)) in rw away refl
 
 -- a message that isn't an acknowledgement
 abbrev pub IsNoAck : Body → Type 0
@@ -75,38 +76,38 @@ no_ack s d (bodies.Rel r) is = refl
 no_ack s d (bodies.Weight w) is = refl
 no_ack s d (bodies.Ack a) is = absurd is
 
-acked_other : (u s d : NodeId) (es : List Effect) (body : Body) → HasGoodFields body → IsNoAck body → flat_map signed_by es ≡ encoded body ∷ [] → acked_here u s d es ≡ 0
-acked_other u s d es body good is e = elim (cases_eq u.0 d.0) [
-  | inl z ↦ acked_one u s d es body good e (same_node u d z) ∙ no_ack s d body is
-  | inr never ↦ acked_away u s d es (λ z. never (ap (λ (v : NodeId). v.0) z))
+acked_other : (arts : Arts) → ReadsBack arts → (u s d : NodeId) (es : List Effect) (body : Body) → HasGoodFields body → IsNoAck body → flat_map signed_by es ≡ arts.spell body ∷ [] → acked_here arts u s d es ≡ 0
+acked_other arts reads u s d es body good is e = elim (cases_eq u.0 d.0) [
+  | inl z ↦ acked_one arts reads u s d es body good e (same_node u d z) ∙ no_ack s d body is
+  | inr never ↦ acked_away arts u s d es (λ z. never (ap (λ (v : NodeId). v.0) z))
 ]
 
 -- ---- a step of which nothing is told
 
-module _ (C : Type 0) (s d : NodeId) (S D : List Message) (c : ℕ) (u : NodeId) (different : s ≡ d → ⊥) where
-  calm : (es : List Effect) (r : RelState) → told_here u s d es ≡ [] → acked_here u s d es ≡ 0
-      → (C → u ≡ s → (m : Rel) → HasGoodFields (bodies.Rel m) → m.src ≡ s → m.dst ≡ d → is_among (encoded (bodies.Rel m)) (flat_map signed_by es) ≡ true → ⊥)
-      → RelIs C s d S D c u r → (C → IsPrefix D S) → c ≤ length D → Stepped C s d S [] D c u es r
+module _ (arts : Arts) (reads : ReadsBack arts) (C : Type 0) (s d : NodeId) (S D : List Message) (c : ℕ) (u : NodeId) (different : s ≡ d → ⊥) where
+  calm : (es : List Effect) (r : RelState) → told_here u s d es ≡ [] → acked_here arts u s d es ≡ 0
+      → (C → u ≡ s → (m : Rel) → HasGoodFields (bodies.Rel m) → m.src ≡ s → m.dst ≡ d → is_among (arts.spell (bodies.Rel m)) (flat_map signed_by es) ≡ true → ⊥)
+      → RelIs C s d S D c u r → (C → IsPrefix D S) → c ≤ length D → Stepped arts C s d S [] D c u es r
   calm es r none zero no_message h prefix low =
       let same_d : D ++ told_here u s d es ≡ D = ap (λ t. D ++ t) none ∙ append-nil D in
       let same_s : S ++ [] ≡ S = append-nil S in
-      let same_c : max c (acked_here u s d es) ≡ c = omega (arith, zero) in
+      let same_c : max c (acked_here arts u s d es) ≡ c = omega (arith, zero) in
       record {
         rel = subst (λ n. RelIs C s d (S ++ []) (D ++ told_here u s d es) n u r) (sym same_c)
             (subst (λ X. RelIs C s d (S ++ []) X c u r) (sym same_d) (subst (λ X. RelIs C s d X D c u r) (sym same_s) h));
         prefix = subst (λ X. C → IsPrefix X (S ++ [])) (sym same_d) (subst (λ X. C → IsPrefix D X) (sym same_s) prefix);
-        low = subst (λ (X : List Message). max c (acked_here u s d es) ≤ length X) (sym same_d) (omega (arith, zero, low));
+        low = subst (λ (X : List Message). max c (acked_here arts u s d es) ≤ length X) (sym same_d) (omega (arith, zero, low));
         no_t = λ never. refl;
         numbers = λ y. tt;
         messages = λ k z m good src dst among. absurd (no_message k z m good src dst among);
       }
 
   no_signature : (es : List Effect) → flat_map signed_by es ≡ [] → C → u ≡ s → (m : Rel) → HasGoodFields (bodies.Rel m) → m.src ≡ s → m.dst ≡ d
-      → is_among (encoded (bodies.Rel m)) (flat_map signed_by es) ≡ true → ⊥
+      → is_among (arts.spell (bodies.Rel m)) (flat_map signed_by es) ≡ true → ⊥
   no_signature es e k z m good src dst among = let f : false ≡ true = rw e at among in cc
 
-  pub silent : (es : List Effect) (r : RelState) → Quiet es → RelIs C s d S D c u r → (C → IsPrefix D S) → c ≤ length D → Stepped C s d S [] D c u es r
-  silent es r quiet h prefix low = calm es r (told_quiet u s d es quiet) (acked_none u s d es quiet.no_signature) (no_signature es quiet.no_signature) h prefix low
+  pub silent : (es : List Effect) (r : RelState) → Quiet es → RelIs C s d S D c u r → (C → IsPrefix D S) → c ≤ length D → Stepped arts C s d S [] D c u es r
+  silent es r quiet h prefix low = calm es r (told_quiet u s d es quiet) (acked_none arts u s d es quiet.no_signature) (no_signature es quiet.no_signature) h prefix low
 
   -- another kind of message was signed
   abbrev pub IsOther : Body → Type 0
@@ -127,24 +128,24 @@ module _ (C : Type 0) (s d : NodeId) (S D : List Message) (c : ℕ) (u : NodeId)
   other_is_no_rel (bodies.Ack a) m is e = absurd is
 
   pub signed_other : (body : Body) (es : List Effect) (r : RelState) → IsOther body → HasGoodFields body → Quiet es → RelIs C s d S D c u r → (C → IsPrefix D S) → c ≤ length D
-      → Stepped C s d S [] D c u (Signed (encoded body) ∷ es) r
+      → Stepped arts C s d S [] D c u (Signed (arts.spell body) ∷ es) r
   signed_other body es r other good quiet h prefix low =
-      let one : flat_map signed_by (Signed (encoded body) ∷ es) ≡ encoded body ∷ [] = ap (λ t. encoded body ∷ t) quiet.no_signature in
-      let none : told_here u s d (Signed (encoded body) ∷ es) ≡ [] = elim (cases_Bool (u.0 == d.0)) [ inl t ↦ rw t (quiet.no_delivery s) | inr t ↦ rw t refl ] in
-      calm (Signed (encoded body) ∷ es) r none (acked_other u s d (Signed (encoded body) ∷ es) body good (other_is_no_ack body other) one)
+      let one : flat_map signed_by (Signed (arts.spell body) ∷ es) ≡ arts.spell body ∷ [] = ap (λ t. arts.spell body ∷ t) quiet.no_signature in
+      let none : told_here u s d (Signed (arts.spell body) ∷ es) ≡ [] = elim (cases_Bool (u.0 == d.0)) [ inl t ↦ rw t (quiet.no_delivery s) | inr t ↦ rw t refl ] in
+      calm (Signed (arts.spell body) ∷ es) r none (acked_other arts reads u s d (Signed (arts.spell body) ∷ es) body good (other_is_no_ack body other) one)
       (λ k z m good_m src dst among.
-      let there : is_among (encoded (bodies.Rel m)) (encoded body ∷ []) ≡ true = subst (λ xs. is_among (encoded (bodies.Rel m)) xs ≡ true) one among in
-      elim (among_cons (encoded (bodies.Rel m)) (encoded body) [] there) [
-        | inl e ↦ other_is_no_rel body m other (no_other_has_its_bytes body (bodies.Rel m) good good_m e)
+      let there : is_among (arts.spell (bodies.Rel m)) (arts.spell body ∷ []) ≡ true = subst (λ xs. is_among (arts.spell (bodies.Rel m)) xs ≡ true) one among in
+      elim (among_cons (arts.spell (bodies.Rel m)) (arts.spell body) [] there) [
+        | inl e ↦ other_is_no_rel body m other (no_other_is_spelled_so arts reads body (bodies.Rel m) good good_m e)
         | inr f ↦ absurd (let g : false ≡ true = f in cc)
       ]) h prefix low
 
   -- ---- a client's message
 
-  pub sent_step : (k : Sizes) (n : NodeState) (dst : NodeId) (payload : List ℕ) (arts : Arts) → n.fixed.me ≡ u → HasGoodFields (rel_body n dst payload) → RelIs C s d S D c u n.parts.rel → (C → IsPrefix D S) → c ≤ length D
-      → Stepped C s d S (cond (u.0 == s.0 && dst.0 == d.0) ((rel_number n dst, payload) ∷ []) []) D c u (Signed (encoded (rel_body n dst payload)) ∷ [])
+  pub sent_step : (k : Sizes) (n : NodeState) (dst : NodeId) (payload : List ℕ) → n.fixed.me ≡ u → HasGoodFields (rel_body n dst payload) → RelIs C s d S D c u n.parts.rel → (C → IsPrefix D S) → c ≤ length D
+      → Stepped arts C s d S (cond (u.0 == s.0 && dst.0 == d.0) ((rel_number n dst, payload) ∷ []) []) D c u (Signed (arts.spell (rel_body n dst payload)) ∷ [])
       (pushed_in n.parts.rel (signed_now arts n (rel_body n dst payload)))
-  sent_step k n dst payload arts me good h prefix low =
+  sent_step k n dst payload me good h prefix low =
       let r = n.parts.rel in
       let o = signed_now arts n (rel_body n dst payload) in
       let flow = flow_said o.body in
@@ -153,12 +154,12 @@ module _ (C : Type 0) (s d : NodeId) (S D : List Message) (c : ℕ) (u : NodeId)
       let own : own_flow r dst ≡ flow = ap (λ v. flow_of v dst) (h.me ∙ sym me) in
       let m : Message = (rel_number n dst, payload) in
       let T = cond (u.0 == s.0 && dst.0 == d.0) (m ∷ []) [] in
-      let es = Signed (encoded (rel_body n dst payload)) ∷ [] in
+      let es = Signed (arts.spell (rel_body n dst payload)) ∷ [] in
       let number : rel_number n dst ≡ f.at.have + 1 = ap (λ fl. (flow_in r.flows fl).at.have + 1) own in
       let none : told_here u s d es ≡ [] = elim (cases_Bool (u.0 == d.0)) [ inl t ↦ rw t refl | inr t ↦ rw t refl ] in
-      let zero : acked_here u s d es ≡ 0 = acked_other u s d es (rel_body n dst payload) good tt refl in
+      let zero : acked_here arts u s d es ≡ 0 = acked_other arts reads u s d es (rel_body n dst payload) good tt refl in
       let same_d : D ++ told_here u s d es ≡ D ++ [] = ap (λ t. D ++ t) none in
-      let same_c : max c (acked_here u s d es) ≡ c = omega (arith, zero) in
+      let same_c : max c (acked_here arts u s d es) ≡ c = omega (arith, zero) in
       let mine : flow ≡ flow_of s d → (u ≡ s) × (T ≡ m ∷ []) =
       λ e.
       let us : u ≡ s = sym me ∙ ap (λ (x : Flow). x.src) e in
@@ -179,7 +180,7 @@ module _ (C : Type 0) (s d : NodeId) (S D : List Message) (c : ℕ) (u : NodeId)
       record {
         rel = subst (λ q. RelIs C s d (S ++ T) (D ++ told_here u s d es) q u r2) (sym same_c) (subst (λ X. RelIs C s d (S ++ T) X c u r2) (sym same_d) after);
         prefix = subst (λ X. C → IsPrefix X (S ++ T)) (sym (same_d ∙ append-nil D)) (λ y. ((prefix y).0 ++ T, ap (λ t. t ++ T) (prefix y).1 ∙ append_assoc D (prefix y).0 T));
-        low = subst (λ (X : List Message). max c (acked_here u s d es) ≤ length X) (sym (same_d ∙ append-nil D)) (omega (arith, zero, low));
+        low = subst (λ (X : List Message). max c (acked_here arts u s d es) ≤ length X) (sym (same_d ∙ append-nil D)) (omega (arith, zero, low));
         no_t = λ never. rw (ne_eqb u.0 s.0 (λ e. never (same_node u s e))) refl;
         numbers = λ y. elim (cases_flow flow (flow_of s d)) [
           | inl e ↦
@@ -188,9 +189,9 @@ module _ (C : Type 0) (s d : NodeId) (S D : List Message) (c : ℕ) (u : NodeId)
               subst (AreNumbered (length S)) (sym is.1) (omega (arith, number, have), tt)
           | inr never ↦ subst (AreNumbered (length S)) (sym (others never)) tt
         ];
-        messages = λ y z w good_w src to among. elim (among_cons (encoded (bodies.Rel w)) (encoded (rel_body n dst payload)) [] among) [
+        messages = λ y z w good_w src to among. elim (among_cons (arts.spell (bodies.Rel w)) (arts.spell (rel_body n dst payload)) [] among) [
           | inl e ↦
-              let same : rel_body n dst payload ≡ bodies.Rel w = no_other_has_its_bytes (rel_body n dst payload) (bodies.Rel w) good good_w e in
+              let same : rel_body n dst payload ≡ bodies.Rel w = no_other_is_spelled_so arts reads (rel_body n dst payload) (bodies.Rel w) good good_w e in
               let e2 : flow ≡ flow_of s d = ap flow_said same ∙ ap (λ v. flow_of v w.dst) src ∙ ap (flow_of s) to in
               let is = mine e2 in
               let q : rel_number n dst ≡ w.seq = ap number_said same in
@@ -206,21 +207,21 @@ module _ (C : Type 0) (s d : NodeId) (S D : List Message) (c : ℕ) (u : NodeId)
   -- ---- the destination's acknowledgement
 
   pub settled_step : (r : RelState) (ack : Ack) (o : Kept) (es : List Effect) → due r ≡ Some ack → o.body ≡ bodies.Ack ack → ack.dst ≡ u → HasGoodFields (bodies.Ack ack) → Quiet es
-      → RelIs C s d S D c u r → (C → IsPrefix D S) → c ≤ length D → Stepped C s d S [] D c u (es ++ Signed (encoded (bodies.Ack ack)) ∷ []) (settled r o)
+      → RelIs C s d S D c u r → (C → IsPrefix D S) → c ≤ length D → Stepped arts C s d S [] D c u (es ++ Signed (arts.spell (bodies.Ack ack)) ∷ []) (settled r o)
   settled_step r ack o es is_due body mine good quiet h prefix low =
-      let all = es ++ Signed (encoded (bodies.Ack ack)) ∷ [] in
+      let all = es ++ Signed (arts.spell (bodies.Ack ack)) ∷ [] in
       let flow = flow_said o.body in
       let f = flow_in r.flows flow in
       let said : flow ≡ flow_of ack.src ack.dst = ap flow_said body in
-      let one : flat_map signed_by all ≡ encoded (bodies.Ack ack) ∷ [] =
-      flat_map-append signed_by es (Signed (encoded (bodies.Ack ack)) ∷ []) ∙ ap (λ t. t ++ encoded (bodies.Ack ack) ∷ []) quiet.no_signature in
+      let one : flat_map signed_by all ≡ arts.spell (bodies.Ack ack) ∷ [] =
+      flat_map-append signed_by es (Signed (arts.spell (bodies.Ack ack)) ∷ []) ∙ ap (λ t. t ++ arts.spell (bodies.Ack ack) ∷ []) quiet.no_signature in
       let none : told_here u s d all ≡ [] = elim (cases_Bool (u.0 == d.0)) [
-        | inl t ↦ rw t (flat_map-append (delivered_by s) es (Signed (encoded (bodies.Ack ack)) ∷ []) ∙ ap (λ t. t ++ []) (quiet.no_delivery s))
+        | inl t ↦ rw t (flat_map-append (delivered_by s) es (Signed (arts.spell (bodies.Ack ack)) ∷ []) ∙ ap (λ t. t ++ []) (quiet.no_delivery s))
         | inr t ↦ rw t refl
       ] in
-      let no_rel : C → u ≡ s → (m : Rel) → HasGoodFields (bodies.Rel m) → m.src ≡ s → m.dst ≡ d → is_among (encoded (bodies.Rel m)) (flat_map signed_by all) ≡ true → ⊥ =
-      λ y z m good_m src dst among. elim (among_cons (encoded (bodies.Rel m)) (encoded (bodies.Ack ack)) [] (subst (λ xs. is_among (encoded (bodies.Rel m)) xs ≡ true) one among)) [
-        | inl e ↦ let same : bodies.Ack ack ≡ bodies.Rel m = no_other_has_its_bytes (bodies.Ack ack) (bodies.Rel m) good good_m e in cc
+      let no_rel : C → u ≡ s → (m : Rel) → HasGoodFields (bodies.Rel m) → m.src ≡ s → m.dst ≡ d → is_among (arts.spell (bodies.Rel m)) (flat_map signed_by all) ≡ true → ⊥ =
+      λ y z m good_m src dst among. elim (among_cons (arts.spell (bodies.Rel m)) (arts.spell (bodies.Ack ack)) [] (subst (λ xs. is_among (arts.spell (bodies.Rel m)) xs ≡ true) one among)) [
+        | inl e ↦ let same : bodies.Ack ack ≡ bodies.Rel m = no_other_is_spelled_so arts reads (bodies.Ack ack) (bodies.Rel m) good good_m e in cc
         | inr g ↦ let x : false ≡ true = g in cc
       ] in
       let seq : ack.seq ≡ (flow_in r.flows (flow_of ack.src ack.dst)).at.have = due_number r ack is_due in
@@ -230,32 +231,32 @@ module _ (C : Type 0) (s d : NodeId) (S D : List Message) (c : ℕ) (u : NodeId)
             let src : ack.src ≡ s = ap (λ (x : Flow). x.src) both in
             let dst : ack.dst ≡ d = ap (λ (x : Flow). x.dst) both in
             let ud : u ≡ d = sym mine ∙ dst in
-            let number : acked_here u s d all ≡ ack.seq =
-            acked_one u s d all (bodies.Ack ack) good one ud ∙ rw (eq-eqb ack.src.0 s.0 (ap (λ (v : NodeId). v.0) src), eq-eqb ack.dst.0 d.0 (ap (λ (v : NodeId). v.0) dst)) (omega arith) in
+            let number : acked_here arts u s d all ≡ ack.seq =
+            acked_one arts reads u s d all (bodies.Ack ack) good one ud ∙ rw (eq-eqb ack.src.0 s.0 (ap (λ (v : NodeId). v.0) src), eq-eqb ack.dst.0 d.0 (ap (λ (v : NodeId). v.0) dst)) (omega arith) in
             let have : ack.seq ≡ f.at.have = seq ∙ ap (λ fl. (flow_in r.flows fl).at.have) (sym said) in
             let here : FlowAt C s d S D c d f = subst (λ v. FlowAt C s d S D c v f) ud (subst (λ fl. FlowAt C s d S D c u (flow_in r.flows fl)) (sym e) h.flow) in
             let end = here.have_end refl in
-            let c2 : max c (acked_here u s d all) ≡ f.at.have = omega (arith, number, have, low, end) in
+            let c2 : max c (acked_here arts u s d all) ≡ f.at.have = omega (arith, number, have, low, end) in
             let not_s : d ≡ s → ⊥ = λ z. different (sym z) in
-            let at : FlowAt C s d S D (max c (acked_here u s d all)) u (concluded f o) =
-            subst (λ v. FlowAt C s d S D (max c (acked_here u s d all)) v (concluded f o)) (sym ud) (flow_concluded C s d S D c (max c (acked_here u s d all)) f o not_s low c2 here) in
-            let done = after (max c (acked_here u s d all)) (λ z. at) (λ never. absurd (never e)) in
+            let at : FlowAt C s d S D (max c (acked_here arts u s d all)) u (concluded f o) =
+            subst (λ v. FlowAt C s d S D (max c (acked_here arts u s d all)) v (concluded f o)) (sym ud) (flow_concluded C s d S D c (max c (acked_here arts u s d all)) f o not_s low c2 here) in
+            let done = after (max c (acked_here arts u s d all)) (λ z. at) (λ never. absurd (never e)) in
             record {
-              rel = subst (λ X. RelIs C s d (S ++ []) X (max c (acked_here u s d all)) u (settled r o)) (sym (ap (λ t. D ++ t) none ∙ append-nil D))
-                  (subst (λ X. RelIs C s d X D (max c (acked_here u s d all)) u (settled r o)) (sym (append-nil S)) done);
+              rel = subst (λ X. RelIs C s d (S ++ []) X (max c (acked_here arts u s d all)) u (settled r o)) (sym (ap (λ t. D ++ t) none ∙ append-nil D))
+                  (subst (λ X. RelIs C s d X D (max c (acked_here arts u s d all)) u (settled r o)) (sym (append-nil S)) done);
               prefix = subst (λ X. C → IsPrefix X (S ++ [])) (sym (ap (λ t. D ++ t) none ∙ append-nil D)) (subst (λ X. C → IsPrefix D X) (sym (append-nil S)) prefix);
-              low = subst (λ (X : List Message). max c (acked_here u s d all) ≤ length X) (sym (ap (λ t. D ++ t) none ∙ append-nil D)) (omega (arith, c2, end));
+              low = subst (λ (X : List Message). max c (acked_here arts u s d all) ≤ length X) (sym (ap (λ t. D ++ t) none ∙ append-nil D)) (omega (arith, c2, end));
               no_t = λ never. refl;
               numbers = λ y. tt;
               messages = λ y z m good_m sr ds among. absurd (no_rel y z m good_m sr ds among);
             }
         | inr never ↦
-            let zero : acked_here u s d all ≡ 0 = elim (cases_eq u.0 d.0) [
+            let zero : acked_here arts u s d all ≡ 0 = elim (cases_eq u.0 d.0) [
               | inl z ↦
                   let ud = same_node u d z in
                   let not_src : eqb ack.src.0 s.0 ≡ false = ne_eqb _ _ (λ x. never (said ∙ ap (λ v. flow_of v ack.dst) (same_node ack.src s x) ∙ ap (flow_of s) (mine ∙ ud))) in
-                  acked_one u s d all (bodies.Ack ack) good one ud ∙ rw not_src refl
-              | inr x ↦ acked_away u s d all (λ z. x (ap (λ (v : NodeId). v.0) z))
+                  acked_one arts reads u s d all (bodies.Ack ack) good one ud ∙ rw not_src refl
+              | inr x ↦ acked_away arts u s d all (λ z. x (ap (λ (v : NodeId). v.0) z))
             ] in
             calm all (settled r o) none zero no_rel (after c (λ e. absurd (never e)) (λ z. h.flow)) prefix low
       ]

@@ -6,7 +6,6 @@ use Rattle.std.proofs.lemmas.Bool.{cases_Bool, eq-eqb, eqb-true}
 use Rattle.std.proofs.lemmas.List.Concat.{flat_map-append}
 use Rattle.std.proofs.lemmas.List.Elements.{All-append, All-cons, All-head, All-nil, All-tail}
 use Rattle.sp_base.specs.declared.id.NodeId.{NodeId}
-use Rattle.sp_msg.specs.Bodies.{encoded}
 use Rattle.sp_msg.specs.Views.{signer_of}
 use Rattle.sp_msg.specs.declared.body.Body.{Body}
 use Rattle.sp_msg.specs.declared.effect.Effect.{Effect}
@@ -92,15 +91,15 @@ not_forged true true false e one two = absurd cc
 not_forged true false c e one two = absurd cc
 not_forged false b c e one two = absurd cc
 
-pub new_known : (x : Setting) (es : List Event) (js : List Entry) (answered : List (Kept × Item)) → forged_object x es js answered ≡ None
-    → NewKeep (Known x es js) answered
-new_known x es js [] e = tt
-new_known x es js (a ∷ others) e = elim (cases_Bool (is_forged x es js a)) [
-  | inl t ↦ absurd (let f : Some (encoded a.0.body) ≡ None = rw t at e in cc)
-  | inr t ↦ (λ new correct. not_forged _ _ _ t new correct, new_known x es js others (rw t at e))
+pub new_known : (arts : Arts) (x : Setting) (es : List Event) (js : List Entry) (answered : List (Kept × Item)) → forged_object arts x es js answered ≡ None
+    → NewKeep (Known arts x es js) answered
+new_known arts x es js [] e = tt
+new_known arts x es js (a ∷ others) e = elim (cases_Bool (is_forged arts x es js a)) [
+  | inl t ↦ absurd (let f : Some (arts.spell a.0.body) ≡ None = rw t at e in cc)
+  | inr t ↦ (λ new correct. not_forged _ _ _ t new correct, new_known arts x es js others (rw t at e))
 ]
 
-pub good_new : (arts : Arts) (x : Setting) (es : List Event) (js : List Entry) (answered : List (Kept × Item)) → NewKeep (Known x es js) answered
+pub good_new : (arts : Arts) (x : Setting) (es : List Event) (js : List Entry) (answered : List (Kept × Item)) → NewKeep (Known arts x es js) answered
     → NewKeep (λ o. IsTrue (is_signed arts (record { me = record { 0 = 0 }; boot = 0; topology = x.topology; signature_len = 0 }) o)) answered
     → NewKeep IsOfBytes answered → NewKeep (Good arts x es js) answered
 good_new arts x es js [] one two three = tt
@@ -113,15 +112,15 @@ new_less P Q less (a ∷ others) h = (λ new. less a.0 (h.0 new), new_less P Q l
 
 -- ---- what was signed stays signed
 
-known_more : (x : Setting) (es : List Event) (js : List Entry) (e : Event) (j : Entry) → length es ≡ length js → (o : Kept) → Known x es js o
-    → Known x (es ++ e ∷ []) (js ++ j ∷ []) o
-known_more x es js e j even o h = λ correct.
-    subst (λ these. is_among (encoded o.body) these ≡ true) (sym (told_more (told_at (signer_of o.body) signed_by) es js e j even))
-    (among_left (encoded o.body) (signed es js (signer_of o.body)) _ (h correct))
+known_more : (arts : Arts) (x : Setting) (es : List Event) (js : List Entry) (e : Event) (j : Entry) → length es ≡ length js → (o : Kept) → Known arts x es js o
+    → Known arts x (es ++ e ∷ []) (js ++ j ∷ []) o
+known_more arts x es js e j even o h = λ correct.
+    subst (λ these. is_among (arts.spell o.body) these ≡ true) (sym (told_more (told_at (signer_of o.body) signed_by) es js e j even))
+    (among_left (arts.spell o.body) (signed es js (signer_of o.body)) _ (h correct))
 
 pub good_more : (arts : Arts) (x : Setting) (es : List Event) (js : List Entry) (e : Event) (j : Entry) → length es ≡ length js → (o : Kept) → Good arts x es js o
     → Good arts x (es ++ e ∷ []) (js ++ j ∷ []) o
-good_more arts x es js e j even o h = record { known = known_more x es js e j even o h.known; right = h.right; bytes = h.bytes }
+good_more arts x es js e j even o h = record { known = known_more arts x es js e j even o h.known; right = h.right; bytes = h.bytes }
 
 -- what a step signs
 signs_it : (effects before after : List Effect) (bytes : List ℕ) → effects ≡ before ++ Signed bytes ∷ after → is_among bytes (flat_map signed_by effects) ≡ true
@@ -131,15 +130,15 @@ signs_it effects before after bytes e =
     (among_right bytes (flat_map signed_by before) (bytes ∷ flat_map signed_by after) (first_among bytes (flat_map signed_by after)))
 
 pub own_known : (arts : Arts) (x : Setting) (es : List Event) (js : List Entry) (w new : World) (e : Event) (j : Entry) (m : Move arts x es w e j new)
-    → length es ≡ length js → m.node.fixed.me ≡ acting e → (body : Body) → IsOwn m.node m.input m.output.effects body
-    → is_among (encoded body) (signed (es ++ e ∷ []) (js ++ j ∷ []) (signer_of body)) ≡ true
+    → length es ≡ length js → m.node.fixed.me ≡ acting e → (body : Body) → IsOwn arts m.node m.input m.output.effects body
+    → is_among (arts.spell body) (signed (es ++ e ∷ []) (js ++ j ∷ []) (signer_of body)) ≡ true
 own_known arts x es js w new e j m even me body own =
     let who : signer_of body ≡ acting e = own.mine ∙ me in
     let here : eqb (acting e).0 (signer_of body).0 ≡ true = eq-eqb _ _ (ap (λ (u : NodeId). u.0) (sym who)) in
-    let all : is_among (encoded body) (flat_map signed_by j.effects) ≡ true =
-    subst (λ es2. is_among (encoded body) (flat_map signed_by es2) ≡ true) (sym m.journal.effects) (signs_it m.output.effects own.before own.after (encoded body) own.told) in
-    subst (λ these. is_among (encoded body) these ≡ true) (sym (told_more (told_at (signer_of body) signed_by) es js e j even))
-    (among_right (encoded body) (signed es js (signer_of body)) _ (rw here all))
+    let all : is_among (arts.spell body) (flat_map signed_by j.effects) ≡ true =
+    subst (λ es2. is_among (arts.spell body) (flat_map signed_by es2) ≡ true) (sym m.journal.effects) (signs_it m.output.effects own.before own.after (arts.spell body) own.told) in
+    subst (λ these. is_among (arts.spell body) these ≡ true) (sym (told_more (told_at (signer_of body) signed_by) es js e j even))
+    (among_right (arts.spell body) (signed es js (signer_of body)) _ (rw here all))
 
 -- ---- the arts fit each node
 

@@ -2,7 +2,6 @@
 use Rattle.std.proofs.Common.{◌≡◌, Bool, true, false, List, refl, sym, subst}
 use Rattle.std.specs.Prelude.{◌&&◌, ◌||◌, not, IsTrue}
 use Rattle.sp_base.specs.declared.id.NodeId.{NodeId}
-use Rattle.sp_msg.specs.Bodies.{encoded}
 use Rattle.sp_msg.specs.Views.{signer_of}
 use Rattle.sp_msg.specs.declared.kept.Kept.{Kept}
 use Rattle.sp_rules.specs.Arts.{Arts}
@@ -32,8 +31,8 @@ unless false b h = refl
 
 good : (arts : Arts) (x : Setting) (es : List Event) (js : List Entry) (o : Kept) → Good arts x es js o → IsTrue (is_good_in arts x es js o)
 good arts x es js o h =
-    both (is_valid_in arts x o) (is_known_in x es js o) h.right
-    (unless (is_correct x (signer_of o.body)) (is_among (encoded o.body) (signed es js (signer_of o.body))) h.known)
+    both (is_valid_in arts x o) (is_known_in arts x es js o) h.right
+    (unless (is_correct x (signer_of o.body)) (is_among (arts.spell o.body) (signed es js (signer_of o.body))) h.known)
 
 -- the same sizes are read off the node
 pub read_off : (x : Setting) (P : Kept → Type 0) (u : NodeId) (n : NodeState) → NodeHolds (sizes_at x P u) n → NodeHolds (sizes_of P n) n

@@ -135,10 +135,10 @@ module _ (u : NodeId) where
   called (Some r) o none = refl
   called None o none = none
 
-  acks : (a : Option Ack) (r : Option SendRefused) → Unheard (ack_effects a r)
-  acks None r = refl
-  acks (Some a) (Some r) = refl
-  acks (Some a) None = refl
+  acks : (arts : Arts) (a : Option Ack) (r : Option SendRefused) → Unheard (ack_effects arts a r)
+  acks arts None r = refl
+  acks arts (Some a) (Some r) = refl
+  acks arts (Some a) None = refl
 
   step_unheard : (arts : Arts) (old new : NodeState) (input : Input) (output : Output) → NodeStep arts old input output new → old.parts.rel.me ≡ u → Unheard output.effects
   step_unheard arts old new (steps.Poll v) output step me = rw step.0 (called (call_refusal old v) (steps.replied (steps.Frame (frame_to arts old v))) refl)
@@ -146,14 +146,14 @@ module _ (u : NodeId) where
       rw step.0 (called (call_refusal old v) (steps.arrived arts old v bytes)
       (all_keep arts (arrival_at old v) old.parts (pieces_where (reply_at arts old v bytes) (pieces_in (sections_in arts old.fixed bytes))) me).1)
   step_unheard arts old new (steps.Tick now) output step me =
-      rw step.0 (none_both (expired_effects old.parts.prio (time_after old now)) (ack_effects (due old.parts.rel) (signer_refusal old.signer))
-      ((quiet_expired old.parts.prio (time_after old now)).no_delivery u) (acks (due old.parts.rel) (signer_refusal old.signer)))
-  step_unheard arts old new (steps.SendRel d payload) output step me = rw step.0 (sent (rel_refusal old d) (rel_number old d) (rel_sent old d payload) refl)
+      rw step.0 (none_both (expired_effects old.parts.prio (time_after old now)) (ack_effects arts (due old.parts.rel) (signer_refusal old.signer))
+      ((quiet_expired old.parts.prio (time_after old now)).no_delivery u) (acks arts (due old.parts.rel) (signer_refusal old.signer)))
+  step_unheard arts old new (steps.SendRel d payload) output step me = rw step.0 (sent (rel_refusal old d) (rel_number old d) (rel_sent arts old d payload) refl)
   step_unheard arts old new (steps.SendPrio m) output step me =
       rw step.output_is (sent (send_prio_refusal old m step.choice) old.parts.prio.next (prio_sent arts old m step.choice)
       ((quiet_prio old.parts.prio (own_prio arts old m step.choice) None).no_delivery u))
   step_unheard arts old new (steps.SetWeight v weight) output step me =
-      rw step.0 (sent (weight_refusal old v weight) (weight_number old v) (weight_sent old v weight) ((quiet_weight (weight_body old v weight)).no_delivery u))
+      rw step.0 (sent (weight_refusal old v weight) (weight_number old v) (weight_sent arts old v weight) ((quiet_weight (weight_body old v weight)).no_delivery u))
   step_unheard arts old new (steps.TakeRel v) output step me = rw step.0 refl
   step_unheard arts old new steps.TakePrio output step me = rw step.0 ((quiet_gone 0 Taken (oldest old.parts.prio.inbox)).no_delivery u)
 

@@ -45,10 +45,10 @@ all_three true false c h = refl
 all_three false b c h = refl
 
 nothing_new : (arts : Arts) (x : Setting) (es : List Event) (js : List Entry) (answered : List (Kept × Item)) → NewKeep (Good arts x es js) answered
-    → forged_object x es js answered ≡ None
+    → forged_object arts x es js answered ≡ None
 nothing_new arts x es js [] h = refl
 nothing_new arts x es js (a ∷ others) h =
-    let fine : is_forged x es js a ≡ false = all_three _ _ _ (λ new correct. (h.0 new).known correct) in
+    let fine : is_forged arts x es js a ≡ false = all_three _ _ _ (λ new correct. (h.0 new).known correct) in
     rw fine (nothing_new arts x es js others h.1)
 
 pub neither : (t : Bool) (o : Option (List ℕ)) → t ≡ false → o ≡ None → cond t (Some whats.Tag) (option_map whats.Object o) ≡ None
@@ -86,8 +86,8 @@ pass_unforged arts x es js w new u v number j fits reads run m =
 
 -- ---- the other events bring no objects
 
-none_answered : (x : Setting) (es : List Event) (js : List Entry) (xs : List (Kept × Item)) → xs ≡ [] → forged_object x es js xs ≡ None
-none_answered x es js xs e = ap (forged_object x es js) e
+none_answered : (arts : Arts) (x : Setting) (es : List Event) (js : List Entry) (xs : List (Kept × Item)) → xs ≡ [] → forged_object arts x es js xs ≡ None
+none_answered arts x es js xs e = ap (forged_object arts x es js) e
 
 no_send : (r : Option SendRefused) (o : Output) → o.answered ≡ [] → (refused_send r o).answered ≡ []
 no_send None o e = e
@@ -100,14 +100,14 @@ no_call (Some refused) o e = refl
 -- a step by a client, a clock or a poll
 quiet : (arts : Arts) (x : Setting) (es : List Event) (js : List Entry) (w : World) (n : NodeState) (i : Input) (output : Output) (after : NodeState) → NodeStep arts n i output after
     → ((u : NodeId) (bytes : List ℕ) → i ≡ steps.Datagram u bytes → ⊥) → forged arts x es js w n i output ≡ None
-quiet arts x es js w n (steps.Poll v) output after s other = neither false _ refl (none_answered x es js _ (ap (λ (o : Output). o.answered) s.0 ∙ no_call (call_refusal n v) _ refl))
+quiet arts x es js w n (steps.Poll v) output after s other = neither false _ refl (none_answered arts x es js _ (ap (λ (o : Output). o.answered) s.0 ∙ no_call (call_refusal n v) _ refl))
 quiet arts x es js w n (steps.Datagram u bytes) output after s other = absurd (other u bytes refl)
-quiet arts x es js w n (steps.Tick now) output after s other = neither false _ refl (none_answered x es js _ (ap (λ (o : Output). o.answered) s.0))
-quiet arts x es js w n (steps.SendRel dst p) output after s other = neither false _ refl (none_answered x es js _ (ap (λ (o : Output). o.answered) s.0 ∙ no_send (rel_refusal n dst) _ refl))
-quiet arts x es js w n (steps.SendPrio m) output after s other = neither false _ refl (none_answered x es js _ (ap (λ (o : Output). o.answered) s.output_is ∙ no_send (send_prio_refusal n m s.choice) _ refl))
-quiet arts x es js w n (steps.SetWeight v weight) output after s other = neither false _ refl (none_answered x es js _ (ap (λ (o : Output). o.answered) s.0 ∙ no_send (weight_refusal n v weight) _ refl))
-quiet arts x es js w n (steps.TakeRel src) output after s other = neither false _ refl (none_answered x es js _ (ap (λ (o : Output). o.answered) s.0))
-quiet arts x es js w n steps.TakePrio output after s other = neither false _ refl (none_answered x es js _ (ap (λ (o : Output). o.answered) s.0))
+quiet arts x es js w n (steps.Tick now) output after s other = neither false _ refl (none_answered arts x es js _ (ap (λ (o : Output). o.answered) s.0))
+quiet arts x es js w n (steps.SendRel dst p) output after s other = neither false _ refl (none_answered arts x es js _ (ap (λ (o : Output). o.answered) s.0 ∙ no_send (rel_refusal n dst) _ refl))
+quiet arts x es js w n (steps.SendPrio m) output after s other = neither false _ refl (none_answered arts x es js _ (ap (λ (o : Output). o.answered) s.output_is ∙ no_send (send_prio_refusal n m s.choice) _ refl))
+quiet arts x es js w n (steps.SetWeight v weight) output after s other = neither false _ refl (none_answered arts x es js _ (ap (λ (o : Output). o.answered) s.0 ∙ no_send (weight_refusal n v weight) _ refl))
+quiet arts x es js w n (steps.TakeRel src) output after s other = neither false _ refl (none_answered arts x es js _ (ap (λ (o : Output). o.answered) s.0))
+quiet arts x es js w n steps.TakePrio output after s other = neither false _ refl (none_answered arts x es js _ (ap (λ (o : Output). o.answered) s.0))
 
 never : (o : Option What) (what : What) → o ≡ None → o ≡ Some what → ⊥
 never o what e f = cc

@@ -6,7 +6,7 @@ use Rattle.std.proofs.lemmas.Bool.{cases_Bool}
 use Rattle.std.proofs.lemmas.List.{append-nil}
 use Rattle.sp_base.specs.declared.id.NodeId.{NodeId}
 use Rattle.sp_base.specs.declared.limits.TheConstants.{MAX_MESSAGES}
-use Rattle.sp_msg.specs.Bodies.{HasGoodFields, encoded}
+use Rattle.sp_msg.specs.Bodies.{HasGoodFields}
 use Rattle.sp_msg.specs.declared.body.Ack.{Ack}
 use Rattle.sp_msg.specs.declared.body.Body.{Body}
 use Rattle.sp_msg.specs.declared.body.Body.TheVariants as bodies
@@ -232,23 +232,23 @@ module _ (x : Setting) (arts : Arts) (fits : SettingFits arts x) (P : Kept → T
           (all_turns x.store arts (arrival_at n v) n.parts (pieces_where (reply_at arts n v bytes) (pieces_in (sections_in arts n.fixed bytes))) news h)
       go (Some refused) e f = by n output after n [] e f (still n h)
   turned n (steps.Tick now) output after step input is h =
-      by n output after (settled_by arts (at_time n now) (due n.parts.rel) (signer_refusal n.signer)) (prio.expired_effects n.parts.prio (time_after n now) ++ ack_effects (due n.parts.rel) (signer_refusal n.signer))
+      by n output after (settled_by arts (at_time n now) (due n.parts.rel) (signer_refusal n.signer)) (prio.expired_effects n.parts.prio (time_after n now) ++ ack_effects arts (due n.parts.rel) (signer_refusal n.signer))
       (ap (λ (o : Output). o.effects) step.0) step.1 (go (due n.parts.rel) (signer_refusal n.signer))
     where
-      go : (o : Option Ack) (r : Option SendRefused) → Turns x.store n.parts.prio (prio.expired_effects n.parts.prio (time_after n now) ++ ack_effects o r) (settled_by arts (at_time n now) o r).parts.prio
+      go : (o : Option Ack) (r : Option SendRefused) → Turns x.store n.parts.prio (prio.expired_effects n.parts.prio (time_after n now) ++ ack_effects arts o r) (settled_by arts (at_time n now) o r).parts.prio
       go None r = let t = expired_turns x.store n.parts.prio (time_after n now) h in
           turns_on x.store n.parts.prio (prio.expired n.parts.prio (time_after n now)) (prio.expired n.parts.prio (time_after n now)) (prio.expired_effects n.parts.prio (time_after n now)) [] t (turns_same x.store (prio.expired n.parts.prio (time_after n now)) (prio.expired n.parts.prio (time_after n now)) [] none_away refl refl t.are)
       go (Some ack) (Some refusal) = let t = expired_turns x.store n.parts.prio (time_after n now) h in
           turns_on x.store n.parts.prio (prio.expired n.parts.prio (time_after n now)) (prio.expired n.parts.prio (time_after n now)) (prio.expired_effects n.parts.prio (time_after n now)) [] t (turns_same x.store (prio.expired n.parts.prio (time_after n now)) (prio.expired n.parts.prio (time_after n now)) [] none_away refl refl t.are)
       go (Some ack) None = let t = expired_turns x.store n.parts.prio (time_after n now) h in
-          turns_on x.store n.parts.prio (prio.expired n.parts.prio (time_after n now)) (prio.expired n.parts.prio (time_after n now)) (prio.expired_effects n.parts.prio (time_after n now)) (effects.Signed (encoded (bodies.Ack ack)) ∷ []) t
-          (turns_same x.store (prio.expired n.parts.prio (time_after n now)) (prio.expired n.parts.prio (time_after n now)) (effects.Signed (encoded (bodies.Ack ack)) ∷ []) (λ place. (Signs_it, tt)) refl refl t.are)
+          turns_on x.store n.parts.prio (prio.expired n.parts.prio (time_after n now)) (prio.expired n.parts.prio (time_after n now)) (prio.expired_effects n.parts.prio (time_after n now)) (effects.Signed (arts.spell (bodies.Ack ack)) ∷ []) t
+          (turns_same x.store (prio.expired n.parts.prio (time_after n now)) (prio.expired n.parts.prio (time_after n now)) (effects.Signed (arts.spell (bodies.Ack ack)) ∷ []) (λ place. (Signs_it, tt)) refl refl t.are)
   turned n (steps.SendRel dst payload) output after step input is h = go (rel_refusal n dst) (ap (λ (o : Output). o.effects) step.0) step.1
     where
-      go : (r : Option SendRefused) → output.effects ≡ (refused_send r (accepted (rel_number n dst) (rel_sent n dst payload))).effects
+      go : (r : Option SendRefused) → output.effects ≡ (refused_send r (accepted (rel_number n dst) (rel_sent arts n dst payload))).effects
           → after ≡ kept_or r n (signed_once n (record n.parts { rel = pushed_in n.parts.rel (signed_now arts n (rel_body n dst payload)) })) → Done n output after
-      go None e f = by n output after (signed_once n (record n.parts { rel = pushed_in n.parts.rel (signed_now arts n (rel_body n dst payload)) })) (rel_sent n dst payload) e f
-          (turns_same x.store n.parts.prio n.parts.prio (rel_sent n dst payload) (λ place. (Signs_it, tt)) refl refl h)
+      go None e f = by n output after (signed_once n (record n.parts { rel = pushed_in n.parts.rel (signed_now arts n (rel_body n dst payload)) })) (rel_sent arts n dst payload) e f
+          (turns_same x.store n.parts.prio n.parts.prio (rel_sent arts n dst payload) (λ place. (Signs_it, tt)) refl refl h)
       go (Some refused) e f = by n output after n [] e f (still n h)
   turned n (steps.SendPrio m) output after step input is h = go (send_prio_refusal n m step.choice) refl (ap (λ (o : Output). o.effects) step.output_is) step.new_is
     where
@@ -259,15 +259,15 @@ module _ (x : Setting) (arts : Arts) (fits : SettingFits arts x) (P : Kept → T
           let body = prio_body n m (mask_in step.choice) in
           let o = own_prio arts n m step.choice in
           by n output after (signed_once n (record n.parts { prio = admit_prio n.parts.prio o None })) (prio_sent arts n m step.choice) e f
-          (signed_turns x.store n.parts.prio (admit_prio n.parts.prio o None) (encoded body) (prio_effects n.parts.prio o None) h
+          (signed_turns x.store n.parts.prio (admit_prio n.parts.prio o None) (arts.spell body) (prio_effects n.parts.prio o None) h
           (admitted_turns x.store n.parts.prio o None tt (small_of body tt facts.fields) h))
       go (Some refused) free e f = by n output after n [] e f (still n h)
   turned n (steps.SetWeight v weight) output after step input is h = go (weight_refusal n v weight) (ap (λ (o : Output). o.effects) step.0) step.1
     where
-      go : (r : Option SendRefused) → output.effects ≡ (refused_send r (accepted (weight_number n v) (weight_sent n v weight))).effects
+      go : (r : Option SendRefused) → output.effects ≡ (refused_send r (accepted (weight_number n v) (weight_sent arts n v weight))).effects
           → after ≡ kept_or r n (signed_once n (record n.parts { weights = held_weight n.parts.weights (signed_now arts n (weight_body n v weight)) })) → Done n output after
-      go None e f = by n output after (signed_once n (record n.parts { weights = held_weight n.parts.weights (signed_now arts n (weight_body n v weight)) })) (weight_sent n v weight) e f
-          (signed_turns x.store n.parts.prio n.parts.prio (encoded (weight_body n v weight)) (weight_effects (weight_body n v weight)) h
+      go None e f = by n output after (signed_once n (record n.parts { weights = held_weight n.parts.weights (signed_now arts n (weight_body n v weight)) })) (weight_sent arts n v weight) e f
+          (signed_turns x.store n.parts.prio n.parts.prio (arts.spell (weight_body n v weight)) (weight_effects (weight_body n v weight)) h
           (turns_same x.store n.parts.prio n.parts.prio (weight_effects (weight_body n v weight)) (weight_away (weight_body n v weight)) refl refl h))
       go (Some refused) e f = by n output after n [] e f (still n h)
   turned n (steps.TakeRel src) output after step input is h = by n output after (after_take_rel n src) [] (ap (λ (o : Output). o.effects) step.0) step.1 (still n h)

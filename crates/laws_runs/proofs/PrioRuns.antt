@@ -6,7 +6,7 @@ use Rattle.std.proofs.lemmas.Bool.{cases_Bool, cases_eq, eq-eqb, eqb-true, ne_eq
 use Rattle.std.proofs.lemmas.List.{append-nil, length-replicate, map-append}
 use Rattle.sp_base.specs.Spelling.{AreBytes}
 use Rattle.sp_base.specs.declared.id.NodeId.{NodeId}
-use Rattle.sp_msg.specs.Bodies.{HasGoodFields, encoded}
+use Rattle.sp_msg.specs.Bodies.{HasGoodFields}
 use Rattle.sp_msg.specs.Views.{signer_of}
 use Rattle.sp_msg.specs.declared.body.Body.TheVariants as bodies
 use Rattle.sp_msg.specs.declared.body.Prio.{Prio}
@@ -19,7 +19,7 @@ use Rattle.sp_rules.specs.Sends.{PrioSend, send_prio_refusal}
 use Rattle.sp_rules.specs.Steps as steps
 use Rattle.sp_rules.specs.Steps.{Input, NodeStep, Output, accepted, arrived, refused_call, refused_send, replied}
 use Rattle.sp_rules.specs.declared.node.NodeRefused.{NodeRefused}
-use Rattle.laws_node.specs.Inputs.{InputFits}
+use Rattle.laws_node.specs.Inputs.{InputFits, ReadsBack}
 use Rattle.laws_node.specs.Asked.{NewKeep}
 use Rattle.laws_node.proofs.Carried.{pieces_new}
 use Rattle.laws_node.proofs.Arrived.{step_fields}
@@ -51,24 +51,24 @@ use Rattle.laws_runs.proofs.PrioSteps.{Acted, accepted_is, datagram_done, poll_d
 
 -- ---- the invariant
 
-pub record PrioHold (x : Setting) (s d : NodeId) (es : List Event) (js : List Entry) (w : World) : Type 0 where
+pub record PrioHold (arts : Arts) (x : Setting) (s d : NodeId) (es : List Event) (js : List Entry) (w : World) : Type 0 where
   pub node : (n : NodeState) → node_in w.nodes d ≡ Some n → PrioIs s d (map (λ m. m.0) (prio_delivered es js s d)) n.parts.prio
   pub once : AreOnce (map (λ m. m.0) (prio_delivered es js s d))
   pub authentic : IsTrue (is_correct x s) → AreAmong (prio_delivered es js s d) (prio_sent es js s d)
-  pub messages : IsTrue (is_correct x s) → (b : Prio) → HasGoodFields (bodies.Prio b) → b.src ≡ s → b.dst ≡ d → is_among (encoded (bodies.Prio b)) (signed es js s) ≡ true
+  pub messages : IsTrue (is_correct x s) → (b : Prio) → HasGoodFields (bodies.Prio b) → b.src ≡ s → b.dst ≡ d → is_among (arts.spell (bodies.Prio b)) (signed es js s) ≡ true
       → IsOneOf (b.seq, b.payload) (prio_sent es js s d)
 
-vouched : (x : Setting) (s d : NodeId) (es : List Event) (js : List Entry) (w : World) → PrioHold x s d es js w → (o : Kept) → Known x es js o → HasGoodFields o.body
+vouched : (arts : Arts) (x : Setting) (s d : NodeId) (es : List Event) (js : List Entry) (w : World) → PrioHold arts x s d es js w → (o : Kept) → Known arts x es js o → HasGoodFields o.body
     → VouchedPrio (IsTrue (is_correct x s)) s d (prio_sent es js s d) o
-vouched x s d es js w h o known good = record {
+vouched arts x s d es js w h o known good = record {
   message = λ correct b is src dst.
       let signer : signer_of o.body ≡ s = ap signer_of is ∙ src in
-      let among : is_among (encoded o.body) (signed es js (signer_of o.body)) ≡ true = known (subst (λ v. IsTrue (is_correct x v)) (sym signer) correct) in
+      let among : is_among (arts.spell o.body) (signed es js (signer_of o.body)) ≡ true = known (subst (λ v. IsTrue (is_correct x v)) (sym signer) correct) in
       h.messages correct b (subst HasGoodFields is good) src dst
-      (subst (λ y. is_among (encoded y) (signed es js s) ≡ true) is (subst (λ v. is_among (encoded o.body) (signed es js v) ≡ true) signer among));
+      (subst (λ y. is_among (arts.spell y) (signed es js s) ≡ true) is (subst (λ v. is_among (arts.spell o.body) (signed es js v) ≡ true) signer among));
 }
 
-module _ (arts : Arts) (x : Setting) (s d : NodeId) (fits : SettingFits arts x) (es : List Event) (js : List Entry) (w : World) (j : Entry) where
+module _ (arts : Arts) (x : Setting) (s d : NodeId) (fits : SettingFits arts x) (reads : ReadsBack arts) (es : List Event) (js : List Entry) (w : World) (j : Entry) where
   abbrev C : Type 0
   C = IsTrue (is_correct x s)
 
@@ -81,13 +81,13 @@ module _ (arts : Arts) (x : Setting) (s d : NodeId) (fits : SettingFits arts x) 
   abbrev P : Kept → Type 0
   P = Good arts x es js
 
-  arrived_at : (v u : NodeId) (n : NodeState) (i : Input) (output : Output) (after : NodeState) → NodeStep arts n i output after → InputFits i → NodeIs x P v n → NewKeep (Known x es js) output.answered
-      → PrioHold x s d es js w → (v ≡ d → PrioIs s d told n.parts.prio) → (bytes : List ℕ) × (i ≡ steps.Datagram u bytes) → Acted C s d S [] told v after.parts.prio output.effects
+  arrived_at : (v u : NodeId) (n : NodeState) (i : Input) (output : Output) (after : NodeState) → NodeStep arts n i output after → InputFits i → NodeIs x P v n → NewKeep (Known arts x es js) output.answered
+      → PrioHold arts x s d es js w → (v ≡ d → PrioIs s d told n.parts.prio) → (bytes : List ℕ) × (i ≡ steps.Datagram u bytes) → Acted arts C s d S [] told v after.parts.prio output.effects
   arrived_at v u n i output after step input is known h at (bytes, same) =
       let moves : NodeStep arts n (steps.Datagram u bytes) output after = subst (λ y. NodeStep arts n y output after) same step in
       let are : AreBytes bytes = subst InputFits same input in
-      datagram_done C x P arts s d S told v n u bytes output after moves
-      (new_both (Known x es js) (λ o. HasGoodFields o.body) (VouchedPrio C s d S) (vouched x s d es js w h) output.answered known
+      datagram_done C x P arts reads s d S told v n u bytes output after moves
+      (new_both (Known arts x es js) (λ o. HasGoodFields o.body) (VouchedPrio C s d S) (vouched arts x s d es js w h) output.answered known
       (subst (λ (o : Output). NewKeep (λ y. HasGoodFields y.body) o.answered) (sym moves.0)
       (called_new (arrived arts n u bytes) (call_refusal n u)
       (pieces_new (λ y. HasGoodFields y.body) arts (arrival_at n u) n.parts (pieces_where (reply_at arts n u bytes) (pieces_in (sections_in arts n.fixed bytes)))
@@ -98,27 +98,27 @@ module _ (arts : Arts) (x : Setting) (s d : NodeId) (fits : SettingFits arts x) 
       called_new o (Some refused) new = tt
 
   acted : (e : Event) (n : NodeState) (number : ℕ) (i : Input) (output : Output) (after : NodeState) → input_of arts x es w n e ≡ Some i → InputFits i → NodeStep arts n i output after → Says x number output j
-      → NodeIs x P (acting e) n → NewKeep (Known x es js) output.answered → PrioHold x s d es js w → (acting e ≡ d → PrioIs s d told n.parts.prio)
-      → Acted C s d S (prio_accepted_in s d e j.reply) told (acting e) after.parts.prio output.effects
+      → NodeIs x P (acting e) n → NewKeep (Known arts x es js) output.answered → PrioHold arts x s d es js w → (acting e ≡ d → PrioIs s d told n.parts.prio)
+      → Acted arts C s d S (prio_accepted_in s d e j.reply) told (acting e) after.parts.prio output.effects
   acted (events.Prio u to a b p payload) n number i output after reaches input step says is known h at =
       let m : PrioSend = record { dst = to; prio = a; expiry = b; paths = p; payload = payload } in
       let same : i ≡ steps.SendPrio m = cc in
       let moves : NodeStep arts n (steps.SendPrio m) output after = subst (λ y. NodeStep arts n y output after) same step in
-      let told_is = accepted_is C x P arts s d u S told number m n moves.choice output j (send_prio_refusal n m moves.choice) says moves.output_is in
-      subst (λ T. Acted C s d S T told u after.parts.prio output.effects) (sym told_is) (prio_done C x P arts s d S told u n m output after moves (subst InputFits same input) is at)
+      let told_is = accepted_is C x P arts reads s d u S told number m n moves.choice output j (send_prio_refusal n m moves.choice) says moves.output_is in
+      subst (λ T. Acted arts C s d S T told u after.parts.prio output.effects) (sym told_is) (prio_done C x P arts reads s d S told u n m output after moves (subst InputFits same input) is at)
   acted (events.Rel u to payload) n number i output after reaches input step says is known h at =
       let same : i ≡ steps.SendRel to payload = cc in
-      send_done C x P arts s d S told u n to payload output after (subst (λ y. NodeStep arts n y output after) same step) (subst InputFits same input) is at
+      send_done C x P arts reads s d S told u n to payload output after (subst (λ y. NodeStep arts n y output after) same step) (subst InputFits same input) is at
   acted (events.Take v u) n number i output after reaches input step says is known h at =
-      let same : i ≡ steps.TakeRel u = cc in take_done C x P arts s d S told v n u output after (subst (λ y. NodeStep arts n y output after) same step) at
+      let same : i ≡ steps.TakeRel u = cc in take_done C x P arts reads s d S told v n u output after (subst (λ y. NodeStep arts n y output after) same step) at
   acted (events.TakePrio v) n number i output after reaches input step says is known h at =
-      let same : i ≡ steps.TakePrio = cc in takep_done C x P arts s d S told v n output after (subst (λ y. NodeStep arts n y output after) same step) at
+      let same : i ≡ steps.TakePrio = cc in takep_done C x P arts reads s d S told v n output after (subst (λ y. NodeStep arts n y output after) same step) at
   acted (events.Tick u now) n number i output after reaches input step says is known h at =
-      let same : i ≡ steps.Tick now = cc in tick_done C x P arts s d S told u n now output after (subst (λ y. NodeStep arts n y output after) same step) is at
+      let same : i ≡ steps.Tick now = cc in tick_done C x P arts reads s d S told u n now output after (subst (λ y. NodeStep arts n y output after) same step) is at
   acted (events.Weight u v weight) n number i output after reaches input step says is known h at =
-      let same : i ≡ steps.SetWeight v weight = cc in weight_done C x P arts s d S told u n v weight output after (subst (λ y. NodeStep arts n y output after) same step) (subst InputFits same input) is at
+      let same : i ≡ steps.SetWeight v weight = cc in weight_done C x P arts reads s d S told u n v weight output after (subst (λ y. NodeStep arts n y output after) same step) (subst InputFits same input) is at
   acted (events.Poll u v) n number i output after reaches input step says is known h at =
-      let same : i ≡ steps.Poll v = cc in poll_done C x P arts s d S told u n v output after (subst (λ y. NodeStep arts n y output after) same step) at
+      let same : i ≡ steps.Poll v = cc in poll_done C x P arts reads s d S told u n v output after (subst (λ y. NodeStep arts n y output after) same step) at
   acted (events.Pass u v k) n number i output after reaches input step says is known h at = arrived_at v u n i output after step input is known h at (came_bytes u (λ y. y) _ i reaches)
   acted (events.Flip u v k back bit) n number i output after reaches input step says is known h at = arrived_at v u n i output after step input is known h at (came_bytes u (flipped back bit) _ i reaches)
   acted (events.Inject u v bytes) n number i output after reaches input step says is known h at = arrived_at v u n i output after step input is known h at (bytes, cc)
@@ -148,9 +148,9 @@ abbrev numbers : List Message → List ℕ
 numbers ms = map (λ (m : Message). m.0) ms
 
 moved_on : (arts : Arts) (x : Setting) (s d : NodeId) (es : List Event) (js : List Entry) (w new : World) (e : Event) (j : Entry) (m : Move arts x es w e j new) → length es ≡ length js
-    → m.after.fixed.me ≡ acting e → PrioHold x s d es js w
-    → Acted (IsTrue (is_correct x s)) s d (prio_sent es js s d) (prio_accepted_in s d e j.reply) (numbers (prio_delivered es js s d)) (acting e) m.after.parts.prio m.output.effects
-    → PrioHold x s d (es ++ e ∷ []) (js ++ j ∷ []) new
+    → m.after.fixed.me ≡ acting e → PrioHold arts x s d es js w
+    → Acted arts (IsTrue (is_correct x s)) s d (prio_sent es js s d) (prio_accepted_in s d e j.reply) (numbers (prio_delivered es js s d)) (acting e) m.after.parts.prio m.output.effects
+    → PrioHold arts x s d (es ++ e ∷ []) (js ++ j ∷ []) new
 moved_on arts x s d es js w new e j m same me h done =
     let S = prio_sent es js s d in
     let D = prio_delivered es js s d in
@@ -180,10 +180,10 @@ moved_on arts x s d es js w new e j m same me h done =
             | inr never ↦ subst (λ t. AreAmong t (S ++ T)) (sym (off (λ y. never (ap (λ (v : NodeId). v.0) y)))) (among_more D S T (h.authentic k))
           ]));
       messages = λ k b good src dst among.
-          let split : is_among (encoded (bodies.Prio b)) (signed es js s ++ cond (u.0 == s.0) (flat_map signed_by m.output.effects) []) ≡ true =
-          subst (λ xs. is_among (encoded (bodies.Prio b)) xs ≡ true) (told_more (told_at s signed_by) es js e j same ∙ ap (λ t. signed es js s ++ t) (here_is s signed_by e j m.output.effects m.journal.effects)) among in
+          let split : is_among (arts.spell (bodies.Prio b)) (signed es js s ++ cond (u.0 == s.0) (flat_map signed_by m.output.effects) []) ≡ true =
+          subst (λ xs. is_among (arts.spell (bodies.Prio b)) xs ≡ true) (told_more (told_at s signed_by) es js e j same ∙ ap (λ t. signed es js s ++ t) (here_is s signed_by e j m.output.effects m.journal.effects)) among in
           subst (λ X. IsOneOf (b.seq, b.payload) X) (sym s_is)
-          (elim (among_or (encoded (bodies.Prio b)) (signed es js s) (cond (u.0 == s.0) (flat_map signed_by m.output.effects) []) split) [
+          (elim (among_or (arts.spell (bodies.Prio b)) (signed es js s) (cond (u.0 == s.0) (flat_map signed_by m.output.effects) []) split) [
             | inl old ↦ one_more (b.seq, b.payload) S T (h.messages k b good src dst old)
             | inr now ↦ elim (cases_Bool (u.0 == s.0)) [
               | inl t ↦ one_last (b.seq, b.payload) S T (done.messages k (same_node u s (eqb-true u.0 s.0 t)) b good src dst (rw t at now))
@@ -206,9 +206,9 @@ quiet_craft s d key (events.Flip a b c f g) j is = absurd is
 quiet_craft s d key (events.Inject a b c) j is = absurd is
 quiet_craft s d key (events.CraftStatus a b c f g i) j is = absurd is
 
-stayed_on : (x : Setting) (s d : NodeId) (es : List Event) (js : List Entry) (w new : World) (e : Event) (j : Entry) → length es ≡ length js → Spends x es w e j new → PrioHold x s d es js w
-    → PrioHold x s d (es ++ e ∷ []) (js ++ j ∷ []) new
-stayed_on x s d es js w new e j same m h =
+stayed_on : (arts : Arts) (x : Setting) (s d : NodeId) (es : List Event) (js : List Entry) (w new : World) (e : Event) (j : Entry) → length es ≡ length js → Spends x es w e j new → PrioHold arts x s d es js w
+    → PrioHold arts x s d (es ++ e ∷ []) (js ++ j ∷ []) new
+stayed_on arts x s d es js w new e j same m h =
     let es2 = es ++ e ∷ [] in
     let js2 = js ++ j ∷ [] in
     let s_is : prio_sent es2 js2 s d ≡ prio_sent es js s d =
@@ -219,13 +219,13 @@ stayed_on x s d es js w new e j same m h =
       node = λ n at. subst (λ t. PrioIs s d (numbers t) n.parts.prio) (sym d_is) (h.node n (subst (λ (y : World). node_in y.nodes d ≡ Some n) m.world at));
       once = subst (λ t. AreOnce (numbers t)) (sym d_is) h.once;
       authentic = λ k. subst (λ X. AreAmong X (prio_sent es2 js2 s d)) (sym d_is) (subst (λ Y. AreAmong (prio_delivered es js s d) Y) (sym s_is) (h.authentic k));
-      messages = λ k b good src dst among. subst (λ X. IsOneOf (b.seq, b.payload) X) (sym s_is) (h.messages k b good src dst (subst (λ xs. is_among (encoded (bodies.Prio b)) xs ≡ true) signed_is among));
+      messages = λ k b good src dst among. subst (λ X. IsOneOf (b.seq, b.payload) X) (sym s_is) (h.messages k b good src dst (subst (λ xs. is_among (arts.spell (bodies.Prio b)) xs ≡ true) signed_is among));
     }
 
 -- ---- a whole run
 
-starts : (x : Setting) (s d : NodeId) → PrioHold x s d [] [] (at_start x)
-starts x s d = record {
+starts : (arts : Arts) (x : Setting) (s d : NodeId) → PrioHold arts x s d [] [] (at_start x)
+starts arts x s d = record {
   node = λ n at.
       let is = started x (nodes_of x.topology) d n at in
       subst (λ (m : NodeState). PrioIs s d [] m.parts.prio) (sym is.0)
@@ -237,27 +237,27 @@ starts x s d = record {
 
 prio_on : (arts : Arts) (x : Setting) (es : List Event) (js : List Entry) (old : World) (e : Event) (j : Entry) (new : World) → SettingFits arts x → Carries arts
     → Signs arts x es js old → InRange x es e → (turn : Turn arts x es old e j new) → forged_in arts x es js old e j new turn ≡ None
-    → (s d : NodeId) → PrioHold x s d es js old → PrioHold x s d (es ++ e ∷ []) (js ++ j ∷ []) new
+    → (s d : NodeId) → PrioHold arts x s d es js old → PrioHold arts x s d (es ++ e ∷ []) (js ++ j ∷ []) new
 prio_on arts x es js old e j new fits reads signs range (Moves m) unforged s d h =
     let is = signs.nodes (acting e) m.node m.is_there in
-    let nothing = unforged_tag (has_forged_tag arts x old m.node m.input) (forged_object x es js m.output.answered) unforged in
+    let nothing = unforged_tag (has_forged_tag arts x old m.node m.input) (forged_object arts x es js m.output.answered) unforged in
     let me : m.after.fixed.me ≡ acting e = ap (λ (f : Fixed). f.me) ((step_stays arts m.node m.input m.output m.after m.step).fixed ∙ is.fixed) in
     moved_on arts x s d es js old new e j m signs.entries me h
-    (acted arts x s d fits es js old j e m.node (next_frame old e) m.input m.output m.after m.reaches (input_fits arts x es old m.node e m.input reads signs.bytes range m.reaches)
-    m.step m.journal is (new_known x es js m.output.answered nothing.1) h
+    (acted arts x s d fits reads.bodies es js old j e m.node (next_frame old e) m.input m.output m.after m.reaches (input_fits arts x es old m.node e m.input reads signs.bytes range m.reaches)
+    m.step m.journal is (new_known arts x es js m.output.answered nothing.1) h
     (λ z. h.node m.node (subst (λ v. node_in old.nodes v ≡ Some m.node) z m.is_there)))
-prio_on arts x es js old e j new fits reads signs range (Stays m) unforged s d h = stayed_on x s d es js old new e j signs.entries m h
+prio_on arts x es js old e j new fits reads signs range (Stays m) unforged s d h = stayed_on arts x s d es js old new e j signs.entries m h
 
-prio_hold : (arts : Arts) (x : Setting) (es : List Event) (js : List Entry) (w : World) → SettingFits arts x → Carries arts → Clean arts x es js w → (s d : NodeId) → PrioHold x s d es js w
-prio_hold arts x es js w fits reads Starts s d = starts x s d
+prio_hold : (arts : Arts) (x : Setting) (es : List Event) (js : List Entry) (w : World) → SettingFits arts x → Carries arts → Clean arts x es js w → (s d : NodeId) → PrioHold arts x s d es js w
+prio_hold arts x es js w fits reads Starts s d = starts arts x s d
 prio_hold arts x es js w fits reads (Turned {es = es'} {js = js'} {old = old} {e = e} {j = j} run range turn unforged) s d =
     prio_on arts x es' js' old e j w fits reads (signs arts x es' js' old fits reads run) range turn unforged s d (prio_hold arts x es' js' old fits reads run s d)
 
 -- the part, and what it comes from
-part_of : (x : Setting) (s d : NodeId) (es : List Event) (js : List Entry) (w : World) → PrioHold x s d es js w → PrioPart x s d es js w
-part_of x s d es js w h = record { claims = record { once = h.once; authentic = h.authentic }; seen = λ n at. (h.node n at).seen; messages = h.messages }
+part_of : (arts : Arts) (x : Setting) (s d : NodeId) (es : List Event) (js : List Entry) (w : World) → PrioHold arts x s d es js w → PrioPart arts x s d es js w
+part_of arts x s d es js w h = record { claims = record { once = h.once; authentic = h.authentic }; seen = λ n at. (h.node n at).seen; messages = h.messages }
 
-of_part : (arts : Arts) (x : Setting) (s d : NodeId) (es : List Event) (js : List Entry) (w : World) → Signs arts x es js w → PrioPart x s d es js w → PrioHold x s d es js w
+of_part : (arts : Arts) (x : Setting) (s d : NodeId) (es : List Event) (js : List Entry) (w : World) → Signs arts x es js w → PrioPart arts x s d es js w → PrioHold arts x s d es js w
 of_part arts x s d es js w signs c = record {
   node = λ n at.
       let shape = (signs.nodes d n at).shape in
@@ -274,8 +274,8 @@ of_part arts x s d es js w signs c = record {
 
 pub turns_keep_priority : TurnsKeepPriority
 turns_keep_priority arts x es js old e j new fits reads signs range turn unforged s d c =
-    part_of x s d (es ++ e ∷ []) (js ++ j ∷ []) new
+    part_of arts x s d (es ++ e ∷ []) (js ++ j ∷ []) new
     (prio_on arts x es js old e j new fits reads signs range turn unforged s d (of_part arts x s d es js old signs c))
 
 pub priority_is_kept : PriorityIsKept
-priority_is_kept arts x es js w fits reads run s d correct = (part_of x s d es js w (prio_hold arts x es js w fits reads run s d)).claims
+priority_is_kept arts x es js w fits reads run s d correct = (part_of arts x s d es js w (prio_hold arts x es js w fits reads run s d)).claims

@@ -5,8 +5,7 @@ use Rattle.std.specs.List.{flat_map}
 use Rattle.std.proofs.lemmas.Bool.{eq-eqb}
 use Rattle.std.proofs.lemmas.List.Concat.{flat_map-append}
 use Rattle.sp_base.specs.declared.id.NodeId.{NodeId}
-use Rattle.sp_msg.proofs.EncodedIsRead.{no_other_has_its_bytes}
-use Rattle.sp_msg.specs.Bodies.{HasGoodFields, encoded}
+use Rattle.sp_msg.specs.Bodies.{HasGoodFields}
 use Rattle.sp_msg.specs.declared.body.Ack.{Ack}
 use Rattle.sp_msg.specs.declared.body.Body.{Body}
 use Rattle.sp_msg.specs.declared.body.Body.TheVariants as bodies
@@ -40,8 +39,9 @@ use Rattle.sp_rules.specs.Ticks.{ack_effects, at_time, settled_by, time_after}
 use Rattle.sp_rules.specs.Weights.{held}
 use Rattle.sp_rules.specs.declared.answers.Item.TheVariants as items
 use Rattle.sp_rules.specs.declared.node.NodeRefused.{NodeRefused}
-use Rattle.laws_node.specs.Inputs.{InputFits}
+use Rattle.laws_node.specs.Inputs.{InputFits, ReadsBack}
 use Rattle.laws_node.specs.Asked.{NewKeep}
+use Rattle.laws_node.proofs.Spellings.{no_other_is_spelled_so}
 use Rattle.laws_node.proofs.Own.{either, prio_sent_fits, rel_sent_fits, weight_sent_fits}
 use Rattle.laws_node.proofs.Reliable.{due_fits}
 use Rattle.sp_runs.specs.Forgery.{is_among}
@@ -85,10 +85,10 @@ unsigned_all arts at p (piece ∷ pieces) =
 
 -- ---- the acting node's part
 
-pub record Acted (C : Type 0) (s d : NodeId) (S T : List Message) (told : List ℕ) (u : NodeId) (p : PrioState) (es : List Effect) : Type 0 where
+pub record Acted (arts : Arts) (C : Type 0) (s d : NodeId) (S T : List Message) (told : List ℕ) (u : NodeId) (p : PrioState) (es : List Effect) : Type 0 where
   pub at : u ≡ d → PrioIs s d (told ++ prio_numbers s es) p
   pub sent : u ≡ d → C → AreAmong (flat_map (prio_by s) es) S
-  pub messages : C → u ≡ s → (b : Prio) → HasGoodFields (bodies.Prio b) → b.src ≡ s → b.dst ≡ d → is_among (encoded (bodies.Prio b)) (flat_map signed_by es) ≡ true
+  pub messages : C → u ≡ s → (b : Prio) → HasGoodFields (bodies.Prio b) → b.src ≡ s → b.dst ≡ d → is_among (arts.spell (bodies.Prio b)) (flat_map signed_by es) ≡ true
       → IsOneOf (b.seq, b.payload) T
 
 abbrev pub IsNoPrio : Body → Type 0
@@ -101,10 +101,10 @@ never_prio (bodies.Rel r) b is e = cc
 never_prio (bodies.Ack r) b is e = cc
 never_prio (bodies.Weight r) b is e = cc
 
-module _ (C : Type 0) (x : Setting) (P : Kept → Type 0) (arts : Arts) (s d : NodeId) (S : List Message) (told : List ℕ) (u : NodeId) where
+module _ (C : Type 0) (x : Setting) (P : Kept → Type 0) (arts : Arts) (reads : ReadsBack arts) (s d : NodeId) (S : List Message) (told : List ℕ) (u : NodeId) where
   -- nothing was signed
   unsigned : (p p2 : PrioState) (es : List Effect) → Mute es → flat_map signed_by es ≡ [] → p2.me ≡ p.me → p2.nodes ≡ p.nodes → p2.windows ≡ p.windows → (u ≡ d → PrioIs s d told p)
-      → Acted C s d S [] told u p2 es
+      → Acted arts C s d S [] told u p2 es
   unsigned p p2 es mute none e f g h = record {
     at = λ z. (muted C s d S told p2 es mute (same_windows s d told p p2 e f g (h z))).at;
     sent = λ z k. (muted C s d S told p2 es mute (same_windows s d told p p2 e f g (h z))).sent k;
@@ -112,53 +112,53 @@ module _ (C : Type 0) (x : Setting) (P : Kept → Type 0) (arts : Arts) (s d : N
   }
 
   -- a message of another kind was signed
-  signed_other : (p p2 : PrioState) (es : List Effect) (body : Body) → Mute es → flat_map signed_by es ≡ encoded body ∷ [] → HasGoodFields body → IsNoPrio body → p2.me ≡ p.me → p2.nodes ≡ p.nodes
-      → p2.windows ≡ p.windows → (u ≡ d → PrioIs s d told p) → Acted C s d S [] told u p2 es
+  signed_other : (p p2 : PrioState) (es : List Effect) (body : Body) → Mute es → flat_map signed_by es ≡ arts.spell body ∷ [] → HasGoodFields body → IsNoPrio body → p2.me ≡ p.me → p2.nodes ≡ p.nodes
+      → p2.windows ≡ p.windows → (u ≡ d → PrioIs s d told p) → Acted arts C s d S [] told u p2 es
   signed_other p p2 es body mute one good is e f g h = record {
     at = λ z. (muted C s d S told p2 es mute (same_windows s d told p p2 e f g (h z))).at;
     sent = λ z k. (muted C s d S told p2 es mute (same_windows s d told p p2 e f g (h z))).sent k;
     messages = λ k z b good_b src dst among.
-        elim (among_cons (encoded (bodies.Prio b)) (encoded body) [] (subst (λ xs. is_among (encoded (bodies.Prio b)) xs ≡ true) one among)) [
-          | inl same ↦ absurd (never_prio body b is (no_other_has_its_bytes body (bodies.Prio b) good good_b same))
+        elim (among_cons (arts.spell (bodies.Prio b)) (arts.spell body) [] (subst (λ xs. is_among (arts.spell (bodies.Prio b)) xs ≡ true) one among)) [
+          | inl same ↦ absurd (never_prio body b is (no_other_is_spelled_so arts reads body (bodies.Prio b) good good_b same))
           | inr q ↦ absurd (let y : false ≡ true = q in cc)
         ];
   }
 
-  quietly : (n : NodeState) → (u ≡ d → PrioIs s d told n.parts.prio) → Acted C s d S [] told u n.parts.prio []
+  quietly : (n : NodeState) → (u ≡ d → PrioIs s d told n.parts.prio) → Acted arts C s d S [] told u n.parts.prio []
   quietly n h = unsigned n.parts.prio n.parts.prio [] mute_none refl refl refl refl h
 
   pub datagram_done : (n : NodeState) (v : NodeId) (bytes : List ℕ) (output : Output) (after : NodeState) → NodeStep arts n (steps.Datagram v bytes) output after → NewKeep (VouchedPrio C s d S) output.answered
-      → (u ≡ d → PrioIs s d told n.parts.prio) → Acted C s d S [] told u after.parts.prio output.effects
+      → (u ≡ d → PrioIs s d told n.parts.prio) → Acted arts C s d S [] told u after.parts.prio output.effects
   datagram_done n v bytes output after step new h =
       go (call_refusal n v) (subst (λ (o : Output). NewKeep (VouchedPrio C s d S) o.answered) step.0 new) (ap (λ (o : Output). o.effects) step.0) step.1
     where
       go : (r : Option NodeRefused) → NewKeep (VouchedPrio C s d S) (refused_call r (arrived arts n v bytes)).answered → output.effects ≡ (refused_call r (arrived arts n v bytes)).effects
-          → after ≡ kept_or r n (called n (with_link n v (link_after arts n v bytes)) (handled arts n v bytes).parts) → Acted C s d S [] told u after.parts.prio output.effects
-      go None new e f = subst (λ es. Acted C s d S [] told u after.parts.prio es) (sym e)
-          (subst (λ (m : NodeState). Acted C s d S [] told u m.parts.prio (handled arts n v bytes).effects) (sym f) (record {
+          → after ≡ kept_or r n (called n (with_link n v (link_after arts n v bytes)) (handled arts n v bytes).parts) → Acted arts C s d S [] told u after.parts.prio output.effects
+      go None new e f = subst (λ es. Acted arts C s d S [] told u after.parts.prio es) (sym e)
+          (subst (λ (m : NodeState). Acted arts C s d S [] told u m.parts.prio (handled arts n v bytes).effects) (sym f) (record {
             at = λ z. (all_handled C s d S told arts (arrival_at n v) n.parts (pieces_where (reply_at arts n v bytes) (pieces_in (sections_in arts n.fixed bytes))) new (h z)).at;
             sent = λ z k. (all_handled C s d S told arts (arrival_at n v) n.parts (pieces_where (reply_at arts n v bytes) (pieces_in (sections_in arts n.fixed bytes))) new (h z)).sent k;
             messages = λ k z b good src dst among.
                 absurd (let q : false ≡ true = rw (unsigned_all arts (arrival_at n v) n.parts (pieces_where (reply_at arts n v bytes) (pieces_in (sections_in arts n.fixed bytes)))) at among in cc);
           }))
-      go (Some refused) new e f = subst (λ es. Acted C s d S [] told u after.parts.prio es) (sym e)
-          (subst (λ (m : NodeState). Acted C s d S [] told u m.parts.prio []) (sym f) (quietly n h))
+      go (Some refused) new e f = subst (λ es. Acted arts C s d S [] told u after.parts.prio es) (sym e)
+          (subst (λ (m : NodeState). Acted arts C s d S [] told u m.parts.prio []) (sym f) (quietly n h))
 
-  pub poll_done : (n : NodeState) (v : NodeId) (output : Output) (after : NodeState) → NodeStep arts n (steps.Poll v) output after → (u ≡ d → PrioIs s d told n.parts.prio) → Acted C s d S [] told u after.parts.prio output.effects
+  pub poll_done : (n : NodeState) (v : NodeId) (output : Output) (after : NodeState) → NodeStep arts n (steps.Poll v) output after → (u ≡ d → PrioIs s d told n.parts.prio) → Acted arts C s d S [] told u after.parts.prio output.effects
   poll_done n v output after step h = go (call_refusal n v) (ap (λ (o : Output). o.effects) step.0) step.1
     where
       go : (r : Option NodeRefused) → output.effects ≡ (refused_call r (replied (steps.Frame (frame_to arts n v)))).effects
-          → after ≡ kept_or r n (called n (with_link n v (advanced (link_in n v))) (polled n.fixed n.parts v)) → Acted C s d S [] told u after.parts.prio output.effects
-      go None e f = subst (λ es. Acted C s d S [] told u after.parts.prio es) (sym e)
-          (subst (λ (m : NodeState). Acted C s d S [] told u m.parts.prio []) (sym f) (unsigned n.parts.prio (prio.carried n.parts.prio v.0) [] mute_none refl refl refl refl h))
-      go (Some refused) e f = subst (λ es. Acted C s d S [] told u after.parts.prio es) (sym e)
-          (subst (λ (m : NodeState). Acted C s d S [] told u m.parts.prio []) (sym f) (quietly n h))
+          → after ≡ kept_or r n (called n (with_link n v (advanced (link_in n v))) (polled n.fixed n.parts v)) → Acted arts C s d S [] told u after.parts.prio output.effects
+      go None e f = subst (λ es. Acted arts C s d S [] told u after.parts.prio es) (sym e)
+          (subst (λ (m : NodeState). Acted arts C s d S [] told u m.parts.prio []) (sym f) (unsigned n.parts.prio (prio.carried n.parts.prio v.0) [] mute_none refl refl refl refl h))
+      go (Some refused) e f = subst (λ es. Acted arts C s d S [] told u after.parts.prio es) (sym e)
+          (subst (λ (m : NodeState). Acted arts C s d S [] told u m.parts.prio []) (sym f) (quietly n h))
 
   pub tick_done : (n : NodeState) (now : ℕ) (output : Output) (after : NodeState) → NodeStep arts n (steps.Tick now) output after → NodeIs x P u n → (u ≡ d → PrioIs s d told n.parts.prio)
-      → Acted C s d S [] told u after.parts.prio output.effects
+      → Acted arts C s d S [] told u after.parts.prio output.effects
   tick_done n now output after step is h =
-      subst (λ es. Acted C s d S [] told u after.parts.prio es) (sym (ap (λ (o : Output). o.effects) step.0))
-      (subst (λ (m : NodeState). Acted C s d S [] told u m.parts.prio (expired_effects n.parts.prio (time_after n now) ++ ack_effects (due n.parts.rel) (signer_refusal n.signer))) (sym step.1) (go (due n.parts.rel) refl (signer_refusal n.signer)))
+      subst (λ es. Acted arts C s d S [] told u after.parts.prio es) (sym (ap (λ (o : Output). o.effects) step.0))
+      (subst (λ (m : NodeState). Acted arts C s d S [] told u m.parts.prio (expired_effects n.parts.prio (time_after n now) ++ ack_effects arts (due n.parts.rel) (signer_refusal n.signer))) (sym step.1) (go (due n.parts.rel) refl (signer_refusal n.signer)))
     where
       mute : Mute (expired_effects n.parts.prio (time_after n now))
       mute = mute_expired n.parts.prio (time_after n now)
@@ -169,42 +169,42 @@ module _ (C : Type 0) (x : Setting) (P : Kept → Type 0) (arts : Arts) (s d : N
       plain : flat_map signed_by (expired_effects n.parts.prio (time_after n now) ++ []) ≡ []
       plain = flat_map-append signed_by (expired_effects n.parts.prio (time_after n now)) [] ∙ rw none refl
 
-      go : (o : Option Ack) → due n.parts.rel ≡ o → (r : Option SendRefused) → Acted C s d S [] told u (settled_by arts (at_time n now) o r).parts.prio (expired_effects n.parts.prio (time_after n now) ++ ack_effects o r)
+      go : (o : Option Ack) → due n.parts.rel ≡ o → (r : Option SendRefused) → Acted arts C s d S [] told u (settled_by arts (at_time n now) o r).parts.prio (expired_effects n.parts.prio (time_after n now) ++ ack_effects arts o r)
       go None is_due r = unsigned n.parts.prio (prio.expired n.parts.prio (time_after n now)) _ (mute_append _ [] mute mute_none) plain refl refl refl h
       go (Some ack) is_due (Some refusal) = unsigned n.parts.prio (prio.expired n.parts.prio (time_after n now)) _ (mute_append _ [] mute mute_none) plain refl refl refl h
       go (Some ack) is_due None =
           let facts = due_fits (sizes_at x P u) n.signer.index n.parts.rel ack is_due is.holds.parts.rel in
-          signed_other n.parts.prio (prio.expired n.parts.prio (time_after n now)) _ (bodies.Ack ack) (mute_append _ (Signed (encoded (bodies.Ack ack)) ∷ []) mute (mute_signed (encoded (bodies.Ack ack)) [] mute_none))
-          (flat_map-append signed_by (expired_effects n.parts.prio (time_after n now)) (Signed (encoded (bodies.Ack ack)) ∷ []) ∙ rw none refl) facts.fields tt refl refl refl h
+          signed_other n.parts.prio (prio.expired n.parts.prio (time_after n now)) _ (bodies.Ack ack) (mute_append _ (Signed (arts.spell (bodies.Ack ack)) ∷ []) mute (mute_signed (arts.spell (bodies.Ack ack)) [] mute_none))
+          (flat_map-append signed_by (expired_effects n.parts.prio (time_after n now)) (Signed (arts.spell (bodies.Ack ack)) ∷ []) ∙ rw none refl) facts.fields tt refl refl refl h
 
   pub send_done : (n : NodeState) (dst : NodeId) (payload : List ℕ) (output : Output) (after : NodeState) → NodeStep arts n (steps.SendRel dst payload) output after → InputFits (steps.SendRel dst payload) → NodeIs x P u n
-      → (u ≡ d → PrioIs s d told n.parts.prio) → Acted C s d S [] told u after.parts.prio output.effects
+      → (u ≡ d → PrioIs s d told n.parts.prio) → Acted arts C s d S [] told u after.parts.prio output.effects
   send_done n dst payload output after step short is h = go (rel_refusal n dst) refl (ap (λ (o : Output). o.effects) step.0) step.1
     where
-      go : (r : Option SendRefused) → rel_refusal n dst ≡ r → output.effects ≡ (refused_send r (accepted (rel_number n dst) (rel_sent n dst payload))).effects
-          → after ≡ kept_or r n (signed_once n (record n.parts { rel = pushed_in n.parts.rel (signed_now arts n (rel_body n dst payload)) })) → Acted C s d S [] told u after.parts.prio output.effects
+      go : (r : Option SendRefused) → rel_refusal n dst ≡ r → output.effects ≡ (refused_send r (accepted (rel_number n dst) (rel_sent arts n dst payload))).effects
+          → after ≡ kept_or r n (signed_once n (record n.parts { rel = pushed_in n.parts.rel (signed_now arts n (rel_body n dst payload)) })) → Acted arts C s d S [] told u after.parts.prio output.effects
       go None free e f =
           let facts = rel_sent_fits (sizes_at x P u) n dst payload short free is.holds in
-          subst (λ es. Acted C s d S [] told u after.parts.prio es) (sym e)
-          (subst (λ (m : NodeState). Acted C s d S [] told u m.parts.prio (rel_sent n dst payload)) (sym f)
-          (signed_other n.parts.prio n.parts.prio (rel_sent n dst payload) (rel_body n dst payload) (mute_signed _ [] mute_none) refl facts.fields tt refl refl refl h))
-      go (Some refused) free e f = subst (λ es. Acted C s d S [] told u after.parts.prio es) (sym e)
-          (subst (λ (m : NodeState). Acted C s d S [] told u m.parts.prio []) (sym f) (quietly n h))
+          subst (λ es. Acted arts C s d S [] told u after.parts.prio es) (sym e)
+          (subst (λ (m : NodeState). Acted arts C s d S [] told u m.parts.prio (rel_sent arts n dst payload)) (sym f)
+          (signed_other n.parts.prio n.parts.prio (rel_sent arts n dst payload) (rel_body n dst payload) (mute_signed _ [] mute_none) refl facts.fields tt refl refl refl h))
+      go (Some refused) free e f = subst (λ es. Acted arts C s d S [] told u after.parts.prio es) (sym e)
+          (subst (λ (m : NodeState). Acted arts C s d S [] told u m.parts.prio []) (sym f) (quietly n h))
 
   pub weight_done : (n : NodeState) (v : NodeId) (weight : ℕ) (output : Output) (after : NodeState) → NodeStep arts n (steps.SetWeight v weight) output after → InputFits (steps.SetWeight v weight) → NodeIs x P u n
-      → (u ≡ d → PrioIs s d told n.parts.prio) → Acted C s d S [] told u after.parts.prio output.effects
+      → (u ≡ d → PrioIs s d told n.parts.prio) → Acted arts C s d S [] told u after.parts.prio output.effects
   weight_done n v weight output after step sizes is h = go (weight_refusal n v weight) refl (ap (λ (o : Output). o.effects) step.0) step.1
     where
-      go : (r : Option SendRefused) → weight_refusal n v weight ≡ r → output.effects ≡ (refused_send r (accepted (weight_number n v) (weight_sent n v weight))).effects
-          → after ≡ kept_or r n (signed_once n (record n.parts { weights = held n.parts.weights (signed_now arts n (weight_body n v weight)) })) → Acted C s d S [] told u after.parts.prio output.effects
+      go : (r : Option SendRefused) → weight_refusal n v weight ≡ r → output.effects ≡ (refused_send r (accepted (weight_number n v) (weight_sent arts n v weight))).effects
+          → after ≡ kept_or r n (signed_once n (record n.parts { weights = held n.parts.weights (signed_now arts n (weight_body n v weight)) })) → Acted arts C s d S [] told u after.parts.prio output.effects
       go None free e f =
           let facts = weight_sent_fits (sizes_at x P u) n v weight sizes.0 sizes.1 free is.holds in
-          subst (λ es. Acted C s d S [] told u after.parts.prio es) (sym e)
-          (subst (λ (m : NodeState). Acted C s d S [] told u m.parts.prio (weight_sent n v weight)) (sym f)
-          (signed_other n.parts.prio n.parts.prio (weight_sent n v weight) (weight_body n v weight) (mute_signed _ (weight_effects (weight_body n v weight)) (mute_weight (weight_body n v weight)))
-          (ap (λ t. encoded (weight_body n v weight) ∷ t) (quiet_weight (weight_body n v weight)).no_signature) facts.fields tt refl refl refl h))
-      go (Some refused) free e f = subst (λ es. Acted C s d S [] told u after.parts.prio es) (sym e)
-          (subst (λ (m : NodeState). Acted C s d S [] told u m.parts.prio []) (sym f) (quietly n h))
+          subst (λ es. Acted arts C s d S [] told u after.parts.prio es) (sym e)
+          (subst (λ (m : NodeState). Acted arts C s d S [] told u m.parts.prio (weight_sent arts n v weight)) (sym f)
+          (signed_other n.parts.prio n.parts.prio (weight_sent arts n v weight) (weight_body n v weight) (mute_signed _ (weight_effects (weight_body n v weight)) (mute_weight (weight_body n v weight)))
+          (ap (λ t. arts.spell (weight_body n v weight) ∷ t) (quiet_weight (weight_body n v weight)).no_signature) facts.fields tt refl refl refl h))
+      go (Some refused) free e f = subst (λ es. Acted arts C s d S [] told u after.parts.prio es) (sym e)
+          (subst (λ (m : NodeState). Acted arts C s d S [] told u m.parts.prio []) (sym f) (quietly n h))
 
   -- a client's priority message
   abbrev sent_now : NodeState → PrioSend → List Message
@@ -219,14 +219,14 @@ module _ (C : Type 0) (x : Setting) (P : Kept → Type 0) (arts : Arts) (s d : N
   first_false false b q o e = refl
 
   pub prio_done : (n : NodeState) (m : PrioSend) (output : Output) (after : NodeState) (step : NodeStep arts n (steps.SendPrio m) output after) → InputFits (steps.SendPrio m) → NodeIs x P u n
-      → (u ≡ d → PrioIs s d told n.parts.prio) → Acted C s d S (sent_if (send_prio_refusal n m step.choice) n m) told u after.parts.prio output.effects
+      → (u ≡ d → PrioIs s d told n.parts.prio) → Acted arts C s d S (sent_if (send_prio_refusal n m step.choice) n m) told u after.parts.prio output.effects
   prio_done n m output after step sizes is h = go (send_prio_refusal n m step.choice) refl (ap (λ (o : Output). o.effects) step.output_is) step.new_is
     where
       me : n.fixed.me ≡ u
       me = ap (λ (f : Fixed). f.me) is.fixed
 
       go : (r : Option SendRefused) → send_prio_refusal n m step.choice ≡ r → output.effects ≡ (refused_send r (accepted n.parts.prio.next (prio_told arts n m step.choice))).effects
-          → after ≡ kept_or r n (signed_once n (record n.parts { prio = admit_prio n.parts.prio (own_prio arts n m step.choice) None })) → Acted C s d S (sent_if r n m) told u after.parts.prio output.effects
+          → after ≡ kept_or r n (signed_once n (record n.parts { prio = admit_prio n.parts.prio (own_prio arts n m step.choice) None })) → Acted arts C s d S (sent_if r n m) told u after.parts.prio output.effects
       go None free e f =
           let both = either (prio_refusal n m) (no_paths step.choice) free in
           let facts = prio_sent_fits (sizes_at x P u) n m step.choice sizes free (step.is_choice both.0) is.holds in
@@ -235,18 +235,18 @@ module _ (C : Type 0) (x : Setting) (P : Kept → Type 0) (arts : Arts) (s d : N
           let body = prio_body n m (mask_in step.choice) in
           let other : (m.dst.0 == n.fixed.me.0) ≡ false = first_false _ _ _ _ both.0 in
           let away : is_here p o.body ≡ false = ap (λ k. m.dst.0 == k) (is.holds.parts.prio.me ∙ ap (λ (v : NodeId). v.0) (sym me)) ∙ other in
-          let mute : Mute (prio_told arts n m step.choice) = mute_signed (encoded body) (prio_effects p o None) (mute_own p o away) in
-          let one : flat_map signed_by (prio_told arts n m step.choice) ≡ encoded body ∷ [] = ap (λ t. encoded body ∷ t) (quiet_prio p o None).no_signature in
+          let mute : Mute (prio_told arts n m step.choice) = mute_signed (arts.spell body) (prio_effects p o None) (mute_own p o away) in
+          let one : flat_map signed_by (prio_told arts n m step.choice) ≡ arts.spell body ∷ [] = ap (λ t. arts.spell body ∷ t) (quiet_prio p o None).no_signature in
           let same = spread_same (marked p o.body None) o None in
           let there : u ≡ d → PrioIs s d told (admit_prio p o None) = λ z. marks s d told p (admit_prio p o None) n.fixed.me.0 p.next same.0 same.1 same.2 (h z) in
-          subst (λ es. Acted C s d S (sent_now n m) told u after.parts.prio es) (sym e)
-          (subst (λ (y : NodeState). Acted C s d S (sent_now n m) told u y.parts.prio (prio_told arts n m step.choice)) (sym f) (record {
+          subst (λ es. Acted arts C s d S (sent_now n m) told u after.parts.prio es) (sym e)
+          (subst (λ (y : NodeState). Acted arts C s d S (sent_now n m) told u y.parts.prio (prio_told arts n m step.choice)) (sym f) (record {
             at = λ z. (muted C s d S told (admit_prio p o None) (prio_told arts n m step.choice) mute (there z)).at;
             sent = λ z k. (muted C s d S told (admit_prio p o None) (prio_told arts n m step.choice) mute (there z)).sent k;
             messages = λ k z b good_b src dst among.
-                elim (among_cons (encoded (bodies.Prio b)) (encoded body) [] (subst (λ xs. is_among (encoded (bodies.Prio b)) xs ≡ true) one among)) [
+                elim (among_cons (arts.spell (bodies.Prio b)) (arts.spell body) [] (subst (λ xs. is_among (arts.spell (bodies.Prio b)) xs ≡ true) one among)) [
                   | inl is_it ↦
-                      let bodies_are : body ≡ bodies.Prio b = no_other_has_its_bytes body (bodies.Prio b) facts.fields good_b is_it in
+                      let bodies_are : body ≡ bodies.Prio b = no_other_is_spelled_so arts reads body (bodies.Prio b) facts.fields good_b is_it in
                       let number : p.next ≡ b.seq = ap (said (λ r. r.seq)) bodies_are in
                       let to : m.dst.0 ≡ b.dst.0 = ap (said (λ r. r.dst.0)) bodies_are in
                       let payload : m.payload ≡ b.payload = cc in
@@ -255,18 +255,18 @@ module _ (C : Type 0) (x : Setting) (P : Kept → Type 0) (arts : Arts) (s d : N
                   | inr q ↦ absurd (let y : false ≡ true = q in cc)
                 ];
           }))
-      go (Some refused) free e f = subst (λ es. Acted C s d S [] told u after.parts.prio es) (sym e)
-          (subst (λ (y : NodeState). Acted C s d S [] told u y.parts.prio []) (sym f) (quietly n h))
+      go (Some refused) free e f = subst (λ es. Acted arts C s d S [] told u after.parts.prio es) (sym e)
+          (subst (λ (y : NodeState). Acted arts C s d S [] told u y.parts.prio []) (sym f) (quietly n h))
 
-  pub take_done : (n : NodeState) (src : NodeId) (output : Output) (after : NodeState) → NodeStep arts n (steps.TakeRel src) output after → (u ≡ d → PrioIs s d told n.parts.prio) → Acted C s d S [] told u after.parts.prio output.effects
+  pub take_done : (n : NodeState) (src : NodeId) (output : Output) (after : NodeState) → NodeStep arts n (steps.TakeRel src) output after → (u ≡ d → PrioIs s d told n.parts.prio) → Acted arts C s d S [] told u after.parts.prio output.effects
   take_done n src output after step h =
-      subst (λ es. Acted C s d S [] told u after.parts.prio es) (sym (ap (λ (o : Output). o.effects) step.0))
-      (subst (λ (m : NodeState). Acted C s d S [] told u m.parts.prio []) (sym step.1) (quietly n h))
+      subst (λ es. Acted arts C s d S [] told u after.parts.prio es) (sym (ap (λ (o : Output). o.effects) step.0))
+      (subst (λ (m : NodeState). Acted arts C s d S [] told u m.parts.prio []) (sym step.1) (quietly n h))
 
-  pub takep_done : (n : NodeState) (output : Output) (after : NodeState) → NodeStep arts n steps.TakePrio output after → (u ≡ d → PrioIs s d told n.parts.prio) → Acted C s d S [] told u after.parts.prio output.effects
+  pub takep_done : (n : NodeState) (output : Output) (after : NodeState) → NodeStep arts n steps.TakePrio output after → (u ≡ d → PrioIs s d told n.parts.prio) → Acted arts C s d S [] told u after.parts.prio output.effects
   takep_done n output after step h =
-      subst (λ es. Acted C s d S [] told u after.parts.prio es) (sym (ap (λ (o : Output). o.effects) step.0))
-      (subst (λ (m : NodeState). Acted C s d S [] told u m.parts.prio (gone 0 Taken (oldest n.parts.prio.inbox))) (sym step.1)
+      subst (λ es. Acted arts C s d S [] told u after.parts.prio es) (sym (ap (λ (o : Output). o.effects) step.0))
+      (subst (λ (m : NodeState). Acted arts C s d S [] told u m.parts.prio (gone 0 Taken (oldest n.parts.prio.inbox))) (sym step.1)
       (unsigned n.parts.prio (prio.taken n.parts.prio) (gone 0 Taken (oldest n.parts.prio.inbox)) (mute_gone 0 Taken (oldest n.parts.prio.inbox)) (quiet_gone 0 Taken (oldest n.parts.prio.inbox)).no_signature refl refl refl h))
 
 -- ---- what a step tells of a client's message
@@ -281,12 +281,12 @@ not_accepted s d from to a b c payload refusals.BadEnd reply e = absurd (cc)
 not_accepted s d from to a b c payload (refusals.NotReserved bound) reply e = absurd (cc)
 not_accepted s d from to a b c payload refusals.Memory reply e = absurd (cc)
 
-pub accepted_is : (C : Type 0) (x : Setting) (P : Kept → Type 0) (arts : Arts) (s d from : NodeId) (S : List Message) (told : List ℕ) (number : ℕ) (m : PrioSend) (n : NodeState) (choice : Choice) (output : Output) (j : Entry) (r : Option SendRefused)
+pub accepted_is : (C : Type 0) (x : Setting) (P : Kept → Type 0) (arts : Arts) (reads : ReadsBack arts) (s d from : NodeId) (S : List Message) (told : List ℕ) (number : ℕ) (m : PrioSend) (n : NodeState) (choice : Choice) (output : Output) (j : Entry) (r : Option SendRefused)
     → Says x number output j → output ≡ refused_send r (accepted n.parts.prio.next (prio_told arts n m choice))
-    → prio_accepted_in s d (events.Prio from m.dst m.prio m.expiry m.paths m.payload) j.reply ≡ sent_if C x P arts s d S told from r n m
-accepted_is C x P arts s d from S told number m n choice output j None says e =
+    → prio_accepted_in s d (events.Prio from m.dst m.prio m.expiry m.paths m.payload) j.reply ≡ sent_if C x P arts reads s d S told from r n m
+accepted_is C x P arts reads s d from S told number m n choice output j None says e =
     let word : Some (replies.Accepted n.parts.prio.next) ≡ Some j.reply = sym (ap (λ (o : Output). reply_word x number o.reply) e) ∙ says.reply in
     let is : replies.Accepted n.parts.prio.next ≡ j.reply = cc in
     subst (λ q. prio_accepted_in s d (events.Prio from m.dst m.prio m.expiry m.paths m.payload) q ≡ cond (from.0 == s.0 && m.dst.0 == d.0) ((n.parts.prio.next, m.payload) ∷ []) []) is refl
-accepted_is C x P arts s d from S told number m n choice output j (Some refused) says e =
+accepted_is C x P arts reads s d from S told number m n choice output j (Some refused) says e =
     not_accepted s d from m.dst m.prio m.expiry m.paths m.payload refused j.reply (sym (ap (λ (o : Output). reply_word x number o.reply) e) ∙ says.reply)

@@ -5,7 +5,7 @@ use Rattle.std.specs.List.{All}
 use Rattle.std.proofs.lemmas.List.Elements.{All-head, All-tail}
 use Rattle.sp_base.specs.declared.id.Flow.{Flow}
 use Rattle.sp_base.specs.declared.id.NodeId.{NodeId}
-use Rattle.sp_msg.specs.Bodies.{HasGoodFields, encoded, payload_of}
+use Rattle.sp_msg.specs.Bodies.{HasGoodFields, payload_of}
 use Rattle.sp_msg.specs.Views.{signer_of}
 use Rattle.sp_msg.specs.declared.body.Body.{Body}
 use Rattle.sp_msg.specs.declared.body.Body.TheVariants as bodies
@@ -29,7 +29,7 @@ use Rattle.laws_runs.specs.Signs.{Good, NodeIs, sizes_at}
 use Rattle.laws_runs.proofs.FlowFacts.{flow_of}
 use Rattle.laws_runs.proofs.Flows.{FlowsHold}
 
-module _ (arts : Arts) (x : Setting) (s d : NodeId) (es : List Event) (js : List Entry) (w : World) (h : FlowsHold x s d es js w) (correct : IsTrue (is_correct x s)) where
+module _ (arts : Arts) (x : Setting) (s d : NodeId) (es : List Event) (js : List Entry) (w : World) (h : FlowsHold arts x s d es js w) (correct : IsTrue (is_correct x s)) where
   -- a message that is kept was sent under its number
   one_sent : (flow : Flow) (number : ℕ) (o : Kept) → flow ≡ flow_of s d → IsMessage flow number o.body → HasGoodFields o.body → Good arts x es js o
       → IsIn (sent es js s d) number (payload_of o.body)
@@ -40,11 +40,11 @@ module _ (arts : Arts) (x : Setting) (s d : NodeId) (es : List Event) (js : List
           let src : m.src ≡ s = is.0 ∙ ap (λ (f : Flow). f.src) same in
           let dst : m.dst ≡ d = is.1 ∙ ap (λ (f : Flow). f.dst) same in
           let signer : signer_of o.body ≡ s = ap signer_of body ∙ src in
-          let known : is_among (encoded o.body) (signed es js s) ≡ true =
-          subst (λ (v : NodeId). is_among (encoded o.body) (signed es js v) ≡ true) signer
+          let known : is_among (arts.spell o.body) (signed es js s) ≡ true =
+          subst (λ (v : NodeId). is_among (arts.spell o.body) (signed es js v) ≡ true) signer
           (good.known (subst (λ (v : NodeId). IsTrue (is_correct x v)) (sym signer) correct)) in
           subst (λ q. IsIn (sent es js s d) q m.payload) is.2
-          (h.messages correct m fields src dst (subst (λ (b : Body). is_among (encoded b) (signed es js s) ≡ true) body known))
+          (h.messages correct m fields src dst (subst (λ (b : Body). is_among (arts.spell b) (signed es js s) ≡ true) body known))
       go (bodies.Prio m) body is fields = absurd is
       go (bodies.Ack m) body is fields = absurd is
       go (bodies.Weight m) body is fields = absurd is
@@ -58,7 +58,7 @@ module _ (arts : Arts) (x : Setting) (s d : NodeId) (es : List Event) (js : List
         list_sent u flow (after + 1) os same are.1 (All-tail (Fits (sizes_at x (Good arts x es js) u)) o os all),
       )
 
-pub lists_sent : (arts : Arts) (x : Setting) (s d : NodeId) (es : List Event) (js : List Entry) (w : World) → SettingFits arts x → FlowsHold x s d es js w
+pub lists_sent : (arts : Arts) (x : Setting) (s d : NodeId) (es : List Event) (js : List Entry) (w : World) → SettingFits arts x → FlowsHold arts x s d es js w
     → IsTrue (is_correct x s) → is_node x s ≡ true → is_node x d ≡ true → (u : NodeId) (n : NodeState) → NodeIs x (Good arts x es js) u n
     → AreSent (sent es js s d) (flow_at n s d).at.base (flow_at n s d).at.list
 lists_sent arts x s d es js w fits h correct from to u n is =

@@ -7,7 +7,6 @@ use Rattle.sp_base.specs.Spelling.{AreBytes}
 use Rattle.sp_base.specs.declared.id.NodeId.{NodeId}
 use Rattle.sp_frame.specs.Sections.{Contents}
 use Rattle.sp_frame.specs.declared.refused.SectionRefused.{SectionRefused}
-use Rattle.sp_msg.specs.Bodies.{encoded}
 use Rattle.sp_msg.specs.declared.kept.Kept.{Kept}
 use Rattle.sp_rules.specs.Arrivals.{arrival_at, pieces_in, pieces_where, reply_at, sections_in}
 use Rattle.sp_rules.specs.Arts.{Arts}
@@ -83,7 +82,7 @@ new_bytes arts n steps.TakePrio output after carries are s = none_new _ output.a
 
 -- the acting node keeps what it keeps
 acted : (arts : Arts) (x : Setting) (es : List Event) (js : List Entry) (w new : World) (e : Event) (j : Entry) (m : Move arts x es w e j new)
-    → SettingFits arts x → Carries arts → InputFits m.input → AreBytes (payload_in m.input) → length es ≡ length js → forged_object x es js m.output.answered ≡ None
+    → SettingFits arts x → Carries arts → InputFits m.input → AreBytes (payload_in m.input) → length es ≡ length js → forged_object arts x es js m.output.answered ≡ None
     → NodeIs x (Good arts x es js) (acting e) m.node → NodeIs x (Good arts x (es ++ e ∷ []) (js ++ j ∷ [])) (acting e) m.after
 acted arts x es js w new e j m fits carries reach asked same unforged is =
     let P = Good arts x es js in
@@ -94,12 +93,12 @@ acted arts x es js w new e j m fits carries reach asked same unforged is =
     let me : m.node.fixed.me ≡ acting e = ap (λ (f : Fixed). f.me) is.fixed in
     let signed_new : NewKeep (λ o. IsTrue (is_signed arts (fixed_of x (acting e)) o)) m.output.answered =
     subst (λ (f : Fixed). NewKeep (λ o. IsTrue (is_signed arts f o)) m.output.answered) is.fixed (step_new arts m.node m.input m.output m.after m.step) in
-    let news = new_less P Q more m.output.answered (good_new arts x es js m.output.answered (new_known x es js m.output.answered unforged) signed_new
+    let news = new_less P Q more m.output.answered (good_new arts x es js m.output.answered (new_known arts x es js m.output.answered unforged) signed_new
     (new_bytes arts m.node m.input m.output m.after carries reach m.step)) in
     let owns : OwnKeep arts Q m.node m.input m.output.effects = λ body own. record {
       known = λ correct. own_known arts x es js w new e j m same me body own;
       right = subst (λ (f : Fixed). IsTrue (is_signed arts f (signed_now arts m.node body))) is.fixed (own_is_signed arts m.node body fit own.left own.mine);
-      bytes = (subst AreBytes (sym own.payload) asked, carries.signatures m.node.fixed.topology.height m.node.signer.seed m.node.signer.index (encoded body));
+      bytes = (subst AreBytes (sym own.payload) asked, carries.signatures m.node.fixed.topology.height m.node.signer.seed m.node.signer.index (arts.spell body));
     } in
     record {
       correct = is.correct;
@@ -210,7 +209,7 @@ turns_keep_signs arts x es' js' old e j new fits reads h range (Moves m) unforge
     let P = Good arts x es' js' in
     let Q = Good arts x (es' ++ e ∷ []) (js' ++ j ∷ []) in
     let more = good_more arts x es' js' e j same in
-    let nothing = unforged_tag (has_forged_tag arts x old m.node m.input) (forged_object x es' js' m.output.answered) unforged in
+    let nothing = unforged_tag (has_forged_tag arts x old m.node m.input) (forged_object arts x es' js' m.output.answered) unforged in
     let is = h.nodes (acting e) m.node m.is_there in
     let asked = payload_fits arts x es' old m.node e m.input range m.reaches in
     let done = acted arts x es' js' old new e j m fits reads reach asked same nothing.1 is in

@@ -44,14 +44,14 @@ record Stepped (arts : Arts) (n : NodeState) (input : Input) : Type 0 where
 stepped : (arts : Arts) (n : NodeState) (input : Input) → Choosable n input → Stepped arts n input
 stepped arts n (steps.Poll v) c = record { output = steps.poll_output arts n v; after = after_poll n v; step = (refl, refl) }
 stepped arts n (steps.Datagram v bytes) c = record { output = steps.datagram_output arts n v bytes; after = after_datagram arts n v bytes; step = (refl, refl) }
-stepped arts n (steps.Tick now) c = record { output = steps.tick_output n now; after = after_tick arts n now; step = (refl, refl) }
-stepped arts n (steps.SendRel dst payload) c = record { output = steps.send_rel_output n dst payload; after = after_send_rel arts n dst payload; step = (refl, refl) }
+stepped arts n (steps.Tick now) c = record { output = steps.tick_output arts n now; after = after_tick arts n now; step = (refl, refl) }
+stepped arts n (steps.SendRel dst payload) c = record { output = steps.send_rel_output arts n dst payload; after = after_send_rel arts n dst payload; step = (refl, refl) }
 stepped arts n (steps.SendPrio m) c = record {
   output = steps.send_prio_output arts n m c.0;
   after = after_send_prio arts n m c.0;
   step = record { choice = c.0; is_choice = λ free. c.1; output_is = refl; new_is = refl };
 }
-stepped arts n (steps.SetWeight v weight) c = record { output = steps.set_weight_output n v weight; after = after_set_weight arts n v weight; step = (refl, refl) }
+stepped arts n (steps.SetWeight v weight) c = record { output = steps.set_weight_output arts n v weight; after = after_set_weight arts n v weight; step = (refl, refl) }
 stepped arts n (steps.TakeRel src) c =
     record { output = steps.replied (steps.Payload (rel.oldest n.parts.rel src)); after = after_take_rel n src; step = (refl, refl) }
 stepped arts n steps.TakePrio c = record { output = steps.take_prio_output n; after = after_take_prio n; step = (refl, refl) }

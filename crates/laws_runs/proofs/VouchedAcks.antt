@@ -3,7 +3,6 @@ use Rattle.std.proofs.Common.{◌≡◌, ◌≤◌, ℕ, true, List, Some, refl,
 use Rattle.std.specs.Prelude.{IfSome, IsTrue}
 use Rattle.sp_base.specs.declared.id.Flow.{Flow}
 use Rattle.sp_base.specs.declared.id.NodeId.{NodeId}
-use Rattle.sp_msg.specs.Bodies.{encoded}
 use Rattle.sp_msg.specs.Views.{signer_of}
 use Rattle.sp_msg.specs.declared.body.Body.{Body}
 use Rattle.sp_msg.specs.declared.body.Body.TheVariants as bodies
@@ -29,10 +28,10 @@ use Rattle.laws_runs.proofs.FlowFacts.{flow_of}
 module _ (arts : Arts) (x : Setting) (s d : NodeId) (es : List Event) (js : List Entry) (correct : IsTrue (is_correct x d)) where
   -- what is kept is an acknowledgement of the flow, so d signed it
   one_vouched : (f : FlowState) (o : Kept) → f.ack ≡ Some o → number_said o.body ≡ f.at.base → ends f ≡ flow_of s d
-      → (u : NodeId) → AckKept (sizes_at x (Good arts x es js) u) (ends f) o → IsVouchedFor s d es js f
+      → (u : NodeId) → AckKept (sizes_at x (Good arts x es js) u) (ends f) o → IsVouchedFor arts s d es js f
   one_vouched f o kept number same u is = go o.body refl is.kind number
     where
-      go : (body : Body) → o.body ≡ body → IsAckOf (ends f) body → number_said body ≡ f.at.base → IsVouchedFor s d es js f
+      go : (body : Body) → o.body ≡ body → IsAckOf (ends f) body → number_said body ≡ f.at.base → IsVouchedFor arts s d es js f
       go (bodies.Ack a) body kind number =
           let src : a.src ≡ s = kind.0 ∙ ap (λ (g : Flow). g.src) same in
           let dst : a.dst ≡ d = kind.1 ∙ ap (λ (g : Flow). g.dst) same in
@@ -44,7 +43,7 @@ module _ (arts : Arts) (x : Setting) (s d : NodeId) (es : List Event) (js : List
             body = body ∙ ap (λ (v : NodeId). bodies.Ack (record { src = v; dst = a.dst; seq = a.seq })) src
                 ∙ ap (λ (v : NodeId). bodies.Ack (record { src = s; dst = v; seq = a.seq })) dst
                 ∙ ap (λ (q : ℕ). bodies.Ack (record { src = s; dst = d; seq = q })) number;
-            signed = subst (λ (v : NodeId). is_among (encoded o.body) (signed es js v) ≡ true) signer
+            signed = subst (λ (v : NodeId). is_among (arts.spell o.body) (signed es js v) ≡ true) signer
                 (good.known (subst (λ (v : NodeId). IsTrue (is_correct x v)) (sym signer) correct));
           }
       go (bodies.Prio m) body kind number = absurd kind
@@ -52,7 +51,7 @@ module _ (arts : Arts) (x : Setting) (s d : NodeId) (es : List Event) (js : List
       go (bodies.Weight m) body kind number = absurd kind
 
 pub vouched : (arts : Arts) (x : Setting) (s d : NodeId) (es : List Event) (js : List Entry) → SettingFits arts x → is_node x s ≡ true → is_node x d ≡ true → IsTrue (is_correct x d)
-    → (u : NodeId) (n : NodeState) → NodeIs x (Good arts x es js) u n → RelAck n.parts.rel → 1 ≤ (flow_at n s d).at.base → IsVouchedFor s d es js (flow_at n s d)
+    → (u : NodeId) (n : NodeState) → NodeIs x (Good arts x es js) u n → RelAck n.parts.rel → 1 ≤ (flow_at n s d).at.base → IsVouchedFor arts s d es js (flow_at n s d)
 vouched arts x s d es js fits from to correct u n is acks some =
     let k = sizes_at x (Good arts x es js) u in
     let nodes = nodes_hold x.topology.height 0 x.topology.nodes fits.topology.nodes in

@@ -5,7 +5,6 @@ use Rattle.std.specs.List.{slice_get}
 use Rattle.std.proofs.lemmas.Bool.{cases_Bool, eq-eqb, eqb-true, ne_eqb}
 use Rattle.std.proofs.lemmas.List.{append-nil, length-replicate}
 use Rattle.sp_base.specs.declared.id.NodeId.{NodeId}
-use Rattle.sp_msg.specs.Bodies.{encoded}
 use Rattle.sp_msg.specs.Views.{signer_of}
 use Rattle.sp_msg.specs.declared.body.Body.TheVariants as bodies
 use Rattle.sp_msg.specs.declared.body.WeightBody.{WeightBody}
@@ -42,30 +41,30 @@ use Rattle.laws_runs.proofs.WeightSteps.{last_weight, last_both, each_both, each
 
 -- ---- a whole run
 
-pub record WeightsHold (x : Setting) (es : List Event) (js : List JournalEntry) (w : World) : Type 0 where
+pub record WeightsHold (arts : Arts) (x : Setting) (es : List Event) (js : List JournalEntry) (w : World) : Type 0 where
   pub rows : (u : NodeId) (n : NodeState) → node_in w.nodes u ≡ Some n → HasRows n.parts.weights
   pub edges : (u : NodeId) (n : NodeState) → node_in w.nodes u ≡ Some n → n.parts.weights.edges ≡ x.topology.edges
   pub last : (u : NodeId) (n : NodeState) (edge : ℕ) (end : NodeId) (row : ℕ) → node_in w.nodes u ≡ Some n → At n.parts.weights edge end.0 row
       → row_said n.parts.weights row ≡ last_weight edge end 0 (effects_at es js u)
-  pub said : (u : NodeId) → EachHeld (IsSaid x es js) (effects_at es js u)
+  pub said : (u : NodeId) → EachHeld (IsSaid arts x es js) (effects_at es js u)
 
-said_more : (x : Setting) (es : List Event) (js : List JournalEntry) (e : Event) (j : JournalEntry) → length es ≡ length js → (u : WeightBody) → IsSaid x es js u → IsSaid x (es ++ e ∷ []) (js ++ j ∷ []) u
-said_more x es js e j same u h = λ correct.
-    subst (λ these. is_among (encoded (bodies.Weight u)) these ≡ true) (sym (told_more (told_at u.origin signed_by) es js e j same)) (among_left (encoded (bodies.Weight u)) (signed es js u.origin) _ (h correct))
+said_more : (arts : Arts) (x : Setting) (es : List Event) (js : List JournalEntry) (e : Event) (j : JournalEntry) → length es ≡ length js → (u : WeightBody) → IsSaid arts x es js u → IsSaid arts x (es ++ e ∷ []) (js ++ j ∷ []) u
+said_more arts x es js e j same u h = λ correct.
+    subst (λ these. is_among (arts.spell (bodies.Weight u)) these ≡ true) (sym (told_more (told_at u.origin signed_by) es js e j same)) (among_left (arts.spell (bodies.Weight u)) (signed es js u.origin) _ (h correct))
 
-known_weights : (x : Setting) (es : List Event) (js : List JournalEntry) (Q : WeightBody → Type 0) → ((u : WeightBody) → IsSaid x es js u → Q u) → (answered : List (Kept × Item)) → NewKeep (Known x es js) answered
+known_weights : (arts : Arts) (x : Setting) (es : List Event) (js : List JournalEntry) (Q : WeightBody → Type 0) → ((u : WeightBody) → IsSaid arts x es js u → Q u) → (answered : List (Kept × Item)) → NewKeep (Known arts x es js) answered
     → NewKeep (λ o. (u : WeightBody) → o.body ≡ bodies.Weight u → Q u) answered
-known_weights x es js Q less [] h = tt
-known_weights x es js Q less (a ∷ others) h = (
+known_weights arts x es js Q less [] h = tt
+known_weights arts x es js Q less (a ∷ others) h = (
   λ new u is. less u (λ correct.
       let signer : signer_of a.0.body ≡ u.origin = ap signer_of is in
-      let among : is_among (encoded a.0.body) (signed es js (signer_of a.0.body)) ≡ true = h.0 new (subst (λ v. IsTrue (is_correct x v)) (sym signer) correct) in
-      subst (λ b. is_among (encoded b) (signed es js u.origin) ≡ true) is (subst (λ v. is_among (encoded a.0.body) (signed es js v) ≡ true) signer among)),
-  known_weights x es js Q less others h.1,
+      let among : is_among (arts.spell a.0.body) (signed es js (signer_of a.0.body)) ≡ true = h.0 new (subst (λ v. IsTrue (is_correct x v)) (sym signer) correct) in
+      subst (λ b. is_among (arts.spell b) (signed es js u.origin) ≡ true) is (subst (λ v. is_among (arts.spell a.0.body) (signed es js v) ≡ true) signer among)),
+  known_weights arts x es js Q less others h.1,
 )
 
 moved_on : (arts : Arts) (x : Setting) (es : List Event) (js : List JournalEntry) (w new : World) (e : Event) (j : JournalEntry) (m : Move arts x es w e j new) → length es ≡ length js
-    → m.after.fixed.me ≡ acting e → WeightsHold x es js w → WTurns (IsSaid x (es ++ e ∷ []) (js ++ j ∷ [])) m.node.parts.weights m.output.effects m.after.parts.weights → WeightsHold x (es ++ e ∷ []) (js ++ j ∷ []) new
+    → m.after.fixed.me ≡ acting e → WeightsHold arts x es js w → WTurns (IsSaid arts x (es ++ e ∷ []) (js ++ j ∷ [])) m.node.parts.weights m.output.effects m.after.parts.weights → WeightsHold arts x (es ++ e ∷ []) (js ++ j ∷ []) new
 moved_on arts x es js w new e j m same me h turns =
     let es2 = es ++ e ∷ [] in
     let js2 = js ++ j ∷ [] in
@@ -96,14 +95,14 @@ moved_on arts x es js w new e j m same me h turns =
       said = λ u. elim (cases_Bool (a.0 == u.0)) [
         | inl t ↦
             let is : a ≡ u = same_node a u (eqb-true a.0 u.0 t) in
-            subst (λ v. EachHeld (IsSaid x es2 js2) (effects_at es2 js2 v)) is (subst (EachHeld (IsSaid x es2 js2)) (sym acted)
-            (each_both (IsSaid x es2 js2) (effects_at es js a) m.output.effects (each_less (IsSaid x es js) (IsSaid x es2 js2) (said_more x es js e j same) (effects_at es js a) (h.said a)) turns.each))
-        | inr t ↦ subst (EachHeld (IsSaid x es2 js2)) (sym (other u t)) (each_less (IsSaid x es js) (IsSaid x es2 js2) (said_more x es js e j same) (effects_at es js u) (h.said u))
+            subst (λ v. EachHeld (IsSaid arts x es2 js2) (effects_at es2 js2 v)) is (subst (EachHeld (IsSaid arts x es2 js2)) (sym acted)
+            (each_both (IsSaid arts x es2 js2) (effects_at es js a) m.output.effects (each_less (IsSaid arts x es js) (IsSaid arts x es2 js2) (said_more arts x es js e j same) (effects_at es js a) (h.said a)) turns.each))
+        | inr t ↦ subst (EachHeld (IsSaid arts x es2 js2)) (sym (other u t)) (each_less (IsSaid arts x es js) (IsSaid arts x es2 js2) (said_more arts x es js e j same) (effects_at es js u) (h.said u))
       ];
     }
 
-stayed_on : (x : Setting) (es : List Event) (js : List JournalEntry) (w new : World) (e : Event) (j : JournalEntry) → length es ≡ length js → Spends x es w e j new → WeightsHold x es js w → WeightsHold x (es ++ e ∷ []) (js ++ j ∷ []) new
-stayed_on x es js w new e j same m h =
+stayed_on : (arts : Arts) (x : Setting) (es : List Event) (js : List JournalEntry) (w new : World) (e : Event) (j : JournalEntry) → length es ≡ length js → Spends x es w e j new → WeightsHold arts x es js w → WeightsHold arts x (es ++ e ∷ []) (js ++ j ∷ []) new
+stayed_on arts x es js w new e j same m h =
     let es2 = es ++ e ∷ [] in
     let js2 = js ++ j ∷ [] in
     let all : (u : NodeId) → effects_at es2 js2 u ≡ effects_at es js u =
@@ -113,11 +112,11 @@ stayed_on x es js w new e j same m h =
       rows = λ u n at. h.rows u n (back u n at);
       edges = λ u n at. h.edges u n (back u n at);
       last = λ u n edge end row at there. h.last u n edge end row (back u n at) there ∙ ap (last_weight edge end 0) (sym (all u));
-      said = λ u. subst (EachHeld (IsSaid x es2 js2)) (sym (all u)) (each_less (IsSaid x es js) (IsSaid x es2 js2) (said_more x es js e j same) (effects_at es js u) (h.said u));
+      said = λ u. subst (EachHeld (IsSaid arts x es2 js2)) (sym (all u)) (each_less (IsSaid arts x es js) (IsSaid arts x es2 js2) (said_more arts x es js e j same) (effects_at es js u) (h.said u));
     }
 
-starts : (x : Setting) → WeightsHold x [] [] (at_start x)
-starts x = record {
+starts : (arts : Arts) (x : Setting) → WeightsHold arts x [] [] (at_start x)
+starts arts x = record {
   rows = λ u n at. subst (λ (y : NodeState). HasRows y.parts.weights) (sym (started x (nodes_of x.topology) u n at).0) (record { rows = length-replicate (2 * length x.topology.edges) None });
   edges = λ u n at. ap (λ (y : NodeState). y.parts.weights.edges) (started x (nodes_of x.topology) u n at).0;
   last = λ u n edge end row at there. ap (λ (y : NodeState). row_said y.parts.weights row) (started x (nodes_of x.topology) u n at).0 ∙ nothing_held (2 * length x.topology.edges) row;
@@ -126,34 +125,34 @@ starts x = record {
 
 weights_on : (arts : Arts) (x : Setting) (es : List Event) (js : List JournalEntry) (old : World) (e : Event) (j : JournalEntry) (new : World) → SettingFits arts x → Carries arts
     → Signs arts x es js old → InRange x es e → (turn : Turn arts x es old e j new) → forged_in arts x es js old e j new turn ≡ None
-    → WeightsHold x es js old → WeightsHold x (es ++ e ∷ []) (js ++ j ∷ []) new
+    → WeightsHold arts x es js old → WeightsHold arts x (es ++ e ∷ []) (js ++ j ∷ []) new
 weights_on arts x es js old e j new fits reads signs range (Moves m) unforged h =
     let same = signs.entries in
     let is = signs.nodes (acting e) m.node m.is_there in
-    let nothing = unforged_tag (has_forged_tag arts x old m.node m.input) (forged_object x es js m.output.answered) unforged in
+    let nothing = unforged_tag (has_forged_tag arts x old m.node m.input) (forged_object arts x es js m.output.answered) unforged in
     let before : m.node.fixed.me ≡ acting e = ap (λ (f : Fixed). f.me) is.fixed in
     let me : m.after.fixed.me ≡ acting e = ap (λ (f : Fixed). f.me) ((step_stays arts m.node m.input m.output m.after m.step).fixed ∙ is.fixed) in
-    let Q = IsSaid x (es ++ e ∷ []) (js ++ j ∷ []) in
+    let Q = IsSaid arts x (es ++ e ∷ []) (js ++ j ∷ []) in
     moved_on arts x es js old new e j m same me h
     (turned x arts (Good arts x es js) Q (acting e) m.node m.input m.output m.after m.step (input_fits arts x es old m.node e m.input reads signs.bytes range m.reaches) is
-    (known_weights x es js Q (said_more x es js e j same) m.output.answered (new_known x es js m.output.answered nothing.1))
+    (known_weights arts x es js Q (said_more arts x es js e j same) m.output.answered (new_known arts x es js m.output.answered nothing.1))
     (λ u own correct. own_known arts x es js old new e j m same before (bodies.Weight u) own) (h.rows (acting e) m.node m.is_there))
-weights_on arts x es js old e j new fits reads signs range (Stays m) unforged h = stayed_on x es js old new e j signs.entries m h
+weights_on arts x es js old e j new fits reads signs range (Stays m) unforged h = stayed_on arts x es js old new e j signs.entries m h
 
-weights_hold : (arts : Arts) (x : Setting) (es : List Event) (js : List JournalEntry) (w : World) → SettingFits arts x → Carries arts → Clean arts x es js w → WeightsHold x es js w
-weights_hold arts x es js w fits reads Starts = starts x
+weights_hold : (arts : Arts) (x : Setting) (es : List Event) (js : List JournalEntry) (w : World) → SettingFits arts x → Carries arts → Clean arts x es js w → WeightsHold arts x es js w
+weights_hold arts x es js w fits reads Starts = starts arts x
 weights_hold arts x es js w fits reads (Turned {es = es'} {js = js'} {old = old} {e = e} {j = j} run range turn unforged) =
     weights_on arts x es' js' old e j w fits reads (signs arts x es' js' old fits reads run) range turn unforged (weights_hold arts x es' js' old fits reads run)
 
 -- the part, and what it comes from
-part_of : (x : Setting) (es : List Event) (js : List JournalEntry) (w : World) → WeightsHold x es js w → WeightPart x es js w
-part_of x es js w h = record {
+part_of : (arts : Arts) (x : Setting) (es : List Event) (js : List JournalEntry) (w : World) → WeightsHold arts x es js w → WeightPart arts x es js w
+part_of arts x es js w h = record {
   last = λ u n edge e end row at there placed.
       h.last u n edge end row at (record { joined = e; there = ap (λ (es : List Edge). slice_get es edge) (h.edges u n at) ∙ there; placed = placed });
   said = h.said;
 }
 
-of_part : (arts : Arts) (x : Setting) (es : List Event) (js : List JournalEntry) (w : World) → Signs arts x es js w → WeightPart x es js w → WeightsHold x es js w
+of_part : (arts : Arts) (x : Setting) (es : List Event) (js : List JournalEntry) (w : World) → Signs arts x es js w → WeightPart arts x es js w → WeightsHold arts x es js w
 of_part arts x es js w signs c = record {
   rows = λ u n at. let shape = (signs.nodes u n at).shape in record {
     rows = ap (λ (s : Shape). s.weights.rows) shape ∙ ap (λ (es : List Edge). 2 * length es) (sym (ap (λ (s : Shape). s.weights.edges) shape));
@@ -165,7 +164,7 @@ of_part arts x es js w signs c = record {
   said = c.said;
 }
 
-claims_of : (arts : Arts) (x : Setting) (es : List Event) (js : List JournalEntry) (w : World) → SettingFits arts x → WeightsHold x es js w → WeightClaims x es js w
+claims_of : (arts : Arts) (x : Setting) (es : List Event) (js : List JournalEntry) (w : World) → SettingFits arts x → WeightsHold arts x es js w → WeightClaims arts x es js w
 claims_of arts x es js w fits h = record {
   effective_is = λ u n edge e at there.
       let s = n.parts.weights in
@@ -186,7 +185,7 @@ claims_of arts x es js w fits h = record {
 pub turns_keep_weights : TurnsKeepWeights
 turns_keep_weights = record {
   turn = λ arts x es js old e j new fits reads signs range turn unforged c.
-      part_of x (es ++ e ∷ []) (js ++ j ∷ []) new (weights_on arts x es js old e j new fits reads signs range turn unforged (of_part arts x es js old signs c));
+      part_of arts x (es ++ e ∷ []) (js ++ j ∷ []) new (weights_on arts x es js old e j new fits reads signs range turn unforged (of_part arts x es js old signs c));
   claims = λ arts x es js w fits signs c. claims_of arts x es js w fits (of_part arts x es js w signs c);
 }
 

@@ -5,7 +5,6 @@ use Rattle.std.specs.Option.{option_and_then}
 use Rattle.std.specs.List.{flat_map, slice_get}
 use Rattle.std.proofs.lemmas.Bool.{cases_Bool}
 use Rattle.sp_base.specs.declared.id.NodeId.{NodeId}
-use Rattle.sp_msg.specs.Bodies.{encoded}
 use Rattle.sp_msg.specs.declared.body.Ack.{Ack}
 use Rattle.sp_msg.specs.declared.body.Body.{Body}
 use Rattle.sp_msg.specs.declared.body.Body.TheVariants as bodies
@@ -284,7 +283,7 @@ module _ (x : Setting) (arts : Arts) (K : Kept → Type 0) (P : WeightBody → T
   plain n es none h = w_same P n.parts.weights n.parts.weights es none refl refl h
 
   pub turned : (n : NodeState) (i : Input) (output : Output) (after : NodeState) → NodeStep arts n i output after → InputFits i → NodeIs x K u n → NewKeep (λ o. (v : WeightBody) → o.body ≡ bodies.Weight v → P v) output.answered
-      → ((v : WeightBody) → IsOwn n i output.effects (bodies.Weight v) → P v) → HasRows n.parts.weights → Done n output after
+      → ((v : WeightBody) → IsOwn arts n i output.effects (bodies.Weight v) → P v) → HasRows n.parts.weights → Done n output after
   turned n (steps.Poll v) output after step input is new own h = go (call_refusal n v) (ap (λ (o : Output). o.effects) step.0) step.1
     where
       go : (r : Option NodeRefused) → output.effects ≡ (refused_call r (replied (steps.Frame (frame_to arts n v)))).effects
@@ -299,41 +298,41 @@ module _ (x : Setting) (arts : Arts) (K : Kept → Type 0) (P : WeightBody → T
           (all_turns P arts (arrival_at n v) n.parts (pieces_where (reply_at arts n v bytes) (pieces_in (sections_in arts n.fixed bytes))) new h)
       go (Some refused) new e f = by n output after n [] e f (plain n [] no_none h)
   turned n (steps.Tick now) output after step input is new own h =
-      by n output after (settled_by arts (at_time n now) (due n.parts.rel) (signer_refusal n.signer)) (prio.expired_effects n.parts.prio (time_after n now) ++ ack_effects (due n.parts.rel) (signer_refusal n.signer))
+      by n output after (settled_by arts (at_time n now) (due n.parts.rel) (signer_refusal n.signer)) (prio.expired_effects n.parts.prio (time_after n now) ++ ack_effects arts (due n.parts.rel) (signer_refusal n.signer))
       (ap (λ (o : Output). o.effects) step.0) step.1 (go (due n.parts.rel) (signer_refusal n.signer))
     where
-      go : (o : Option Ack) (r : Option SendRefused) → WTurns P n.parts.weights (prio.expired_effects n.parts.prio (time_after n now) ++ ack_effects o r) (settled_by arts (at_time n now) o r).parts.weights
+      go : (o : Option Ack) (r : Option SendRefused) → WTurns P n.parts.weights (prio.expired_effects n.parts.prio (time_after n now) ++ ack_effects arts o r) (settled_by arts (at_time n now) o r).parts.weights
       go None r = w_same P n.parts.weights n.parts.weights _ (no_both _ [] (no_expired n.parts.prio (time_after n now)) no_none) refl refl h
       go (Some ack) (Some refusal) = w_same P n.parts.weights n.parts.weights _ (no_both _ [] (no_expired n.parts.prio (time_after n now)) no_none) refl refl h
-      go (Some ack) None = w_same P n.parts.weights n.parts.weights _ (no_both _ (effects.Signed (encoded (bodies.Ack ack)) ∷ []) (no_expired n.parts.prio (time_after n now)) (no_signed (encoded (bodies.Ack ack)) [] no_none)) refl refl h
+      go (Some ack) None = w_same P n.parts.weights n.parts.weights _ (no_both _ (effects.Signed (arts.spell (bodies.Ack ack)) ∷ []) (no_expired n.parts.prio (time_after n now)) (no_signed (arts.spell (bodies.Ack ack)) [] no_none)) refl refl h
   turned n (steps.SendRel dst payload) output after step input is new own h = go (rel_refusal n dst) (ap (λ (o : Output). o.effects) step.0) step.1
     where
-      go : (r : Option SendRefused) → output.effects ≡ (refused_send r (accepted (rel_number n dst) (rel_sent n dst payload))).effects
+      go : (r : Option SendRefused) → output.effects ≡ (refused_send r (accepted (rel_number n dst) (rel_sent arts n dst payload))).effects
           → after ≡ kept_or r n (signed_once n (record n.parts { rel = pushed_in n.parts.rel (signed_now arts n (rel_body n dst payload)) })) → Done n output after
-      go None e f = by n output after (signed_once n (record n.parts { rel = pushed_in n.parts.rel (signed_now arts n (rel_body n dst payload)) })) (rel_sent n dst payload) e f
-          (w_same P n.parts.weights n.parts.weights (rel_sent n dst payload) (no_signed (encoded (rel_body n dst payload)) [] no_none) refl refl h)
+      go None e f = by n output after (signed_once n (record n.parts { rel = pushed_in n.parts.rel (signed_now arts n (rel_body n dst payload)) })) (rel_sent arts n dst payload) e f
+          (w_same P n.parts.weights n.parts.weights (rel_sent arts n dst payload) (no_signed (arts.spell (rel_body n dst payload)) [] no_none) refl refl h)
       go (Some refused) e f = by n output after n [] e f (plain n [] no_none h)
   turned n (steps.SendPrio m) output after step input is new own h = go (send_prio_refusal n m step.choice) (ap (λ (o : Output). o.effects) step.output_is) step.new_is
     where
       go : (r : Option SendRefused) → output.effects ≡ (refused_send r (accepted n.parts.prio.next (prio_sent arts n m step.choice))).effects
           → after ≡ kept_or r n (signed_once n (record n.parts { prio = admit_prio n.parts.prio (own_prio arts n m step.choice) None })) → Done n output after
       go None e f = by n output after (signed_once n (record n.parts { prio = admit_prio n.parts.prio (own_prio arts n m step.choice) None })) (prio_sent arts n m step.choice) e f
-          (w_same P n.parts.weights n.parts.weights (prio_sent arts n m step.choice) (no_signed (encoded (prio_body n m (mask_in step.choice))) (prio_effects n.parts.prio (own_prio arts n m step.choice) None) (no_prio n.parts.prio (own_prio arts n m step.choice) None)) refl refl h)
+          (w_same P n.parts.weights n.parts.weights (prio_sent arts n m step.choice) (no_signed (arts.spell (prio_body n m (mask_in step.choice))) (prio_effects n.parts.prio (own_prio arts n m step.choice) None) (no_prio n.parts.prio (own_prio arts n m step.choice) None)) refl refl h)
       go (Some refused) e f = by n output after n [] e f (plain n [] no_none h)
   turned n (steps.SetWeight v weight) output after step input is new own h = go (weight_refusal n v weight) refl (ap (λ (o : Output). o.effects) step.0) step.1
     where
-      go : (r : Option SendRefused) → weight_refusal n v weight ≡ r → output.effects ≡ (refused_send r (accepted (weight_number n v) (weight_sent n v weight))).effects
+      go : (r : Option SendRefused) → weight_refusal n v weight ≡ r → output.effects ≡ (refused_send r (accepted (weight_number n v) (weight_sent arts n v weight))).effects
           → after ≡ kept_or r n (signed_once n (record n.parts { weights = held n.parts.weights (signed_now arts n (weight_body n v weight)) })) → Done n output after
       go None free e f =
           let facts = weight_sent_fits (sizes_at x K u) n v weight input.0 input.1 free is.holds in
           let body = weight_body n v weight in
           let o = signed_now arts n body in
           let row : row_for n.parts.weights.edges body ≡ Some facts.row = ap (λ (es : List Edge). row_for es body) is.holds.parts.weights.edges ∙ facts.place in
-          let mine : (w : WeightBody) → body ≡ bodies.Weight w → P w = λ w same. own w (subst (IsOwn n (steps.SetWeight v weight) output.effects) same
+          let mine : (w : WeightBody) → body ≡ bodies.Weight w → P w = λ w same. own w (subst (IsOwn arts n (steps.SetWeight v weight) output.effects) same
           (record { mine = refl; fields = facts.fields; payload = refl; left = left n.signer is.holds.signer facts.free; before = []; after = weight_effects body; told = e })) in
-          by n output after (signed_once n (record n.parts { weights = held n.parts.weights o })) (weight_sent n v weight) e f
-          (w_on P n.parts.weights n.parts.weights (held n.parts.weights o) (effects.Signed (encoded body) ∷ []) (weight_effects body)
-          (plain n (effects.Signed (encoded body) ∷ []) (no_signed (encoded body) [] no_none) h)
+          by n output after (signed_once n (record n.parts { weights = held n.parts.weights o })) (weight_sent arts n v weight) e f
+          (w_on P n.parts.weights n.parts.weights (held n.parts.weights o) (effects.Signed (arts.spell body) ∷ []) (weight_effects body)
+          (plain n (effects.Signed (arts.spell body) ∷ []) (no_signed (arts.spell body) [] no_none) h)
           (held_turns P n.parts.weights o (own_at n.parts.weights _ facts.row row) mine h))
       go (Some refused) free e f = by n output after n [] e f (plain n [] no_none h)
   turned n (steps.TakeRel src) output after step input is new own h = by n output after (after_take_rel n src) [] (ap (λ (o : Output). o.effects) step.0) step.1 (plain n [] no_none h)

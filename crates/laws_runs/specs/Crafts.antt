@@ -1,7 +1,6 @@
 -- What a compromised node crafts in the names of compromised nodes is never forged, neither by its tag nor by an object; nor is what is no frame.
 use Rattle.std.specs.Prelude.{ℕ, ◌≡◌, false, IsTrue, List, None, Err, length}
 use Rattle.sp_base.specs.declared.id.NodeId.{NodeId}
-use Rattle.sp_frame.specs.Frames.{opened}
 use Rattle.sp_frame.specs.declared.refused.FrameRefused.{FrameRefused}
 use Rattle.sp_msg.specs.Views.{signer_of}
 use Rattle.sp_rules.specs.Arts.{Arts}
@@ -30,10 +29,10 @@ OwnCraftsForgeNothing = (arts : Arts) (x : Setting) (es : List Event) (js : List
     → forged_in arts x es js w e j new turn ≡ None
 
 -- it is refused by its length, its name or its version
-abbrev pub IsNoFrame : List ℕ → Type 0
-IsNoFrame bytes = (refused : FrameRefused) × (opened bytes ≡ Err refused)
+abbrev pub IsNoFrame : Arts → List ℕ → Type 0
+IsNoFrame arts bytes = (refused : FrameRefused) × (arts.opened bytes ≡ Err refused)
 
 -- from whosever address it comes
 abbrev pub NoFrameIsForged : Type 0
 NoFrameIsForged = (arts : Arts) (x : Setting) (es : List Event) (js : List Entry) (w new : World) (u v : NodeId) (bytes : List ℕ) (j : Entry)
-    → IsNoFrame bytes → (turn : Turn arts x es w (events.Inject u v bytes) j new) → forged_in arts x es js w (events.Inject u v bytes) j new turn ≡ None
+    → IsNoFrame arts bytes → (turn : Turn arts x es w (events.Inject u v bytes) j new) → forged_in arts x es js w (events.Inject u v bytes) j new turn ≡ None

@@ -2,7 +2,7 @@
 use Rattle.std.specs.Prelude.{ℕ, ◌≡◌, ◌+◌, ◌-◌, ◌≤◌, true, IsTrue, List, [], ◌∷◌, ◌++◌, length, None, Some, slice_get}
 use Rattle.sp_base.specs.Lists.{IsPrefix}
 use Rattle.sp_base.specs.declared.id.NodeId.{NodeId}
-use Rattle.sp_msg.specs.Bodies.{HasGoodFields, encoded, payload_of}
+use Rattle.sp_msg.specs.Bodies.{HasGoodFields, payload_of}
 use Rattle.sp_msg.specs.declared.body.Body.TheVariants as bodies
 use Rattle.sp_msg.specs.declared.body.Rel.{Rel}
 use Rattle.sp_msg.specs.declared.kept.Kept.{Kept}
@@ -41,20 +41,20 @@ abbrev pub flow_at : NodeState → NodeId → NodeId → FlowState
 flow_at n s d = flow_in n.parts.rel.flows (record { src = s; dst = d })
 
 -- the acknowledgement that is kept of the flow from s to d has the number up to which messages count as acknowledged, and d signed it
-pub record IsVouchedFor (s d : NodeId) (es : List Event) (js : List Entry) (f : FlowState) : Type 0 where
+pub record IsVouchedFor (arts : Arts) (s d : NodeId) (es : List Event) (js : List Entry) (f : FlowState) : Type 0 where
   pub ack : Kept
   pub kept : f.ack ≡ Some ack
   pub body : ack.body ≡ bodies.Ack (record { src = s; dst = d; seq = f.at.base })
-  pub signed : is_among (encoded ack.body) (signed es js d) ≡ true
+  pub signed : is_among (arts.spell ack.body) (signed es js d) ≡ true
 
 -- d is correct
-pub record FlowClaims (x : Setting) (s d : NodeId) (es : List Event) (js : List Entry) (w : World) : Type 0 where
+pub record FlowClaims (arts : Arts) (x : Setting) (s d : NodeId) (es : List Event) (js : List Entry) (w : World) : Type 0 where
   -- at each correct node, what counts as acknowledged was acknowledged by d, and d acknowledged only what it delivered
-  pub base : (u : NodeId) (n : NodeState) → node_in w.nodes u ≡ Some n → (flow_at n s d).at.base ≤ acknowledged es js s d
-  pub base_at_end : (n : NodeState) → node_in w.nodes d ≡ Some n → (flow_at n s d).at.base ≡ acknowledged es js s d
-  pub acknowledged : acknowledged es js s d ≤ length (delivered es js s d)
+  pub base : (u : NodeId) (n : NodeState) → node_in w.nodes u ≡ Some n → (flow_at n s d).at.base ≤ acknowledged arts es js s d
+  pub base_at_end : (n : NodeState) → node_in w.nodes d ≡ Some n → (flow_at n s d).at.base ≡ acknowledged arts es js s d
+  pub acknowledged : acknowledged arts es js s d ≤ length (delivered es js s d)
   -- and each node that counts something as acknowledged has d's word for it
-  pub vouched : (u : NodeId) (n : NodeState) → node_in w.nodes u ≡ Some n → 1 ≤ (flow_at n s d).at.base → IsVouchedFor s d es js (flow_at n s d)
+  pub vouched : (u : NodeId) (n : NodeState) → node_in w.nodes u ≡ Some n → 1 ≤ (flow_at n s d).at.base → IsVouchedFor arts s d es js (flow_at n s d)
   -- what came to d was delivered
   pub have_at_end : (n : NodeState) → node_in w.nodes d ≡ Some n → (flow_at n s d).at.have ≡ length (delivered es js s d)
   -- where s is correct, what came anywhere was sent, and so are the messages of each list. What was delivered is a prefix of what was sent,
@@ -65,7 +65,7 @@ pub record FlowClaims (x : Setting) (s d : NodeId) (es : List Event) (js : List 
       → AreSent (sent es js s d) (flow_at n s d).at.base (flow_at n s d).at.list
   -- and whatever it signed as a message of this flow
   pub messages : IsTrue (is_correct x s) → (m : Rel) → HasGoodFields (bodies.Rel m) → m.src ≡ s → m.dst ≡ d
-      → is_among (encoded (bodies.Rel m)) (signed es js s) ≡ true → IsIn (sent es js s d) m.seq m.payload
+      → is_among (arts.spell (bodies.Rel m)) (signed es js s) ≡ true → IsIn (sent es js s d) m.seq m.payload
   pub prefix : IsTrue (is_correct x s) → IsPrefix (delivered es js s d) (sent es js s d)
   pub numbered : IsTrue (is_correct x s) → AreNumbered 0 (delivered es js s d)
   pub sent_numbered : IsTrue (is_correct x s) → AreNumbered 0 (sent es js s d)
@@ -73,12 +73,12 @@ pub record FlowClaims (x : Setting) (s d : NodeId) (es : List Event) (js : List 
 -- of any node s and a correct other one d
 abbrev pub FlowsAreKept : Type 0
 FlowsAreKept = (arts : Arts) (x : Setting) (es : List Event) (js : List Entry) (w : World) → SettingFits arts x → Carries arts → Clean arts x es js w
-    → (s d : NodeId) → IsTrue (is_node x s) → IsTrue (is_correct x d) → (s ≡ d → ⊥) → FlowClaims x s d es js w
+    → (s d : NodeId) → IsTrue (is_node x s) → IsTrue (is_correct x d) → (s ≡ d → ⊥) → FlowClaims arts x s d es js w
 
 -- each turn of which nothing is forged keeps them, where signed objects are as they are in a run
 abbrev pub TurnsKeepFlows : Type 0
 TurnsKeepFlows = (arts : Arts) (x : Setting) (es : List Event) (js : List Entry) (old : World) (e : Event) (j : Entry) (new : World)
     → SettingFits arts x → Carries arts
     → Signs arts x es js old → InRange x es e → (turn : Turn arts x es old e j new) → forged_in arts x es js old e j new turn ≡ None
-    → (s d : NodeId) → IsTrue (is_node x s) → IsTrue (is_correct x d) → (s ≡ d → ⊥) → FlowClaims x s d es js old
-    → FlowClaims x s d (es ++ e ∷ []) (js ++ j ∷ []) new
+    → (s d : NodeId) → IsTrue (is_node x s) → IsTrue (is_correct x d) → (s ≡ d → ⊥) → FlowClaims arts x s d es js old
+    → FlowClaims arts x s d (es ++ e ∷ []) (js ++ j ∷ []) new

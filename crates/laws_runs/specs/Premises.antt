@@ -2,7 +2,6 @@
 use Rattle.std.specs.Prelude.{ℕ, ◌≡◌, true, List, ◌++◌, Ok}
 use Rattle.std.specs.List.{All}
 use Rattle.sp_base.specs.Spelling.{AreBytes}
-use Rattle.sp_frame.specs.Frames.{opened}
 use Rattle.sp_frame.specs.Ranges.{IsContents, IsHead}
 use Rattle.sp_frame.specs.Sections.{Contents}
 use Rattle.sp_frame.specs.declared.head.Head.{Head}
@@ -11,6 +10,7 @@ use Rattle.sp_msg.specs.declared.kept.Kept.{Kept}
 use Rattle.sp_rules.specs.Arts.{Arts, is_right}
 use Rattle.sp_rules.specs.Pieces.{pieces_of}
 use Rattle.sp_topology.specs.declared.topology.LmsHeight.{LmsHeight}
+use Rattle.laws_node.specs.Inputs.{ReadsBack}
 use Rattle.laws_node.specs.Objects.{objects_in}
 
 -- the payload and the signature of a message are bytes
@@ -26,6 +26,8 @@ abbrev pub written : Arts → Head → Contents → (key : List ℕ) → List �
 written arts h s key = arts.frame h s ++ arts.tag key (arts.frame h s)
 
 pub record Carries (arts : Arts) : Type 0 where
+  -- a message alone
+  pub bodies : ReadsBack arts
   -- under any head and tag
   pub back : (len : ℕ) (h : Head) (s : Contents) (key : List ℕ) → IsContents len s → arts.sections len (written arts h s key) ≡ Ok s
   pub frames : (h : Head) (s : Contents) → AreOfBytes s → AreBytes (arts.frame h s)
@@ -37,7 +39,7 @@ pub record Carries (arts : Arts) : Type 0 where
 pub record ComesThrough (arts : Arts) (len : ℕ) : Type 0 where
   pub carries : Carries arts
   -- its length, its name and its version are right
-  pub opens : (h : Head) (s : Contents) (key : List ℕ) → IsHead h → IsContents len s → opened (written arts h s key) ≡ Ok (written arts h s key)
+  pub opens : (h : Head) (s : Contents) (key : List ℕ) → IsHead h → IsContents len s → arts.opened (written arts h s key) ≡ Ok (written arts h s key)
   -- its head is read back, its tag is right under the key, and its sections are read back by `back`
   pub heads : (h : Head) (s : Contents) (key : List ℕ) → IsHead h → arts.head (written arts h s key) ≡ h
   pub tags_are_right : (h : Head) (s : Contents) (key : List ℕ) → is_right arts key (written arts h s key) ≡ true

@@ -1,7 +1,7 @@
 -- Priority messages over a run: each is told at most once, and those of a correct source were sent.
 use Rattle.std.specs.Prelude.{ℕ, ◌≡◌, ◌⊎◌, true, false, IsTrue, List, [], ◌∷◌, ◌++◌, map, None, Some}
 use Rattle.sp_base.specs.declared.id.NodeId.{NodeId}
-use Rattle.sp_msg.specs.Bodies.{HasGoodFields, encoded}
+use Rattle.sp_msg.specs.Bodies.{HasGoodFields}
 use Rattle.sp_msg.specs.declared.body.Body.TheVariants as bodies
 use Rattle.sp_msg.specs.declared.body.Prio.{Prio}
 use Rattle.sp_rules.specs.Arts.{Arts}
@@ -39,14 +39,14 @@ pub record PrioClaims (x : Setting) (s d : NodeId) (es : List Event) (js : List 
   pub authentic : IsTrue (is_correct x s) → AreAmong (prio_delivered es js s d) (prio_sent es js s d)
 
 -- the same with what turns keep of it
-pub record PrioPart (x : Setting) (s d : NodeId) (es : List Event) (js : List Entry) (w : World) : Type 0 where
+pub record PrioPart (arts : Arts) (x : Setting) (s d : NodeId) (es : List Event) (js : List Entry) (w : World) : Type 0 where
   pub claims : PrioClaims x s d es js
   -- the numbers that were told count as seen at d
   pub seen : (n : NodeState) → node_in w.nodes d ≡ Some n → (q : ℕ) → is_in q (map (λ m. m.0) (prio_delivered es js s d)) ≡ true
       → is_seen (window_in n.parts.prio s.0) q ≡ true
   -- whatever a correct s signed as a priority message for d was sent
   pub messages : IsTrue (is_correct x s) → (m : Prio) → HasGoodFields (bodies.Prio m) → m.src ≡ s → m.dst ≡ d
-      → is_among (encoded (bodies.Prio m)) (signed es js s) ≡ true → IsOneOf (m.seq, m.payload) (prio_sent es js s d)
+      → is_among (arts.spell (bodies.Prio m)) (signed es js s) ≡ true → IsOneOf (m.seq, m.payload) (prio_sent es js s d)
 
 -- of each run without forgery
 abbrev pub PriorityIsKept : Type 0
@@ -58,4 +58,4 @@ abbrev pub TurnsKeepPriority : Type 0
 TurnsKeepPriority = (arts : Arts) (x : Setting) (es : List Event) (js : List Entry) (old : World) (e : Event) (j : Entry) (new : World)
     → SettingFits arts x → Carries arts
     → Signs arts x es js old → InRange x es e → (turn : Turn arts x es old e j new) → forged_in arts x es js old e j new turn ≡ None
-    → (s d : NodeId) → PrioPart x s d es js old → PrioPart x s d (es ++ e ∷ []) (js ++ j ∷ []) new
+    → (s d : NodeId) → PrioPart arts x s d es js old → PrioPart arts x s d (es ++ e ∷ []) (js ++ j ∷ []) new

@@ -3,7 +3,6 @@ use Rattle.std.specs.Prelude.{ℕ, ◌≡◌, ◌≤◌, true, IsTrue, List, [],
 use Rattle.sp_base.specs.Spelling.{AreBytes}
 use Rattle.sp_base.specs.declared.id.NodeId.{NodeId}
 use Rattle.sp_frame.specs.Sections.{Contents}
-use Rattle.sp_msg.specs.Bodies.{encoded}
 use Rattle.sp_msg.specs.Views.{signer_of}
 use Rattle.sp_msg.specs.declared.kept.Kept.{Kept}
 use Rattle.sp_topology.specs.Keys.{key_of}
@@ -29,13 +28,13 @@ use Rattle.sp_runs.specs.Runs.{InRange, Turn, forged_in}
 -- ---- signed objects
 
 -- its signer signed it, where that node is correct
-abbrev pub Known : Setting → List Event → List Entry → Kept → Type 0
-Known x es js o = IsTrue (is_correct x (signer_of o.body)) → is_among (encoded o.body) (signed es js (signer_of o.body)) ≡ true
+abbrev pub Known : Arts → Setting → List Event → List Entry → Kept → Type 0
+Known arts x es js o = IsTrue (is_correct x (signer_of o.body)) → is_among (arts.spell o.body) (signed es js (signer_of o.body)) ≡ true
 
 -- and it bears its signer's valid signature, and is of bytes
 pub record Good (arts : Arts) (x : Setting) (es : List Event) (js : List Entry) (o : Kept) : Type 0 where
-  pub known : Known x es js o
-  pub right : IsTrue (is_signed_by arts (key_of (signer_of o.body).0 x.topology.nodes) (encoded o.body) o.signature)
+  pub known : Known arts x es js o
+  pub right : IsTrue (is_signed_by arts (key_of (signer_of o.body).0 x.topology.nodes) (arts.spell o.body) o.signature)
   pub bytes : IsOfBytes o
 
 -- the sizes of a node of this setting

@@ -3,7 +3,6 @@ use Rattle.std.specs.Prelude.{ℕ, ◌≡◌, ◌&&◌, ◌||◌, Bool, not, IsT
 use Rattle.std.specs.List.{All}
 use Rattle.sp_base.specs.declared.id.NodeId.{NodeId}
 use Rattle.sp_frame.specs.Sections.{Contents}
-use Rattle.sp_msg.specs.Bodies.{encoded}
 use Rattle.sp_msg.specs.Views.{signer_of}
 use Rattle.sp_msg.specs.declared.kept.Kept.{Kept}
 use Rattle.sp_rules.specs.Arts.{Arts}
@@ -38,15 +37,15 @@ CorrectNodesAreThere = (arts : Arts) (x : Setting) (es : List Event) (js : List 
 
 -- the message bears its signer's valid signature
 abbrev pub is_valid_in : Arts → Setting → Kept → Bool
-is_valid_in arts x o = is_signed_by arts (key_of (signer_of o.body).0 x.topology.nodes) (encoded o.body) o.signature
+is_valid_in arts x o = is_signed_by arts (key_of (signer_of o.body).0 x.topology.nodes) (arts.spell o.body) o.signature
 
 -- and where its signer is correct, that node signed it in this run
-abbrev pub is_known_in : Setting → List Event → List Entry → Kept → Bool
-is_known_in x es js o = not (is_correct x (signer_of o.body)) || is_among (encoded o.body) (signed es js (signer_of o.body))
+abbrev pub is_known_in : Arts → Setting → List Event → List Entry → Kept → Bool
+is_known_in arts x es js o = not (is_correct x (signer_of o.body)) || is_among (arts.spell o.body) (signed es js (signer_of o.body))
 
 -- both
 abbrev pub is_good_in : Arts → Setting → List Event → List Entry → Kept → Bool
-is_good_in arts x es js o = is_valid_in arts x o && is_known_in x es js o
+is_good_in arts x es js o = is_valid_in arts x o && is_known_in arts x es js o
 
 pub record SignClaims (arts : Arts) (x : Setting) (es : List Event) (js : List Entry) (w : World) : Type 0 where
   -- each message that a correct node keeps

@@ -39,10 +39,10 @@ use Rattle.laws_runs.specs.Acknowledged.{acknowledged}
 abbrev pub output_of : NodeState → Input → Output
 output_of n (steps.Poll v) = steps.poll_output toys n v
 output_of n (steps.Datagram v bytes) = steps.datagram_output toys n v bytes
-output_of n (steps.Tick now) = steps.tick_output n now
-output_of n (steps.SendRel dst payload) = steps.send_rel_output n dst payload
+output_of n (steps.Tick now) = steps.tick_output toys n now
+output_of n (steps.SendRel dst payload) = steps.send_rel_output toys n dst payload
 output_of n (steps.SendPrio message) = steps.send_prio_output toys n message (Mask (all_edges n.fixed.topology.edges))
-output_of n (steps.SetWeight v weight) = steps.set_weight_output n v weight
+output_of n (steps.SetWeight v weight) = steps.set_weight_output toys n v weight
 output_of n (steps.TakeRel src) = steps.replied (steps.Payload (rel.oldest n.parts.rel src))
 output_of n steps.TakePrio = steps.take_prio_output n
 
@@ -157,7 +157,7 @@ pub record StoriesArePlayed : Type 0 where
   pub all_of_it : (play (line []) message).events ≡ message
   pub replies_are : map (λ j. j.reply) (play (line []) message).journal ≡ told
   pub is_delivered : delivered (play (line []) message).events (play (line []) message).journal (node 1) (node 3) ≡ (1, 104 ∷ 105 ∷ []) ∷ []
-  pub is_acknowledged : acknowledged (play (line []) message).events (play (line []) message).journal (node 1) (node 3) ≡ 1
+  pub is_acknowledged : acknowledged toys (play (line []) message).events (play (line []) message).journal (node 1) (node 3) ≡ 1
   -- where 1 didn't sign it, the object is forged, and the run ends before it
   pub is_forged : (play (line (node 2 ∷ [])) (craft ∷ [])).forged ≡ Some (whats.Object object)
   pub ends_before : (play (line (node 2 ∷ [])) (craft ∷ [])).events ≡ []

@@ -1,7 +1,6 @@
 -- Weights of links over a run.
 use Rattle.std.specs.Prelude.{ℕ, ◌≡◌, true, IsTrue, List, [], ◌∷◌, ◌++◌, None, Some, slice_get}
 use Rattle.sp_base.specs.declared.id.NodeId.{NodeId}
-use Rattle.sp_msg.specs.Bodies.{encoded}
 use Rattle.sp_msg.specs.declared.body.Body.TheVariants as bodies
 use Rattle.sp_msg.specs.declared.body.WeightBody.{WeightBody}
 use Rattle.sp_msg.specs.declared.effect.Effect.{Effect}
@@ -29,32 +28,32 @@ EachHeld P (effects.WeightHeld origin edge seq weight ∷ es) = P (record { orig
 EachHeld P (_ ∷ es) = EachHeld P es
 
 -- its origin signed it, where that node is correct
-abbrev pub IsSaid : Setting → List Event → List Entry → WeightBody → Type 0
-IsSaid x es js u = IsTrue (is_correct x u.origin) → is_among (encoded (bodies.Weight u)) (signed es js u.origin) ≡ true
+abbrev pub IsSaid : Arts → Setting → List Event → List Entry → WeightBody → Type 0
+IsSaid arts x es js u = IsTrue (is_correct x u.origin) → is_among (arts.spell (bodies.Weight u)) (signed es js u.origin) ≡ true
 
-pub record WeightClaims (x : Setting) (es : List Event) (js : List Entry) (w : World) : Type 0 where
+pub record WeightClaims (arts : Arts) (x : Setting) (es : List Event) (js : List Entry) (w : World) : Type 0 where
   -- at each node the weight of an edge is the greatest of its minimum and the last weight that the node held of each end
   pub effective_is : (u : NodeId) (n : NodeState) (edge : ℕ) (e : Edge) → node_in w.nodes u ≡ Some n → slice_get x.topology.edges edge ≡ Some e
       → effective n.parts.weights edge ≡ effective_weight es js u edge e
-  pub said : (u : NodeId) → EachHeld (IsSaid x es js) (effects_at es js u)
+  pub said : (u : NodeId) → EachHeld (IsSaid arts x es js) (effects_at es js u)
 
 -- of each run without forgery
 abbrev pub WeightsAreKept : Type 0
 WeightsAreKept = (arts : Arts) (x : Setting) (es : List Event) (js : List Entry) (w : World) → SettingFits arts x → Carries arts → Clean arts x es js w
-    → WeightClaims x es js w
+    → WeightClaims arts x es js w
 
 -- what turns keep of it
-pub record WeightPart (x : Setting) (es : List Event) (js : List Entry) (w : World) : Type 0 where
+pub record WeightPart (arts : Arts) (x : Setting) (es : List Event) (js : List Entry) (w : World) : Type 0 where
   -- what a node holds of an end of an edge is what it told last of it
   pub last : (u : NodeId) (n : NodeState) (edge : ℕ) (e : Edge) (end : NodeId) (row : ℕ) → node_in w.nodes u ≡ Some n → slice_get x.topology.edges edge ≡ Some e
       → row_of edge e end.0 ≡ Some row → weight_of (held_in n.parts.weights.rows row) ≡ last_told edge end.0 0 (effects_at es js u)
-  pub said : (u : NodeId) → EachHeld (IsSaid x es js) (effects_at es js u)
+  pub said : (u : NodeId) → EachHeld (IsSaid arts x es js) (effects_at es js u)
 
 -- each turn of which nothing is forged keeps it, where signed objects are as they are in a run; and the claims follow
 pub record TurnsKeepWeights : Type 0 where
   pub turn : (arts : Arts) (x : Setting) (es : List Event) (js : List Entry) (old : World) (e : Event) (j : Entry) (new : World)
       → SettingFits arts x → Carries arts
       → Signs arts x es js old → InRange x es e → (turn : Turn arts x es old e j new) → forged_in arts x es js old e j new turn ≡ None
-      → WeightPart x es js old → WeightPart x (es ++ e ∷ []) (js ++ j ∷ []) new
-  pub claims : (arts : Arts) (x : Setting) (es : List Event) (js : List Entry) (w : World) → SettingFits arts x → Signs arts x es js w → WeightPart x es js w
-      → WeightClaims x es js w
+      → WeightPart arts x es js old → WeightPart arts x (es ++ e ∷ []) (js ++ j ∷ []) new
+  pub claims : (arts : Arts) (x : Setting) (es : List Event) (js : List Entry) (w : World) → SettingFits arts x → Signs arts x es js w → WeightPart arts x es js w
+      → WeightClaims arts x es js w

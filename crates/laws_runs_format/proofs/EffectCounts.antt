@@ -167,11 +167,11 @@ module _ (p : Effect → Bool) (tells : TellsDeliveries p) where
 
   -- ---- steps
 
-  ticked : (n : NodeState) (now : ℕ) → number (tick_effects n now) ≡ 0
-  ticked n now = none_both (expired_effects n.parts.prio (time_after n now)) (ack_effects (due n.parts.rel) (signer_refusal n.signer))
+  ticked : (arts : Arts) (n : NodeState) (now : ℕ) → number (tick_effects arts n now) ≡ 0
+  ticked arts n now = none_both (expired_effects n.parts.prio (time_after n now)) (ack_effects arts (due n.parts.rel) (signer_refusal n.signer))
       (all_expired_none n.parts.prio (time_after n now)) (acks (due n.parts.rel) (signer_refusal n.signer))
     where
-      acks : (a : Option Ack) (r : Option SendRefused) → number (ack_effects a r) ≡ 0
+      acks : (a : Option Ack) (r : Option SendRefused) → number (ack_effects arts a r) ≡ 0
       acks None r = refl
       acks (Some a) (Some r) = refl
       acks (Some a) None = none _ (tells.signed _)
@@ -194,18 +194,18 @@ module _ (p : Effect → Bool) (tells : TellsDeliveries p) where
   step_most arts old new (steps.Datagram u bytes) output step =
       rw step.0 (called (call_refusal old u) (steps.arrived arts old u bytes)
       (let most = all_most arts (arrival_at old u) old.parts (pieces_where (reply_at arts old u bytes) (pieces_in (sections_in arts old.fixed bytes))) in omega (arith, most)))
-  step_most arts old new (steps.Tick now) output step = rw step.0 (omega (arith, ticked old now))
-  step_most arts old new (steps.SendRel d payload) output step = rw step.0 (below (steps.send_rel_output old d payload) (sent (rel_refusal old d) (rel_number old d) (rel_sent old d payload) (one (signed_effect (rel_body old d payload)))))
+  step_most arts old new (steps.Tick now) output step = rw step.0 (omega (arith, ticked arts old now))
+  step_most arts old new (steps.SendRel d payload) output step = rw step.0 (below (steps.send_rel_output arts old d payload) (sent (rel_refusal old d) (rel_number old d) (rel_sent arts old d payload) (one (signed_effect arts (rel_body old d payload)))))
   step_most arts old new (steps.SendPrio m) output step =
       let own = own_prio arts old m step.choice in
-      let told = signed_effect (prio_body old m (mask_in step.choice)) in
+      let told = signed_effect arts (prio_body old m (mask_in step.choice)) in
       let most = both (told ∷ []) (prio_effects old.parts.prio own None) in
       rw step.output_is (below (steps.send_prio_output arts old m step.choice)
       (sent (send_prio_refusal old m step.choice) old.parts.prio.next (prio_sent arts old m step.choice)
       (omega (arith, most, none told (tells.signed _), prio_one old.parts.prio own None))))
   step_most arts old new (steps.SetWeight v weight) output step =
-      let told = signed_effect (weight_body old v weight) in
-      rw step.0 (below (steps.set_weight_output old v weight) (sent (weight_refusal old v weight) (weight_number old v) (weight_sent old v weight)
+      let told = signed_effect arts (weight_body old v weight) in
+      rw step.0 (below (steps.set_weight_output arts old v weight) (sent (weight_refusal old v weight) (weight_number old v) (weight_sent arts old v weight)
       (omega (arith, both (told ∷ []) (weight_effects (weight_body old v weight)), none told (tells.signed _), weight_none (weight_body old v weight)))))
   step_most arts old new (steps.TakeRel u) output step = rw step.0 (omega arith)
   step_most arts old new steps.TakePrio output step = rw step.0 (omega (arith, gone_none 0 whys.Taken (oldest old.parts.prio.inbox)))

@@ -7,6 +7,7 @@ use Rattle.sp_frame.proofs.SectionLemmas.{read_is_spelled, spelled_is_read}
 use Rattle.sp_frame.specs.Frames.{ends_bytes, head_bytes, numbers_bytes, sections_part, signed_part}
 use Rattle.sp_frame.specs.Sections.{Contents, sections_bytes, sections_of}
 use Rattle.sp_frame.specs.declared.head.Head.{Head}
+use Rattle.sp_msg.proofs.EncodedIsRead.{whole_is_read}
 use Rattle.sp_hmac.proofs.Lengths.{length-hmac}
 use Rattle.sp_hmac.specs.Hmac.{hmac}
 use Rattle.sp_sign.specs.Heights.{param_of}
@@ -31,6 +32,7 @@ part_are bytes are = All-drop (λ (b : ℕ). b < 256) 33 (signed_part bytes) (Al
 
 pub format_carries : FormatCarries
 format_carries = record {
+  bodies = whole_is_read;
   back = λ len h s key is.
       let inner = head_bytes h ++ sections_bytes s in
       ap (sections_of len) (between h s (hmac key inner) (length-hmac key inner)) ∙ spelled_is_read len s is;

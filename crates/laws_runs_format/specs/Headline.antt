@@ -26,7 +26,7 @@ pub record Claims (x : Setting) (es : List Event) (js : List Entry) (w : World) 
   pub nodes : NodeClaims x w
   -- Reliable messages from any node to a correct one. What was delivered of a correct source is a prefix of what it sent, under the numbers 1, 2, 3
   -- and so on, and nothing counts as acknowledged that wasn't delivered
-  pub reliable : (s d : NodeId) → IsTrue (is_node x s) → IsTrue (is_correct x d) → (s ≡ d → ⊥) → FlowClaims x s d es js w
+  pub reliable : (s d : NodeId) → IsTrue (is_node x s) → IsTrue (is_correct x d) → (s ≡ d → ⊥) → FlowClaims format x s d es js w
   -- priority messages of any source at a correct node: each number at most once, and those of a correct source were sent
   pub priority : (s d : NodeId) → IsTrue (is_correct x d) → PrioClaims x s d es js
   -- no buffer of a correct node is above its bound
@@ -34,7 +34,7 @@ pub record Claims (x : Setting) (es : List Event) (js : List Entry) (w : World) 
   -- each eviction takes from the source that has most, and leaves it its share
   pub shares : (u : NodeId) (place : ℕ) → AreShares x.store place [] (effects_at es js u)
   -- the weight of a link is the greatest of its minimum and what its ends said last
-  pub weights : WeightClaims x es js w
+  pub weights : WeightClaims format x es js w
   -- whatever a correct node keeps or sends bears its signer's valid signature, and a correct signer signed it in this run
   pub signed : SignClaims format x es js w
 

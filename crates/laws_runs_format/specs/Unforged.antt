@@ -23,7 +23,7 @@ NothingForged s es = (before : List Event) (event : Event) (after : List Event) 
 -- what the adversary brings is no frame, or was crafted by a compromised node in the name of one
 abbrev pub IsHarmless : Setting → Event → Type 0
 IsHarmless x (events.Flip u v number back bit) = ⊥
-IsHarmless x (events.Inject u v bytes) = IsNoFrame bytes
+IsHarmless x (events.Inject u v bytes) = IsNoFrame format bytes
 IsHarmless x (events.Craft c v key body) = NamesNoCorrectNode x (events.Craft c v key body)
 IsHarmless x (events.CraftStatus c v s d base have) = NamesNoCorrectNode x (events.CraftStatus c v s d base have)
 IsHarmless x _ = Unit {0}

@@ -47,7 +47,7 @@ module _ (x : Setting) (es : List Event) (js : List Entry) where
 
   pub fresh_is : (n : NodeState) (u : NodeId) (bytes : List ℕ) (len : ℕ) (items : List Item) → n.fixed.signature_len ≡ len → links.Fresh ≡ reply_at format n u bytes
       → items ≡ map (λ a. a.1) (handled format n u bytes).answered
-      → found_at x es js (opened bytes) (sections_of len (sections_part bytes)) items ≡ forged_object x es js (handled format n u bytes).answered
+      → found_at x es js (opened bytes) (sections_of len (sections_part bytes)) items ≡ forged_object format x es js (handled format n u bytes).answered
   fresh_is n u bytes len items long fresh are =
       let good : (refused : FrameRefused) → opened bytes ≢ Err refused =
       λ refused e. no_fresh n.fixed (link_in n u) bytes refused (sym (fresh ∙ ap (of_frame format n.fixed (link_in n u) bytes) e)) in
@@ -64,8 +64,8 @@ module _ (x : Setting) (es : List Event) (js : List Entry) where
       ∙ in_turn x es js (handled format n u bytes).answered
 
   -- nothing of another one is handled
-  pub stale_is : (n : NodeState) (u : NodeId) (bytes : List ℕ) → reply_at format n u bytes ≢ links.Fresh → forged_object x es js (handled format n u bytes).answered ≡ None
-  stale_is n u bytes other = ap (λ (ps : List Piece). forged_object x es js (handle_all format (arrival_at n u) n.parts ps).answered) (nothing (reply_at format n u bytes) other)
+  pub stale_is : (n : NodeState) (u : NodeId) (bytes : List ℕ) → reply_at format n u bytes ≢ links.Fresh → forged_object format x es js (handled format n u bytes).answered ≡ None
+  stale_is n u bytes other = ap (λ (ps : List Piece). forged_object format x es js (handle_all format (arrival_at n u) n.parts ps).answered) (nothing (reply_at format n u bytes) other)
     where
       nothing : (l : LinkReply) → l ≢ links.Fresh → pieces_where l (pieces_in (sections_in format n.fixed bytes)) ≡ []
       nothing links.TooLong apart = refl

@@ -40,6 +40,6 @@ module _ (x : Setting) (es : List Event) (js : List Entry) (n : NodeState) (u v 
   tag_is o me rows is has = rw (sym (has_is me rows is) ∙ has) refl
 
   pub object_is : (o : Output) (found : Option (List ℕ)) → n.fixed.me ≡ v → w.directions ≡ ds → link ≡ reply_at format n u bytes
-      → (is_correct x u && is_tagged link && not (is_among bytes (frames_in ds u v))) ≡ false → found ≡ forged_object x es js o.answered
+      → (is_correct x u && is_tagged link && not (is_among bytes (frames_in ds u v))) ≡ false → found ≡ forged_object format x es js o.answered
       → option_map whats.Object found ≡ forged format x es js w n (Datagram u bytes) o
   object_is o found me rows is has same = rw (sym (has_is me rows is) ∙ has, ← same) refl

@@ -27,17 +27,17 @@ body_is_short (bodies.Ack a) good = omega arith
 body_is_short (bodies.Weight w) good = omega arith
 
 module _ (x : Setting) (es : List Event) (js : List Entry) where
-  found_is_short : (answered : List (Kept × Item)) (body : List ℕ) → All IsGood (map (λ a. a.0) answered) → forged_object x es js answered ≡ Some body
+  found_is_short : (answered : List (Kept × Item)) (body : List ℕ) → All IsGood (map (λ a. a.0) answered) → forged_object format x es js answered ≡ Some body
       → length body ≤ MAX_MESSAGE_BYTES
   found_is_short [] body good is = absurd (cc)
-  found_is_short (a ∷ others) body good is = go (is_forged x es js a) refl (found_is_short others body (All-tail IsGood a.0 (map (λ b. b.0) others) good))
+  found_is_short (a ∷ others) body good is = go (is_forged format x es js a) refl (found_is_short others body (All-tail IsGood a.0 (map (λ b. b.0) others) good))
     where
-      go : (t : Bool) → is_forged x es js a ≡ t → (forged_object x es js others ≡ Some body → length body ≤ MAX_MESSAGE_BYTES) → length body ≤ MAX_MESSAGE_BYTES
+      go : (t : Bool) → is_forged format x es js a ≡ t → (forged_object format x es js others ≡ Some body → length body ≤ MAX_MESSAGE_BYTES) → length body ≤ MAX_MESSAGE_BYTES
       go true forged later =
           let same = same_Some (encoded a.0.body) body (rw forged at is) in
           subst (λ (bs : List ℕ). length bs ≤ MAX_MESSAGE_BYTES) same (body_is_short a.0.body (All-head IsGood a.0 (map (λ b. b.0) others) good))
       go false other later = later (rw other at is)
 
-  pub forged_is_short : (n : NodeState) (u : NodeId) (bytes body : List ℕ) → AreBytes bytes → Some body ≡ forged_object x es js (handled format n u bytes).answered
+  pub forged_is_short : (n : NodeState) (u : NodeId) (bytes body : List ℕ) → AreBytes bytes → Some body ≡ forged_object format x es js (handled format n u bytes).answered
       → length body ≤ MAX_MESSAGE_BYTES
   forged_is_short n u bytes body are is = found_is_short (handled format n u bytes).answered body (handled_are n u bytes are).good (sym is)

@@ -97,7 +97,7 @@ fn forged_in<'a>(
     requires { length known.now.events.now ≡ length known.now.journal.now }
     ensures { (n : NodeState) (u : NodeId) → n.fixed.signature_len ≡ known.now.signature_len → link.now ≡ reply_at format n u bytes.now
         → items.now ≡ map (λ a. a.1) (handled format n u bytes.now).answered
-        → option_map (λ b. b.now) result ≡ forged_object (setting_of known.now.scenario.now) known.now.events.now known.now.journal.now (handled format n u bytes.now).answered }
+        → option_map (λ b. b.now) result ≡ forged_object format (setting_of known.now.scenario.now) known.now.events.now known.now.journal.now (handled format n u bytes.now).answered }
 {
     match link {
         LinkReply::Fresh => found(known, bytes, items),

@@ -5,6 +5,7 @@ ghost use Rattle.sp_frame.specs.Views.{as_contents, as_list, as_object};
 ghost use Rattle.sp_msg.specs.Bodies.{encoded, read_body};
 ghost use Rattle.sp_msg.specs.Views.{as_body};
 ghost use Rattle.sp_msg.specs.declared.kept.Kept.{Kept};
+ghost use Rattle.sp_node_core.specs.Format.{format};
 ghost use Rattle.sp_rules.specs.Answers.{is_new};
 ghost use Rattle.sp_rules.specs.Pieces.{pieces_of};
 ghost use Rattle.sp_runs.specs.Forgery.{is_forged};
@@ -144,7 +145,7 @@ fn look_at<'a, 'b>(known: &Known<'_>, object: &ObjectRef<'a>, items: &'b [Item])
 /// The bytes of an object that is forged.
 fn found_in<'a>(known: &Known<'_>, object: &ObjectRef<'a>, item: Item) -> Option<&'a [u8]>
     requires { length known.now.events.now ≡ length known.now.journal.now }
-    ensures { option_map (λ b. b.now) result ≡ (if is_forged (setting_of known.now.scenario.now) known.now.events.now known.now.journal.now (as_object object.now, item) then Some (encoded (as_object object.now).body) else None) }
+    ensures { option_map (λ b. b.now) result ≡ (if is_forged format (setting_of known.now.scenario.now) known.now.events.now known.now.journal.now (as_object object.now, item) then Some (encoded (as_object object.now).body) else None) }
 {
     if is_forged(known, object, item) {
         Some(message_of(object))
@@ -156,7 +157,7 @@ fn found_in<'a>(known: &Known<'_>, object: &ObjectRef<'a>, item: Item) -> Option
 /// Whether the object is new, and its signer is correct and never signed it.
 fn is_forged(known: &Known<'_>, object: &ObjectRef<'_>, item: Item) -> bool
     requires { length known.now.events.now ≡ length known.now.journal.now }
-    ensures { result ≡ is_forged (setting_of known.now.scenario.now) known.now.events.now known.now.journal.now (as_object object.now, item) }
+    ensures { result ≡ is_forged format (setting_of known.now.scenario.now) known.now.events.now known.now.journal.now (as_object object.now, item) }
 {
     let by = signer(&object.body);
     is_new(item)

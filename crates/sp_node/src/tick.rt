@@ -87,7 +87,7 @@ fn settle(state: &mut State, owed: Due, effects: &mut Effects) -> TickReply
     requires room { told_of owed ≤ effects.old.room }
     ensures reply { result ≡ tick_reply_of (due state.old.parts.rel) (signer_refusal state.old.signer) }
     ensures state { state.new ≡ settled_by format state.old (due state.old.parts.rel) (signer_refusal state.old.signer) }
-    ensures told { effects.new ≡ told effects.old (ack_effects (due state.old.parts.rel) (signer_refusal state.old.signer)) }
+    ensures told { effects.new ≡ told effects.old (ack_effects format (due state.old.parts.rel) (signer_refusal state.old.signer)) }
 {
     match owed {
         Due::Nothing => TickReply::Ticked,

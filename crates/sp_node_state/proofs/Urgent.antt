@@ -55,7 +55,7 @@ few_paths n m found free is =
 
 pub accepted_prio : (n new : NodeState) (m : PrioSend) (mask : ℕ) (body : Body) (step : Step ℕ) → prio_refusal n m ≡ None → Chooses n m (Mask mask)
     → body ≡ prio_body n m mask → step.reply ≡ n.parts.prio.next
-    → step.effects.list ≡ signed_effect body ∷ prio_effects n.parts.prio (signed_now format n body) None
+    → step.effects.list ≡ signed_effect format body ∷ prio_effects n.parts.prio (signed_now format n body) None
     → new ≡ signed_once n (record n.parts { prio = admit_prio n.parts.prio (signed_now format n body) None })
     → Sends (SendPrio m) (prio_refusal n m) n (Ok step) new
 accepted_prio n new m mask body step free chosen is number effects after =
@@ -66,7 +66,7 @@ accepted_prio n new m mask body step free chosen is number effects after =
       output_is =
           ap (λ (q : ℕ). accepted q step.effects.list) number
           ∙ ap (λ (es : List Effect). accepted n.parts.prio.next es)
-          (effects ∙ ap (λ (b : Body). signed_effect b ∷ prio_effects n.parts.prio (signed_now format n b) None) is)
+          (effects ∙ ap (λ (b : Body). signed_effect format b ∷ prio_effects n.parts.prio (signed_now format n b) None) is)
           ∙ sym (ap (λ (o : Option SendRefused). refused_send o (told n m (Mask mask))) none);
       new_is =
           after

@@ -124,7 +124,7 @@ fn ready_rel(
 fn push_rel(state: &mut State, ready: ReadyRel) -> Effects
     requires { IsReadyRel state.old ready }
     ensures state { state.new ≡ signed_once state.old (record state.old.parts { rel = pushed_in state.old.parts.rel (signed_now format state.old ready.blank.kept.body) }) }
-    ensures told { result.list ≡ signed_effect ready.blank.kept.body ∷ [] }
+    ensures told { result.list ≡ signed_effect format ready.blank.kept.body ∷ [] }
 {
     let ReadyRel {
         blank,

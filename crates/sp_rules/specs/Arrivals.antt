@@ -10,7 +10,6 @@ use Rattle.std.specs.Prelude.{ℕ, ◌==◌, not, List, [], Option, None, Some, 
 use Rattle.std.specs.Result.{result_err}
 use Rattle.sp_base.specs.Cursor.{or_else}
 use Rattle.sp_base.specs.declared.id.NodeId.{NodeId}
-use Rattle.sp_frame.specs.Frames.{opened}
 use Rattle.sp_frame.specs.Sections.{Contents}
 use Rattle.sp_frame.specs.declared.refused.FrameRefused.{FrameRefused}
 use Rattle.sp_frame.specs.declared.refused.FrameRefused.TheVariants as frames
@@ -59,7 +58,7 @@ sections_in arts f bytes = arts.sections f.signature_len bytes
 abbrev pub reply_at : Arts → NodeState → NodeId → List ℕ → LinkReply
 reply_at arts n v bytes =
     unwrap_or
-    (or_else (no_frame (opened bytes))
+    (or_else (no_frame (arts.opened bytes))
     (or_else (not_fresh (link_says arts (link_in n v) bytes))
     (not_read n.fixed.topology.version (arts.head bytes).topology (sections_in arts n.fixed bytes))))
     replies.Fresh
@@ -67,7 +66,7 @@ reply_at arts n v bytes =
 -- what it makes of the link
 abbrev pub link_after : Arts → NodeState → NodeId → List ℕ → Link
 link_after arts n v bytes =
-    kept_or (no_frame (opened bytes)) (link_in n v) (after_frame (link_in n v) (arts.head bytes) (is_right arts (link_in n v).key bytes))
+    kept_or (no_frame (arts.opened bytes)) (link_in n v) (after_frame (link_in n v) (arts.head bytes) (is_right arts (link_in n v).key bytes))
 
 abbrev pub pieces_in : Result Contents SectionRefused → List Piece
 pieces_in (Ok contents) = pieces_of contents

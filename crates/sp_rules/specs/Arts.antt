@@ -5,10 +5,15 @@ use Rattle.std.specs.Cmp.Lexicographic.{pointwise}
 use Rattle.sp_frame.specs.Frames.{signed_part, tag_part}
 use Rattle.sp_frame.specs.Sections.{Contents}
 use Rattle.sp_frame.specs.declared.head.Head.{Head}
+use Rattle.sp_frame.specs.declared.refused.FrameRefused.{FrameRefused}
 use Rattle.sp_frame.specs.declared.refused.SectionRefused.{SectionRefused}
+use Rattle.sp_msg.specs.declared.body.Body.{Body}
+use Rattle.sp_msg.specs.declared.refused.MsgRefused.{MsgRefused}
 use Rattle.sp_topology.specs.declared.topology.LmsHeight.{LmsHeight}
 
 pub record Arts : Type 0 where
+  -- a datagram as a frame, or the first test of its bytes that fails
+  pub opened : List ℕ → Result (List ℕ) FrameRefused
   -- the head of a frame
   pub head : List ℕ → Head
   -- the sections of a frame where signatures have this length, or the first thing that is wrong with them
@@ -17,6 +22,10 @@ pub record Arts : Type 0 where
   pub frame : Head → Contents → List ℕ
   -- the tag of bytes under a key
   pub tag : List ℕ → List ℕ → List ℕ
+  -- the bytes of a message
+  pub spell : Body → List ℕ
+  -- the message that bytes are, or the first thing that is wrong with them
+  pub read : List ℕ → Result Body MsgRefused
   -- the signature of a message, by a seed with trees of this height, at an index
   pub sign : LmsHeight → List ℕ → ℕ → List ℕ → List ℕ
   -- whether under this key a message has this signature

@@ -4,7 +4,6 @@ use Rattle.std.specs.List.{list_any}
 use Rattle.sp_base.specs.Rows.{first_where, replace_where}
 use Rattle.sp_base.specs.declared.id.EdgeId.{EdgeId}
 use Rattle.sp_base.specs.declared.id.NodeId.{NodeId}
-use Rattle.sp_msg.specs.Bodies.{encoded}
 use Rattle.sp_msg.specs.declared.body.Body.{Body}
 use Rattle.sp_msg.specs.declared.kept.Kept.{Kept}
 use Rattle.sp_rules.specs.Arts.{Arts}
@@ -82,7 +81,7 @@ called n links parts = record n { calls = n.calls + 1; links = links; parts = pa
 abbrev pub signed_now : Arts → NodeState → Body → Kept
 signed_now arts n body = record {
   body = body;
-  signature = arts.sign n.fixed.topology.height n.signer.seed n.signer.index (encoded body);
+  signature = arts.sign n.fixed.topology.height n.signer.seed n.signer.index (arts.spell body);
 }
 
 -- a signature was made, and left these parts

@@ -2,7 +2,6 @@
 use Rattle.std.specs.Prelude.{ℕ, ◌==◌, ◌+◌, Bool, false, List, [], ◌∷◌, map, position, Option, None, Some, if◌then◌else◌}
 use Rattle.sp_base.specs.declared.id.EdgeId.{EdgeId}
 use Rattle.sp_base.specs.declared.id.NodeId.{NodeId}
-use Rattle.sp_msg.specs.Bodies.{encoded}
 use Rattle.sp_msg.specs.Views.{signer_of}
 use Rattle.sp_msg.specs.declared.kept.Kept.{Kept}
 use Rattle.sp_topology.specs.Keys.{key_of}
@@ -59,7 +58,7 @@ is_signed_by arts (Some key) message signature = arts.valid key message signatur
 
 -- an object's signer is a node, and its signature is valid under that node's key
 abbrev pub is_signed : Arts → Fixed → Kept → Bool
-is_signed arts f o = is_signed_by arts (key_of (signer_of o.body).0 f.topology.nodes) (encoded o.body) o.signature
+is_signed arts f o = is_signed_by arts (key_of (signer_of o.body).0 f.topology.nodes) (arts.spell o.body) o.signature
 
 -- ---- the start
 

@@ -3,7 +3,6 @@
 use Rattle.std.specs.Prelude.{ℕ, ◌==◌, ◌+◌, nat_lt, not, ◌||◌, List, [], ◌∷◌, Option, None, Some, Result, Ok, Err, if◌then◌else◌}
 use Rattle.sp_base.specs.Cursor.{or_else}
 use Rattle.sp_base.specs.declared.id.NodeId.{NodeId}
-use Rattle.sp_msg.specs.Bodies.{encoded}
 use Rattle.sp_msg.specs.declared.body.Body.{Body}
 use Rattle.sp_msg.specs.declared.body.Body.TheVariants as bodies
 use Rattle.sp_msg.specs.declared.effect.Effect.{Effect}
@@ -131,17 +130,17 @@ after_set_weight arts n v weight =
 
 -- ---- what an accepted message causes: it is signed, and then what its part tells
 
-abbrev pub signed_effect : Body → Effect
-signed_effect body = Signed (encoded body)
+abbrev pub signed_effect : Arts → Body → Effect
+signed_effect arts body = Signed (arts.spell body)
 
-abbrev pub rel_sent : NodeState → NodeId → List ℕ → List Effect
-rel_sent n dst payload = signed_effect (rel_body n dst payload) ∷ []
+abbrev pub rel_sent : Arts → NodeState → NodeId → List ℕ → List Effect
+rel_sent arts n dst payload = signed_effect arts (rel_body n dst payload) ∷ []
 
 abbrev pub prio_sent : Arts → NodeState → PrioSend → Choice → List Effect
-prio_sent arts n m choice = signed_effect (prio_body n m (mask_in choice)) ∷ prio_effects n.parts.prio (own_prio arts n m choice) None
+prio_sent arts n m choice = signed_effect arts (prio_body n m (mask_in choice)) ∷ prio_effects n.parts.prio (own_prio arts n m choice) None
 
-abbrev pub weight_sent : NodeState → NodeId → ℕ → List Effect
-weight_sent n v weight = signed_effect (weight_body n v weight) ∷ weight_effects (weight_body n v weight)
+abbrev pub weight_sent : Arts → NodeState → NodeId → ℕ → List Effect
+weight_sent arts n v weight = signed_effect arts (weight_body n v weight) ∷ weight_effects (weight_body n v weight)
 
 -- ---- a client takes what waits for it
 

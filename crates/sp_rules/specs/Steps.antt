@@ -75,17 +75,17 @@ arrived arts n v bytes =
 abbrev pub datagram_output : Arts → NodeState → NodeId → List ℕ → Output
 datagram_output arts n v bytes = refused_call (call_refusal n v) (arrived arts n v bytes)
 
-abbrev pub tick_output : NodeState → ℕ → Output
-tick_output n now = record { reply = Ticked (tick_reply n); effects = tick_effects n now; answered = [] }
+abbrev pub tick_output : Arts → NodeState → ℕ → Output
+tick_output arts n now = record { reply = Ticked (tick_reply n); effects = tick_effects arts n now; answered = [] }
 
-abbrev pub send_rel_output : NodeState → NodeId → List ℕ → Output
-send_rel_output n dst payload = refused_send (rel_refusal n dst) (accepted (rel_number n dst) (rel_sent n dst payload))
+abbrev pub send_rel_output : Arts → NodeState → NodeId → List ℕ → Output
+send_rel_output arts n dst payload = refused_send (rel_refusal n dst) (accepted (rel_number n dst) (rel_sent arts n dst payload))
 
 abbrev pub send_prio_output : Arts → NodeState → PrioSend → Choice → Output
 send_prio_output arts n m choice = refused_send (send_prio_refusal n m choice) (accepted n.parts.prio.next (prio_sent arts n m choice))
 
-abbrev pub set_weight_output : NodeState → NodeId → ℕ → Output
-set_weight_output n v weight = refused_send (weight_refusal n v weight) (accepted (weight_number n v) (weight_sent n v weight))
+abbrev pub set_weight_output : Arts → NodeState → NodeId → ℕ → Output
+set_weight_output arts n v weight = refused_send (weight_refusal n v weight) (accepted (weight_number n v) (weight_sent arts n v weight))
 
 abbrev pub take_prio_output : NodeState → Output
 take_prio_output n = record { reply = Message (oldest n.parts.prio.inbox); effects = take_prio_effects n; answered = [] }
@@ -103,9 +103,9 @@ pub record SendsPrio (arts : Arts) (old : NodeState) (m : PrioSend) (output : Ou
 abbrev pub NodeStep : Arts → NodeState → Input → Output → NodeState → Type 0
 NodeStep arts old (Poll to) output new = (output ≡ poll_output arts old to) × (new ≡ after_poll old to)
 NodeStep arts old (Datagram from bytes) output new = (output ≡ datagram_output arts old from bytes) × (new ≡ after_datagram arts old from bytes)
-NodeStep arts old (Tick now) output new = (output ≡ tick_output old now) × (new ≡ after_tick arts old now)
-NodeStep arts old (SendRel dst payload) output new = (output ≡ send_rel_output old dst payload) × (new ≡ after_send_rel arts old dst payload)
+NodeStep arts old (Tick now) output new = (output ≡ tick_output arts old now) × (new ≡ after_tick arts old now)
+NodeStep arts old (SendRel dst payload) output new = (output ≡ send_rel_output arts old dst payload) × (new ≡ after_send_rel arts old dst payload)
 NodeStep arts old (SendPrio message) output new = SendsPrio arts old message output new
-NodeStep arts old (SetWeight peer weight) output new = (output ≡ set_weight_output old peer weight) × (new ≡ after_set_weight arts old peer weight)
+NodeStep arts old (SetWeight peer weight) output new = (output ≡ set_weight_output arts old peer weight) × (new ≡ after_set_weight arts old peer weight)
 NodeStep arts old (TakeRel src) output new = (output ≡ replied (Payload (rel.oldest old.parts.rel src))) × (new ≡ after_take_rel old src)
 NodeStep arts old TakePrio output new = (output ≡ take_prio_output old) × (new ≡ after_take_prio old)

@@ -43,10 +43,10 @@ tick_reply_of (Some ack) refusal = reply_of refusal
 abbrev pub tick_reply : NodeState → TickReply
 tick_reply n = tick_reply_of (due n.parts.rel) (signer_refusal n.signer)
 
-abbrev pub ack_effects : Option Ack → Option SendRefused → List Effect
-ack_effects None refusal = []
-ack_effects (Some ack) (Some refusal) = []
-ack_effects (Some ack) None = signed_effect (bodies.Ack ack) ∷ []
+abbrev pub ack_effects : Arts → Option Ack → Option SendRefused → List Effect
+ack_effects arts None refusal = []
+ack_effects arts (Some ack) (Some refusal) = []
+ack_effects arts (Some ack) None = signed_effect arts (bodies.Ack ack) ∷ []
 
-abbrev pub tick_effects : NodeState → ℕ → List Effect
-tick_effects n now = expired_effects n.parts.prio (time_after n now) ++ ack_effects (due n.parts.rel) (signer_refusal n.signer)
+abbrev pub tick_effects : Arts → NodeState → ℕ → List Effect
+tick_effects arts n now = expired_effects n.parts.prio (time_after n now) ++ ack_effects arts (due n.parts.rel) (signer_refusal n.signer)

@@ -2,7 +2,6 @@
 use Rattle.std.specs.Prelude.{ℕ, ◌&&◌, Bool, true, false, not, nat_eq, List, [], ◌∷◌, Option, None, Some, option_map, if◌then◌else◌}
 use Rattle.std.specs.Cmp.Lexicographic.{pointwise}
 use Rattle.std.specs.List.{list_any}
-use Rattle.sp_msg.specs.Bodies.{encoded}
 use Rattle.sp_msg.specs.Views.{signer_of}
 use Rattle.sp_msg.specs.declared.kept.Kept.{Kept}
 use Rattle.sp_rules.specs.Answers.{is_new}
@@ -45,18 +44,18 @@ has_forged_tag arts x w n _ = false
 -- ---- by an object
 
 -- it was answered that it is new, and its signer is correct and never signed it
-abbrev pub is_forged : Setting → List Event → List Entry → Kept × Item → Bool
-is_forged x es js answered =
+abbrev pub is_forged : Arts → Setting → List Event → List Entry → Kept × Item → Bool
+is_forged arts x es js answered =
     let body = answered.0.body in
-    is_new answered.1 && is_correct x (signer_of body) && not (is_among (encoded body) (signed es js (signer_of body)))
+    is_new answered.1 && is_correct x (signer_of body) && not (is_among (arts.spell body) (signed es js (signer_of body)))
 
 -- the first one in the order of handling
-abbrev pub forged_object : Setting → List Event → List Entry → List (Kept × Item) → Option (List ℕ)
-forged_object x es js [] = None
-forged_object x es js (answered ∷ others) = if is_forged x es js answered then Some (encoded answered.0.body) else forged_object x es js others
+abbrev pub forged_object : Arts → Setting → List Event → List Entry → List (Kept × Item) → Option (List ℕ)
+forged_object arts x es js [] = None
+forged_object arts x es js (answered ∷ others) = if is_forged arts x es js answered then Some (arts.spell answered.0.body) else forged_object arts x es js others
 
 -- ---- what of a step is forged, after these events: the tag, or else the first object
 
 abbrev pub forged : Arts → Setting → List Event → List Entry → World → NodeState → Input → Output → Option What
 forged arts x es js w n input output =
-    if has_forged_tag arts x w n input then Some whats.Tag else option_map whats.Object (forged_object x es js output.answered)
+    if has_forged_tag arts x w n input then Some whats.Tag else option_map whats.Object (forged_object arts x es js output.answered)

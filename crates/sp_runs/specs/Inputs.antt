@@ -5,7 +5,6 @@ use Rattle.sp_base.specs.declared.id.Flow.{Flow}
 use Rattle.sp_base.specs.declared.id.NodeId.{NodeId}
 use Rattle.sp_frame.specs.Sections.{Contents}
 use Rattle.sp_frame.specs.declared.head.Head.{Head}
-use Rattle.sp_msg.specs.Bodies.{encoded}
 use Rattle.sp_msg.specs.declared.body.Body.{Body}
 use Rattle.sp_msg.specs.declared.body.Body.TheVariants as bodies
 use Rattle.sp_msg.specs.declared.kept.Kept.{Kept}
@@ -90,7 +89,7 @@ crafts es key = count_by (is_craft_of key) es
 -- the object with the signature of that index
 abbrev pub crafted_object : Arts → Setting → List Event → NodeId → Body → Kept
 crafted_object arts x es key body =
-    record { body = body; signature = arts.sign x.topology.height (x.seed key.0) (crafts es key) (encoded body) }
+    record { body = body; signature = arts.sign x.topology.height (x.seed key.0) (crafts es key) (arts.spell body) }
 
 -- ---- what reaches it, after these events. None where there is no such frame, or the crafting signer is spent
 
