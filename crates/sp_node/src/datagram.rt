@@ -1,5 +1,5 @@
 // A datagram arrives from a neighbour.
-ghost use Rattle.std.specs.Prelude.{◌≡◌, ◌≤◌, ◌<◌, ◌+◌, [], IfOk, OnErr, Some as There, length, position, unwrap_or};
+ghost use Rattle.std.specs.Prelude.{◌≡◌, ◌≤◌, ◌<◌, ◌+◌, [], IfOk, OnErr, Some as There, length, position};
 ghost use Rattle.sp_base.specs.Cursor.{or_else};
 ghost use Rattle.sp_base.specs.Rows.{replace_where};
 ghost use Rattle.sp_rules.specs.Node.{called, is_link, with_link};
@@ -14,7 +14,7 @@ ghost use Rattle.sp_node.specs.Life.{datagram_checks, datagram_tags};
 ghost use Rattle.sp_node_arrivals.specs.Work.{frame_checks};
 ghost use Rattle.sp_node_arrivals.specs.declared.answers.TheConstants.{MOST_OBJECTS};
 ghost use Rattle.sp_node_state.specs.ReadyStates.{IsAnswered};
-ghost use Rattle.sp_rules.specs.Arrivals.{arrival_at, link_after, no_frame, not_fresh, not_read, pieces_in, pieces_where, reply_at, sections_in};
+ghost use Rattle.sp_rules.specs.Arrivals.{arrival_at, link_after, no_frame, not_fresh, not_read, or_fresh, pieces_in, pieces_where, reply_at, sections_in};
 ghost use Rattle.sp_rules.specs.Handle.{handle_all};
 
 use sp_base::{Listed, Memory, NodeId};
@@ -184,7 +184,7 @@ fn after_link<'a>(
     answer: LinkAnswer,
     frame: &Frame<'a>,
 ) -> (LinkReply, Option<Sections<'a>>)
-    ensures reply { result.0 ≡ unwrap_or (or_else (not_fresh answer) (not_read fixed.now.topology.version (head_of frame.now).topology (sections_in format fixed.now frame.now))) LinkReply.Fresh }
+    ensures reply { result.0 ≡ or_fresh (or_else (not_fresh answer) (not_read fixed.now.topology.version (head_of frame.now).topology (sections_in format fixed.now frame.now))) }
     ensures pieces { pieces_with result.1 ≡ pieces_where result.0 (pieces_in (sections_in format fixed.now frame.now)) }
 {
     match answer {
@@ -198,7 +198,7 @@ fn after_link<'a>(
 
 /// What becomes of a fresh frame.
 fn of_fresh<'a>(fixed: &Fixed, frame: &Frame<'a>) -> (LinkReply, Option<Sections<'a>>)
-    ensures reply { result.0 ≡ unwrap_or (not_read fixed.now.topology.version (head_of frame.now).topology (sections_in format fixed.now frame.now)) LinkReply.Fresh }
+    ensures reply { result.0 ≡ or_fresh (not_read fixed.now.topology.version (head_of frame.now).topology (sections_in format fixed.now frame.now)) }
     ensures pieces { pieces_with result.1 ≡ pieces_where result.0 (pieces_in (sections_in format fixed.now frame.now)) }
 {
     let theirs = frame.head().topology;

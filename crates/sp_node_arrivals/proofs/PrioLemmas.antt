@@ -110,6 +110,14 @@ prios_follow at old new [] readies f are = are
 prios_follow at old new (m ∷ ms) [] f are = are
 prios_follow at old new (m ∷ ms) (ready ∷ readies) f are = (prio_follows at old new m.1 ready f are.0, prios_follow at old new ms readies f are.1)
 
+-- the rows of neighbours change no answer
+judged_by_peers : (s : PrioState) (peers : List PrioPeer) (body : Body) (now : ℕ) → judge_prio (record s { peers = peers }) body now ≡ prios.New
+    → judge_prio s body now ≡ prios.New
+judged_by_peers s peers (bodies.Prio p) now new = new
+judged_by_peers s peers (bodies.Rel m) now new = new
+judged_by_peers s peers (bodies.Ack m) now new = new
+judged_by_peers s peers (bodies.Weight m) now new = new
+
 -- ---- an acknowledged link number
 
 less_last : (s : Store) (pairs : List (ℕ × ℕ)) → (rows.less_all s pairs).last ≡ s.last
@@ -120,15 +128,9 @@ pub acked_follows : (s : PrioState) (v number : ℕ) → Follows s (acked s v nu
 acked_follows s v number = record {
   places = λ body came. ap (λ (n : ℕ). cond (is_here s body) 1 n)
       (replaced_count (is_peer v) (goes_to body came) (λ q. rows.acked q number) no_peer (λ q. refl) s.peers);
-  judged = λ body now new. judged_same body now new;
+  judged = λ body now new. judged_by_peers s (acked s v number).peers body now new;
   peers = replaced_length (is_peer v) (rows.acked (peer_in s v) number) s.peers;
 }
-  where
-    judged_same : (body : Body) (now : ℕ) → judge_prio (acked s v number) body now ≡ prios.New → judge_prio s body now ≡ prios.New
-    judged_same (bodies.Prio p) now new = new
-    judged_same (bodies.Rel m) now new = new
-    judged_same (bodies.Ack m) now new = new
-    judged_same (bodies.Weight m) now new = new
 
 pub acked_ids : (count : ℕ) (s : PrioState) (v number : ℕ) → HasIds count s → HasIds count (acked s v number)
 acked_ids count s v number has = record {
@@ -143,15 +145,9 @@ heard_follows : (s : PrioState) (v number : ℕ) → Follows s (heard s v number
 heard_follows s v number = record {
   places = λ body came. ap (λ (n : ℕ). cond (is_here s body) 1 n)
       (replaced_count (is_peer v) (goes_to body came) (λ q. rows.heard q number) no_peer (λ q. refl) s.peers);
-  judged = λ body now new. judged_same body now new;
+  judged = λ body now new. judged_by_peers s (heard s v number).peers body now new;
   peers = replaced_length (is_peer v) (rows.heard (peer_in s v) number) s.peers;
 }
-  where
-    judged_same : (body : Body) (now : ℕ) → judge_prio (heard s v number) body now ≡ prios.New → judge_prio s body now ≡ prios.New
-    judged_same (bodies.Prio p) now new = new
-    judged_same (bodies.Rel m) now new = new
-    judged_same (bodies.Ack m) now new = new
-    judged_same (bodies.Weight m) now new = new
 
 heard_ids : (count : ℕ) (s : PrioState) (v number : ℕ) → HasIds count s → HasIds count (heard s v number)
 heard_ids count s v number has = record {

@@ -8,9 +8,9 @@ use Rattle.std.proofs.lemmas.List.{length_push}
 use Rattle.sp_base.specs.declared.limits.TheConstants.{MAX_MESSAGES}
 use Rattle.sp_base.proofs.FewLemmas.{drop_first}
 use Rattle.sp_frame.specs.Views.{as_list}
-use Rattle.sp_prio.specs.Flight.{flown, launched_with, with_flight}
+use Rattle.sp_prio.specs.Flight.{launched_with, with_flight}
 use Rattle.sp_prio.specs.declared.flight.Flight.{Flight}
-use Rattle.sp_rules.specs.PrioPeer.{PrioPeer, filled, lands, launched, numbered, waits}
+use Rattle.sp_rules.specs.PrioPeer.{PrioPeer, filled, flown, lands, launched, numbered, waits}
 use Rattle.sp_rules.specs.Store.{Store, entry_in, has_id, next_besides}
 use Rattle.sp_rules.specs.declared.store.Entry.{Entry}
 use Rattle.std.specs.Option.{option_map}

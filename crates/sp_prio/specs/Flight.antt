@@ -1,9 +1,8 @@
 -- A neighbour's row by what is in flight to it.
-use Rattle.std.specs.Prelude.{ℕ, ◌+◌, List, [], ◌∷◌, ◌++◌, Some, option_map}
-use Rattle.sp_frame.specs.Views.{as_list}
+use Rattle.std.specs.Prelude.{◌+◌, [], ◌∷◌, ◌++◌, Some}
 use Rattle.sp_prio.specs.declared.flight.Flight.{Flight}
-use Rattle.sp_rules.specs.PrioPeer.{PrioPeer, numbered}
-use Rattle.sp_rules.specs.Store.{Store, entry_in, source}
+use Rattle.sp_rules.specs.PrioPeer.{PrioPeer}
+use Rattle.sp_rules.specs.Store.{source}
 use Rattle.sp_rules.specs.declared.store.Entry.{Entry}
 
 -- the row with another flight
@@ -13,7 +12,3 @@ with_flight q f = record q { number = f.number; last = f.cursor; flight = f.pair
 -- this entry goes in flight under the next link number, and its source was served
 abbrev pub launched_with : Flight → Entry → Flight
 launched_with f e = record { number = f.number + 1; cursor = Some (source e); pairs = f.pairs ++ (f.number + 1, e.id) ∷ [] }
-
--- the entry of a pair with its link number, where it is in the store
-abbrev pub flown : Store → ℕ × ℕ → List (ℕ × Entry)
-flown s pair = as_list (option_map (numbered pair.0) (entry_in s pair.1))

@@ -3,9 +3,9 @@ ghost use Rattle.std.specs.Prelude.{◌≡◌, ◌<◌, ◌≤◌, ◌+◌, ◌-
 ghost use Rattle.std.specs.List.{flat_map};
 ghost use Rattle.sp_base.specs.declared.limits.TheConstants.{MAX_MESSAGES};
 ghost use Rattle.sp_rules.specs.Polls.{as_message};
-ghost use Rattle.sp_rules.specs.PrioPeer.{lands, left_effects, less_all, waits};
+ghost use Rattle.sp_rules.specs.PrioPeer.{flown, lands, left_effects, less_all, waits};
 ghost use Rattle.sp_rules.specs.Told.{told};
-ghost use Rattle.sp_prio.specs.Flight.{flown, launched_with};
+ghost use Rattle.sp_prio.specs.Flight.{launched_with};
 
 use crate::field::src_of;
 use crate::place::leave;

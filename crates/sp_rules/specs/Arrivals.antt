@@ -54,14 +54,16 @@ link_says arts l bytes = link_answer l (arts.head bytes) (is_right arts l.key by
 abbrev pub sections_in : Arts → Fixed → List ℕ → Result Contents SectionRefused
 sections_in arts f bytes = arts.sections f.signature_len bytes
 
--- the first test that isn't passed, or that it is fresh
+-- what is told of the first test that isn't passed, or that all are
+abbrev pub or_fresh : Option LinkReply → LinkReply
+or_fresh told = unwrap_or told replies.Fresh
+
 abbrev pub reply_at : Arts → NodeState → NodeId → List ℕ → LinkReply
 reply_at arts n v bytes =
-    unwrap_or
+    or_fresh
     (or_else (no_frame (arts.opened bytes))
     (or_else (not_fresh (link_says arts (link_in n v) bytes))
     (not_read n.fixed.topology.version (arts.head bytes).topology (sections_in arts n.fixed bytes))))
-    replies.Fresh
 
 -- what it makes of the link
 abbrev pub link_after : Arts → NodeState → NodeId → List ℕ → Link

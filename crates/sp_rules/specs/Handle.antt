@@ -76,13 +76,10 @@ heard_where prios.New v number p = record p { prio = heard p.prio v.0 number }
 heard_where prios.Seen v number p = record p { prio = heard p.prio v.0 number }
 heard_where _ v number p = p
 
-abbrev pub heard_after : PrioAnswer → NodeId → ℕ → Handled → Handled
-heard_after answer v number h = record h { parts = heard_where answer v number h.parts }
-
 abbrev pub prio_handled : NodeId → PrioAnswer → ℕ → Kept → Parts → Handled
 prio_handled v answer number o p =
-    heard_after answer v number
-    (where_new (items.Prio answer) o p (record p { prio = admit_prio p.prio o (Some v) }) (prio_effects p.prio o (Some v)))
+    let taken = where_new (items.Prio answer) o p (record p { prio = admit_prio p.prio o (Some v) }) (prio_effects p.prio o (Some v)) in
+    record taken { parts = heard_where answer v number taken.parts }
 
 -- ---- acknowledgements and reliable messages
 

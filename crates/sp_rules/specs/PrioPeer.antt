@@ -105,9 +105,13 @@ carried q = filled (MAX_MESSAGES - length (settled q).flight) (settled q)
 abbrev pub numbered : ℕ → Entry → ℕ × Entry
 numbered number e = (number, e)
 
+-- the entry of a pair with its link number, where it is in the store
+abbrev pub flown : Store → ℕ × ℕ → List (ℕ × Entry)
+flown s pair = as_list (option_map (numbered pair.0) (entry_in s pair.1))
+
 -- the entries in flight with their link numbers, in the order of these
 abbrev pub in_flight : PrioPeer → List (ℕ × Entry)
-in_flight q = flat_map (λ pair. as_list (option_map (numbered pair.0) (entry_in q.store pair.1))) q.flight
+in_flight q = flat_map (flown q.store) q.flight
 
 -- what a poll carries
 abbrev pub next_prios : PrioPeer → List (ℕ × Entry)

@@ -126,8 +126,12 @@ next_entry s last = option_and_then (highest s.entries) (next_source s.entries l
 abbrev pub is_flying : List (ℕ × ℕ) → Entry → Bool
 is_flying flight e = list_any (λ p. has_id p.1 e) flight
 
+-- the entries that aren't in flight
+abbrev pub free : List (ℕ × ℕ) → List Entry → List Entry
+free flight es = filter (λ e. not (is_flying flight e)) es
+
 abbrev pub besides : Store → List (ℕ × ℕ) → Store
-besides s flight = record { capacity = s.capacity; last = s.last; entries = filter (λ e. not (is_flying flight e)) s.entries }
+besides s flight = record { capacity = s.capacity; last = s.last; entries = free flight s.entries }
 
 -- the entry that is served next, of those that aren't in flight. None where all are
 abbrev pub next_besides : Store → List (ℕ × ℕ) → Option ℕ → Option Entry

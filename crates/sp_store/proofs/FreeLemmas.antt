@@ -5,9 +5,8 @@ use Rattle.std.proofs.lemmas.Bool.Decides.{nat_tests}
 use Rattle.std.proofs.lemmas.List.{append-nil}
 use Rattle.std.proofs.lemmas.List.Elements.{filter-append}
 use Rattle.sp_base.proofs.FewLemmas.{drop_first}
-use Rattle.sp_rules.specs.Store.{is_flying}
+use Rattle.sp_rules.specs.Store.{free, is_flying}
 use Rattle.sp_rules.specs.declared.store.Entry.{Entry}
-use Rattle.sp_store.specs.Wanted.{free}
 
 -- the pair of this place is that of the entry
 pub flying_here : (flight : List (ℕ × ℕ)) (i : ℕ) (pair : ℕ × ℕ) (e : Entry) → slice_get flight i ≡ Some pair → e.id ≡ pair.1 →

@@ -29,40 +29,24 @@ at_place low (e ∷ es) (suc i) v rises inside is =
 pub there_by_id : (es : List Entry) (e : Entry) → Rises 0 es → Contains es e → find (has_id e.id) es ≡ Some e
 there_by_id es e rises there = at_place 0 es there.0 e rises there.1 there.2
 
--- without the first that passes, which is the one of its id
-pub less_by_id : (test : Entry → Bool) (low : ℕ) (es : List Entry) (v : Entry) → Rises low es → find test es ≡ Some v →
-    (low < v.id) × (less_first (has_id v.id) es ≡ less_first test es)
-less_by_id test low [] v rises found = absurd (cc)
-less_by_id test low (e ∷ es) v rises found = go (test e) found (λ rest. less_by_id test e.id es v rises.1 rest)
-  where
-    go : (t : Bool) → cond t (Some e) (find test es) ≡ Some v →
-        (find test es ≡ Some v → (e.id < v.id) × (less_first (has_id v.id) es ≡ less_first test es)) →
-        (low < v.id) × (cond (e.id == v.id) es (e ∷ less_first (has_id v.id) es) ≡ cond t es (e ∷ less_first test es))
-    go true found rest =
-        let is : e ≡ v = cc in
-        let same : (e.id == v.id) ≡ true = grind (arith, nat_tests, ap (λ (x : Entry). x.id) is) in
-        (subst (λ (x : Entry). low < x.id) is rises.0, rw same refl)
-    go false found rest =
-        let later = rest found in
-        let apart : (e.id == v.id) ≡ false = grind (arith, nat_tests, later.0) in
-        (omega (arith, rises.0, later.0), rw apart (ap (λ (ys : List Entry). e ∷ ys) later.1))
-
--- the first that passes is found by its id
+-- the first that passes is found by its id, and left out by it
 pub first_by_id : (test : Entry → Bool) (low : ℕ) (es : List Entry) (v : Entry) → Rises low es → find test es ≡ Some v →
-    (low < v.id) × (find (has_id v.id) es ≡ Some v)
+    (low < v.id) × (find (has_id v.id) es ≡ Some v) × (less_first (has_id v.id) es ≡ less_first test es)
 first_by_id test low [] v rises found = absurd (cc)
 first_by_id test low (e ∷ es) v rises found = go (test e) found (λ rest. first_by_id test e.id es v rises.1 rest)
   where
-    go : (t : Bool) → cond t (Some e) (find test es) ≡ Some v → (find test es ≡ Some v → (e.id < v.id) × (find (has_id v.id) es ≡ Some v)) →
+    go : (t : Bool) → cond t (Some e) (find test es) ≡ Some v →
+        (find test es ≡ Some v → (e.id < v.id) × (find (has_id v.id) es ≡ Some v) × (less_first (has_id v.id) es ≡ less_first test es)) →
         (low < v.id) × (cond (e.id == v.id) (Some e) (find (has_id v.id) es) ≡ Some v)
+        × (cond (e.id == v.id) es (e ∷ less_first (has_id v.id) es) ≡ cond t es (e ∷ less_first test es))
     go true found rest =
         let is : e ≡ v = cc in
         let same : (e.id == v.id) ≡ true = grind (arith, nat_tests, ap (λ (x : Entry). x.id) is) in
-        (subst (λ (x : Entry). low < x.id) is rises.0, rw same found)
+        (subst (λ (x : Entry). low < x.id) is rises.0, rw same found, rw same refl)
     go false found rest =
         let later = rest found in
         let apart : (e.id == v.id) ≡ false = grind (arith, nat_tests, later.0) in
-        (omega (arith, rises.0, later.0), rw apart later.1)
+        (omega (arith, rises.0, later.0), rw apart later.1.0, rw apart (ap (λ (ys : List Entry). e ∷ ys) later.1.1))
 
 -- the victim is there
 pub victim_there : (es : List Entry) (v : Entry) → victim es ≡ Some v → Contains es v

@@ -1,8 +1,8 @@
 -- Which of one source's entries is wanted.
-use Rattle.std.specs.Prelude.{ℕ, nat_lt, Bool, true, false, List, filter, not, Option, Some, None}
+use Rattle.std.specs.Prelude.{ℕ, nat_lt, Bool, true, false, List, filter, Option, Some, None}
 use Rattle.sp_rules.specs.Choices.{first_by}
 use Rattle.std.specs.Option.{option_and_then}
-use Rattle.sp_rules.specs.Store.{is_flying, is_of, next_source, priority}
+use Rattle.sp_rules.specs.Store.{free, is_of, next_source, priority}
 use Rattle.sp_rules.specs.declared.store.Entry.{Entry}
 use Rattle.sp_store.specs.declared.choice.Wanted.{Wanted}
 use Rattle.sp_store.specs.declared.choice.Wanted.TheVariants.{HighestPriority, LowestPriority}
@@ -20,10 +20,6 @@ abbrev pub comes_before : Wanted → Option Entry → Option Entry → Bool
 comes_before wanted entry None = true
 comes_before wanted None (Some other) = false
 comes_before wanted (Some entry) (Some other) = goes_before wanted entry other
-
--- the entries that aren't in flight
-abbrev pub free : List (ℕ × ℕ) → List Entry → List Entry
-free flight es = filter (λ e. not (is_flying flight e)) es
 
 -- the entry that is served after one of this source, of those that aren't in flight
 abbrev pub next_choice : List (ℕ × ℕ) → List Entry → Option ℕ → Option Entry

@@ -2,10 +2,10 @@
 // each is then chosen among one source's entries in one pass.
 ghost use Rattle.std.specs.Prelude.{◌≡◌, ℕ, ◌<◌, IsSome, Some, drop, length, map};
 ghost use Rattle.std.specs.Option.{option_copied};
-ghost use Rattle.sp_rules.specs.Store.{count_of, fullest, has_entries, ids, is_flying, victim};
+ghost use Rattle.sp_rules.specs.Store.{count_of, free, fullest, has_entries, ids, is_flying, victim};
 ghost use Rattle.sp_store.specs.Places.{live};
 ghost use Rattle.sp_store.specs.Sound.{IsCounted};
-ghost use Rattle.sp_store.specs.Wanted.{choice, comes_before, free, goes_before, next_choice};
+ghost use Rattle.sp_store.specs.Wanted.{choice, comes_before, goes_before, next_choice};
 
 use crate::said::{priority, source};
 use sp_base::{Cursor, Four};

@@ -4,7 +4,7 @@ use Rattle.std.specs.Option.{option_copied}
 use Rattle.sp_base.proofs.FewLemmas.{drop_past}
 use Rattle.sp_msg.specs.declared.kept.Kept.{Kept}
 use Rattle.sp_rules.specs.Polls.{as_message}
-use Rattle.sp_prio.specs.Flight.{flown}
+use Rattle.sp_rules.specs.PrioPeer.{flown}
 use Rattle.sp_prio.proofs.flight.+messages_from.Goals as goal
 
 pub returns-in_default-clause-messages : goal.returns-in_default-clause-messages

@@ -1,12 +1,11 @@
 use Rattle.std.proofs.Common.{ℕ, List, Option, ap, arith, sym, take, ◌∙◌, map}
 use Rattle.std.proofs.lemmas.List.{take_all}
-use Rattle.sp_rules.specs.Store.{has_entries, ids}
+use Rattle.sp_rules.specs.Store.{free, has_entries, ids}
 use Rattle.sp_rules.specs.declared.store.Entry.{Entry}
 use Rattle.sp_store.proofs.CountLemmas.{IsFlagged, all_flagged, none_flagged, one_flagged, still_flagged}
 use Rattle.sp_store.proofs.FreeLemmas.{either_more, flying_more, free_more}
 use Rattle.sp_store.proofs.PlaceLemmas.{live_more, live_same}
 use Rattle.sp_store.specs.Places.{live}
-use Rattle.sp_store.specs.Wanted.{free}
 use Rattle.sp_store.proofs.choice.active.Goals as goal
 use Rattle.sp_store.proofs.choice.active.Goals.{in-Some+then-not-active-src+then-not-is_flying, in-Some+else-not-active-src, else-not-active-src-via-then-not-active-src+else-not-is_flying, else-not-active-src-via-else-not-active-src, in_default}
 

@@ -1,6 +1,6 @@
 use Rattle.std.proofs.Common.{take}
 use Rattle.sp_store.specs.Places.{live}
-use Rattle.sp_store.specs.Wanted.{free}
+use Rattle.sp_rules.specs.Store.{free}
 use Rattle.sp_store.proofs.CountLemmas.{IsFlagged}
 use Rattle.sp_store.proofs.choice.active.Given as goal
 

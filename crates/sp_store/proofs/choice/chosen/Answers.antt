@@ -1,13 +1,13 @@
 use Rattle.std.proofs.Common.{ℕ, List, Option, true, false, arith, sym, take, ◌≡◌, ◌∙◌}
 use Rattle.std.specs.Option.{option_copied}
 use Rattle.std.proofs.lemmas.Bool.Decides.{nat_tests}
-use Rattle.sp_rules.specs.Store.{is_of}
+use Rattle.sp_rules.specs.Store.{free, is_of}
 use Rattle.sp_rules.specs.declared.store.Entry.{Entry}
 use Rattle.sp_store.proofs.ChosenLemmas.{best_kept, better_chosen, other_kept}
 use Rattle.sp_store.proofs.FreeLemmas.{either_more, flying_more, free_more}
 use Rattle.sp_store.proofs.PlaceLemmas.{live_more, live_same}
 use Rattle.sp_store.specs.Places.{live}
-use Rattle.sp_store.specs.Wanted.{choice, free}
+use Rattle.sp_store.specs.Wanted.{choice}
 use Rattle.sp_store.proofs.choice.chosen.Goals as goal
 use Rattle.sp_store.proofs.choice.chosen.Goals.{in-Some+then-source-src+then-is_better+then-not-is_flying, in-Some+else-source-src, else-source-src-via-then-source-src+then-is_better+else-not-is_flying, else-source-src-via-then-source-src+else-is_better, else-source-src-via-else-source-src, in_default}
 

@@ -3,7 +3,8 @@ use Rattle.sp_rules.specs.declared.store.Entry.{Entry}
 use Rattle.sp_store.proofs.ChosenLemmas.{some_chosen, victim_is}
 use Rattle.sp_store.proofs.FreeLemmas.{all_free}
 use Rattle.sp_store.specs.Places.{live}
-use Rattle.sp_store.specs.Wanted.{choice, free}
+use Rattle.sp_rules.specs.Store.{free}
+use Rattle.sp_store.specs.Wanted.{choice}
 use Rattle.sp_store.specs.declared.choice.Wanted.TheVariants.{LowestPriority}
 use Rattle.sp_store.proofs.choice.victim.Goals as goal
 

@@ -3,7 +3,7 @@ use Rattle.std.specs.Option.{option_copied}
 use Rattle.sp_rules.specs.Store.{Store, is_expired}
 use Rattle.sp_rules.specs.declared.store.Entry.{Entry}
 use Rattle.sp_store.proofs.LeftLemmas.{none_left}
-use Rattle.sp_store.proofs.IdLemmas.{first_by_id, less_by_id}
+use Rattle.sp_store.proofs.IdLemmas.{first_by_id}
 use Rattle.sp_store.specs.Places.{Rises}
 use Rattle.sp_store.proofs.store.Store.expire.Goals as goal
 
@@ -26,7 +26,7 @@ returns-clause-entry c =
     let first : Some e ≡ find (is_expired c.args.now) s.entries =
     ap (λ r. option_copied r) (sym c.in_ok-gone.was) ∙ c.expired.ensures ∙ ap (find (is_expired c.args.now)) c.slots.ensures.entries
     ∙ ap (λ (t : Store). find (is_expired c.args.now) t.entries) c.self.view_is in
-    c.remove.ensures.entry ∙ (first_by_id (is_expired c.args.now) 0 s.entries e rises (sym first)).1 ∙ first
+    c.remove.ensures.entry ∙ (first_by_id (is_expired c.args.now) 0 s.entries e rises (sym first)).1.0 ∙ first
 
 pub returns-clause-store : goal.returns-clause-store
 returns-clause-store c =
@@ -36,4 +36,4 @@ returns-clause-store c =
     let first : Some e ≡ find (is_expired c.args.now) s.entries =
     ap (λ r. option_copied r) (sym c.in_ok-gone.was) ∙ c.expired.ensures ∙ ap (find (is_expired c.args.now)) c.slots.ensures.entries
     ∙ ap (λ (t : Store). find (is_expired c.args.now) t.entries) c.self.view_is in
-    c.remove.ensures.store ∙ ap (with_entries s) (less_by_id (is_expired c.args.now) 0 s.entries e rises (sym first)).1
+    c.remove.ensures.store ∙ ap (with_entries s) (first_by_id (is_expired c.args.now) 0 s.entries e rises (sym first)).1.1
