@@ -46,7 +46,7 @@ first_by_id test low (e ∷ es) v rises found = go (test e) found (λ rest. firs
     go false found rest =
         let later = rest found in
         let apart : (e.id == v.id) ≡ false = grind (arith, nat_tests, later.0) in
-        (omega (arith, rises.0, later.0), rw apart later.1.0, rw apart (ap (λ (ys : List Entry). e ∷ ys) later.1.1))
+        (omega (arith, rises.0, later.0), rw apart later.1, rw apart (ap (λ (ys : List Entry). e ∷ ys) later.2))
 
 -- the victim is there
 pub victim_there : (es : List Entry) (v : Entry) → victim es ≡ Some v → Contains es v

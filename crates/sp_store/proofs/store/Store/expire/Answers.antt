@@ -26,7 +26,7 @@ returns-clause-entry c =
     let first : Some e ≡ find (is_expired c.args.now) s.entries =
     ap (λ r. option_copied r) (sym c.in_ok-gone.was) ∙ c.expired.ensures ∙ ap (find (is_expired c.args.now)) c.slots.ensures.entries
     ∙ ap (λ (t : Store). find (is_expired c.args.now) t.entries) c.self.view_is in
-    c.remove.ensures.entry ∙ (first_by_id (is_expired c.args.now) 0 s.entries e rises (sym first)).1.0 ∙ first
+    c.remove.ensures.entry ∙ (first_by_id (is_expired c.args.now) 0 s.entries e rises (sym first)).1 ∙ first
 
 pub returns-clause-store : goal.returns-clause-store
 returns-clause-store c =
@@ -36,4 +36,4 @@ returns-clause-store c =
     let first : Some e ≡ find (is_expired c.args.now) s.entries =
     ap (λ r. option_copied r) (sym c.in_ok-gone.was) ∙ c.expired.ensures ∙ ap (find (is_expired c.args.now)) c.slots.ensures.entries
     ∙ ap (λ (t : Store). find (is_expired c.args.now) t.entries) c.self.view_is in
-    c.remove.ensures.store ∙ ap (with_entries s) (first_by_id (is_expired c.args.now) 0 s.entries e rises (sym first)).1.1
+    c.remove.ensures.store ∙ ap (with_entries s) (first_by_id (is_expired c.args.now) 0 s.entries e rises (sym first)).2
