@@ -22,6 +22,8 @@ pub record Arts : Type 0 where
   pub frame : Head → Contents → List ℕ
   -- the tag of bytes under a key
   pub tag : List ℕ → List ℕ → List ℕ
+  -- whether a message is one that this format has: each of its fields is in the range that the format gives it
+  pub is_good : Body → Bool
   -- the bytes of a message
   pub spell : Body → List ℕ
   -- the message that bytes are, or the first thing that is wrong with them
