@@ -118,14 +118,15 @@ flows_once nodes (s ∷ srcs) once each =
     (other_srcs s nodes srcs (pairs_head Other s srcs each)))
     (has_src s nodes)))
 
-flows_in_range : (nodes srcs : List NodeId) → All IsNode nodes → All IsNode srcs → All (λ (f : Flow). IsNode f.src × IsNode f.dst) (flat_map (λ s. flows_from s nodes) srcs)
-flows_in_range nodes [] all each = All-nil (λ (f : Flow). IsNode f.src × IsNode f.dst)
-flows_in_range nodes (s ∷ srcs) all each =
-    subst (All (λ (f : Flow). IsNode f.src × IsNode f.dst)) (sym (flat_map-cons (λ t. flows_from t nodes) s srcs))
-    (all_join (λ (f : Flow). IsNode f.src × IsNode f.dst) (flows_from s nodes) (flat_map (λ t. flows_from t nodes) srcs)
-    (all_map IsNode (λ (f : Flow). IsNode f.src × IsNode f.dst) (λ dst. record { src = s; dst = dst }) (λ v is. (All-head IsNode s srcs each, is))
-    (filter (λ dst. not (dst.0 == s.0)) nodes) (all_filter IsNode (λ dst. not (dst.0 == s.0)) nodes all))
-    (flows_in_range nodes srcs all (All-tail IsNode s srcs each)))
+-- what each node has, both ends of each flow have
+pub flows_have : (P : NodeId → Type 0) (nodes srcs : List NodeId) → All P nodes → All P srcs → All (λ (f : Flow). P f.src × P f.dst) (flat_map (λ s. flows_from s nodes) srcs)
+flows_have P nodes [] all each = All-nil (λ (f : Flow). P f.src × P f.dst)
+flows_have P nodes (s ∷ srcs) all each =
+    subst (All (λ (f : Flow). P f.src × P f.dst)) (sym (flat_map-cons (λ t. flows_from t nodes) s srcs))
+    (all_join (λ (f : Flow). P f.src × P f.dst) (flows_from s nodes) (flat_map (λ t. flows_from t nodes) srcs)
+    (all_map P (λ (f : Flow). P f.src × P f.dst) (λ dst. record { src = s; dst = dst }) (λ v is. (All-head P s srcs each, is))
+    (filter (λ dst. not (dst.0 == s.0)) nodes) (all_filter P (λ dst. not (dst.0 == s.0)) nodes all))
+    (flows_have P nodes srcs all (All-tail P s srcs each)))
 
 pub same_ends : (flows : List Flow) → map ends (map no_flow flows) ≡ flows
 same_ends [] = refl
@@ -228,8 +229,9 @@ boot_holds P f signer keys buffer store boots =
           me = refl;
           bound = refl;
           nodes = nodes;
+          known = refl;
           flows = all_map (λ (fl : Flow). IsNode fl.src × IsNode fl.dst) (FlowHolds k signer.index) no_flow (λ fl both. no_flow_holds k signer.index fl both.0 both.1) pairs
-              (flows_in_range (nodes_of t) (nodes_of t) nodes nodes);
+              (flows_have IsNode (nodes_of t) (nodes_of t) nodes nodes);
           keys = same_ends pairs;
           once = subst (AllPairs Differ) (sym (same_ends pairs)) (flows_once (nodes_of t) (nodes_of t) once once);
         };

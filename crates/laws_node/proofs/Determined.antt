@@ -2,7 +2,6 @@
 use Rattle.std.proofs.Common.{◌≡◌, ℕ, Bool, true, false, List, [], ◌∷◌, Option, Some, None, refl, sym, ap, ◌∙◌}
 use Rattle.std.specs.Prelude.{IsTrue}
 use Rattle.sp_base.specs.Cursor.{or_else}
-use Rattle.sp_msg.specs.Bodies.{HasGoodFields}
 use Rattle.sp_msg.specs.declared.body.Body.{Body}
 use Rattle.sp_msg.specs.declared.body.Body.TheVariants as bodies
 use Rattle.sp_msg.specs.declared.effect.Effect.{Effect}
@@ -15,9 +14,9 @@ use Rattle.sp_rules.specs.Parts.{is_signed}
 use Rattle.sp_rules.specs.Prio.{admit_prio}
 use Rattle.sp_rules.specs.Sends.{PrioSend, no_paths, own_prio, prio_body, prio_refusal, prio_sent}
 use Rattle.sp_rules.specs.Steps.{Output, Poll, Datagram, Tick, SendRel, SendPrio, SetWeight, TakeRel, TakePrio, Reply, Accepted, accepted, refused_send}
-use Rattle.laws_node.specs.Inputs.{PrioSendFits, ReadsBack}
+use Rattle.laws_node.specs.Inputs.{ArtsFit, PrioSendFits, ReadsBack}
 use Rattle.laws_node.specs.Nodes.{IsKept, sizes_of}
-use Rattle.laws_node.proofs.Own.{prio_sent_fits}
+use Rattle.laws_node.proofs.About.{prio_good}
 use Rattle.laws_node.proofs.Spellings.{no_other_is_spelled_so}
 use Rattle.laws_node.specs.Determined.{StepsAreDetermined}
 
@@ -40,10 +39,11 @@ step_by arts n x c r = kept_or (or_else r (no_paths c)) n (signed_once n (record
 abbrev output_by : Arts → NodeState → PrioSend → Choice → Option SendRefused → Output
 output_by arts n x c r = refused_send (or_else r (no_paths c)) (accepted n.parts.prio.next (prio_sent arts n x c))
 
-module _ (arts : Arts) (n : NodeState) (x : PrioSend) (o : Output) (one two : NodeState) (reads : ReadsBack arts) (fits : PrioSendFits x) (kept : IsKept arts n) where
-  fields : (mask : ℕ) → prio_refusal n x ≡ None → IsChoice (graph_of n.fixed.topology n.parts.weights) n.fixed.me x.dst x.paths (Mask mask) → HasGoodFields (prio_body n x mask)
-  fields mask e is =
-      (prio_sent_fits (sizes_of (λ k. IsTrue (is_signed arts n.fixed k)) n) n x (Mask mask) fits (ap (λ (r : Option SendRefused). or_else r None) e) is kept).fields
+module _ (arts : Arts) (n : NodeState) (x : PrioSend) (o : Output) (one two : NodeState) (reads : ReadsBack arts) (arts_fit : ArtsFit arts n.fixed n.signer) (fits : PrioSendFits x) (kept : IsKept arts n) where
+  good : (mask : ℕ) → prio_refusal n x ≡ None → IsChoice (graph_of n.fixed.topology n.parts.weights) n.fixed.me x.dst x.paths (Mask mask)
+      → IsTrue (arts.is_good (prio_body n x mask))
+  good mask e is =
+      prio_good arts (sizes_of (λ k. IsTrue (is_signed arts n.fixed k)) n) n x (Mask mask) arts_fit fits (ap (λ (r : Option SendRefused). or_else r None) e) is kept
 
   by_choice : prio_refusal n x ≡ None → (c d : Choice)
       → IsChoice (graph_of n.fixed.topology n.parts.weights) n.fixed.me x.dst x.paths c → IsChoice (graph_of n.fixed.topology n.parts.weights) n.fixed.me x.dst x.paths d
@@ -53,7 +53,7 @@ module _ (arts : Arts) (n : NodeState) (x : PrioSend) (o : Output) (one two : No
   by_choice e (Mask k) (OnlyPaths g) is also o1 o2 n1 n2 = absurd (let same : true ≡ false = ap (λ (q : Output). was_accepted q.reply) (sym o1 ∙ o2) in cc)
   by_choice e (Mask k) (Mask l) is also o1 o2 n1 n2 =
       let bytes : arts.spell (prio_body n x k) ≡ arts.spell (prio_body n x l) = ap (λ (q : Output). first_signed q.effects) (sym o1 ∙ o2) in
-      let body = no_other_is_spelled_so arts reads (prio_body n x k) (prio_body n x l) (fields k e is) (fields l e also) bytes in
+      let body = no_other_is_spelled_so arts reads (prio_body n x k) (prio_body n x l) (good k e is) (good l e also) bytes in
       let mask : k ≡ l = ap mask_of body in
       n1 ∙ (ap (λ (m : ℕ). step_by arts n x (Mask m) None) mask ∙ sym n2)
 
@@ -65,12 +65,12 @@ module _ (arts : Arts) (n : NodeState) (x : PrioSend) (o : Output) (one two : No
   by_refusal None e c d is also o1 o2 n1 n2 = by_choice e c d (is e) (also e) o1 o2 n1 n2
 
 pub steps_are_determined : StepsAreDetermined
-steps_are_determined arts n (Poll v) o one two reads fits kept s t = s.1 ∙ sym t.1
-steps_are_determined arts n (Datagram v bytes) o one two reads fits kept s t = s.1 ∙ sym t.1
-steps_are_determined arts n (Tick now) o one two reads fits kept s t = s.1 ∙ sym t.1
-steps_are_determined arts n (SendRel dst payload) o one two reads fits kept s t = s.1 ∙ sym t.1
-steps_are_determined arts n (SendPrio x) o one two reads fits kept s t =
-    by_refusal arts n x o one two reads fits kept (prio_refusal n x) refl s.choice t.choice s.is_choice t.is_choice s.output_is t.output_is s.new_is t.new_is
-steps_are_determined arts n (SetWeight v weight) o one two reads fits kept s t = s.1 ∙ sym t.1
-steps_are_determined arts n (TakeRel src) o one two reads fits kept s t = s.1 ∙ sym t.1
-steps_are_determined arts n TakePrio o one two reads fits kept s t = s.1 ∙ sym t.1
+steps_are_determined arts n (Poll v) o one two reads arts_fit fits kept s t = s.1 ∙ sym t.1
+steps_are_determined arts n (Datagram v bytes) o one two reads arts_fit fits kept s t = s.1 ∙ sym t.1
+steps_are_determined arts n (Tick now) o one two reads arts_fit fits kept s t = s.1 ∙ sym t.1
+steps_are_determined arts n (SendRel dst payload) o one two reads arts_fit fits kept s t = s.1 ∙ sym t.1
+steps_are_determined arts n (SendPrio x) o one two reads arts_fit fits kept s t =
+    by_refusal arts n x o one two reads arts_fit fits kept (prio_refusal n x) refl s.choice t.choice s.is_choice t.is_choice s.output_is t.output_is s.new_is t.new_is
+steps_are_determined arts n (SetWeight v weight) o one two reads arts_fit fits kept s t = s.1 ∙ sym t.1
+steps_are_determined arts n (TakeRel src) o one two reads arts_fit fits kept s t = s.1 ∙ sym t.1
+steps_are_determined arts n TakePrio o one two reads arts_fit fits kept s t = s.1 ∙ sym t.1

@@ -1,3 +1,4 @@
+pub mod About
 pub mod Arrived
 pub mod AskedLemmas
 pub mod Boot

@@ -59,21 +59,21 @@ length_weighed : (w : WeightState) (place : ℕ) (edges : List Edge) → length 
 length_weighed w place [] = refl
 length_weighed w place (e ∷ edges) = ap suc (length_weighed w (place + 1) edges)
 
--- the mask that was chosen has room in its field
+-- the mask that was chosen names no edge behind the last
+pub mask_within : (t : Topology) (w : WeightState) (s d : NodeId) (count mask : ℕ) → IsChoice (graph_of t w) s d count (Mask mask) → mask < 2 ^ length t.edges
+mask_within t w s d count mask is = subst (λ (n : ℕ). mask < 2 ^ n) (length_weighed w 0 t.edges) (go count is)
+  where
+    go : (count : ℕ) → IsChoice (graph_of t w) s d count (Mask mask) → mask < 2 ^ length (weighed w 0 t.edges)
+    go zero is =
+        let same : mask ≡ all_edges (weighed w 0 t.edges) = cc in
+        omega (arith, same, positive (length (weighed w 0 t.edges)))
+    go (suc more) is = small mask mask (length (weighed w 0 t.edges)) (below_its_power mask) (past_none (graph_of t w) is.paths mask is.mask_of)
+
+-- so it has room in its field
 pub mask_small : (t : Topology) (w : WeightState) (s d : NodeId) (count mask : ℕ) → length t.edges ≤ MAX_EDGES
     → IsChoice (graph_of t w) s d count (Mask mask) → mask < 2 ^ MAX_EDGES
 mask_small t w s d count mask few is =
-    let long = length_weighed w 0 t.edges in
-    let room : 2 ^ length (weighed w 0 t.edges) ≤ 2 ^ MAX_EDGES =
-    let more = powers (length (weighed w 0 t.edges)) (MAX_EDGES - length (weighed w 0 t.edges)) in
-    let same : length (weighed w 0 t.edges) + (MAX_EDGES - length (weighed w 0 t.edges)) ≡ MAX_EDGES = omega (arith, few, long) in
-    subst (λ (n : ℕ). 2 ^ length (weighed w 0 t.edges) ≤ 2 ^ n) same more in
-    go count is room
-  where
-    go : (count : ℕ) → IsChoice (graph_of t w) s d count (Mask mask) → 2 ^ length (weighed w 0 t.edges) ≤ 2 ^ MAX_EDGES → mask < 2 ^ MAX_EDGES
-    go zero is room =
-        let same : mask ≡ all_edges (weighed w 0 t.edges) = cc in
-        omega (arith, same, room, positive (length (weighed w 0 t.edges)))
-    go (suc more) is room =
-        let below = small mask mask (length (weighed w 0 t.edges)) (below_its_power mask) (past_none (graph_of t w) is.paths mask is.mask_of) in
-        omega (arith, below, room)
+    let more = powers (length t.edges) (MAX_EDGES - length t.edges) in
+    let same : length t.edges + (MAX_EDGES - length t.edges) ≡ MAX_EDGES = omega (arith, few) in
+    let room : 2 ^ length t.edges ≤ 2 ^ MAX_EDGES = subst (λ (n : ℕ). 2 ^ length t.edges ≤ 2 ^ n) same more in
+    omega (arith, mask_within t w s d count mask is, room)

@@ -41,7 +41,7 @@ pub either : (o : Option SendRefused) (p : Option SendRefused) → or_else o p �
 either None p e = (refl, e)
 either (Some x) p e = absurd (cc)
 
-if_none : (t : Bool) (x : SendRefused) (o : Option SendRefused) → cond t (Some x) o ≡ None → (t ≡ false) × (o ≡ None)
+pub if_none : (t : Bool) (x : SendRefused) (o : Option SendRefused) → cond t (Some x) o ≡ None → (t ≡ false) × (o ≡ None)
 if_none true x o e = absurd (cc)
 if_none false x o e = (refl, e)
 
@@ -75,7 +75,7 @@ own_is_signed arts n body arts_fit left mine =
 
 -- ---- a reliable message
 
-there_is_room : (r : Result ℕ RelRefused) → no_room r ≡ None → (number : ℕ) × (r ≡ Ok number)
+pub there_is_room : (r : Result ℕ RelRefused) → no_room r ≡ None → (number : ℕ) × (r ≡ Ok number)
 there_is_room (Ok number) e = (number, refl)
 there_is_room (Err rels.BadEnd) e = absurd (cc)
 there_is_room (Err (rels.Full base have)) e = absurd (cc)
@@ -116,7 +116,7 @@ pub record PrioSent (n : NodeState) (m : PrioSend) (choice : Choice) : Type 0 wh
   pub free : signer_refusal n.signer ≡ None
   pub fields : HasGoodFields (prio_body n m (mask_in choice))
 
-split : (a b : Bool) → (a || not b) ≡ false → b ≡ true
+pub split : (a b : Bool) → (a || not b) ≡ false → b ≡ true
 split true b e = absurd (cc)
 split false true e = refl
 split false false e = absurd (cc)

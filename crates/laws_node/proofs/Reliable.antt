@@ -31,6 +31,7 @@ rel_more k index more r up h = record {
   me = h.me;
   bound = h.bound;
   nodes = h.nodes;
+  known = h.known;
   flows = all_weaker (FlowHolds k index) (FlowHolds k more) r.flows (λ f. flow_more k index more f up) h.flows;
   keys = h.keys;
   once = h.once;
@@ -53,6 +54,7 @@ with_flow_holds k index more r flow g up same new h = record {
   me = h.me;
   bound = h.bound;
   nodes = h.nodes;
+  known = h.known;
   flows = all_replaced (FlowHolds k index) (FlowHolds k more) (is_flow flow) g r.flows (λ f. flow_more k index more f up)
       (λ f is there.
       let e = same_ends f flow is in
@@ -187,7 +189,7 @@ pushed_in_holds k index r m next fits h =
 -- a change of what is kept of neighbours alone
 same_flows : (k : Sizes) (index : ℕ) (r : RelState) (peers : List RelPeer) → RelHolds k index r
     → RelHolds k index (record r { peers = peers })
-same_flows k index r peers h = record { me = h.me; bound = h.bound; nodes = h.nodes; flows = h.flows; keys = h.keys; once = h.once }
+same_flows k index r peers h = record { me = h.me; bound = h.bound; nodes = h.nodes; known = h.known; flows = h.flows; keys = h.keys; once = h.once }
 
 pub reported_holds : (k : Sizes) (index : ℕ) (r : RelState) (v : NodeId) (flow : Flow) (base have : ℕ) → RelHolds k index r
     → RelHolds k index (reported r v flow base have)
@@ -242,14 +244,14 @@ found (g ∷ flows) (suc i) f once at =
     (λ is. found flows i f (all_pairs_tail (ends g) (map ends flows) once) at)
 
 -- the row whose turn it is
-record IsDueRow (r : RelState) (ack : Ack) : Type 0 where
-  place : ℕ
-  row : FlowState
-  turn : due_place r ≡ Some place
-  there : slice_get r.flows place ≡ Some row
-  is : ack ≡ ack_of r (ends row)
+pub record IsDueRow (r : RelState) (ack : Ack) : Type 0 where
+  pub place : ℕ
+  pub row : FlowState
+  pub turn : due_place r ≡ Some place
+  pub there : slice_get r.flows place ≡ Some row
+  pub is : ack ≡ ack_of r (ends row)
 
-due_row : (r : RelState) (ack : Ack) → due r ≡ Some ack → IsDueRow r ack
+pub due_row : (r : RelState) (ack : Ack) → due r ≡ Some ack → IsDueRow r ack
 due_row r ack e = go (due_place r) refl e
   where
     row : (place : ℕ) → due_place r ≡ Some place → (o : Option FlowState) → slice_get r.flows place ≡ o
@@ -307,4 +309,4 @@ settled_holds k index r ack o e is fits h =
     go : (place : Option ℕ) → RelHolds k index (with_flow r (flow_said o.body) (concluded (flow_in r.flows (flow_said o.body)) o))
         → RelHolds k index (settled_at r o place)
     go None done = h
-    go (Some place) done = record { me = done.me; bound = done.bound; nodes = done.nodes; flows = done.flows; keys = done.keys; once = done.once }
+    go (Some place) done = record { me = done.me; bound = done.bound; nodes = done.nodes; known = done.known; flows = done.flows; keys = done.keys; once = done.once }

@@ -31,6 +31,7 @@ use Rattle.sp_rules.specs.declared.node.NodeRefused.{NodeRefused}
 use Rattle.sp_rules.specs.declared.node.NodeRefused.TheVariants as refusals
 use Rattle.sp_rules.specs.declared.node.TheConstants.{MAX_CALLS}
 use Rattle.sp_base.specs.declared.limits.TheConstants.{MAX_MESSAGES, MAX_PAYLOAD_BYTES, MAX_WEIGHT}
+use Rattle.laws_node.specs.About.{IsAbout}
 use Rattle.laws_node.specs.Inputs.{ArtsFit, InputFits, PrioSendFits}
 use Rattle.laws_node.specs.Laws.{EachStepKeeps, ExtendKeeps}
 use Rattle.laws_node.specs.Nodes.{NodeHolds, PartsHold, SignerHolds, sizes_of}
@@ -38,6 +39,7 @@ use Rattle.laws_node.specs.Shapes.{Shape}
 use Rattle.laws_node.specs.Sizes.{Sizes, ids_after, numbers_after}
 use Rattle.laws_node.specs.Stores.{PrioHolds}
 use Rattle.laws_node.specs.Asked.{NewKeep, OwnKeep, WhatIsNewIsKept, payload_in}
+use Rattle.laws_node.proofs.About.{ack_about, me_is_there, prio_about, rel_about, weight_about}
 use Rattle.laws_node.proofs.Arrived.{sections_fit, where_fits}
 use Rattle.laws_node.proofs.AskedLemmas.{none_new}
 use Rattle.laws_node.proofs.Handles.{all_hold, new_is_signed}
@@ -135,7 +137,7 @@ datagram_keeps k arts n v bytes fits are new most h =
 
 -- what is asked of the message that is signed next
 abbrev Owns : Sizes → Arts → NodeState → Body → Type 0
-Owns k arts n body = signer_of body ≡ n.fixed.me → HasGoodFields body → n.signer.index < n.signer.total → k.keeps (signed_now arts n body)
+Owns k arts n body = signer_of body ≡ n.fixed.me → HasGoodFields body → IsAbout n.fixed.topology body → n.signer.index < n.signer.total → k.keeps (signed_now arts n body)
 
 signed_once_holds : (s : Signer) → s.index < s.bound → SignerHolds s → SignerHolds (record s { index = s.index + 1 })
 signed_once_holds s below h = record { index = omega (arith, below); bound = h.bound; total = h.total }
@@ -152,7 +154,8 @@ rel_sent_keeps : (k : Sizes) (arts : Arts) (n : NodeState) (dst : NodeId) (paylo
     → NodeHolds k (signed_once n (record n.parts { rel = pushed_in n.parts.rel (signed_now arts n (rel_body n dst payload)) }))
 rel_sent_keeps k arts n dst payload fits short own_keeps e h =
     let sent = rel_sent_fits k n dst payload short e h in
-    let own = own_fits arts n k (rel_body n dst payload) fits h.fixed.signature_len (own_keeps refl sent.fields (left n.signer h.signer sent.free)) sent.fields in
+    let own = own_fits arts n k (rel_body n dst payload) fits h.fixed.signature_len
+    (own_keeps refl sent.fields (rel_about k n dst payload e h) (left n.signer h.signer sent.free)) sent.fields in
     record {
       fixed = h.fixed;
       now = h.now;
@@ -172,7 +175,8 @@ prio_sent_keeps : (k : Sizes) (arts : Arts) (n : NodeState) (m : PrioSend) (choi
     → NodeHolds k (signed_once n (record n.parts { prio = admit_prio n.parts.prio (own_prio arts n m choice) None }))
 prio_sent_keeps k arts n m choice fits sizes own_keeps e is h =
     let sent = prio_sent_fits k n m choice sizes e is h in
-    let own = own_fits arts n k (prio_body n m (mask_in choice)) fits h.fixed.signature_len (own_keeps refl sent.fields (left n.signer h.signer sent.free)) sent.fields in
+    let own = own_fits arts n k (prio_body n m (mask_in choice)) fits h.fixed.signature_len
+    (own_keeps refl sent.fields (prio_about k n m choice (me_is_there arts n.fixed n.signer fits) e is h) (left n.signer h.signer sent.free)) sent.fields in
     record {
       fixed = h.fixed;
       now = h.now;
@@ -194,7 +198,8 @@ weight_sent_keeps : (k : Sizes) (arts : Arts) (n : NodeState) (v : NodeId) (weig
     → NodeHolds k (signed_once n (record n.parts { weights = held n.parts.weights (signed_now arts n (weight_body n v weight)) }))
 weight_sent_keeps k arts n v weight fits least most own_keeps e h =
     let sent = weight_sent_fits k n v weight least most e h in
-    let own = own_fits arts n k (weight_body n v weight) fits h.fixed.signature_len (own_keeps refl sent.fields (left n.signer h.signer sent.free)) sent.fields in
+    let own = own_fits arts n k (weight_body n v weight) fits h.fixed.signature_len
+    (own_keeps refl sent.fields (weight_about n v weight (me_is_there arts n.fixed n.signer fits) e) (left n.signer h.signer sent.free)) sent.fields in
     record {
       fixed = h.fixed;
       now = h.now;
@@ -230,7 +235,9 @@ settled_keeps : (k : Sizes) (arts : Arts) (n : NodeState) (ack : Ack) → ArtsFi
     → NodeHolds k (signed_once n (record n.parts { rel = settled n.parts.rel (signed_now arts n (bodies.Ack ack)) }))
 settled_keeps k arts n ack fits own_keeps is e h =
     let facts = due_fits k n.signer.index n.parts.rel ack is h.parts.rel in
-    let own = own_fits arts n k (bodies.Ack ack) fits h.fixed.signature_len (own_keeps (facts.mine ∙ sym h.fixed.me) facts.fields (left n.signer h.signer e)) facts.fields in
+    let own = own_fits arts n k (bodies.Ack ack) fits h.fixed.signature_len
+    (own_keeps (facts.mine ∙ sym h.fixed.me) facts.fields (ack_about k n.signer.index n.fixed.topology n.parts.rel ack h.fixed.nodes is h.parts.rel)
+    (left n.signer h.signer e)) facts.fields in
     record {
       fixed = h.fixed;
       now = h.now;
@@ -254,8 +261,8 @@ or_holds P old done None h new = new refl
 -- the message that was signed first
 first_own : (k : Sizes) (arts : Arts) (n : NodeState) (input : Input) (output : Output) (body : Body) (after : List Effect)
     → payload_of body ≡ payload_in input → output.effects ≡ Signed (arts.spell body) ∷ after → OwnKeep arts k.keeps n input output.effects → Owns k arts n body
-first_own k arts n input output body after payload told own mine fields left =
-    own body (record { mine = mine; fields = fields; payload = payload; left = left; before = []; after = after; told = told })
+first_own k arts n input output body after payload told own mine fields about left =
+    own body (record { mine = mine; fields = fields; about = about; payload = payload; left = left; before = []; after = after; told = told })
 
 -- after what expired
 tick_holds : (k : Sizes) (arts : Arts) (n : NodeState) (now : ℕ) (output : Output) → ArtsFit arts n.fixed n.signer → now < 2 ^ 64 → output ≡ tick_output arts n now
@@ -270,10 +277,11 @@ tick_holds k arts n now output fits small is own h = go (due n.parts.rel) refl (
     go (Some ack) is_due (Some refusal) e = later
     go (Some ack) is_due None e =
         settled_keeps k arts (at_time n now) ack fits
-        (λ mine fields left.
+        (λ mine fields about left.
         own (bodies.Ack ack) (record {
           mine = mine;
           fields = fields;
+          about = about;
           payload = refl;
           left = left;
           before = expired_effects n.parts.prio (time_after n now);

@@ -89,6 +89,7 @@ module _ (k : Sizes) (Q : Kept → Type 0) (less : (o : Kept) → k.keeps o → 
         me = h.parts.rel.me;
         bound = h.parts.rel.bound;
         nodes = h.parts.rel.nodes;
+        known = h.parts.rel.known;
         flows = all_weaker (FlowHolds k n.signer.index) (FlowHolds (asking Q k) n.signer.index) n.parts.rel.flows (flow_weaker n.signer.index) h.parts.rel.flows;
         keys = h.parts.rel.keys;
         once = h.parts.rel.once;

@@ -11,6 +11,7 @@ use Rattle.sp_rules.specs.Arts.{Arts}
 use Rattle.sp_rules.specs.Node.{NodeState, signed_now}
 use Rattle.sp_rules.specs.Steps.{Input, NodeStep, Output, SendPrio, SendRel}
 use Rattle.sp_rules.specs.declared.answers.Item.{Item}
+use Rattle.laws_node.specs.About.{IsAbout}
 use Rattle.laws_node.specs.Inputs.{ArtsFit, InputFits}
 use Rattle.laws_node.specs.Nodes.{KeepsOnly}
 
@@ -29,6 +30,7 @@ payload_in _ = []
 pub record IsOwn (arts : Arts) (n : NodeState) (input : Input) (effects : List Effect) (body : Body) : Type 0 where
   pub mine : signer_of body ≡ n.fixed.me
   pub fields : HasGoodFields body
+  pub about : IsAbout n.fixed.topology body
   pub payload : payload_of body ≡ payload_in input
   pub left : n.signer.index < n.signer.total
   pub before : List Effect

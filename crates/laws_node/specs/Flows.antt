@@ -42,6 +42,7 @@ pub record RelHolds (k : Sizes) (index : ℕ) (r : RelState) : Type 0 where
   pub me : r.me ≡ k.me
   pub bound : r.bound ≡ k.buffer
   pub nodes : All IsNode r.nodes
+  pub known : r.nodes ≡ k.nodes
   pub flows : All (FlowHolds k index) r.flows
   -- the rows are those of the ordered pairs of two nodes, in their order, and so each flow has one row
   pub keys : map ends r.flows ≡ pairs_of k.nodes

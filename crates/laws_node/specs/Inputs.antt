@@ -13,10 +13,12 @@ use Rattle.sp_rules.specs.Sends.{PrioSend}
 use Rattle.sp_rules.specs.Steps.{Input, Poll, Datagram, Tick, SendRel, SendPrio, SetWeight, TakeRel, TakePrio}
 use Rattle.sp_topology.specs.Keys.{key_of}
 use Rattle.sp_topology.specs.Ranges.{IsTopology}
+use Rattle.laws_node.specs.About.{IsAbout}
 use Rattle.laws_node.specs.Nodes.{SignerHolds}
 use Rattle.laws_node.specs.Sizes.{IsNode}
 
--- the arts fit a node and its signer: signatures are of one length, and the own ones are valid; what is read of bytes is in its ranges
+-- the arts fit a node and its signer: signatures are of one length, and the own ones are valid; what is read of bytes is in its ranges; and what is
+-- about the node's topology is good
 pub record ArtsFit (arts : Arts) (f : Fixed) (s : Signer) : Type 0 where
   pub long : (index : ℕ) (message : List ℕ) → length (arts.sign f.topology.height s.seed index message) ≡ f.signature_len
   pub key : List ℕ
@@ -24,10 +26,11 @@ pub record ArtsFit (arts : Arts) (f : Fixed) (s : Signer) : Type 0 where
   pub valid : (index : ℕ) (message : List ℕ) → index < s.total → IsTrue (arts.valid key message (arts.sign f.topology.height s.seed index message))
   pub heads : (bytes : List ℕ) → AreBytes bytes → IsHead (arts.head bytes)
   pub sections : (bytes : List ℕ) (s : Contents) → AreBytes bytes → arts.sections f.signature_len bytes ≡ Ok s → IsContents f.signature_len s
+  pub own : (body : Body) → HasGoodFields body → IsAbout f.topology body → IsTrue (arts.is_good body)
 
--- each message in its ranges is read back from its bytes, so no other one has them
+-- each good message is read back from its bytes, so no other good one has them
 abbrev pub ReadsBack : Arts → Type 0
-ReadsBack arts = (body : Body) → HasGoodFields body → arts.read (arts.spell body) ≡ Ok body
+ReadsBack arts = (body : Body) → IsTrue (arts.is_good body) → arts.read (arts.spell body) ≡ Ok body
 
 abbrev pub PrioSendFits : PrioSend → Type 0
 PrioSendFits m = (1 ≤ m.prio) × (m.prio ≤ MAX_PRIORITY) × (m.expiry < 2 ^ 64) × (length m.payload ≤ MAX_PAYLOAD_BYTES)

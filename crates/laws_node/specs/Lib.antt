@@ -1,3 +1,4 @@
+pub mod About
 pub mod Acknowledgement
 pub mod Asked
 pub mod Determined

@@ -2,7 +2,7 @@
 --
 -- The arts are toys: a frame is one number for each field of its head and its slot, its tag is 32 times the number of its link's key, and the
 -- signature of a node is its id. So all of it can be computed.
-use Rattle.std.specs.Prelude.{ℕ, ◌==◌, List, [], ◌∷◌, ◌++◌, replicate, Option, None, Some, Ok, nat_eq, slice_index, if◌then◌else◌}
+use Rattle.std.specs.Prelude.{ℕ, ◌==◌, true, List, [], ◌∷◌, ◌++◌, replicate, Option, None, Some, Ok, nat_eq, slice_index, if◌then◌else◌}
 use Rattle.std.specs.Cmp.Lexicographic.{pointwise}
 use Rattle.sp_base.specs.declared.id.NodeId.{NodeId}
 use Rattle.sp_frame.specs.Frames.{opened}
@@ -89,6 +89,7 @@ toys = record {
   sections = λ len b. Ok (record { weights = []; prio_ack = 0; prios = []; slot = toy_slot b });
   frame = toy_frame;
   tag = λ key bytes. replicate 32 (slice_index key 0);
+  is_good = λ body. true;
   spell = encoded;
   read = λ bytes. read_body bytes;
   sign = λ height seed index message. seed;

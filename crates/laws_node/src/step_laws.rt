@@ -29,7 +29,8 @@ pub fn the_objects_of_a_frame_are_answered_in_their_order()
     ensures { ObjectsAreAnswered }
 {}
 
-/// A law: two steps of one state on one input with one output lead to one state, where the arts read each message back from its bytes.
+/// A law: two steps of one state on one input with one output lead to one state, where the arts fit and read each good message back from its
+/// bytes.
 pub fn what_a_step_tells_determines_what_it_leaves()
     ensures { StepsAreDetermined }
 {}
