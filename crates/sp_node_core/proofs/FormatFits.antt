@@ -18,6 +18,7 @@ use Rattle.sp_lms.specs.declared.param.LmsParam.{LmsParam}
 use Rattle.sp_ots.specs.declared.param.OtsParam.TheVariants.{W4}
 use Rattle.sp_sign.specs.Heights.{param_of}
 use Rattle.sp_node_core.specs.FormatLaws.{FormatFits}
+use Rattle.sp_node_core.proofs.GoodFields.{fields_pass}
 
 -- whatever the index
 long : (h : LmsParam) (seed : List ℕ) (index : ℕ) (message : List ℕ) → length (signature h seed index message) ≡ signature_len h
@@ -54,4 +55,5 @@ format_fits f s is = record {
   sections = λ bytes contents are reads.
       (read_is_spelled f.signature_len (sections_part bytes) contents
       (All-drop (λ b. b < 256) 33 (take (length bytes - 32) bytes) (All-take (λ b. b < 256) (length bytes - 32) bytes are)) reads).1;
+  own = λ body fields about. fields_pass body fields;
 }

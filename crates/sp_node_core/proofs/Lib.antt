@@ -1,4 +1,5 @@
 pub mod Slots
 pub mod Starts
 pub mod FormatFits
+pub mod GoodFields
 pub mod PolledFrames

@@ -9,6 +9,7 @@ use Rattle.sp_hss.specs.KeyTree.{signature}
 use Rattle.sp_msg.specs.Bodies.{encoded, read_body}
 use Rattle.sp_rules.specs.Arts.{Arts}
 use Rattle.sp_sign.specs.Heights.{param_of}
+use Rattle.sp_node_core.specs.GoodFields.{has_good_fields}
 
 abbrev pub format : Arts
 format = record {
@@ -17,6 +18,7 @@ format = record {
   sections = λ len bytes. sections_of len (sections_part bytes);
   frame = λ head contents. head_bytes head ++ sections_bytes contents;
   tag = λ key bytes. hmac key bytes;
+  is_good = λ body. has_good_fields body;
   spell = encoded;
   read = λ bytes. read_body bytes;
   sign = λ height seed index message. signature (param_of height) seed index message;

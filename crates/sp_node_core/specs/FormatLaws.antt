@@ -1,5 +1,7 @@
--- When a node is one of this format, and the law that the arts of the format fit it.
-use Rattle.std.specs.Prelude.{◌≡◌, Some}
+-- When a node is one of this format, and the laws that the arts of the format fit it, and which messages are good.
+use Rattle.std.specs.Prelude.{◌≡◌, ◌↔◌, IsTrue, Some}
+use Rattle.sp_msg.specs.Bodies.{HasGoodFields}
+use Rattle.sp_msg.specs.declared.body.Body.{Body}
 use Rattle.sp_hss.specs.KeyTree.{public_key, signature_len, total}
 use Rattle.sp_rules.specs.Node.{Signer}
 use Rattle.sp_rules.specs.Parts.{Fixed}
@@ -16,3 +18,7 @@ pub record IsOfFormat (f : Fixed) (s : Signer) : Type 0 where
 
 abbrev pub FormatFits : Type 0
 FormatFits = (f : Fixed) (s : Signer) → IsOfFormat f s → ArtsFit format f s
+
+-- a message is good exactly where each of its fields is in its range
+abbrev pub GoodIsInRange : Type 0
+GoodIsInRange = (body : Body) → IsTrue (format.is_good body) ↔ HasGoodFields body

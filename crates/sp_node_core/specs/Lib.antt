@@ -1,3 +1,4 @@
 pub mod Format
 pub mod FormatLaws
+pub mod GoodFields
 pub mod PolledFrames
