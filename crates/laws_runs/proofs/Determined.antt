@@ -13,8 +13,8 @@ use Rattle.sp_rules.specs.Parts.{Fixed, is_signed}
 use Rattle.sp_rules.specs.Masks.{Choice, Mask, OnlyPaths}
 use Rattle.sp_rules.specs.Sends.{PrioSend, no_paths, prio_refusal, prio_sent}
 use Rattle.sp_rules.specs.Steps as steps
-use Rattle.sp_rules.specs.Steps.{Input, NodeStep, Output, accepted, refused_send, send_prio_output}
-use Rattle.laws_node.specs.Inputs.{InputFits, ReadsBack}
+use Rattle.sp_rules.specs.Steps.{Input, NodeStep, Output, accepted, refused_send}
+use Rattle.laws_node.specs.Inputs.{ArtsFit, InputFits, ReadsBack}
 use Rattle.laws_node.specs.Nodes.{IsKept}
 use Rattle.laws_node.proofs.Determined.{steps_are_determined}
 use Rattle.laws_node.proofs.Weaker.{node_weaker}
@@ -29,6 +29,7 @@ use Rattle.sp_schedule_events.specs.declared.event.Event.TheVariants as events
 use Rattle.laws_runs.specs.Premises.{Carries}
 use Rattle.laws_runs.specs.States.{RunsAreDetermined}
 use Rattle.laws_runs.specs.Signs.{Good, sizes_at}
+use Rattle.laws_runs.proofs.Goods.{arts_fit}
 use Rattle.laws_runs.proofs.Kept.{read_off}
 use Rattle.laws_runs.proofs.Signed.{reached, signs}
 
@@ -81,9 +82,9 @@ world_of : World → Event → NodeState → steps.Reply → World
 world_of old e after reply = record { nodes = with_node old.nodes (acting e) after; directions = directions_after old.directions e reply }
 
 by_moves : (arts : Arts) → ReadsBack arts → (x : Setting) (es : List Event) (old w v : World) (e : Event) (j : Entry) (m : Move arts x es old e j w) (n : Move arts x es old e j v)
-    → InputFits m.input → IsKept arts m.node → w ≡ v
+    → ArtsFit arts m.node.fixed m.node.signer → InputFits m.input → IsKept arts m.node → w ≡ v
 unfolding world_of
-by_moves arts reads x es old w v e j m n fits kept =
+by_moves arts reads x es old w v e j m n arts_are fits kept =
     let node : n.node ≡ m.node = same_some n.node m.node (sym n.is_there ∙ m.is_there) in
     let input : n.input ≡ m.input =
     same_some n.input m.input (sym n.reaches ∙ ap (λ (y : NodeState). input_of arts x es old y e) node ∙ m.reaches) in
@@ -91,7 +92,7 @@ by_moves arts reads x es old w v e j m n fits kept =
     subst (λ (y : NodeState). NodeStep arts y m.input n.output n.after) node (subst (λ (i : Input). NodeStep arts n.node i n.output n.after) input n.step) in
     let output : m.output ≡ n.output = one_output x (next_frame old e) j arts m.node m.input m.output n.output m.after n.after m.step step m.journal n.journal in
     let after : m.after ≡ n.after =
-    steps_are_determined arts m.node m.input m.output m.after n.after reads fits kept m.step
+    steps_are_determined arts m.node m.input m.output m.after n.after reads arts_are fits kept m.step
     (subst (λ (o : Output). NodeStep arts m.node m.input o n.after) (sym output) step) in
     m.world ∙ ap₂ (λ (a : NodeState) (o : Output). world_of old e a o.reply) after output ∙ sym n.world
 
@@ -121,7 +122,13 @@ not_both arts x es old w v (events.Flip a b c d f) j m s = s.is_craft
 not_both arts x es old w v (events.Inject a b c) j m s = s.is_craft
 not_both arts x es old w v (events.CraftStatus a b c d f g) j m s = s.is_craft
 
--- the acting node keeps what a node keeps
+-- the arts fit the acting node
+arts_fit_it : (arts : Arts) (x : Setting) (es : List Event) (js : List Entry) (old w : World) (e : Event) (j : Entry) → SettingFits arts x → Carries arts
+    → Clean arts x es js old → (m : Move arts x es old e j w) → ArtsFit arts m.node.fixed m.node.signer
+arts_fit_it arts x es js old w e j fits carries run m =
+    arts_fit arts x (Good arts x es js) (acting e) m.node fits ((signs arts x es js old fits carries run).nodes (acting e) m.node m.is_there)
+
+-- which keeps what a node keeps
 kept_there : (arts : Arts) (x : Setting) (es : List Event) (js : List Entry) (old w : World) (e : Event) (j : Entry) → SettingFits arts x → Carries arts
     → Clean arts x es js old → (m : Move arts x es old e j w) → IsKept arts m.node
 kept_there arts x es js old w e j fits carries run m =
@@ -133,7 +140,8 @@ kept_there arts x es js old w e j fits carries run m =
 pub one_turn : (arts : Arts) (x : Setting) (es : List Event) (js : List Entry) (old w v : World) (e : Event) (j : Entry) → SettingFits arts x → Carries arts
     → Clean arts x es js old → InRange x es e → Turn arts x es old e j w → Turn arts x es old e j v → w ≡ v
 one_turn arts x es js old w v e j fits carries run range (Moves m) (Moves n) =
-    by_moves arts carries.bodies x es old w v e j m n (reached arts x es js old w e j fits carries run range m) (kept_there arts x es js old w e j fits carries run m)
+    by_moves arts carries.bodies x es old w v e j m n (arts_fit_it arts x es js old w e j fits carries run m) (reached arts x es js old w e j fits carries run range m)
+    (kept_there arts x es js old w e j fits carries run m)
 one_turn arts x es js old w v e j fits carries run range (Stays s) (Stays t) = s.world ∙ sym t.world
 one_turn arts x es js old w v e j fits carries run range (Moves m) (Stays t) = absurd (not_both arts x es old w v e j m t)
 one_turn arts x es js old w v e j fits carries run range (Stays s) (Moves n) = absurd (not_both arts x es old v w e j n s)

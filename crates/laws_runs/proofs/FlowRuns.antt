@@ -259,7 +259,7 @@ flows_on arts x es js old e j new fits reads signs range (Moves m) unforged s d 
     let nothing = unforged_tag (has_forged_tag arts x old m.node m.input) (forged_object arts x es js m.output.answered) unforged in
     let me : m.after.fixed.me ≡ acting e = ap (λ (f : Fixed). f.me) ((step_stays arts m.node m.input m.output m.after m.step).fixed ∙ is.fixed) in
     moved_on arts x s d es js old new e j m signs.entries me h
-    (stepped arts x s d different fits reads.bodies to es js old new j e m.node (next_frame old e) m.input m.output m.after m.reaches (input_fits arts x es old m.node e m.input reads signs.bytes range m.reaches)
+    (stepped arts x s d different fits reads to es js old new j e m.node (next_frame old e) m.input m.output m.after m.reaches (input_fits arts x es old m.node e m.input reads signs.bytes range m.reaches)
     m.step m.journal is (new_known arts x es js m.output.answered nothing.1) h (h.nodes (acting e) m.node m.is_there))
 flows_on arts x es js old e j new fits reads signs range (Stays m) unforged s d to different h = stayed_on arts x s d es js old new e j signs.entries m h
 

@@ -1,6 +1,6 @@
 -- What each step of a node keeps of a flow between its ends.
 use Rattle.std.proofs.Common.{◌≡◌, ◌≤◌, ℕ, ◌+◌, max, true, false, cond, eqb, List, [], ◌∷◌, ◌++◌, length, Option, Some, None, Ok, refl, sym, ap, subst, ◌∙◌, inl, inr, arith, append_assoc}
-use Rattle.std.specs.Prelude.{◌&&◌, ◌==◌}
+use Rattle.std.specs.Prelude.{◌&&◌, ◌==◌, IsTrue}
 use Rattle.std.specs.List.{flat_map}
 use Rattle.std.specs.Option.{option_and_then, option_map}
 use Rattle.std.proofs.lemmas.Bool.{cases_Bool, cases_eq, eq-eqb, ne_eqb}
@@ -9,7 +9,6 @@ use Rattle.std.proofs.lemmas.List.Concat.{flat_map-append}
 use Rattle.sp_base.specs.Lists.{IsPrefix}
 use Rattle.sp_base.specs.declared.id.Flow.{Flow}
 use Rattle.sp_base.specs.declared.id.NodeId.{NodeId}
-use Rattle.sp_msg.specs.Bodies.{HasGoodFields}
 use Rattle.sp_msg.specs.declared.body.Ack.{Ack}
 use Rattle.sp_msg.specs.declared.body.Body.{Body}
 use Rattle.sp_msg.specs.declared.body.Body.TheVariants as bodies
@@ -47,7 +46,7 @@ pub record Stepped (arts : Arts) (C : Type 0) (s d : NodeId) (S T D : List Messa
   pub low : max c (acked_here arts u s d es) ≤ length (D ++ told_here u s d es)
   pub no_t : (u ≡ s → ⊥) → T ≡ []
   pub numbers : C → AreNumbered (length S) T
-  pub messages : C → u ≡ s → (m : Rel) → HasGoodFields (bodies.Rel m) → m.src ≡ s → m.dst ≡ d → is_among (arts.spell (bodies.Rel m)) (flat_map signed_by es) ≡ true
+  pub messages : C → u ≡ s → (m : Rel) → IsTrue (arts.is_good (bodies.Rel m)) → m.src ≡ s → m.dst ≡ d → is_among (arts.spell (bodies.Rel m)) (flat_map signed_by es) ≡ true
       → IsIn (S ++ T) m.seq m.payload
 
 -- nothing of this flow is acknowledged
@@ -55,7 +54,7 @@ pub acked_none : (arts : Arts) (u s d : NodeId) (es : List Effect) → flat_map 
 acked_none arts u s d es e = elim (cases_Bool (u.0 == d.0)) [ inl t ↦ rw (t, e) refl | inr t ↦ rw t refl ]
 
 -- a message that was signed is read as it is
-pub acked_one : (arts : Arts) → ReadsBack arts → (u s d : NodeId) (es : List Effect) (body : Body) → HasGoodFields body → flat_map signed_by es ≡ arts.spell body ∷ [] → u ≡ d
+pub acked_one : (arts : Arts) → ReadsBack arts → (u s d : NodeId) (es : List Effect) (body : Body) → IsTrue (arts.is_good body) → flat_map signed_by es ≡ arts.spell body ∷ [] → u ≡ d
     → acked_here arts u s d es ≡ greatest (ack_in s d (Ok body))
 acked_one arts reads u s d es body good e z =
     let here : (u.0 == d.0) ≡ true = eq-eqb _ _ (ap (λ (v : NodeId). v.0) z) in
@@ -76,7 +75,7 @@ no_ack s d (bodies.Rel r) is = refl
 no_ack s d (bodies.Weight w) is = refl
 no_ack s d (bodies.Ack a) is = absurd is
 
-acked_other : (arts : Arts) → ReadsBack arts → (u s d : NodeId) (es : List Effect) (body : Body) → HasGoodFields body → IsNoAck body → flat_map signed_by es ≡ arts.spell body ∷ [] → acked_here arts u s d es ≡ 0
+acked_other : (arts : Arts) → ReadsBack arts → (u s d : NodeId) (es : List Effect) (body : Body) → IsTrue (arts.is_good body) → IsNoAck body → flat_map signed_by es ≡ arts.spell body ∷ [] → acked_here arts u s d es ≡ 0
 acked_other arts reads u s d es body good is e = elim (cases_eq u.0 d.0) [
   | inl z ↦ acked_one arts reads u s d es body good e (same_node u d z) ∙ no_ack s d body is
   | inr never ↦ acked_away arts u s d es (λ z. never (ap (λ (v : NodeId). v.0) z))
@@ -86,7 +85,7 @@ acked_other arts reads u s d es body good is e = elim (cases_eq u.0 d.0) [
 
 module _ (arts : Arts) (reads : ReadsBack arts) (C : Type 0) (s d : NodeId) (S D : List Message) (c : ℕ) (u : NodeId) (different : s ≡ d → ⊥) where
   calm : (es : List Effect) (r : RelState) → told_here u s d es ≡ [] → acked_here arts u s d es ≡ 0
-      → (C → u ≡ s → (m : Rel) → HasGoodFields (bodies.Rel m) → m.src ≡ s → m.dst ≡ d → is_among (arts.spell (bodies.Rel m)) (flat_map signed_by es) ≡ true → ⊥)
+      → (C → u ≡ s → (m : Rel) → IsTrue (arts.is_good (bodies.Rel m)) → m.src ≡ s → m.dst ≡ d → is_among (arts.spell (bodies.Rel m)) (flat_map signed_by es) ≡ true → ⊥)
       → RelIs C s d S D c u r → (C → IsPrefix D S) → c ≤ length D → Stepped arts C s d S [] D c u es r
   calm es r none zero no_message h prefix low =
       let same_d : D ++ told_here u s d es ≡ D = ap (λ t. D ++ t) none ∙ append-nil D in
@@ -102,7 +101,7 @@ module _ (arts : Arts) (reads : ReadsBack arts) (C : Type 0) (s d : NodeId) (S D
         messages = λ k z m good src dst among. absurd (no_message k z m good src dst among);
       }
 
-  no_signature : (es : List Effect) → flat_map signed_by es ≡ [] → C → u ≡ s → (m : Rel) → HasGoodFields (bodies.Rel m) → m.src ≡ s → m.dst ≡ d
+  no_signature : (es : List Effect) → flat_map signed_by es ≡ [] → C → u ≡ s → (m : Rel) → IsTrue (arts.is_good (bodies.Rel m)) → m.src ≡ s → m.dst ≡ d
       → is_among (arts.spell (bodies.Rel m)) (flat_map signed_by es) ≡ true → ⊥
   no_signature es e k z m good src dst among = let f : false ≡ true = rw e at among in cc
 
@@ -127,7 +126,7 @@ module _ (arts : Arts) (reads : ReadsBack arts) (C : Type 0) (s d : NodeId) (S D
   other_is_no_rel (bodies.Rel r) m is e = absurd is
   other_is_no_rel (bodies.Ack a) m is e = absurd is
 
-  pub signed_other : (body : Body) (es : List Effect) (r : RelState) → IsOther body → HasGoodFields body → Quiet es → RelIs C s d S D c u r → (C → IsPrefix D S) → c ≤ length D
+  pub signed_other : (body : Body) (es : List Effect) (r : RelState) → IsOther body → IsTrue (arts.is_good body) → Quiet es → RelIs C s d S D c u r → (C → IsPrefix D S) → c ≤ length D
       → Stepped arts C s d S [] D c u (Signed (arts.spell body) ∷ es) r
   signed_other body es r other good quiet h prefix low =
       let one : flat_map signed_by (Signed (arts.spell body) ∷ es) ≡ arts.spell body ∷ [] = ap (λ t. arts.spell body ∷ t) quiet.no_signature in
@@ -142,7 +141,7 @@ module _ (arts : Arts) (reads : ReadsBack arts) (C : Type 0) (s d : NodeId) (S D
 
   -- ---- a client's message
 
-  pub sent_step : (k : Sizes) (n : NodeState) (dst : NodeId) (payload : List ℕ) → n.fixed.me ≡ u → HasGoodFields (rel_body n dst payload) → RelIs C s d S D c u n.parts.rel → (C → IsPrefix D S) → c ≤ length D
+  pub sent_step : (k : Sizes) (n : NodeState) (dst : NodeId) (payload : List ℕ) → n.fixed.me ≡ u → IsTrue (arts.is_good (rel_body n dst payload)) → RelIs C s d S D c u n.parts.rel → (C → IsPrefix D S) → c ≤ length D
       → Stepped arts C s d S (cond (u.0 == s.0 && dst.0 == d.0) ((rel_number n dst, payload) ∷ []) []) D c u (Signed (arts.spell (rel_body n dst payload)) ∷ [])
       (pushed_in n.parts.rel (signed_now arts n (rel_body n dst payload)))
   sent_step k n dst payload me good h prefix low =
@@ -206,7 +205,7 @@ module _ (arts : Arts) (reads : ReadsBack arts) (C : Type 0) (s d : NodeId) (S D
 
   -- ---- the destination's acknowledgement
 
-  pub settled_step : (r : RelState) (ack : Ack) (o : Kept) (es : List Effect) → due r ≡ Some ack → o.body ≡ bodies.Ack ack → ack.dst ≡ u → HasGoodFields (bodies.Ack ack) → Quiet es
+  pub settled_step : (r : RelState) (ack : Ack) (o : Kept) (es : List Effect) → due r ≡ Some ack → o.body ≡ bodies.Ack ack → ack.dst ≡ u → IsTrue (arts.is_good (bodies.Ack ack)) → Quiet es
       → RelIs C s d S D c u r → (C → IsPrefix D S) → c ≤ length D → Stepped arts C s d S [] D c u (es ++ Signed (arts.spell (bodies.Ack ack)) ∷ []) (settled r o)
   settled_step r ack o es is_due body mine good quiet h prefix low =
       let all = es ++ Signed (arts.spell (bodies.Ack ack)) ∷ [] in
@@ -219,7 +218,7 @@ module _ (arts : Arts) (reads : ReadsBack arts) (C : Type 0) (s d : NodeId) (S D
         | inl t ↦ rw t (flat_map-append (delivered_by s) es (Signed (arts.spell (bodies.Ack ack)) ∷ []) ∙ ap (λ t. t ++ []) (quiet.no_delivery s))
         | inr t ↦ rw t refl
       ] in
-      let no_rel : C → u ≡ s → (m : Rel) → HasGoodFields (bodies.Rel m) → m.src ≡ s → m.dst ≡ d → is_among (arts.spell (bodies.Rel m)) (flat_map signed_by all) ≡ true → ⊥ =
+      let no_rel : C → u ≡ s → (m : Rel) → IsTrue (arts.is_good (bodies.Rel m)) → m.src ≡ s → m.dst ≡ d → is_among (arts.spell (bodies.Rel m)) (flat_map signed_by all) ≡ true → ⊥ =
       λ y z m good_m src dst among. elim (among_cons (arts.spell (bodies.Rel m)) (arts.spell (bodies.Ack ack)) [] (subst (λ xs. is_among (arts.spell (bodies.Rel m)) xs ≡ true) one among)) [
         | inl e ↦ let same : bodies.Ack ack ≡ bodies.Rel m = no_other_is_spelled_so arts reads (bodies.Ack ack) (bodies.Rel m) good good_m e in cc
         | inr g ↦ let x : false ≡ true = g in cc

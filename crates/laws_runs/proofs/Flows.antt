@@ -5,9 +5,7 @@ use Rattle.std.proofs.lemmas.Bool.{eq-eqb}
 use Rattle.std.proofs.lemmas.List.{append-nil}
 use Rattle.std.proofs.lemmas.List.Concat.{flat_map-append}
 use Rattle.sp_base.specs.Lists.{IsPrefix}
-use Rattle.sp_base.specs.Spelling.{AreBytes}
 use Rattle.sp_base.specs.declared.id.NodeId.{NodeId}
-use Rattle.sp_msg.specs.Bodies.{HasGoodFields}
 use Rattle.sp_msg.specs.Views.{signer_of}
 use Rattle.sp_msg.specs.declared.body.Ack.{Ack}
 use Rattle.sp_msg.specs.declared.body.Body.TheVariants as bodies
@@ -38,10 +36,9 @@ use Rattle.sp_rules.specs.declared.answers.Item.{Item}
 use Rattle.sp_rules.specs.declared.node.NodeRefused.{NodeRefused}
 use Rattle.laws_node.specs.Inputs.{InputFits, ReadsBack}
 use Rattle.laws_node.specs.Asked.{NewKeep}
-use Rattle.laws_node.proofs.Carried.{pieces_new}
-use Rattle.laws_node.proofs.Own.{either, prio_sent_fits, rel_sent_fits, weight_sent_fits}
+use Rattle.laws_node.proofs.About.{ack_good, prio_good, rel_good, weight_good}
+use Rattle.laws_node.proofs.Own.{either}
 use Rattle.laws_node.proofs.Reliable.{due_fits}
-use Rattle.laws_node.proofs.Arrived.{step_fields}
 use Rattle.sp_runs.specs.Forgery.{is_among}
 use Rattle.sp_runs.specs.Inputs.{acting, crafted_frame, flipped, input_of, slot_alone}
 use Rattle.sp_runs.specs.Journals.{Says, refused_word, reply_word}
@@ -55,12 +52,14 @@ use Rattle.sp_schedule_events.specs.declared.event.Event.{Event}
 use Rattle.sp_schedule_events.specs.declared.event.Event.TheVariants as events
 use Rattle.laws_runs.specs.Acknowledged.{ack_in, acknowledged, acks_in}
 use Rattle.laws_runs.specs.Flows.{IsIn, AreNumbered}
+use Rattle.laws_runs.specs.Premises.{Carries}
 use Rattle.laws_runs.specs.Signs.{Good, Known, NodeIs, sizes_at}
 use Rattle.laws_runs.proofs.FlowFacts.{RelIs, flow_of}
 use Rattle.laws_runs.proofs.FlowPieces.{Handles, Vouched, all_handled, quiet_append, quiet_expired, quiet_gone, quiet_none, quiet_prio, quiet_weight, told_here}
 use Rattle.laws_runs.proofs.FlowSteps.{Stepped, acked_here, acked_none, sent_step, served_step, settled_step, signed_other, silent, took_step}
 use Rattle.laws_runs.proofs.Lists.{among_cons}
 use Rattle.laws_runs.proofs.Goods.{arts_fit}
+use Rattle.laws_runs.proofs.Signed.{new_have}
 
 -- ---- the greatest number
 
@@ -72,7 +71,7 @@ pub acks_both : (arts : Arts) (s d : NodeId) (xs ys : List (List ℕ)) → great
 acks_both arts s d xs ys = ap greatest (flat_map-append (λ bytes. ack_in s d (arts.read bytes)) xs ys) ∙ greatest_both (acks_in arts s d xs) (acks_in arts s d ys)
 
 -- an acknowledgement among those that were signed is at most the greatest
-ack_among : (arts : Arts) → ReadsBack arts → (s d : NodeId) (a : Ack) (xs : List (List ℕ)) → HasGoodFields (bodies.Ack a) → a.src ≡ s → a.dst ≡ d → is_among (arts.spell (bodies.Ack a)) xs ≡ true
+ack_among : (arts : Arts) → ReadsBack arts → (s d : NodeId) (a : Ack) (xs : List (List ℕ)) → IsTrue (arts.is_good (bodies.Ack a)) → a.src ≡ s → a.dst ≡ d → is_among (arts.spell (bodies.Ack a)) xs ≡ true
     → a.seq ≤ greatest (acks_in arts s d xs)
 ack_among arts reads s d a [] good src dst among = absurd (let f : false ≡ true = among in cc)
 ack_among arts reads s d a (y ∷ xs) good src dst among = elim (among_cons (arts.spell (bodies.Ack a)) y xs among) [
@@ -96,7 +95,7 @@ pub record FlowsHold (arts : Arts) (x : Setting) (s d : NodeId) (es : List Event
   pub prefix : IsTrue (is_correct x s) → IsPrefix (delivered es js s d) (sent es js s d)
   pub low : acknowledged arts es js s d ≤ length (delivered es js s d)
   pub numbers : IsTrue (is_correct x s) → AreNumbered 0 (sent es js s d)
-  pub messages : IsTrue (is_correct x s) → (m : Rel) → HasGoodFields (bodies.Rel m) → m.src ≡ s → m.dst ≡ d → is_among (arts.spell (bodies.Rel m)) (signed es js s) ≡ true
+  pub messages : IsTrue (is_correct x s) → (m : Rel) → IsTrue (arts.is_good (bodies.Rel m)) → m.src ≡ s → m.dst ≡ d → is_among (arts.spell (bodies.Rel m)) (signed es js s) ≡ true
       → IsIn (sent es js s d) m.seq m.payload
 
 -- ---- what is new is vouched for
@@ -105,18 +104,18 @@ pub new_both : (P Q R : Kept → Type 0) → ((o : Kept) → P o → Q o → R o
 new_both P Q R join [] one two = tt
 new_both P Q R join (a ∷ others) one two = (λ new. join a.0 (one.0 new) (two.0 new), new_both P Q R join others one.1 two.1)
 
-vouched : (arts : Arts) → ReadsBack arts → (x : Setting) (s d : NodeId) (es : List Event) (js : List Entry) (w : World) → IsTrue (is_correct x d) → FlowsHold arts x s d es js w → (o : Kept) → Known arts x es js o → HasGoodFields o.body
+vouched : (arts : Arts) → ReadsBack arts → (x : Setting) (s d : NodeId) (es : List Event) (js : List Entry) (w : World) → IsTrue (is_correct x d) → FlowsHold arts x s d es js w → (o : Kept) → Known arts x es js o → IsTrue (arts.is_good o.body)
     → Vouched (IsTrue (is_correct x s)) s d (sent es js s d) (acknowledged arts es js s d) o
 vouched arts reads x s d es js w d_correct h o known good = record {
   message = λ correct m is src dst.
       let signer : signer_of o.body ≡ s = ap signer_of is ∙ src in
       let among : is_among (arts.spell o.body) (signed es js (signer_of o.body)) ≡ true = known (subst (λ v. IsTrue (is_correct x v)) (sym signer) correct) in
-      h.messages correct m (subst HasGoodFields is good) src dst
+      h.messages correct m (subst (λ y. IsTrue (arts.is_good y)) is good) src dst
       (subst (λ b. is_among (arts.spell b) (signed es js s) ≡ true) is (subst (λ v. is_among (arts.spell o.body) (signed es js v) ≡ true) signer among));
   ack = λ a is src dst.
       let signer : signer_of o.body ≡ d = ap signer_of is ∙ dst in
       let among : is_among (arts.spell o.body) (signed es js (signer_of o.body)) ≡ true = known (subst (λ v. IsTrue (is_correct x v)) (sym signer) d_correct) in
-      ack_among arts reads s d a (signed es js d) (subst HasGoodFields is good) src dst
+      ack_among arts reads s d a (signed es js d) (subst (λ y. IsTrue (arts.is_good y)) is good) src dst
       (subst (λ b. is_among (arts.spell b) (signed es js d) ≡ true) is (subst (λ v. is_among (arts.spell o.body) (signed es js v) ≡ true) signer among));
 }
 
@@ -180,7 +179,8 @@ module _ (C : Type 0) (x : Setting) (P : Kept → Type 0) (arts : Arts) (s d : N
       go (Some ack) is_due (Some refusal) = silent arts reads C s d S D c u different _ n.parts.rel (quiet_append _ [] (quiet_expired n.parts.prio (time_after n now)) quiet_none) h prefix low
       go (Some ack) is_due None =
           let facts = due_fits (sizes_at x P u) n.signer.index n.parts.rel ack is_due is.holds.parts.rel in
-          settled_step arts reads C s d S D c u different n.parts.rel ack (signed_now arts (at_time n now) (bodies.Ack ack)) (expired_effects n.parts.prio (time_after n now)) is_due refl facts.mine facts.fields
+          settled_step arts reads C s d S D c u different n.parts.rel ack (signed_now arts (at_time n now) (bodies.Ack ack)) (expired_effects n.parts.prio (time_after n now)) is_due refl facts.mine
+          (ack_good arts (sizes_at x P u) n ack (arts_fit arts x P u n fits is) is_due is.holds)
           (quiet_expired n.parts.prio (time_after n now)) h prefix low
 
   -- what a client sent
@@ -199,10 +199,10 @@ module _ (C : Type 0) (x : Setting) (P : Kept → Type 0) (arts : Arts) (s d : N
           → after ≡ kept_or r n (signed_once n (record n.parts { rel = pushed_in n.parts.rel (signed_now arts n (rel_body n dst payload)) }))
           → Stepped arts C s d S (sent_if r n dst payload) D c u output.effects after.parts.rel
       go None free e f =
-          let facts = rel_sent_fits (sizes_at x P u) n dst payload short free is.holds in
+          let good = rel_good arts (sizes_at x P u) n dst payload (arts_fit arts x P u n fits is) short free is.holds in
           subst (λ es. Stepped arts C s d S (sent_now n dst payload) D c u es after.parts.rel) (sym e)
           (subst (λ (m : NodeState). Stepped arts C s d S (sent_now n dst payload) D c u (rel_sent arts n dst payload) m.parts.rel) (sym f)
-          (sent_step arts reads C s d S D c u different (sizes_at x P u) n dst payload (ap (λ (g : Fixed). g.me) is.fixed) facts.fields h prefix low))
+          (sent_step arts reads C s d S D c u different (sizes_at x P u) n dst payload (ap (λ (g : Fixed). g.me) is.fixed) good h prefix low))
       go (Some refused) free e f = subst (λ es. Stepped arts C s d S [] D c u es after.parts.rel) (sym e)
           (subst (λ (m : NodeState). Stepped arts C s d S [] D c u [] m.parts.rel) (sym f) (quietly n h prefix low))
 
@@ -214,10 +214,11 @@ module _ (C : Type 0) (x : Setting) (P : Kept → Type 0) (arts : Arts) (s d : N
           → after ≡ kept_or r n (signed_once n (record n.parts { prio = admit_prio n.parts.prio (own_prio arts n m step.choice) None }))
           → Stepped arts C s d S [] D c u output.effects after.parts.rel
       go None free e f =
-          let facts = prio_sent_fits (sizes_at x P u) n m step.choice sizes free (step.is_choice (either (prio_refusal n m) (no_paths step.choice) free).0) is.holds in
+          let good = prio_good arts (sizes_at x P u) n m step.choice (arts_fit arts x P u n fits is) sizes free
+          (step.is_choice (either (prio_refusal n m) (no_paths step.choice) free).0) is.holds in
           subst (λ es. Stepped arts C s d S [] D c u es after.parts.rel) (sym e)
           (subst (λ (y : NodeState). Stepped arts C s d S [] D c u (prio_sent arts n m step.choice) y.parts.rel) (sym f)
-          (signed_other arts reads C s d S D c u different (prio_body n m (mask_in step.choice)) (prio_effects n.parts.prio (own_prio arts n m step.choice) None) n.parts.rel tt facts.fields
+          (signed_other arts reads C s d S D c u different (prio_body n m (mask_in step.choice)) (prio_effects n.parts.prio (own_prio arts n m step.choice) None) n.parts.rel tt good
           (quiet_prio n.parts.prio (own_prio arts n m step.choice) None) h prefix low))
       go (Some refused) free e f = subst (λ es. Stepped arts C s d S [] D c u es after.parts.rel) (sym e)
           (subst (λ (y : NodeState). Stepped arts C s d S [] D c u [] y.parts.rel) (sym f) (quietly n h prefix low))
@@ -230,10 +231,10 @@ module _ (C : Type 0) (x : Setting) (P : Kept → Type 0) (arts : Arts) (s d : N
           → after ≡ kept_or r n (signed_once n (record n.parts { weights = held n.parts.weights (signed_now arts n (weight_body n v weight)) }))
           → Stepped arts C s d S [] D c u output.effects after.parts.rel
       go None free e f =
-          let facts = weight_sent_fits (sizes_at x P u) n v weight sizes.0 sizes.1 free is.holds in
+          let good = weight_good arts (sizes_at x P u) n v weight (arts_fit arts x P u n fits is) sizes.0 sizes.1 free is.holds in
           subst (λ es. Stepped arts C s d S [] D c u es after.parts.rel) (sym e)
           (subst (λ (y : NodeState). Stepped arts C s d S [] D c u (weight_sent arts n v weight) y.parts.rel) (sym f)
-          (signed_other arts reads C s d S D c u different (weight_body n v weight) (weight_effects (weight_body n v weight)) n.parts.rel tt facts.fields (quiet_weight (weight_body n v weight)) h prefix low))
+          (signed_other arts reads C s d S D c u different (weight_body n v weight) (weight_effects (weight_body n v weight)) n.parts.rel tt good (quiet_weight (weight_body n v weight)) h prefix low))
       go (Some refused) free e f = subst (λ es. Stepped arts C s d S [] D c u es after.parts.rel) (sym e)
           (subst (λ (y : NodeState). Stepped arts C s d S [] D c u [] y.parts.rel) (sym f) (quietly n h prefix low))
 
@@ -287,7 +288,7 @@ pub crafted_bytes : (t : Bool) (c : NodeId) (bytes : List ℕ) (i : Input) → c
 crafted_bytes true c bytes i e = (bytes, cc)
 crafted_bytes false c bytes i e = absurd (cc)
 
-module _ (arts : Arts) (x : Setting) (s d : NodeId) (different : s ≡ d → ⊥) (fits : SettingFits arts x) (reads : ReadsBack arts) (d_correct : IsTrue (is_correct x d)) (es : List Event) (js : List Entry) (w new : World) (j : Entry) where
+module _ (arts : Arts) (x : Setting) (s d : NodeId) (different : s ≡ d → ⊥) (fits : SettingFits arts x) (carries : Carries arts) (d_correct : IsTrue (is_correct x d)) (es : List Event) (js : List Entry) (w new : World) (j : Entry) where
   abbrev C : Type 0
   C = IsTrue (is_correct x s)
 
@@ -304,61 +305,48 @@ module _ (arts : Arts) (x : Setting) (s d : NodeId) (different : s ≡ d → ⊥
   abbrev After : Event → Output → NodeState → Type 0
   After e output after = Stepped arts C s d S (accepted_in s d e j.reply) D c (acting e) output.effects after.parts.rel
 
-  arrived_at : (v u : NodeId) (n : NodeState) (i : Input) (output : Output) (after : NodeState) → NodeStep arts n i output after → InputFits i → NodeIs x (Good arts x es js) v n → NewKeep (Known arts x es js) output.answered
+  arrived_at : (v u : NodeId) (n : NodeState) (i : Input) (output : Output) (after : NodeState) → NodeStep arts n i output after → InputFits i → NewKeep (Known arts x es js) output.answered
       → FlowsHold arts x s d es js w → RelIs C s d S D c v n.parts.rel → (bytes : List ℕ) × (i ≡ steps.Datagram u bytes) → Stepped arts C s d S [] D c v output.effects after.parts.rel
-  arrived_at v u n i output after step input is known h rel (bytes, same) =
+  arrived_at v u n i output after step input known h rel (bytes, same) =
       let moves : NodeStep arts n (steps.Datagram u bytes) output after = subst (λ y. NodeStep arts n y output after) same step in
-      let are : AreBytes bytes = subst InputFits same input in
-      let good = good_fields n u bytes output after moves are is in
-      datagram_done C x (Good arts x es js) arts s d S D c v different fits reads n u bytes output after moves
-      (new_both (Known arts x es js) (λ o. HasGoodFields o.body) (Vouched C s d S c) (vouched arts reads x s d es js w d_correct h) output.answered known good) rel h.prefix h.low
-    where
-      called_new : (o : Output) (r : Option NodeRefused) → NewKeep (λ y. HasGoodFields y.body) o.answered → NewKeep (λ y. HasGoodFields y.body) (refused_call r o).answered
-      called_new o None new = new
-      called_new o (Some refused) new = tt
-
-      good_fields : (n : NodeState) (u : NodeId) (bytes : List ℕ) (output : Output) (after : NodeState) → NodeStep arts n (steps.Datagram u bytes) output after → AreBytes bytes → NodeIs x (Good arts x es js) v n
-          → NewKeep (λ o. HasGoodFields o.body) output.answered
-      good_fields n u bytes output after moves are is =
-          subst (λ (o : Output). NewKeep (λ y. HasGoodFields y.body) o.answered) (sym moves.0)
-          (called_new (arrived arts n u bytes) (call_refusal n u)
-          (pieces_new (λ y. HasGoodFields y.body) arts (arrival_at n u) n.parts (pieces_where (reply_at arts n u bytes) (pieces_in (sections_in arts n.fixed bytes)))
-          (step_fields (sizes_at x (Good arts x es js) v) arts n u bytes (arts_fit arts x (Good arts x es js) v n fits is) are is.holds)))
+      let good = new_have (λ o. IsTrue (arts.is_good o.body)) arts n i output after carries.goods input step in
+      datagram_done C x (Good arts x es js) arts s d S D c v different fits carries.bodies n u bytes output after moves
+      (new_both (Known arts x es js) (λ o. IsTrue (arts.is_good o.body)) (Vouched C s d S c) (vouched arts carries.bodies x s d es js w d_correct h) output.answered known good) rel h.prefix h.low
 
   pub stepped : (e : Event) (n : NodeState) (number : ℕ) (i : Input) (output : Output) (after : NodeState) → input_of arts x es w n e ≡ Some i → InputFits i → NodeStep arts n i output after → Says x number output j
       → NodeIs x (Good arts x es js) (acting e) n → NewKeep (Known arts x es js) output.answered → FlowsHold arts x s d es js w → RelIs C s d S D c (acting e) n.parts.rel → After e output after
   stepped (events.Rel u to payload) n number i output after reaches input step says is known h rel =
       let same : i ≡ steps.SendRel to payload = cc in
       let moves : NodeStep arts n (steps.SendRel to payload) output after = subst (λ y. NodeStep arts n y output after) same step in
-      let told = accepted_is arts x s d u to number payload n output j (rel_refusal n to) says moves.0 ∙ sent_same s d u to n payload C x (Good arts x es js) arts S D c different fits reads (rel_refusal n to) in
+      let told = accepted_is arts x s d u to number payload n output j (rel_refusal n to) says moves.0 ∙ sent_same s d u to n payload C x (Good arts x es js) arts S D c different fits carries.bodies (rel_refusal n to) in
       subst (λ T. Stepped arts C s d S T D c u output.effects after.parts.rel) (sym told)
-      (send_done C x (Good arts x es js) arts s d S D c u different fits reads n to payload output after moves (subst InputFits same input) is rel h.prefix h.low)
+      (send_done C x (Good arts x es js) arts s d S D c u different fits carries.bodies n to payload output after moves (subst InputFits same input) is rel h.prefix h.low)
   stepped (events.Prio u to a b p payload) n number i output after reaches input step says is known h rel =
       let m : PrioSend = record { dst = to; prio = a; expiry = b; paths = p; payload = payload } in
       let same : i ≡ steps.SendPrio m = cc in
-      prio_done C x (Good arts x es js) arts s d S D c u different fits reads n m output after (subst (λ y. NodeStep arts n y output after) same step) (subst InputFits same input) is rel h.prefix h.low
+      prio_done C x (Good arts x es js) arts s d S D c u different fits carries.bodies n m output after (subst (λ y. NodeStep arts n y output after) same step) (subst InputFits same input) is rel h.prefix h.low
   stepped (events.Take v u) n number i output after reaches input step says is known h rel =
       let same : i ≡ steps.TakeRel u = cc in
-      take_done C x (Good arts x es js) arts s d S D c v different fits reads n u output after (subst (λ y. NodeStep arts n y output after) same step) rel h.prefix h.low
+      take_done C x (Good arts x es js) arts s d S D c v different fits carries.bodies n u output after (subst (λ y. NodeStep arts n y output after) same step) rel h.prefix h.low
   stepped (events.TakePrio v) n number i output after reaches input step says is known h rel =
       let same : i ≡ steps.TakePrio = cc in
-      takep_done C x (Good arts x es js) arts s d S D c v different fits reads n output after (subst (λ y. NodeStep arts n y output after) same step) rel h.prefix h.low
+      takep_done C x (Good arts x es js) arts s d S D c v different fits carries.bodies n output after (subst (λ y. NodeStep arts n y output after) same step) rel h.prefix h.low
   stepped (events.Tick u now) n number i output after reaches input step says is known h rel =
       let same : i ≡ steps.Tick now = cc in
-      tick_done C x (Good arts x es js) arts s d S D c u different fits reads n now output after (subst (λ y. NodeStep arts n y output after) same step) is rel h.prefix h.low
+      tick_done C x (Good arts x es js) arts s d S D c u different fits carries.bodies n now output after (subst (λ y. NodeStep arts n y output after) same step) is rel h.prefix h.low
   stepped (events.Weight u v weight) n number i output after reaches input step says is known h rel =
       let same : i ≡ steps.SetWeight v weight = cc in
-      weight_done C x (Good arts x es js) arts s d S D c u different fits reads n v weight output after (subst (λ y. NodeStep arts n y output after) same step) (subst InputFits same input) is rel h.prefix h.low
+      weight_done C x (Good arts x es js) arts s d S D c u different fits carries.bodies n v weight output after (subst (λ y. NodeStep arts n y output after) same step) (subst InputFits same input) is rel h.prefix h.low
   stepped (events.Poll u v) n number i output after reaches input step says is known h rel =
       let same : i ≡ steps.Poll v = cc in
-      poll_done C x (Good arts x es js) arts s d S D c u different fits reads n v output after (subst (λ y. NodeStep arts n y output after) same step) rel h.prefix h.low
+      poll_done C x (Good arts x es js) arts s d S D c u different fits carries.bodies n v output after (subst (λ y. NodeStep arts n y output after) same step) rel h.prefix h.low
   stepped (events.Pass u v k) n number i output after reaches input step says is known h rel =
-      arrived_at v u n i output after step input is known h rel (came_bytes u (λ y. y) _ i reaches)
+      arrived_at v u n i output after step input known h rel (came_bytes u (λ y. y) _ i reaches)
   stepped (events.Flip u v k back bit) n number i output after reaches input step says is known h rel =
-      arrived_at v u n i output after step input is known h rel (came_bytes u (flipped back bit) _ i reaches)
+      arrived_at v u n i output after step input known h rel (came_bytes u (flipped back bit) _ i reaches)
   stepped (events.Inject u v bytes) n number i output after reaches input step says is known h rel =
-      arrived_at v u n i output after step input is known h rel (bytes, cc)
+      arrived_at v u n i output after step input known h rel (bytes, cc)
   stepped (events.Craft u v key body) n number i output after reaches input step says is known h rel =
-      arrived_at v u n i output after step input is known h rel (crafted_bytes _ u _ i reaches)
+      arrived_at v u n i output after step input known h rel (crafted_bytes _ u _ i reaches)
   stepped (events.CraftStatus u v a b base have) n number i output after reaches input step says is known h rel =
-      arrived_at v u n i output after step input is known h rel (crafted_frame arts n u (slot_alone (flow_of a b) base have None []), cc)
+      arrived_at v u n i output after step input known h rel (crafted_frame arts n u (slot_alone (flow_of a b) base have None []), cc)

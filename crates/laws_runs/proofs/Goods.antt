@@ -1,4 +1,4 @@
--- What is new and what is own is known, valid and of bytes; and each node at its start.
+-- What is new and what is own is known, valid, of bytes and good; and each node at its start.
 use Rattle.std.proofs.Common.{◌≡◌, ℕ, Bool, true, false, cond, eqb, List, [], ◌∷◌, ◌++◌, length, map, filter, Option, Some, None, refl, sym, ap, subst, ◌∙◌, inl, inr, arith}
 use Rattle.std.specs.Prelude.{◌&&◌, not, IsTrue, option_map}
 use Rattle.std.specs.List.{All, flat_map}
@@ -101,10 +101,10 @@ new_known arts x es js (a ∷ others) e = elim (cases_Bool (is_forged arts x es 
 
 pub good_new : (arts : Arts) (x : Setting) (es : List Event) (js : List Entry) (answered : List (Kept × Item)) → NewKeep (Known arts x es js) answered
     → NewKeep (λ o. IsTrue (is_signed arts (record { me = record { 0 = 0 }; boot = 0; topology = x.topology; signature_len = 0 }) o)) answered
-    → NewKeep IsOfBytes answered → NewKeep (Good arts x es js) answered
-good_new arts x es js [] one two three = tt
-good_new arts x es js (a ∷ others) one two three =
-    (λ new. record { known = one.0 new; right = two.0 new; bytes = three.0 new }, good_new arts x es js others one.1 two.1 three.1)
+    → NewKeep IsOfBytes answered → NewKeep (λ o. IsTrue (arts.is_good o.body)) answered → NewKeep (Good arts x es js) answered
+good_new arts x es js [] one two three four = tt
+good_new arts x es js (a ∷ others) one two three four =
+    (λ new. record { known = one.0 new; right = two.0 new; bytes = three.0 new; good = four.0 new }, good_new arts x es js others one.1 two.1 three.1 four.1)
 
 pub new_less : (P Q : Kept → Type 0) → ((o : Kept) → P o → Q o) → (answered : List (Kept × Item)) → NewKeep P answered → NewKeep Q answered
 new_less P Q less [] h = tt
@@ -120,7 +120,7 @@ known_more arts x es js e j even o h = λ correct.
 
 pub good_more : (arts : Arts) (x : Setting) (es : List Event) (js : List Entry) (e : Event) (j : Entry) → length es ≡ length js → (o : Kept) → Good arts x es js o
     → Good arts x (es ++ e ∷ []) (js ++ j ∷ []) o
-good_more arts x es js e j even o h = record { known = known_more arts x es js e j even o h.known; right = h.right; bytes = h.bytes }
+good_more arts x es js e j even o h = record { known = known_more arts x es js e j even o h.known; right = h.right; bytes = h.bytes; good = h.good }
 
 -- what a step signs
 signs_it : (effects before after : List Effect) (bytes : List ℕ) → effects ≡ before ++ Signed bytes ∷ after → is_among bytes (flat_map signed_by effects) ≡ true
@@ -150,6 +150,7 @@ fit_there arts f s t seed total h = record {
   valid = rw (seed, total) h.valid;
   heads = h.heads;
   sections = h.sections;
+  own = h.own;
 }
 
 pub arts_fit : (arts : Arts) (x : Setting) (P : Kept → Type 0) (u : NodeId) (n : NodeState) → SettingFits arts x → NodeIs x P u n → ArtsFit arts n.fixed n.signer

@@ -1,28 +1,22 @@
 -- The part on priority messages over a whole run.
-use Rattle.std.proofs.Common.{◌≡◌, ℕ, ◌==◌, true, false, cond, List, [], ◌∷◌, ◌++◌, length, map, Option, Some, None, refl, sym, ap, subst, ◌∙◌, inl, inr}
+use Rattle.std.proofs.Common.{◌≡◌, ℕ, ◌==◌, true, false, cond, List, [], ◌∷◌, ◌++◌, length, map, Some, None, refl, sym, ap, subst, ◌∙◌, inl, inr}
 use Rattle.std.specs.Prelude.{IsTrue}
 use Rattle.std.specs.List.{flat_map}
 use Rattle.std.proofs.lemmas.Bool.{cases_Bool, cases_eq, eq-eqb, eqb-true, ne_eqb}
 use Rattle.std.proofs.lemmas.List.{append-nil, length-replicate, map-append}
-use Rattle.sp_base.specs.Spelling.{AreBytes}
 use Rattle.sp_base.specs.declared.id.NodeId.{NodeId}
-use Rattle.sp_msg.specs.Bodies.{HasGoodFields}
 use Rattle.sp_msg.specs.Views.{signer_of}
 use Rattle.sp_msg.specs.declared.body.Body.TheVariants as bodies
 use Rattle.sp_msg.specs.declared.body.Prio.{Prio}
 use Rattle.sp_msg.specs.declared.kept.Kept.{Kept}
-use Rattle.sp_rules.specs.Arrivals.{arrival_at, pieces_in, pieces_where, reply_at, sections_in}
 use Rattle.sp_rules.specs.Arts.{Arts}
-use Rattle.sp_rules.specs.Node.{NodeState, call_refusal}
+use Rattle.sp_rules.specs.Node.{NodeState}
 use Rattle.sp_rules.specs.Parts.{Fixed, nodes_of}
 use Rattle.sp_rules.specs.Sends.{PrioSend, send_prio_refusal}
 use Rattle.sp_rules.specs.Steps as steps
-use Rattle.sp_rules.specs.Steps.{Input, NodeStep, Output, accepted, arrived, refused_call, refused_send, replied}
-use Rattle.sp_rules.specs.declared.node.NodeRefused.{NodeRefused}
-use Rattle.laws_node.specs.Inputs.{InputFits, ReadsBack}
+use Rattle.sp_rules.specs.Steps.{Input, NodeStep, Output}
+use Rattle.laws_node.specs.Inputs.{InputFits}
 use Rattle.laws_node.specs.Asked.{NewKeep}
-use Rattle.laws_node.proofs.Carried.{pieces_new}
-use Rattle.laws_node.proofs.Arrived.{step_fields}
 use Rattle.laws_runs.proofs.Lives.{step_stays}
 use Rattle.sp_runs.specs.Forgery.{forged_object, has_forged_tag, is_among}
 use Rattle.sp_runs.specs.Inputs.{acting, crafted_frame, flipped, input_of, slot_alone}
@@ -37,14 +31,14 @@ use Rattle.sp_schedule_events.specs.declared.event.Event.TheVariants as events
 use Rattle.laws_node.specs.Shapes.{Shape}
 use Rattle.laws_runs.specs.Premises.{Carries}
 use Rattle.laws_runs.specs.Priority.{AreAmong, AreOnce, IsOneOf, PrioPart, PriorityIsKept, TurnsKeepPriority}
-use Rattle.laws_runs.specs.Signs.{Good, Known, NodeIs, Signs, sizes_at}
+use Rattle.laws_runs.specs.Signs.{Good, Known, NodeIs, Signs}
 use Rattle.laws_runs.proofs.FlowFacts.{flow_of}
 use Rattle.laws_runs.proofs.FlowRuns.{here_is, nothing_told}
 use Rattle.laws_runs.proofs.Flows.{came_bytes, crafted_bytes, new_both}
 use Rattle.laws_runs.proofs.Lists.{among_or, told_more}
 use Rattle.laws_runs.proofs.PrioFacts.{PrioIs, VouchedPrio}
-use Rattle.laws_runs.proofs.Goods.{arts_fit, new_known, started, unforged_tag}
-use Rattle.laws_runs.proofs.Signed.{signs}
+use Rattle.laws_runs.proofs.Goods.{new_known, started, unforged_tag}
+use Rattle.laws_runs.proofs.Signed.{new_have, signs}
 use Rattle.laws_runs.proofs.Reaches.{input_fits}
 use Rattle.laws_runs.proofs.Tables.{node_put, same_node}
 use Rattle.laws_runs.proofs.PrioSteps.{Acted, accepted_is, datagram_done, poll_done, tick_done, send_done, weight_done, prio_done, take_done, takep_done}
@@ -55,20 +49,20 @@ pub record PrioHold (arts : Arts) (x : Setting) (s d : NodeId) (es : List Event)
   pub node : (n : NodeState) → node_in w.nodes d ≡ Some n → PrioIs s d (map (λ m. m.0) (prio_delivered es js s d)) n.parts.prio
   pub once : AreOnce (map (λ m. m.0) (prio_delivered es js s d))
   pub authentic : IsTrue (is_correct x s) → AreAmong (prio_delivered es js s d) (prio_sent es js s d)
-  pub messages : IsTrue (is_correct x s) → (b : Prio) → HasGoodFields (bodies.Prio b) → b.src ≡ s → b.dst ≡ d → is_among (arts.spell (bodies.Prio b)) (signed es js s) ≡ true
+  pub messages : IsTrue (is_correct x s) → (b : Prio) → IsTrue (arts.is_good (bodies.Prio b)) → b.src ≡ s → b.dst ≡ d → is_among (arts.spell (bodies.Prio b)) (signed es js s) ≡ true
       → IsOneOf (b.seq, b.payload) (prio_sent es js s d)
 
-vouched : (arts : Arts) (x : Setting) (s d : NodeId) (es : List Event) (js : List Entry) (w : World) → PrioHold arts x s d es js w → (o : Kept) → Known arts x es js o → HasGoodFields o.body
+vouched : (arts : Arts) (x : Setting) (s d : NodeId) (es : List Event) (js : List Entry) (w : World) → PrioHold arts x s d es js w → (o : Kept) → Known arts x es js o → IsTrue (arts.is_good o.body)
     → VouchedPrio (IsTrue (is_correct x s)) s d (prio_sent es js s d) o
 vouched arts x s d es js w h o known good = record {
   message = λ correct b is src dst.
       let signer : signer_of o.body ≡ s = ap signer_of is ∙ src in
       let among : is_among (arts.spell o.body) (signed es js (signer_of o.body)) ≡ true = known (subst (λ v. IsTrue (is_correct x v)) (sym signer) correct) in
-      h.messages correct b (subst HasGoodFields is good) src dst
+      h.messages correct b (subst (λ y. IsTrue (arts.is_good y)) is good) src dst
       (subst (λ y. is_among (arts.spell y) (signed es js s) ≡ true) is (subst (λ v. is_among (arts.spell o.body) (signed es js v) ≡ true) signer among));
 }
 
-module _ (arts : Arts) (x : Setting) (s d : NodeId) (fits : SettingFits arts x) (reads : ReadsBack arts) (es : List Event) (js : List Entry) (w : World) (j : Entry) where
+module _ (arts : Arts) (x : Setting) (s d : NodeId) (fits : SettingFits arts x) (carries : Carries arts) (es : List Event) (js : List Entry) (w : World) (j : Entry) where
   abbrev C : Type 0
   C = IsTrue (is_correct x s)
 
@@ -81,21 +75,13 @@ module _ (arts : Arts) (x : Setting) (s d : NodeId) (fits : SettingFits arts x) 
   abbrev P : Kept → Type 0
   P = Good arts x es js
 
-  arrived_at : (v u : NodeId) (n : NodeState) (i : Input) (output : Output) (after : NodeState) → NodeStep arts n i output after → InputFits i → NodeIs x P v n → NewKeep (Known arts x es js) output.answered
+  arrived_at : (v u : NodeId) (n : NodeState) (i : Input) (output : Output) (after : NodeState) → NodeStep arts n i output after → InputFits i → NewKeep (Known arts x es js) output.answered
       → PrioHold arts x s d es js w → (v ≡ d → PrioIs s d told n.parts.prio) → (bytes : List ℕ) × (i ≡ steps.Datagram u bytes) → Acted arts C s d S [] told v after.parts.prio output.effects
-  arrived_at v u n i output after step input is known h at (bytes, same) =
+  arrived_at v u n i output after step input known h at (bytes, same) =
       let moves : NodeStep arts n (steps.Datagram u bytes) output after = subst (λ y. NodeStep arts n y output after) same step in
-      let are : AreBytes bytes = subst InputFits same input in
-      datagram_done C x P arts reads s d S told v n u bytes output after moves
-      (new_both (Known arts x es js) (λ o. HasGoodFields o.body) (VouchedPrio C s d S) (vouched arts x s d es js w h) output.answered known
-      (subst (λ (o : Output). NewKeep (λ y. HasGoodFields y.body) o.answered) (sym moves.0)
-      (called_new (arrived arts n u bytes) (call_refusal n u)
-      (pieces_new (λ y. HasGoodFields y.body) arts (arrival_at n u) n.parts (pieces_where (reply_at arts n u bytes) (pieces_in (sections_in arts n.fixed bytes)))
-      (step_fields (sizes_at x P v) arts n u bytes (arts_fit arts x P v n fits is) are is.holds))))) at
-    where
-      called_new : (o : Output) (r : Option NodeRefused) → NewKeep (λ y. HasGoodFields y.body) o.answered → NewKeep (λ y. HasGoodFields y.body) (refused_call r o).answered
-      called_new o None new = new
-      called_new o (Some refused) new = tt
+      let good = new_have (λ o. IsTrue (arts.is_good o.body)) arts n i output after carries.goods input step in
+      datagram_done C x P arts carries.bodies fits s d S told v n u bytes output after moves
+      (new_both (Known arts x es js) (λ o. IsTrue (arts.is_good o.body)) (VouchedPrio C s d S) (vouched arts x s d es js w h) output.answered known good) at
 
   acted : (e : Event) (n : NodeState) (number : ℕ) (i : Input) (output : Output) (after : NodeState) → input_of arts x es w n e ≡ Some i → InputFits i → NodeStep arts n i output after → Says x number output j
       → NodeIs x P (acting e) n → NewKeep (Known arts x es js) output.answered → PrioHold arts x s d es js w → (acting e ≡ d → PrioIs s d told n.parts.prio)
@@ -104,27 +90,27 @@ module _ (arts : Arts) (x : Setting) (s d : NodeId) (fits : SettingFits arts x) 
       let m : PrioSend = record { dst = to; prio = a; expiry = b; paths = p; payload = payload } in
       let same : i ≡ steps.SendPrio m = cc in
       let moves : NodeStep arts n (steps.SendPrio m) output after = subst (λ y. NodeStep arts n y output after) same step in
-      let told_is = accepted_is C x P arts reads s d u S told number m n moves.choice output j (send_prio_refusal n m moves.choice) says moves.output_is in
-      subst (λ T. Acted arts C s d S T told u after.parts.prio output.effects) (sym told_is) (prio_done C x P arts reads s d S told u n m output after moves (subst InputFits same input) is at)
+      let told_is = accepted_is C x P arts carries.bodies fits s d u S told number m n moves.choice output j (send_prio_refusal n m moves.choice) says moves.output_is in
+      subst (λ T. Acted arts C s d S T told u after.parts.prio output.effects) (sym told_is) (prio_done C x P arts carries.bodies fits s d S told u n m output after moves (subst InputFits same input) is at)
   acted (events.Rel u to payload) n number i output after reaches input step says is known h at =
       let same : i ≡ steps.SendRel to payload = cc in
-      send_done C x P arts reads s d S told u n to payload output after (subst (λ y. NodeStep arts n y output after) same step) (subst InputFits same input) is at
+      send_done C x P arts carries.bodies fits s d S told u n to payload output after (subst (λ y. NodeStep arts n y output after) same step) (subst InputFits same input) is at
   acted (events.Take v u) n number i output after reaches input step says is known h at =
-      let same : i ≡ steps.TakeRel u = cc in take_done C x P arts reads s d S told v n u output after (subst (λ y. NodeStep arts n y output after) same step) at
+      let same : i ≡ steps.TakeRel u = cc in take_done C x P arts carries.bodies fits s d S told v n u output after (subst (λ y. NodeStep arts n y output after) same step) at
   acted (events.TakePrio v) n number i output after reaches input step says is known h at =
-      let same : i ≡ steps.TakePrio = cc in takep_done C x P arts reads s d S told v n output after (subst (λ y. NodeStep arts n y output after) same step) at
+      let same : i ≡ steps.TakePrio = cc in takep_done C x P arts carries.bodies fits s d S told v n output after (subst (λ y. NodeStep arts n y output after) same step) at
   acted (events.Tick u now) n number i output after reaches input step says is known h at =
-      let same : i ≡ steps.Tick now = cc in tick_done C x P arts reads s d S told u n now output after (subst (λ y. NodeStep arts n y output after) same step) is at
+      let same : i ≡ steps.Tick now = cc in tick_done C x P arts carries.bodies fits s d S told u n now output after (subst (λ y. NodeStep arts n y output after) same step) is at
   acted (events.Weight u v weight) n number i output after reaches input step says is known h at =
-      let same : i ≡ steps.SetWeight v weight = cc in weight_done C x P arts reads s d S told u n v weight output after (subst (λ y. NodeStep arts n y output after) same step) (subst InputFits same input) is at
+      let same : i ≡ steps.SetWeight v weight = cc in weight_done C x P arts carries.bodies fits s d S told u n v weight output after (subst (λ y. NodeStep arts n y output after) same step) (subst InputFits same input) is at
   acted (events.Poll u v) n number i output after reaches input step says is known h at =
-      let same : i ≡ steps.Poll v = cc in poll_done C x P arts reads s d S told u n v output after (subst (λ y. NodeStep arts n y output after) same step) at
-  acted (events.Pass u v k) n number i output after reaches input step says is known h at = arrived_at v u n i output after step input is known h at (came_bytes u (λ y. y) _ i reaches)
-  acted (events.Flip u v k back bit) n number i output after reaches input step says is known h at = arrived_at v u n i output after step input is known h at (came_bytes u (flipped back bit) _ i reaches)
-  acted (events.Inject u v bytes) n number i output after reaches input step says is known h at = arrived_at v u n i output after step input is known h at (bytes, cc)
-  acted (events.Craft u v key body) n number i output after reaches input step says is known h at = arrived_at v u n i output after step input is known h at (crafted_bytes _ u _ i reaches)
+      let same : i ≡ steps.Poll v = cc in poll_done C x P arts carries.bodies fits s d S told u n v output after (subst (λ y. NodeStep arts n y output after) same step) at
+  acted (events.Pass u v k) n number i output after reaches input step says is known h at = arrived_at v u n i output after step input known h at (came_bytes u (λ y. y) _ i reaches)
+  acted (events.Flip u v k back bit) n number i output after reaches input step says is known h at = arrived_at v u n i output after step input known h at (came_bytes u (flipped back bit) _ i reaches)
+  acted (events.Inject u v bytes) n number i output after reaches input step says is known h at = arrived_at v u n i output after step input known h at (bytes, cc)
+  acted (events.Craft u v key body) n number i output after reaches input step says is known h at = arrived_at v u n i output after step input known h at (crafted_bytes _ u _ i reaches)
   acted (events.CraftStatus u v a b base have) n number i output after reaches input step says is known h at =
-      arrived_at v u n i output after step input is known h at (crafted_frame arts n u (slot_alone (flow_of a b) base have None []), cc)
+      arrived_at v u n i output after step input known h at (crafted_frame arts n u (slot_alone (flow_of a b) base have None []), cc)
 
 -- ---- one event more
 
@@ -243,7 +229,7 @@ prio_on arts x es js old e j new fits reads signs range (Moves m) unforged s d h
     let nothing = unforged_tag (has_forged_tag arts x old m.node m.input) (forged_object arts x es js m.output.answered) unforged in
     let me : m.after.fixed.me ≡ acting e = ap (λ (f : Fixed). f.me) ((step_stays arts m.node m.input m.output m.after m.step).fixed ∙ is.fixed) in
     moved_on arts x s d es js old new e j m signs.entries me h
-    (acted arts x s d fits reads.bodies es js old j e m.node (next_frame old e) m.input m.output m.after m.reaches (input_fits arts x es old m.node e m.input reads signs.bytes range m.reaches)
+    (acted arts x s d fits reads es js old j e m.node (next_frame old e) m.input m.output m.after m.reaches (input_fits arts x es old m.node e m.input reads signs.bytes range m.reaches)
     m.step m.journal is (new_known arts x es js m.output.answered nothing.1) h
     (λ z. h.node m.node (subst (λ v. node_in old.nodes v ≡ Some m.node) z m.is_there)))
 prio_on arts x es js old e j new fits reads signs range (Stays m) unforged s d h = stayed_on arts x s d es js old new e j signs.entries m h

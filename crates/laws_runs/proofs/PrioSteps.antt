@@ -1,11 +1,10 @@
 -- What each step tells and keeps of priority messages.
 use Rattle.std.proofs.Common.{◌≡◌, ℕ, ◌==◌, Bool, true, false, cond, List, [], ◌∷◌, ◌++◌, Option, Some, None, refl, sym, ap, subst, ◌∙◌, inl, inr}
-use Rattle.std.specs.Prelude.{◌&&◌, ◌||◌}
+use Rattle.std.specs.Prelude.{◌&&◌, ◌||◌, IsTrue}
 use Rattle.std.specs.List.{flat_map}
 use Rattle.std.proofs.lemmas.Bool.{eq-eqb}
 use Rattle.std.proofs.lemmas.List.Concat.{flat_map-append}
 use Rattle.sp_base.specs.declared.id.NodeId.{NodeId}
-use Rattle.sp_msg.specs.Bodies.{HasGoodFields}
 use Rattle.sp_msg.specs.declared.body.Ack.{Ack}
 use Rattle.sp_msg.specs.declared.body.Body.{Body}
 use Rattle.sp_msg.specs.declared.body.Body.TheVariants as bodies
@@ -27,13 +26,13 @@ use Rattle.sp_rules.specs.Parts.{Fixed, Parts, is_signed}
 use Rattle.sp_rules.specs.Pieces.{Piece, WeightPiece, PrioAckPiece, PrioPiece, ReportPiece, AckPiece, RelPiece}
 use Rattle.sp_rules.specs.Polls.{frame_to, polled}
 use Rattle.sp_rules.specs.Prio as prio
-use Rattle.sp_rules.specs.Prio.{PrioState, admit_prio, expired_effects, is_here, judge_prio, marked, place_of, prio_effects, windows_with}
+use Rattle.sp_rules.specs.Prio.{PrioState, admit_prio, expired_effects, is_here, judge_prio, marked, prio_effects}
 use Rattle.sp_rules.specs.PrioPeer.{gone}
 use Rattle.sp_rules.specs.Rel.{delivery, due, is_to, judge_ack_of, judge_rel_of, pushed_in, rel_effects}
 use Rattle.sp_rules.specs.Masks.{Choice}
 use Rattle.sp_rules.specs.Sends.{PrioSend, mask_in, no_paths, own_prio, prio_body, prio_refusal, prio_sent as prio_told, rel_body, rel_number, rel_refusal, rel_sent, send_prio_refusal, signer_refusal, weight_body, weight_number, weight_refusal, weight_sent}
 use Rattle.sp_rules.specs.Steps as steps
-use Rattle.sp_rules.specs.Steps.{Input, NodeStep, Output, accepted, arrived, refused_call, refused_send, replied}
+use Rattle.sp_rules.specs.Steps.{NodeStep, Output, accepted, arrived, refused_call, refused_send, replied}
 use Rattle.sp_rules.specs.Store.{oldest, said}
 use Rattle.sp_rules.specs.Ticks.{ack_effects, at_time, settled_by, time_after}
 use Rattle.sp_rules.specs.Weights.{held}
@@ -42,11 +41,11 @@ use Rattle.sp_rules.specs.declared.node.NodeRefused.{NodeRefused}
 use Rattle.laws_node.specs.Inputs.{InputFits, ReadsBack}
 use Rattle.laws_node.specs.Asked.{NewKeep}
 use Rattle.laws_node.proofs.Spellings.{no_other_is_spelled_so}
-use Rattle.laws_node.proofs.Own.{either, prio_sent_fits, rel_sent_fits, weight_sent_fits}
-use Rattle.laws_node.proofs.Reliable.{due_fits}
+use Rattle.laws_node.proofs.About.{ack_good, prio_good, rel_good, weight_good}
+use Rattle.laws_node.proofs.Own.{either}
 use Rattle.sp_runs.specs.Forgery.{is_among}
 use Rattle.sp_runs.specs.Journals.{Says, refused_word, reply_word}
-use Rattle.sp_runs.specs.Settings.{Setting}
+use Rattle.sp_runs.specs.Settings.{Setting, SettingFits}
 use Rattle.sp_runs.specs.Told.{Message, prio_accepted_in, prio_by, signed_by}
 use Rattle.sp_journal.specs.declared.entry.Entry.{Entry}
 use Rattle.sp_journal.specs.declared.entry.Reply.{Reply}
@@ -55,6 +54,7 @@ use Rattle.sp_schedule_events.specs.declared.event.Event.TheVariants as events
 use Rattle.laws_runs.specs.Priority.{AreAmong, IsOneOf}
 use Rattle.laws_runs.specs.Signs.{NodeIs, sizes_at}
 use Rattle.laws_runs.proofs.FlowPieces.{quiet_acked, quiet_expired, quiet_gone, quiet_prio, quiet_weight}
+use Rattle.laws_runs.proofs.Goods.{arts_fit}
 use Rattle.laws_runs.proofs.Lists.{among_cons}
 use Rattle.laws_runs.proofs.PrioFacts.{Mute, PrioIs, VouchedPrio, all_handled, marks, mute_append, mute_expired, mute_gone, mute_none, mute_own, mute_signed, mute_weight, muted, prio_numbers, same_windows, spread_same}
 
@@ -88,7 +88,7 @@ unsigned_all arts at p (piece ∷ pieces) =
 pub record Acted (arts : Arts) (C : Type 0) (s d : NodeId) (S T : List Message) (told : List ℕ) (u : NodeId) (p : PrioState) (es : List Effect) : Type 0 where
   pub at : u ≡ d → PrioIs s d (told ++ prio_numbers s es) p
   pub sent : u ≡ d → C → AreAmong (flat_map (prio_by s) es) S
-  pub messages : C → u ≡ s → (b : Prio) → HasGoodFields (bodies.Prio b) → b.src ≡ s → b.dst ≡ d → is_among (arts.spell (bodies.Prio b)) (flat_map signed_by es) ≡ true
+  pub messages : C → u ≡ s → (b : Prio) → IsTrue (arts.is_good (bodies.Prio b)) → b.src ≡ s → b.dst ≡ d → is_among (arts.spell (bodies.Prio b)) (flat_map signed_by es) ≡ true
       → IsOneOf (b.seq, b.payload) T
 
 abbrev pub IsNoPrio : Body → Type 0
@@ -101,7 +101,7 @@ never_prio (bodies.Rel r) b is e = cc
 never_prio (bodies.Ack r) b is e = cc
 never_prio (bodies.Weight r) b is e = cc
 
-module _ (C : Type 0) (x : Setting) (P : Kept → Type 0) (arts : Arts) (reads : ReadsBack arts) (s d : NodeId) (S : List Message) (told : List ℕ) (u : NodeId) where
+module _ (C : Type 0) (x : Setting) (P : Kept → Type 0) (arts : Arts) (reads : ReadsBack arts) (fits : SettingFits arts x) (s d : NodeId) (S : List Message) (told : List ℕ) (u : NodeId) where
   -- nothing was signed
   unsigned : (p p2 : PrioState) (es : List Effect) → Mute es → flat_map signed_by es ≡ [] → p2.me ≡ p.me → p2.nodes ≡ p.nodes → p2.windows ≡ p.windows → (u ≡ d → PrioIs s d told p)
       → Acted arts C s d S [] told u p2 es
@@ -112,7 +112,7 @@ module _ (C : Type 0) (x : Setting) (P : Kept → Type 0) (arts : Arts) (reads :
   }
 
   -- a message of another kind was signed
-  signed_other : (p p2 : PrioState) (es : List Effect) (body : Body) → Mute es → flat_map signed_by es ≡ arts.spell body ∷ [] → HasGoodFields body → IsNoPrio body → p2.me ≡ p.me → p2.nodes ≡ p.nodes
+  signed_other : (p p2 : PrioState) (es : List Effect) (body : Body) → Mute es → flat_map signed_by es ≡ arts.spell body ∷ [] → IsTrue (arts.is_good body) → IsNoPrio body → p2.me ≡ p.me → p2.nodes ≡ p.nodes
       → p2.windows ≡ p.windows → (u ≡ d → PrioIs s d told p) → Acted arts C s d S [] told u p2 es
   signed_other p p2 es body mute one good is e f g h = record {
     at = λ z. (muted C s d S told p2 es mute (same_windows s d told p p2 e f g (h z))).at;
@@ -173,9 +173,9 @@ module _ (C : Type 0) (x : Setting) (P : Kept → Type 0) (arts : Arts) (reads :
       go None is_due r = unsigned n.parts.prio (prio.expired n.parts.prio (time_after n now)) _ (mute_append _ [] mute mute_none) plain refl refl refl h
       go (Some ack) is_due (Some refusal) = unsigned n.parts.prio (prio.expired n.parts.prio (time_after n now)) _ (mute_append _ [] mute mute_none) plain refl refl refl h
       go (Some ack) is_due None =
-          let facts = due_fits (sizes_at x P u) n.signer.index n.parts.rel ack is_due is.holds.parts.rel in
+          let good = ack_good arts (sizes_at x P u) n ack (arts_fit arts x P u n fits is) is_due is.holds in
           signed_other n.parts.prio (prio.expired n.parts.prio (time_after n now)) _ (bodies.Ack ack) (mute_append _ (Signed (arts.spell (bodies.Ack ack)) ∷ []) mute (mute_signed (arts.spell (bodies.Ack ack)) [] mute_none))
-          (flat_map-append signed_by (expired_effects n.parts.prio (time_after n now)) (Signed (arts.spell (bodies.Ack ack)) ∷ []) ∙ rw none refl) facts.fields tt refl refl refl h
+          (flat_map-append signed_by (expired_effects n.parts.prio (time_after n now)) (Signed (arts.spell (bodies.Ack ack)) ∷ []) ∙ rw none refl) good tt refl refl refl h
 
   pub send_done : (n : NodeState) (dst : NodeId) (payload : List ℕ) (output : Output) (after : NodeState) → NodeStep arts n (steps.SendRel dst payload) output after → InputFits (steps.SendRel dst payload) → NodeIs x P u n
       → (u ≡ d → PrioIs s d told n.parts.prio) → Acted arts C s d S [] told u after.parts.prio output.effects
@@ -184,10 +184,10 @@ module _ (C : Type 0) (x : Setting) (P : Kept → Type 0) (arts : Arts) (reads :
       go : (r : Option SendRefused) → rel_refusal n dst ≡ r → output.effects ≡ (refused_send r (accepted (rel_number n dst) (rel_sent arts n dst payload))).effects
           → after ≡ kept_or r n (signed_once n (record n.parts { rel = pushed_in n.parts.rel (signed_now arts n (rel_body n dst payload)) })) → Acted arts C s d S [] told u after.parts.prio output.effects
       go None free e f =
-          let facts = rel_sent_fits (sizes_at x P u) n dst payload short free is.holds in
+          let good = rel_good arts (sizes_at x P u) n dst payload (arts_fit arts x P u n fits is) short free is.holds in
           subst (λ es. Acted arts C s d S [] told u after.parts.prio es) (sym e)
           (subst (λ (m : NodeState). Acted arts C s d S [] told u m.parts.prio (rel_sent arts n dst payload)) (sym f)
-          (signed_other n.parts.prio n.parts.prio (rel_sent arts n dst payload) (rel_body n dst payload) (mute_signed _ [] mute_none) refl facts.fields tt refl refl refl h))
+          (signed_other n.parts.prio n.parts.prio (rel_sent arts n dst payload) (rel_body n dst payload) (mute_signed _ [] mute_none) refl good tt refl refl refl h))
       go (Some refused) free e f = subst (λ es. Acted arts C s d S [] told u after.parts.prio es) (sym e)
           (subst (λ (m : NodeState). Acted arts C s d S [] told u m.parts.prio []) (sym f) (quietly n h))
 
@@ -198,11 +198,11 @@ module _ (C : Type 0) (x : Setting) (P : Kept → Type 0) (arts : Arts) (reads :
       go : (r : Option SendRefused) → weight_refusal n v weight ≡ r → output.effects ≡ (refused_send r (accepted (weight_number n v) (weight_sent arts n v weight))).effects
           → after ≡ kept_or r n (signed_once n (record n.parts { weights = held n.parts.weights (signed_now arts n (weight_body n v weight)) })) → Acted arts C s d S [] told u after.parts.prio output.effects
       go None free e f =
-          let facts = weight_sent_fits (sizes_at x P u) n v weight sizes.0 sizes.1 free is.holds in
+          let good = weight_good arts (sizes_at x P u) n v weight (arts_fit arts x P u n fits is) sizes.0 sizes.1 free is.holds in
           subst (λ es. Acted arts C s d S [] told u after.parts.prio es) (sym e)
           (subst (λ (m : NodeState). Acted arts C s d S [] told u m.parts.prio (weight_sent arts n v weight)) (sym f)
           (signed_other n.parts.prio n.parts.prio (weight_sent arts n v weight) (weight_body n v weight) (mute_signed _ (weight_effects (weight_body n v weight)) (mute_weight (weight_body n v weight)))
-          (ap (λ t. arts.spell (weight_body n v weight) ∷ t) (quiet_weight (weight_body n v weight)).no_signature) facts.fields tt refl refl refl h))
+          (ap (λ t. arts.spell (weight_body n v weight) ∷ t) (quiet_weight (weight_body n v weight)).no_signature) good tt refl refl refl h))
       go (Some refused) free e f = subst (λ es. Acted arts C s d S [] told u after.parts.prio es) (sym e)
           (subst (λ (m : NodeState). Acted arts C s d S [] told u m.parts.prio []) (sym f) (quietly n h))
 
@@ -229,7 +229,7 @@ module _ (C : Type 0) (x : Setting) (P : Kept → Type 0) (arts : Arts) (reads :
           → after ≡ kept_or r n (signed_once n (record n.parts { prio = admit_prio n.parts.prio (own_prio arts n m step.choice) None })) → Acted arts C s d S (sent_if r n m) told u after.parts.prio output.effects
       go None free e f =
           let both = either (prio_refusal n m) (no_paths step.choice) free in
-          let facts = prio_sent_fits (sizes_at x P u) n m step.choice sizes free (step.is_choice both.0) is.holds in
+          let good = prio_good arts (sizes_at x P u) n m step.choice (arts_fit arts x P u n fits is) sizes free (step.is_choice both.0) is.holds in
           let p = n.parts.prio in
           let o = own_prio arts n m step.choice in
           let body = prio_body n m (mask_in step.choice) in
@@ -246,7 +246,7 @@ module _ (C : Type 0) (x : Setting) (P : Kept → Type 0) (arts : Arts) (reads :
             messages = λ k z b good_b src dst among.
                 elim (among_cons (arts.spell (bodies.Prio b)) (arts.spell body) [] (subst (λ xs. is_among (arts.spell (bodies.Prio b)) xs ≡ true) one among)) [
                   | inl is_it ↦
-                      let bodies_are : body ≡ bodies.Prio b = no_other_is_spelled_so arts reads body (bodies.Prio b) facts.fields good_b is_it in
+                      let bodies_are : body ≡ bodies.Prio b = no_other_is_spelled_so arts reads body (bodies.Prio b) good good_b is_it in
                       let number : p.next ≡ b.seq = ap (said (λ r. r.seq)) bodies_are in
                       let to : m.dst.0 ≡ b.dst.0 = ap (said (λ r. r.dst.0)) bodies_are in
                       let payload : m.payload ≡ b.payload = cc in
@@ -281,12 +281,12 @@ not_accepted s d from to a b c payload refusals.BadEnd reply e = absurd (cc)
 not_accepted s d from to a b c payload (refusals.NotReserved bound) reply e = absurd (cc)
 not_accepted s d from to a b c payload refusals.Memory reply e = absurd (cc)
 
-pub accepted_is : (C : Type 0) (x : Setting) (P : Kept → Type 0) (arts : Arts) (reads : ReadsBack arts) (s d from : NodeId) (S : List Message) (told : List ℕ) (number : ℕ) (m : PrioSend) (n : NodeState) (choice : Choice) (output : Output) (j : Entry) (r : Option SendRefused)
+pub accepted_is : (C : Type 0) (x : Setting) (P : Kept → Type 0) (arts : Arts) (reads : ReadsBack arts) (fits : SettingFits arts x) (s d from : NodeId) (S : List Message) (told : List ℕ) (number : ℕ) (m : PrioSend) (n : NodeState) (choice : Choice) (output : Output) (j : Entry) (r : Option SendRefused)
     → Says x number output j → output ≡ refused_send r (accepted n.parts.prio.next (prio_told arts n m choice))
-    → prio_accepted_in s d (events.Prio from m.dst m.prio m.expiry m.paths m.payload) j.reply ≡ sent_if C x P arts reads s d S told from r n m
-accepted_is C x P arts reads s d from S told number m n choice output j None says e =
+    → prio_accepted_in s d (events.Prio from m.dst m.prio m.expiry m.paths m.payload) j.reply ≡ sent_if C x P arts reads fits s d S told from r n m
+accepted_is C x P arts reads fits s d from S told number m n choice output j None says e =
     let word : Some (replies.Accepted n.parts.prio.next) ≡ Some j.reply = sym (ap (λ (o : Output). reply_word x number o.reply) e) ∙ says.reply in
     let is : replies.Accepted n.parts.prio.next ≡ j.reply = cc in
     subst (λ q. prio_accepted_in s d (events.Prio from m.dst m.prio m.expiry m.paths m.payload) q ≡ cond (from.0 == s.0 && m.dst.0 == d.0) ((n.parts.prio.next, m.payload) ∷ []) []) is refl
-accepted_is C x P arts reads s d from S told number m n choice output j (Some refused) says e =
+accepted_is C x P arts reads fits s d from S told number m n choice output j (Some refused) says e =
     not_accepted s d from m.dst m.prio m.expiry m.paths m.payload refused j.reply (sym (ap (λ (o : Output). reply_word x number o.reply) e) ∙ says.reply)

@@ -5,7 +5,7 @@ use Rattle.std.specs.List.{All}
 use Rattle.std.proofs.lemmas.List.Elements.{All-head, All-tail}
 use Rattle.sp_base.specs.declared.id.Flow.{Flow}
 use Rattle.sp_base.specs.declared.id.NodeId.{NodeId}
-use Rattle.sp_msg.specs.Bodies.{HasGoodFields, payload_of}
+use Rattle.sp_msg.specs.Bodies.{payload_of}
 use Rattle.sp_msg.specs.Views.{signer_of}
 use Rattle.sp_msg.specs.declared.body.Body.{Body}
 use Rattle.sp_msg.specs.declared.body.Body.TheVariants as bodies
@@ -31,12 +31,12 @@ use Rattle.laws_runs.proofs.Flows.{FlowsHold}
 
 module _ (arts : Arts) (x : Setting) (s d : NodeId) (es : List Event) (js : List Entry) (w : World) (h : FlowsHold arts x s d es js w) (correct : IsTrue (is_correct x s)) where
   -- a message that is kept was sent under its number
-  one_sent : (flow : Flow) (number : ℕ) (o : Kept) → flow ≡ flow_of s d → IsMessage flow number o.body → HasGoodFields o.body → Good arts x es js o
+  one_sent : (flow : Flow) (number : ℕ) (o : Kept) → flow ≡ flow_of s d → IsMessage flow number o.body → Good arts x es js o
       → IsIn (sent es js s d) number (payload_of o.body)
-  one_sent flow number o same is fields good = go o.body refl is fields
+  one_sent flow number o same is good = go o.body refl is
     where
-      go : (body : Body) → o.body ≡ body → IsMessage flow number body → HasGoodFields body → IsIn (sent es js s d) number (payload_of body)
-      go (bodies.Rel m) body is fields =
+      go : (body : Body) → o.body ≡ body → IsMessage flow number body → IsIn (sent es js s d) number (payload_of body)
+      go (bodies.Rel m) body is =
           let src : m.src ≡ s = is.0 ∙ ap (λ (f : Flow). f.src) same in
           let dst : m.dst ≡ d = is.1 ∙ ap (λ (f : Flow). f.dst) same in
           let signer : signer_of o.body ≡ s = ap signer_of body ∙ src in
@@ -44,17 +44,17 @@ module _ (arts : Arts) (x : Setting) (s d : NodeId) (es : List Event) (js : List
           subst (λ (v : NodeId). is_among (arts.spell o.body) (signed es js v) ≡ true) signer
           (good.known (subst (λ (v : NodeId). IsTrue (is_correct x v)) (sym signer) correct)) in
           subst (λ q. IsIn (sent es js s d) q m.payload) is.2
-          (h.messages correct m fields src dst (subst (λ (b : Body). is_among (arts.spell b) (signed es js s) ≡ true) body known))
-      go (bodies.Prio m) body is fields = absurd is
-      go (bodies.Ack m) body is fields = absurd is
-      go (bodies.Weight m) body is fields = absurd is
+          (h.messages correct m (subst (λ (b : Body). IsTrue (arts.is_good b)) body good.good) src dst (subst (λ (b : Body). is_among (arts.spell b) (signed es js s) ≡ true) body known))
+      go (bodies.Prio m) body is = absurd is
+      go (bodies.Ack m) body is = absurd is
+      go (bodies.Weight m) body is = absurd is
 
   list_sent : (u : NodeId) (flow : Flow) (after : ℕ) (os : List Kept) → flow ≡ flow_of s d → AreMessages flow after os → All (Fits (sizes_at x (Good arts x es js) u)) os
       → AreSent (sent es js s d) after os
   list_sent u flow after [] same are all = tt
   list_sent u flow after (o ∷ os) same are all =
       let fits = All-head (Fits (sizes_at x (Good arts x es js) u)) o os all in (
-        one_sent flow (after + 1) o same are.0 fits.fields fits.holds,
+        one_sent flow (after + 1) o same are.0 fits.holds,
         list_sent u flow (after + 1) os same are.1 (All-tail (Fits (sizes_at x (Good arts x es js) u)) o os all),
       )
 

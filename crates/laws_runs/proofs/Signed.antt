@@ -1,6 +1,7 @@
 -- The part on links and signed objects: all that correct nodes keep, and all that their frames carry, is signed and known.
 use Rattle.std.proofs.Common.{◌≡◌, ◌<◌, ℕ, List, [], ◌∷◌, ◌++◌, length, Option, Some, None, Result, Ok, Err, refl, sym, ap, subst, ◌∙◌, inl, inr, arith}
 use Rattle.std.specs.Prelude.{IsTrue, slice_get}
+use Rattle.std.specs.List.{All}
 use Rattle.std.proofs.lemmas.List.{length_push}
 use Rattle.std.proofs.lemmas.List.Elements.{All-append}
 use Rattle.sp_base.specs.Spelling.{AreBytes}
@@ -21,6 +22,7 @@ use Rattle.sp_rules.specs.Steps.{Input, NodeStep, Output, arrived, poll_output, 
 use Rattle.sp_rules.specs.declared.node.NodeRefused.{NodeRefused}
 use Rattle.laws_node.specs.Inputs.{InputFits}
 use Rattle.laws_node.specs.Asked.{NewKeep, OwnKeep, payload_in}
+use Rattle.laws_node.specs.Objects.{objects_in}
 use Rattle.laws_node.proofs.AskedLemmas.{none_new}
 use Rattle.laws_node.proofs.Carried.{AllKeep, all_less, contents_kept, pieces_new}
 use Rattle.laws_node.proofs.Frames.{contents_fit}
@@ -51,34 +53,39 @@ even arts x es js w Starts = refl
 even arts x es js w (Turned {es = es'} {js = js'} {old = old} {e = e} {j = j} run range turn unforged) =
     let h = even arts x es' js' old run in omega (arith, h, length_push es' e, length_push js' j)
 
--- what came in a datagram of bytes is of bytes
-sections_bytes : (arts : Arts) (f : Fixed) (bytes : List ℕ) (o : Result Contents SectionRefused) → Carries arts → AreBytes bytes → sections_in arts f bytes ≡ o
-    → AllKeep IsOfBytes (pieces_in o)
-sections_bytes arts f bytes (Ok s) carries are is = of_all IsOfBytes (pieces_of s) (carries.reads f.signature_len bytes s are is)
-sections_bytes arts f bytes (Err refused) carries are is = tt
+-- whatever is read has this
+abbrev pub ReadHas : (Kept → Type 0) → Arts → Type 0
+ReadHas P arts = (len : ℕ) (bytes : List ℕ) (s : Contents) → AreBytes bytes → arts.sections len bytes ≡ Ok s → All P (objects_in (pieces_of s))
 
-new_bytes : (arts : Arts) (n : NodeState) (input : Input) (output : Output) (after : NodeState) → Carries arts → InputFits input → NodeStep arts n input output after
-    → NewKeep IsOfBytes output.answered
-new_bytes arts n (steps.Datagram v bytes) output after carries are s =
-    subst (λ (o : Output). NewKeep IsOfBytes o.answered) (sym s.0) (go (call_refusal n v))
+-- so what came in a datagram of bytes has it
+sections_have : (P : Kept → Type 0) (arts : Arts) (f : Fixed) (bytes : List ℕ) (o : Result Contents SectionRefused) → ReadHas P arts → AreBytes bytes
+    → sections_in arts f bytes ≡ o → AllKeep P (pieces_in o)
+sections_have P arts f bytes (Ok s) reads are is = of_all P (pieces_of s) (reads f.signature_len bytes s are is)
+sections_have P arts f bytes (Err refused) reads are is = tt
+
+-- and so has what is new
+pub new_have : (P : Kept → Type 0) (arts : Arts) (n : NodeState) (input : Input) (output : Output) (after : NodeState) → ReadHas P arts → InputFits input
+    → NodeStep arts n input output after → NewKeep P output.answered
+new_have P arts n (steps.Datagram v bytes) output after reads are s =
+    subst (λ (o : Output). NewKeep P o.answered) (sym s.0) (go (call_refusal n v))
   where
     pieces : List Piece
     pieces = pieces_where (reply_at arts n v bytes) (pieces_in (sections_in arts n.fixed bytes))
 
-    go : (r : Option NodeRefused) → NewKeep IsOfBytes (refused_call r (arrived arts n v bytes)).answered
+    go : (r : Option NodeRefused) → NewKeep P (refused_call r (arrived arts n v bytes)).answered
     go (Some refused) = tt
-    go None = pieces_new IsOfBytes arts (arrival_at n v) n.parts pieces
-        (where_keep IsOfBytes (reply_at arts n v bytes) (pieces_in (sections_in arts n.fixed bytes)) (sections_bytes arts n.fixed bytes (sections_in arts n.fixed bytes) carries are refl))
-new_bytes arts n (steps.Poll v) output after carries are s = none_new _ output.answered (ap (λ (o : Output). o.answered) s.0 ∙ none_called _ (call_refusal n v) refl)
-new_bytes arts n (steps.Tick now) output after carries are s = none_new _ output.answered (ap (λ (o : Output). o.answered) s.0)
-new_bytes arts n (steps.SendRel dst payload) output after carries are s =
+    go None = pieces_new P arts (arrival_at n v) n.parts pieces
+        (where_keep P (reply_at arts n v bytes) (pieces_in (sections_in arts n.fixed bytes)) (sections_have P arts n.fixed bytes (sections_in arts n.fixed bytes) reads are refl))
+new_have P arts n (steps.Poll v) output after reads are s = none_new _ output.answered (ap (λ (o : Output). o.answered) s.0 ∙ none_called _ (call_refusal n v) refl)
+new_have P arts n (steps.Tick now) output after reads are s = none_new _ output.answered (ap (λ (o : Output). o.answered) s.0)
+new_have P arts n (steps.SendRel dst payload) output after reads are s =
     none_new _ output.answered (ap (λ (o : Output). o.answered) s.0 ∙ none_sent _ (rel_refusal n dst) refl)
-new_bytes arts n (steps.SendPrio m) output after carries are s =
+new_have P arts n (steps.SendPrio m) output after reads are s =
     none_new _ output.answered (ap (λ (o : Output). o.answered) s.output_is ∙ none_sent _ (send_prio_refusal n m s.choice) refl)
-new_bytes arts n (steps.SetWeight v weight) output after carries are s =
+new_have P arts n (steps.SetWeight v weight) output after reads are s =
     none_new _ output.answered (ap (λ (o : Output). o.answered) s.0 ∙ none_sent _ (weight_refusal n v weight) refl)
-new_bytes arts n (steps.TakeRel src) output after carries are s = none_new _ output.answered (ap (λ (o : Output). o.answered) s.0)
-new_bytes arts n steps.TakePrio output after carries are s = none_new _ output.answered (ap (λ (o : Output). o.answered) s.0)
+new_have P arts n (steps.TakeRel src) output after reads are s = none_new _ output.answered (ap (λ (o : Output). o.answered) s.0)
+new_have P arts n steps.TakePrio output after reads are s = none_new _ output.answered (ap (λ (o : Output). o.answered) s.0)
 
 -- the acting node keeps what it keeps
 acted : (arts : Arts) (x : Setting) (es : List Event) (js : List Entry) (w new : World) (e : Event) (j : Entry) (m : Move arts x es w e j new)
@@ -94,11 +101,13 @@ acted arts x es js w new e j m fits carries reach asked same unforged is =
     let signed_new : NewKeep (λ o. IsTrue (is_signed arts (fixed_of x (acting e)) o)) m.output.answered =
     subst (λ (f : Fixed). NewKeep (λ o. IsTrue (is_signed arts f o)) m.output.answered) is.fixed (step_new arts m.node m.input m.output m.after m.step) in
     let news = new_less P Q more m.output.answered (good_new arts x es js m.output.answered (new_known arts x es js m.output.answered unforged) signed_new
-    (new_bytes arts m.node m.input m.output m.after carries reach m.step)) in
+    (new_have IsOfBytes arts m.node m.input m.output m.after carries.reads reach m.step)
+    (new_have (λ o. IsTrue (arts.is_good o.body)) arts m.node m.input m.output m.after carries.goods reach m.step)) in
     let owns : OwnKeep arts Q m.node m.input m.output.effects = λ body own. record {
       known = λ correct. own_known arts x es js w new e j m same me body own;
       right = subst (λ (f : Fixed). IsTrue (is_signed arts f (signed_now arts m.node body))) is.fixed (own_is_signed arts m.node body fit own.left own.mine);
       bytes = (subst AreBytes (sym own.payload) asked, carries.signatures m.node.fixed.topology.height m.node.signer.seed m.node.signer.index (arts.spell body));
+      good = fit.own body own.fields own.about;
     } in
     record {
       correct = is.correct;

@@ -22,7 +22,7 @@ use Rattle.sp_rules.specs.Flow.{flow_said}
 use Rattle.sp_rules.specs.Handle.{Arrival, handle, handle_all, heard_where, offer_of, offer_to, weight_effects}
 use Rattle.sp_rules.specs.Link.{advanced}
 use Rattle.sp_rules.specs.Node.{NodeState, call_refusal, called, kept_or, link_in, signed_now, signed_once, with_link}
-use Rattle.sp_rules.specs.Parts.{Parts, is_signed}
+use Rattle.sp_rules.specs.Parts.{Fixed, Parts, is_signed}
 use Rattle.sp_rules.specs.Pieces.{Piece, WeightPiece, PrioAckPiece, PrioPiece, ReportPiece, AckPiece, RelPiece}
 use Rattle.sp_rules.specs.Polls.{frame_to, polled}
 use Rattle.sp_rules.specs.Prio as prio
@@ -44,10 +44,12 @@ use Rattle.sp_rules.specs.declared.store.Entry.{Entry}
 use Rattle.sp_rules.specs.declared.weights.Offer.TheVariants as offers
 use Rattle.sp_rules.specs.declared.weights.TheConstants.{MAX_OWN_HEARD}
 use Rattle.sp_topology.specs.declared.topology.Edge.{Edge}
+use Rattle.laws_node.specs.About.{HasNode}
 use Rattle.laws_node.specs.Inputs.{InputFits}
 use Rattle.laws_node.specs.Asked.{IsOwn, NewKeep}
 use Rattle.laws_node.proofs.AskedLemmas.{new_left, new_right}
 use Rattle.laws_node.proofs.Handles as judged
+use Rattle.laws_node.proofs.About.{weight_about}
 use Rattle.laws_node.proofs.Own.{left, weight_sent_fits}
 use Rattle.laws_node.specs.HeldUpdates as lists
 use Rattle.laws_node.proofs.LastWeights.{At, HasRows, IsUpdateAt, held_said, length_stays, new_at, said as row_said}
@@ -55,6 +57,7 @@ use Rattle.laws_node.specs.Lives.{last_told, weight_told}
 use Rattle.sp_runs.specs.Settings.{Setting}
 use Rattle.laws_runs.specs.Weights.{EachHeld}
 use Rattle.laws_runs.specs.Signs.{NodeIs, sizes_at}
+use Rattle.laws_runs.proofs.Lists.{both}
 
 -- the last weight that is told of an end of an edge
 abbrev pub last_weight : (edge : ℕ) → NodeId → ℕ → List Effect → ℕ
@@ -325,11 +328,12 @@ module _ (x : Setting) (arts : Arts) (K : Kept → Type 0) (P : WeightBody → T
           → after ≡ kept_or r n (signed_once n (record n.parts { weights = held n.parts.weights (signed_now arts n (weight_body n v weight)) })) → Done n output after
       go None free e f =
           let facts = weight_sent_fits (sizes_at x K u) n v weight input.0 input.1 free is.holds in
+          let me : HasNode n.fixed.topology n.fixed.me = subst (λ (f : Fixed). HasNode f.topology f.me) (sym is.fixed) (both _ _ is.correct).0 in
           let body = weight_body n v weight in
           let o = signed_now arts n body in
           let row : row_for n.parts.weights.edges body ≡ Some facts.row = ap (λ (es : List Edge). row_for es body) is.holds.parts.weights.edges ∙ facts.place in
           let mine : (w : WeightBody) → body ≡ bodies.Weight w → P w = λ w same. own w (subst (IsOwn arts n (steps.SetWeight v weight) output.effects) same
-          (record { mine = refl; fields = facts.fields; payload = refl; left = left n.signer is.holds.signer facts.free; before = []; after = weight_effects body; told = e })) in
+          (record { mine = refl; fields = facts.fields; about = weight_about n v weight me free; payload = refl; left = left n.signer is.holds.signer facts.free; before = []; after = weight_effects body; told = e })) in
           by n output after (signed_once n (record n.parts { weights = held n.parts.weights o })) (weight_sent arts n v weight) e f
           (w_on P n.parts.weights n.parts.weights (held n.parts.weights o) (effects.Signed (arts.spell body) ∷ []) (weight_effects body)
           (plain n (effects.Signed (arts.spell body) ∷ []) (no_signed (arts.spell body) [] no_none) h)

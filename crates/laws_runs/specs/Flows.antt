@@ -2,7 +2,7 @@
 use Rattle.std.specs.Prelude.{ℕ, ◌≡◌, ◌+◌, ◌-◌, ◌≤◌, true, IsTrue, List, [], ◌∷◌, ◌++◌, length, None, Some, slice_get}
 use Rattle.sp_base.specs.Lists.{IsPrefix}
 use Rattle.sp_base.specs.declared.id.NodeId.{NodeId}
-use Rattle.sp_msg.specs.Bodies.{HasGoodFields, payload_of}
+use Rattle.sp_msg.specs.Bodies.{payload_of}
 use Rattle.sp_msg.specs.declared.body.Body.TheVariants as bodies
 use Rattle.sp_msg.specs.declared.body.Rel.{Rel}
 use Rattle.sp_msg.specs.declared.kept.Kept.{Kept}
@@ -64,7 +64,7 @@ pub record FlowClaims (arts : Arts) (x : Setting) (s d : NodeId) (es : List Even
   pub lists : IsTrue (is_correct x s) → (u : NodeId) (n : NodeState) → node_in w.nodes u ≡ Some n
       → AreSent (sent es js s d) (flow_at n s d).at.base (flow_at n s d).at.list
   -- and whatever it signed as a message of this flow
-  pub messages : IsTrue (is_correct x s) → (m : Rel) → HasGoodFields (bodies.Rel m) → m.src ≡ s → m.dst ≡ d
+  pub messages : IsTrue (is_correct x s) → (m : Rel) → IsTrue (arts.is_good (bodies.Rel m)) → m.src ≡ s → m.dst ≡ d
       → is_among (arts.spell (bodies.Rel m)) (signed es js s) ≡ true → IsIn (sent es js s d) m.seq m.payload
   pub prefix : IsTrue (is_correct x s) → IsPrefix (delivered es js s d) (sent es js s d)
   pub numbered : IsTrue (is_correct x s) → AreNumbered 0 (delivered es js s d)

@@ -1,5 +1,6 @@
--- What laws of runs ask of arts beside that they fit the nodes: what is written is read back, and is bytes; and of those that count, that it comes through.
-use Rattle.std.specs.Prelude.{ℕ, ◌≡◌, true, List, ◌++◌, Ok}
+-- What laws of runs ask of arts beside that they fit the nodes: what is written is read back, and is bytes; what is read is good; and of those that
+-- count, that it comes through.
+use Rattle.std.specs.Prelude.{ℕ, ◌≡◌, true, IsTrue, List, ◌++◌, Ok}
 use Rattle.std.specs.List.{All}
 use Rattle.sp_base.specs.Spelling.{AreBytes}
 use Rattle.sp_frame.specs.Ranges.{IsContents, IsHead}
@@ -34,6 +35,8 @@ pub record Carries (arts : Arts) : Type 0 where
   pub tags : (key bytes : List ℕ) → AreBytes (arts.tag key bytes)
   pub signatures : (height : LmsHeight) (seed : List ℕ) (index : ℕ) (message : List ℕ) → AreBytes (arts.sign height seed index message)
   pub reads : (len : ℕ) (bytes : List ℕ) (s : Contents) → AreBytes bytes → arts.sections len bytes ≡ Ok s → AreOfBytes s
+  pub goods : (len : ℕ) (bytes : List ℕ) (s : Contents) → AreBytes bytes → arts.sections len bytes ≡ Ok s
+      → All (λ o. IsTrue (arts.is_good o.body)) (objects_in (pieces_of s))
 
 -- and where signatures have this length, a frame that is written passes each test of its bytes at the other end of its edge
 pub record ComesThrough (arts : Arts) (len : ℕ) : Type 0 where

@@ -1,7 +1,6 @@
 -- Priority messages over a run: each is told at most once, and those of a correct source were sent.
 use Rattle.std.specs.Prelude.{ℕ, ◌≡◌, ◌⊎◌, true, false, IsTrue, List, [], ◌∷◌, ◌++◌, map, None, Some}
 use Rattle.sp_base.specs.declared.id.NodeId.{NodeId}
-use Rattle.sp_msg.specs.Bodies.{HasGoodFields}
 use Rattle.sp_msg.specs.declared.body.Body.TheVariants as bodies
 use Rattle.sp_msg.specs.declared.body.Prio.{Prio}
 use Rattle.sp_rules.specs.Arts.{Arts}
@@ -45,7 +44,7 @@ pub record PrioPart (arts : Arts) (x : Setting) (s d : NodeId) (es : List Event)
   pub seen : (n : NodeState) → node_in w.nodes d ≡ Some n → (q : ℕ) → is_in q (map (λ m. m.0) (prio_delivered es js s d)) ≡ true
       → is_seen (window_in n.parts.prio s.0) q ≡ true
   -- whatever a correct s signed as a priority message for d was sent
-  pub messages : IsTrue (is_correct x s) → (m : Prio) → HasGoodFields (bodies.Prio m) → m.src ≡ s → m.dst ≡ d
+  pub messages : IsTrue (is_correct x s) → (m : Prio) → IsTrue (arts.is_good (bodies.Prio m)) → m.src ≡ s → m.dst ≡ d
       → is_among (arts.spell (bodies.Prio m)) (signed es js s) ≡ true → IsOneOf (m.seq, m.payload) (prio_sent es js s d)
 
 -- of each run without forgery

@@ -31,11 +31,12 @@ use Rattle.sp_runs.specs.Runs.{InRange, Turn, forged_in}
 abbrev pub Known : Arts → Setting → List Event → List Entry → Kept → Type 0
 Known arts x es js o = IsTrue (is_correct x (signer_of o.body)) → is_among (arts.spell o.body) (signed es js (signer_of o.body)) ≡ true
 
--- and it bears its signer's valid signature, and is of bytes
+-- and it bears its signer's valid signature, is of bytes, and is good
 pub record Good (arts : Arts) (x : Setting) (es : List Event) (js : List Entry) (o : Kept) : Type 0 where
   pub known : Known arts x es js o
   pub right : IsTrue (is_signed_by arts (key_of (signer_of o.body).0 x.topology.nodes) (arts.spell o.body) o.signature)
   pub bytes : IsOfBytes o
+  pub good : IsTrue (arts.is_good o.body)
 
 -- the sizes of a node of this setting
 abbrev pub sizes_at : Setting → (Kept → Type 0) → NodeId → Sizes
