@@ -1,6 +1,7 @@
 pub mod Bytes
 pub mod Signatures
 pub mod FrameBytes
+pub mod GoodObjects
 pub mod ReadBack
 pub mod Topologies
 pub mod Headers

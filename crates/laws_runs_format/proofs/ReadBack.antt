@@ -1,4 +1,4 @@
--- This format's frames are read back, and all of them is bytes.
+-- This format's frames are read back, all of them is bytes, and what is read of them is good.
 use Rattle.std.proofs.Common.{◌≡◌, ◌<◌, ℕ, ◌-◌, List, ◌++◌, length, take, drop, length-append, sym, ap, subst, ◌∙◌, arith}
 use Rattle.std.proofs.Math.Seq.{drop-append_seam, take-append_seam}
 use Rattle.std.proofs.lemmas.List.Elements.{All-drop, All-take}
@@ -10,10 +10,12 @@ use Rattle.sp_frame.specs.declared.head.Head.{Head}
 use Rattle.sp_msg.proofs.EncodedIsRead.{whole_is_read}
 use Rattle.sp_hmac.proofs.Lengths.{length-hmac}
 use Rattle.sp_hmac.specs.Hmac.{hmac}
+use Rattle.sp_node_core.proofs.GoodFields.{fields_are_good}
 use Rattle.sp_sign.specs.Heights.{param_of}
 use Rattle.laws_runs_format.specs.FormatCarries.{FormatCarries}
 use Rattle.laws_runs_format.proofs.Bytes.{joined, of_tag}
 use Rattle.laws_runs_format.proofs.FrameBytes.{head_are, sections_in, sections_out}
+use Rattle.laws_runs_format.proofs.GoodObjects.{objects_are_good}
 use Rattle.laws_runs_format.proofs.Signatures.{signature_are}
 
 pub head_long : (h : Head) → length (head_bytes h) ≡ 33
@@ -32,7 +34,7 @@ part_are bytes are = All-drop (λ (b : ℕ). b < 256) 33 (signed_part bytes) (Al
 
 pub format_carries : FormatCarries
 format_carries = record {
-  bodies = whole_is_read;
+  bodies = λ body good. whole_is_read body (fields_are_good body good);
   back = λ len h s key is.
       let inner = head_bytes h ++ sections_bytes s in
       ap (sections_of len) (between h s (hmac key inner) (length-hmac key inner)) ∙ spelled_is_read len s is;
@@ -42,4 +44,5 @@ format_carries = record {
   reads = λ len bytes s are is.
       let spelling = (read_is_spelled len (sections_part bytes) s (part_are bytes are) is).0 in
       sections_out s (subst AreBytes spelling (part_are bytes are));
+  goods = λ len bytes s are is. objects_are_good len s (read_is_spelled len (sections_part bytes) s (part_are bytes are) is).1;
 }

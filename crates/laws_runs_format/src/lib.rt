@@ -13,7 +13,7 @@ ghost use Rattle.laws_runs_format.specs.Schedules.{ScheduledEventsAreInRange};
 ghost use Rattle.laws_runs_format.specs.Turns.{EachRequestHasAChoice, ScheduledEventsHaveTurns};
 ghost use Rattle.laws_runs_format.specs.Unforged.{GeneratedForgeNothing, HarmlessSchedulesForgeNothing};
 
-/// A law: what this format writes is read back, and all of it is bytes: frames, tags and signatures, and what is read of bytes.
+/// A law: what this format writes is read back, and all of it is bytes: frames, tags and signatures, and what is read of bytes. That is good too.
 pub fn this_format_carries_bytes()
     ensures { FormatCarries }
 {}
