@@ -40,8 +40,8 @@ pub fn daemon<S: Source, W: Wire, C: Clock, P: Keeper, K: Sink>(
 {
     let input = match read_up_to(alloc, source, MAX_INPUT_BYTES) {
         Ok(input) => input,
-        Err(ReadRefused::Failed) => return ended(Status::Source),
-        Err(ReadRefused::Memory) => return ended(Status::Memory),
+        Err(ReadRefused::Failed) => return Outcome::ended(Status::Source),
+        Err(ReadRefused::Memory) => return Outcome::ended(Status::Memory),
     };
     let served = serve(
         alloc,
@@ -53,7 +53,7 @@ pub fn daemon<S: Source, W: Wire, C: Clock, P: Keeper, K: Sink>(
         keeper,
         sink,
     );
-    ended(status_of(served))
+    Outcome::ended(status_of(served))
 }
 
 fn status_of(served: Served) -> Status
@@ -66,15 +66,5 @@ fn status_of(served: Served) -> Status
         Served::Sink => Status::Sink,
         Served::Memory => Status::Memory,
         Served::Keys(refused) => key_status(refused),
-    }
-}
-
-/// A run that made no world.
-fn ended(status: Status) -> Outcome
-    ensures { result ≡ record { status = status; world = None } }
-{
-    Outcome {
-        status,
-        world: None,
     }
 }

@@ -1,5 +1,5 @@
 // How a run ended.
-ghost use Rattle.std.specs.Prelude.{◌≡◌};
+ghost use Rattle.std.specs.Prelude.{◌≡◌, None};
 ghost use Rattle.sp_top.specs.Statuses.{code_of};
 
 use sp_world::World;
@@ -66,6 +66,16 @@ pub struct Outcome {
 }
 
 impl Outcome {
+    /// It ended so, and no world was made.
+    pub fn ended(status: Status) -> Self
+        ensures { result ≡ record { status = status; world = None } }
+    {
+        Outcome {
+            status,
+            world: None,
+        }
+    }
+
     /// The number with which the program ends. The world is let go.
     pub fn into_code(self) -> u8
         ensures { result ≡ code_of self.status }

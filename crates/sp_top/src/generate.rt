@@ -30,10 +30,10 @@ pub fn generate<K: Sink>(alloc: Global, number: u32, sink: &mut K) -> Outcome
     ensures write { result.status ≡ Status.Sink → Rose (K.faults sink.old) (K.faults sink.new) }
 {
     let Ok(world) = world_of(alloc, number) else {
-        return ended(Status::Memory);
+        return Outcome::ended(Status::Memory);
     };
     let Ok(text) = told(alloc, &world) else {
-        return ended(Status::Memory);
+        return Outcome::ended(Status::Memory);
     };
     match write_all(sink, text.as_bytes()) {
         Ok(()) => Outcome {
@@ -82,14 +82,4 @@ fn push_digest(out: &mut String, text: &[u8]) -> Result<(), Memory>
     push_hex(out, digest.as_slice())?;
     out.push_str("\n")?;
     Ok(())
-}
-
-/// A run that wrote nothing and made no world.
-fn ended(status: Status) -> Outcome
-    ensures { result ≡ record { status = status; world = None } }
-{
-    Outcome {
-        status,
-        world: None,
-    }
 }

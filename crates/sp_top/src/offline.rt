@@ -34,15 +34,15 @@ pub fn offline<S: Source, K: Sink>(
 {
     let input = match read_up_to(alloc, source, MAX_INPUT_BYTES) {
         Ok(input) => input,
-        Err(ReadRefused::Failed) => return ended(Status::Source),
-        Err(ReadRefused::Memory) => return ended(Status::Memory),
+        Err(ReadRefused::Failed) => return Outcome::ended(Status::Source),
+        Err(ReadRefused::Memory) => return Outcome::ended(Status::Memory),
     };
     let Ok(answered) = answer(alloc, command, input.bytes.as_slice(), input.is_cut) else {
-        return ended(Status::Memory);
+        return Outcome::ended(Status::Memory);
     };
     match write_all(sink, answered.text.as_slice()) {
-        Ok(()) => ended(status_of(answered.verdict)),
-        Err(_) => ended(Status::Sink),
+        Ok(()) => Outcome::ended(status_of(answered.verdict)),
+        Err(_) => Outcome::ended(Status::Sink),
     }
 }
 
@@ -53,15 +53,5 @@ fn status_of(verdict: Verdict) -> Status
         Verdict::Done => Status::Done,
         Verdict::Fewer => Status::Fewer,
         Verdict::Refused => Status::Refused,
-    }
-}
-
-/// A run that made no world.
-fn ended(status: Status) -> Outcome
-    ensures { result ≡ record { status = status; world = None } }
-{
-    Outcome {
-        status,
-        world: None,
     }
 }

@@ -46,7 +46,7 @@ pub fn question<W: Wire, K: Sink>(
         Err(AskRefused::Unanswered) => tell_silence(alloc, asked.turns, sink),
         Err(AskRefused::Unopened) => tell(sink, b"wire\n", Status::Wire),
         Err(AskRefused::NoRequest) => unreachable!(),
-        Err(AskRefused::Memory) => forgotten(),
+        Err(AskRefused::Memory) => Outcome::ended(Status::Memory),
     }
 }
 
@@ -58,7 +58,7 @@ fn tell_reply<K: Sink>(alloc: Global, reply: Bytes, sink: &mut K) -> Outcome
 {
     let mut line = reply.into_vec();
     if line.push(b'\n').is_err() {
-        return forgotten();
+        return Outcome::ended(Status::Memory);
     }
     tell(sink, line.as_slice(), Status::Done)
 }
@@ -71,7 +71,7 @@ fn tell_silence<K: Sink>(alloc: Global, turns: u32, sink: &mut K) -> Outcome
 {
     match unanswered_line(alloc, turns) {
         Ok(line) => tell(sink, line.as_bytes(), Status::Unanswered),
-        Err(_) => forgotten(),
+        Err(_) => Outcome::ended(Status::Memory),
     }
 }
 
@@ -84,14 +84,4 @@ fn unanswered_line(alloc: Global, turns: u32) -> Result<String, Memory>
     push_field(&mut line, u64::from(turns))?;
     line.push_str("\n")?;
     Ok(line)
-}
-
-/// A run that found no memory.
-fn forgotten() -> Outcome
-    ensures { result ≡ record { status = Status.Memory; world = Nothing } }
-{
-    Outcome {
-        status: Status::Memory,
-        world: None,
-    }
 }

@@ -41,7 +41,7 @@ pub fn replay<S: Source, K: Sink>(alloc: Global, source: &mut S, sink: &mut K) -
     a_good_text_is_read();
     a_text_has_one_reading();
     let Ok(mut feed) = Feed::new(alloc) else {
-        return forgotten();
+        return Outcome::ended(Status::Memory);
     };
     let mut world = None;
     match play_input(alloc, &mut feed, &mut world, source, sink) {
@@ -49,7 +49,7 @@ pub fn replay<S: Source, K: Sink>(alloc: Global, source: &mut S, sink: &mut K) -
         Halt::Forged => tell_end(alloc, Halt::Forged, world, sink),
         Halt::Source => broken_off(Status::Source, world),
         Halt::Sink => broken_off(Status::Sink, world),
-        Halt::Memory => forgotten(),
+        Halt::Memory => Outcome::ended(Status::Memory),
     }
 }
 
@@ -64,7 +64,7 @@ fn tell_end<K: Sink>(alloc: Global, halt: Halt, world: Option<World>, sink: &mut
 {
     claim(&world);
     let Ok(line) = last_line(alloc, halt, &world) else {
-        return forgotten();
+        return Outcome::ended(Status::Memory);
     };
     let status = match write_all(sink, line.as_bytes()) {
         Ok(()) => status_of(halt),
@@ -143,14 +143,4 @@ fn broken_off(status: Status, world: Option<World>) -> Outcome
 {
     claim(&world);
     Outcome { status, world }
-}
-
-/// A run for which no memory was left.
-fn forgotten() -> Outcome
-    ensures { result ≡ record { status = Status.Memory; world = None } }
-{
-    Outcome {
-        status: Status::Memory,
-        world: None,
-    }
 }

@@ -16,13 +16,7 @@ pub fn tell<K: Sink>(sink: &mut K, line: &[u8], status: Status) -> Outcome
     ensures write { result.status ≡ Status.Sink → Rose (K.faults sink.old) (K.faults sink.new) }
 {
     match write_all(sink, line) {
-        Ok(()) => Outcome {
-            status,
-            world: None,
-        },
-        Err(_) => Outcome {
-            status: Status::Sink,
-            world: None,
-        },
+        Ok(()) => Outcome::ended(status),
+        Err(_) => Outcome::ended(Status::Sink),
     }
 }

@@ -75,7 +75,7 @@ pub fn run<S: Source, K: Sink, W: Wire, C: Clock, P: Keeper>(
 {
     match command_of(alloc, words) {
         Ok(said) => run_said(alloc, said, source, sink, wire, clock, keeper),
-        Err(Memory) => unsaid(),
+        Err(Memory) => Outcome::ended(Status::Memory),
     }
 }
 
@@ -121,16 +121,6 @@ fn run_said<S: Source, K: Sink, W: Wire, C: Clock, P: Keeper>(
     }
 }
 
-/// A run that had no memory to read its words.
-fn unsaid() -> Outcome
-    ensures { result ≡ record { status = Status.Memory; world = None } }
-{
-    Outcome {
-        status: Status::Memory,
-        world: None,
-    }
-}
-
 /// Writes that the words are no command.
 fn usage<K: Sink>(sink: &mut K) -> Outcome
     ensures written { result.status ≡ Status.Usage → Appends (K.contents sink.old) (K.contents sink.new) usage_line }
@@ -141,13 +131,7 @@ fn usage<K: Sink>(sink: &mut K) -> Outcome
     ensures write { result.status ≡ Status.Sink → Rose (K.faults sink.old) (K.faults sink.new) }
 {
     match write_all(sink, b"usage\n") {
-        Ok(()) => Outcome {
-            status: Status::Usage,
-            world: None,
-        },
-        Err(_) => Outcome {
-            status: Status::Sink,
-            world: None,
-        },
+        Ok(()) => Outcome::ended(Status::Usage),
+        Err(_) => Outcome::ended(Status::Sink),
     }
 }

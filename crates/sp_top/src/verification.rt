@@ -26,15 +26,15 @@ pub fn verification<S: Source, K: Sink>(alloc: Global, source: &mut S, sink: &mu
 {
     let input = match read_up_to(alloc, source, MAX_INPUT_BYTES) {
         Ok(input) => input,
-        Err(ReadRefused::Failed) => return ended(Status::Source),
-        Err(ReadRefused::Memory) => return ended(Status::Memory),
+        Err(ReadRefused::Failed) => return Outcome::ended(Status::Source),
+        Err(ReadRefused::Memory) => return Outcome::ended(Status::Memory),
     };
     let Ok(judged) = verify(alloc, input.bytes.as_slice(), input.is_cut) else {
-        return ended(Status::Memory);
+        return Outcome::ended(Status::Memory);
     };
     match write_all(sink, judged.line.as_slice()) {
-        Ok(()) => ended(status_of(judged.verdict)),
-        Err(_) => ended(Status::Sink),
+        Ok(()) => Outcome::ended(status_of(judged.verdict)),
+        Err(_) => Outcome::ended(Status::Sink),
     }
 }
 
@@ -45,15 +45,5 @@ fn status_of(verdict: Verdict) -> Status
         Verdict::Verified => Status::Done,
         Verdict::Mismatch => Status::Mismatch,
         Verdict::Refused => Status::Refused,
-    }
-}
-
-/// A run that made no world.
-fn ended(status: Status) -> Outcome
-    ensures { result ≡ record { status = status; world = None } }
-{
-    Outcome {
-        status,
-        world: None,
     }
 }

@@ -17,5 +17,5 @@ returns-in-Err-Unopened-clause-ends g c = λ clock disk.
     c.tell.ensures.told
 
 pub returns-in-Err-Memory-clause-ends : goal.returns-in-Err-Memory-clause-ends
-returns-in-Err-Memory-clause-ends g c = rw c.forgotten.ensures (λ clock disk.
+returns-in-Err-Memory-clause-ends g c = rw c.ended.ensures (λ clock disk.
     forgotten c.args.asked _ _ clock disk _ (ap g.W.Wire.told (c.in-Err-Memory.ensures.untouched (inr (ap Err c.in-Err-Memory.field-0-is)))))

@@ -3,7 +3,7 @@ use Rattle.sp_top.proofs.Ends.{end_complete, end_wrote, forged_output, forged_wr
 use Rattle.sp_top.proofs.replay.replay.Goals as goal
 
 pub returns-in_default-clause-wrote : goal.returns-in_default-clause-wrote
-returns-in_default-clause-wrote g c = rw c.forgotten.ensures (nothing_begun (g.S.Source.left c.args.source.now) (g.K.Sink.contents c.args.sink.now))
+returns-in_default-clause-wrote g c = rw c.ended.ensures (nothing_begun (g.S.Source.left c.args.source.now) (g.K.Sink.contents c.args.sink.now))
 
 pub returns-in-Read-clause-wrote : goal.returns-in-Read-clause-wrote
 returns-in-Read-clause-wrote g c =
