@@ -1,6 +1,6 @@
 -- A frame that a correct node made for a correct neighbour passes each test there: its length, its ends, its tag, its topology and its sections.
 use Rattle.std.proofs.Common.{◌≡◌, ℕ, ◌+◌, ◌==◌, Bool, true, false, List, max, Some, Ok, refl, sym, ap, subst, ◌∙◌, inl, inr, Option, None}
-use Rattle.std.specs.Prelude.{unwrap_or}
+use Rattle.std.specs.Prelude.{IsTrue, unwrap_or}
 use Rattle.std.proofs.lemmas.Bool.{cases_Bool, eq-eqb}
 use Rattle.sp_base.specs.declared.id.NodeId.{NodeId}
 use Rattle.sp_frame.specs.Ranges.{IsContents}
@@ -11,19 +11,22 @@ use Rattle.sp_rules.specs.Arrivals.{link_after, not_read, reply_at, sections_in}
 use Rattle.sp_rules.specs.Link.{Link, after_answer, is_above, link_answer, next_head, pair_of}
 use Rattle.sp_rules.specs.Node.{NodeState, link_in}
 use Rattle.sp_rules.specs.Parts.{Fixed}
+use Rattle.sp_rules.specs.Pieces.{pieces_of}
 use Rattle.sp_rules.specs.Polls.{contents_to, frame_to}
 use Rattle.sp_rules.specs.declared.link.LinkAnswer.TheVariants as answers
 use Rattle.sp_rules.specs.declared.node.LinkReply.{LinkReply}
 use Rattle.sp_rules.specs.declared.node.LinkReply.TheVariants as replies
+use Rattle.laws_node.proofs.Carried.{all_less, contents_kept}
 use Rattle.laws_node.proofs.Frames.{contents_fit}
 use Rattle.laws_runs.specs.Signs.{Good, sizes_at}
+use Rattle.laws_runs.proofs.Goods.{all_of}
 use Rattle.laws_runs.proofs.Signed.{signs}
 use Rattle.sp_runs.specs.Runs.{Clean, is_hop, polls}
 use Rattle.sp_runs.specs.Settings.{Setting, SettingFits}
 use Rattle.sp_runs.specs.Worlds.{World, node_in}
 use Rattle.sp_journal.specs.declared.entry.Entry.{Entry}
 use Rattle.sp_schedule_events.specs.declared.event.Event.{Event}
-use Rattle.laws_runs.specs.Premises.{ComesThrough}
+use Rattle.laws_runs.specs.Premises.{ComesThrough, HasGoodMessages}
 use Rattle.laws_progress.proofs.States.{IsHop}
 use Rattle.laws_progress.proofs.Heads.{HeadIs, head_range, made_head}
 use Rattle.laws_progress.proofs.Keys.{link_is}
@@ -55,13 +58,16 @@ frame_at arts x es js w fits reads run u v hop n at =
     let s = contents_to n.fixed n.parts v in
     let len : n.fixed.signature_len ≡ x.signature_len = ap (λ (f : Fixed). f.signature_len) is.fixed in
     let few : IsContents x.signature_len s = subst (λ k. IsContents k s) len (contents_fit (sizes_at x (Good arts x es js) u) n v is.holds) in
+    let kept = contents_kept (sizes_at x (Good arts x es js) u) n v is.holds in
+    let goods : HasGoodMessages arts s =
+    all_of (λ o. IsTrue (arts.is_good o.body)) (pieces_of s) (all_less (Good arts x es js) (λ o. IsTrue (arts.is_good o.body)) (λ o is_it. is_it.good) (pieces_of s) kept) in
     let read = reads.heads h s l.key range in
     record {
       head = made_head arts n u v es reads.heads range link;
       topology = ap (λ (g : Head). g.topology) read ∙ ap (λ (f : Fixed). f.topology.version) is.fixed;
       echo = ap (λ (g : Head). g.echo) read;
-      sections = reads.carries.back x.signature_len h s l.key few;
-      opens = reads.opens h s l.key range few;
+      sections = reads.carries.back x.signature_len h s l.key few goods;
+      opens = reads.opens h s l.key range few goods;
       right = subst (λ k. is_right arts k (frame_to arts n v) ≡ true) (keys_are arts x es js w fits reads.carries run u v hop n at) (reads.tags_are_right h s l.key);
     }
 

@@ -1,6 +1,6 @@
 -- What compromised nodes craft in their own names is never forged, and neither is what is no frame.
 use Rattle.std.proofs.Common.{◌≡◌, ◌<◌, ◌≤◌, ◌==◌, ◌^◌, ℕ, Bool, true, false, cond, List, [], ◌∷◌, length, Some, None, option_map, Ok, Err, refl, sym, ap, subst, ◌∙◌, arith}
-use Rattle.std.specs.Prelude.{◌&&◌, not, nat_lt}
+use Rattle.std.specs.Prelude.{◌&&◌, IsTrue, not, nat_lt}
 use Rattle.std.proofs.lemmas.List.Elements.{All-cons, All-nil}
 use Rattle.sp_base.specs.declared.id.Flow.{Flow}
 use Rattle.sp_base.specs.declared.id.NodeId.{NodeId}
@@ -42,8 +42,8 @@ use Rattle.sp_schedule_events.specs.declared.event.Event.{Event}
 use Rattle.sp_schedule_events.specs.declared.event.Event.TheVariants as events
 use Rattle.sp_runs.specs.declared.what.What.TheVariants as whats
 use Rattle.laws_runs.specs.Crafts.{NoFrameIsForged, OwnCraftsForgeNothing}
-use Rattle.laws_runs.specs.Premises.{Carries}
-use Rattle.laws_runs.proofs.Goods.{where_keep}
+use Rattle.laws_runs.specs.Premises.{Carries, HasGoodMessages}
+use Rattle.laws_runs.proofs.Goods.{all_of, where_keep}
 use Rattle.laws_runs.proofs.Lists.{both}
 use Rattle.laws_runs.proofs.Passes.{called_good, neither}
 use Rattle.laws_runs.proofs.Signed.{signs}
@@ -71,16 +71,17 @@ one_input : (a b : Input) → Some a ≡ Some b → b ≡ a
 one_input a b e = cc
 
 arrived_unforged : (arts : Arts) (x : Setting) (es : List Event) (js : List Entry) (w new : World) (e : Event) (j : Entry) (m : Move arts x es w e j new) (c : NodeId) (contents : Contents)
-    → Carries arts → m.node.fixed.signature_len ≡ x.signature_len → is_correct x c ≡ false → IsContents x.signature_len contents → AllKeep (IsOfCompromised x) (pieces_of contents)
+    → Carries arts → m.node.fixed.signature_len ≡ x.signature_len → is_correct x c ≡ false → IsContents x.signature_len contents → HasGoodMessages arts contents
+    → AllKeep (IsOfCompromised x) (pieces_of contents)
     → m.input ≡ steps.Datagram c (crafted_frame arts m.node c contents)
     → cond (has_forged_tag arts x w m.node m.input) (Some whats.Tag) (option_map whats.Object (forged_object arts x es js m.output.answered)) ≡ None
-arrived_unforged arts x es js w new e j m c contents carries len bad good only is =
+arrived_unforged arts x es js w new e j m c contents carries len bad range good only is =
     let n = m.node in
     let P = IsOfCompromised x in
     let bytes = crafted_frame arts n c contents in
     let moves : NodeStep arts n (steps.Datagram c bytes) m.output m.after = subst (λ i. NodeStep arts n i m.output m.after) is m.step in
     let back : sections_in arts n.fixed bytes ≡ Ok contents =
-    ap (λ k. arts.sections k bytes) len ∙ carries.back x.signature_len (crafted_head n c) contents (link_in n c).key good in
+    ap (λ k. arts.sections k bytes) len ∙ carries.back x.signature_len (crafted_head n c) contents (link_in n c).key range good in
     let pieces : AllKeep P (pieces_in (sections_in arts n.fixed bytes)) = subst (λ r. AllKeep P (pieces_in r)) (sym back) only in
     let news : NewKeep P m.output.answered =
     subst (λ (o : Output). NewKeep P o.answered) (sym moves.0) (called_good P (arrived arts n c bytes) (call_refusal n c)
@@ -213,8 +214,8 @@ only_it P (bodies.Weight w) signature h = (h, (tt, tt))
 -- ---- the law
 
 pub own_crafts_forge_nothing : OwnCraftsForgeNothing
-own_crafts_forge_nothing arts x es js w fits carries lengths run e j new range names (Stays s) = refl
-own_crafts_forge_nothing arts x es js w fits carries lengths run (events.Craft c v key body) j new range names (Moves m) = go (nat_lt (crafts es key) x.total) m.reaches
+own_crafts_forge_nothing arts x es js w fits carries lengths run e j new range good names (Stays s) = refl
+own_crafts_forge_nothing arts x es js w fits carries lengths run (events.Craft c v key body) j new range good names (Moves m) = go (nat_lt (crafts es key) x.total) m.reaches
   where
     o : Kept
     o = crafted_object arts x es key body
@@ -228,21 +229,22 @@ own_crafts_forge_nothing arts x es js w fits carries lengths run (events.Craft c
     go true is =
         arrived_unforged arts x es js w new (events.Craft c v key body) j m c (object_alone body o) carries len names.0
         (object_fits x.signature_len body o.signature range.3 (lengths key range.2 (crafts es key) (arts.spell body)) fits.short)
+        (all_of (λ p. IsTrue (arts.is_good p.body)) (pieces_of (object_alone body o)) (only_it (λ p. IsTrue (arts.is_good p.body)) body o.signature good))
         (only_it (IsOfCompromised x) body o.signature names.1) (one_input _ m.input is)
-own_crafts_forge_nothing arts x es js w fits carries lengths run (events.CraftStatus c v s d base have) j new range names (Moves m) =
+own_crafts_forge_nothing arts x es js w fits carries lengths run (events.CraftStatus c v s d base have) j new range good names (Moves m) =
     let len = ap (λ (f : Fixed). f.signature_len) ((signs arts x es js w fits carries run).nodes v m.node m.is_there).fixed in
     let flow : Flow = record { src = s; dst = d } in
     let other = both (is_node x d) (not (s.0 == d.0)) range.3 in
     arrived_unforged arts x es js w new (events.CraftStatus c v s d base have) j m c (slot_alone flow base have None []) carries len names
-    (status_fits x.signature_len base have flow (node_small arts x fits s range.2) (node_small arts x fits d other.0) range.4 range.5) (tt, (tt, tt))
+    (status_fits x.signature_len base have flow (node_small arts x fits s range.2) (node_small arts x fits d other.0) range.4 range.5) (All-nil (λ p. IsTrue (arts.is_good p.body))) (tt, (tt, tt))
     (one_input _ m.input m.reaches)
-own_crafts_forge_nothing arts x es js w fits carries lengths run (events.Rel a b p) j new range names (Moves m) = absurd names
-own_crafts_forge_nothing arts x es js w fits carries lengths run (events.Prio a b c d f p) j new range names (Moves m) = absurd names
-own_crafts_forge_nothing arts x es js w fits carries lengths run (events.Take a b) j new range names (Moves m) = absurd names
-own_crafts_forge_nothing arts x es js w fits carries lengths run (events.TakePrio a) j new range names (Moves m) = absurd names
-own_crafts_forge_nothing arts x es js w fits carries lengths run (events.Tick a b) j new range names (Moves m) = absurd names
-own_crafts_forge_nothing arts x es js w fits carries lengths run (events.Weight a b c) j new range names (Moves m) = absurd names
-own_crafts_forge_nothing arts x es js w fits carries lengths run (events.Poll a b) j new range names (Moves m) = absurd names
-own_crafts_forge_nothing arts x es js w fits carries lengths run (events.Pass a b c) j new range names (Moves m) = absurd names
-own_crafts_forge_nothing arts x es js w fits carries lengths run (events.Flip a b c d f) j new range names (Moves m) = absurd names
-own_crafts_forge_nothing arts x es js w fits carries lengths run (events.Inject a b c) j new range names (Moves m) = absurd names
+own_crafts_forge_nothing arts x es js w fits carries lengths run (events.Rel a b p) j new range good names (Moves m) = absurd names
+own_crafts_forge_nothing arts x es js w fits carries lengths run (events.Prio a b c d f p) j new range good names (Moves m) = absurd names
+own_crafts_forge_nothing arts x es js w fits carries lengths run (events.Take a b) j new range good names (Moves m) = absurd names
+own_crafts_forge_nothing arts x es js w fits carries lengths run (events.TakePrio a) j new range good names (Moves m) = absurd names
+own_crafts_forge_nothing arts x es js w fits carries lengths run (events.Tick a b) j new range good names (Moves m) = absurd names
+own_crafts_forge_nothing arts x es js w fits carries lengths run (events.Weight a b c) j new range good names (Moves m) = absurd names
+own_crafts_forge_nothing arts x es js w fits carries lengths run (events.Poll a b) j new range good names (Moves m) = absurd names
+own_crafts_forge_nothing arts x es js w fits carries lengths run (events.Pass a b c) j new range good names (Moves m) = absurd names
+own_crafts_forge_nothing arts x es js w fits carries lengths run (events.Flip a b c d f) j new range good names (Moves m) = absurd names
+own_crafts_forge_nothing arts x es js w fits carries lengths run (events.Inject a b c) j new range good names (Moves m) = absurd names

@@ -40,7 +40,7 @@ use Rattle.sp_journal.specs.declared.entry.Entry.{Entry}
 use Rattle.sp_schedule_events.specs.declared.event.Event.{Event}
 use Rattle.sp_schedule_events.specs.declared.event.Event.TheVariants as events
 use Rattle.laws_runs.specs.Signs.{Good, NodeIs, Signs, SignsBegin, TurnsKeepSigns, sizes_at}
-use Rattle.laws_runs.specs.Premises.{Carries, IsOfBytes}
+use Rattle.laws_runs.specs.Premises.{Carries, HasGoodMessages, IsOfBytes}
 use Rattle.laws_runs.proofs.Acks.{step_ack}
 use Rattle.laws_runs.proofs.Reaches.{input_fits, payload_fits}
 use Rattle.laws_runs.proofs.Tables.{frame_put, node_put}
@@ -120,16 +120,20 @@ acted arts x es js w new e j m fits carries reach asked same unforged is =
     }
 
 -- a frame that a poll gave carries what the node keeps
-polled_frame : (arts : Arts) (x : Setting) (P : Kept → Type 0) (n : NodeState) (u v : NodeId) (output : Output) (bytes : List ℕ) (s : Contents) → Carries arts → NodeIs x P u n
+polled_frame : (arts : Arts) (x : Setting) (P : Kept → Type 0) → ((o : Kept) → P o → IsTrue (arts.is_good o.body))
+    → (n : NodeState) (u v : NodeId) (output : Output) (bytes : List ℕ) (s : Contents) → Carries arts → NodeIs x P u n
     → output ≡ poll_output arts n v → output.reply ≡ steps.Frame bytes → arts.sections x.signature_len bytes ≡ Ok s → AllKeep P (pieces_of s)
-polled_frame arts x P n u v output bytes s reads is out reply read =
+polled_frame arts x P good n u v output bytes s reads is out reply read =
     let len : n.fixed.signature_len ≡ x.signature_len = ap (λ (f : Fixed). f.signature_len) is.fixed in
     let c = contents_to n.fixed n.parts v in
-    let back : arts.sections n.fixed.signature_len (frame_to arts n v) ≡ Ok c = reads.back n.fixed.signature_len (next_head (link_in n v) n.fixed.topology.version) c (link_in n v).key (contents_fit (sizes_at x P u) n v is.holds) in
+    let kept : AllKeep P (pieces_of c) = contents_kept (sizes_at x P u) n v is.holds in
+    let goods : HasGoodMessages arts c = all_of (λ o. IsTrue (arts.is_good o.body)) (pieces_of c) (all_less P (λ o. IsTrue (arts.is_good o.body)) good (pieces_of c) kept) in
+    let back : arts.sections n.fixed.signature_len (frame_to arts n v) ≡ Ok c =
+    reads.back n.fixed.signature_len (next_head (link_in n v) n.fixed.topology.version) c (link_in n v).key (contents_fit (sizes_at x P u) n v is.holds) goods in
     let bytes_are : frame_to arts n v ≡ bytes = gives (call_refusal n v) (ap (λ (o : Output). o.reply) (sym out) ∙ reply) in
     let here : Ok s ≡ Ok c = sym read ∙ ap (λ (l : ℕ). arts.sections l bytes) (sym len) ∙ ap (arts.sections n.fixed.signature_len) (sym bytes_are) ∙ back in
     let same : s ≡ c = cc in
-    subst (λ (y : Contents). AllKeep P (pieces_of y)) (sym same) (contents_kept (sizes_at x P u) n v is.holds)
+    subst (λ (y : Contents). AllKeep P (pieces_of y)) (sym same) kept
   where
     gives : (r : Option NodeRefused) → (refused_call r (replied (steps.Frame (frame_to arts n v)))).reply ≡ steps.Frame bytes → frame_to arts n v ≡ bytes
     gives None e = cc
@@ -230,7 +234,7 @@ turns_keep_signs arts x es' js' old e j new fits reads h range (Moves m) unforge
       ];
       frames = λ u v k bytes s at read. all_of Q (pieces_of s) (frames_after (λ (u v : NodeId) (bs : List ℕ). (s : Contents) → arts.sections x.signature_len bs ≡ Ok s → AllKeep Q (pieces_of s)) old.directions e m.output.reply
           (λ a b made poll reply s read. all_less P Q more (pieces_of s)
-          (polled_frame arts x P m.node (acting e) b m.output made s reads is
+          (polled_frame arts x P (λ o is_it. is_it.good) m.node (acting e) b m.output made s reads is
           (polled arts x es' old m.node a b m.input m.output m.after made (subst (λ (y : Event). input_of arts x es' old m.node y ≡ Some m.input) poll m.reaches) m.step reply) reply read))
           (λ u v k bs at s read. all_less P Q more (pieces_of s) (of_all P (pieces_of s) (h.frames u v k bs s at read))) u v k bytes at s read);
       bytes = frames_after (λ (u v : NodeId) (bs : List ℕ). AreBytes bs) old.directions e m.output.reply

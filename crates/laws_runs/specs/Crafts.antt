@@ -18,6 +18,11 @@ NamesNoCorrectNode x (events.Craft c v key body) = (is_correct x c ≡ false) ×
 NamesNoCorrectNode x (events.CraftStatus c v s d base have) = is_correct x c ≡ false
 NamesNoCorrectNode x _ = ⊥
 
+-- what is crafted is a message that the format has
+abbrev pub IsGoodCraft : Arts → Event → Type 0
+IsGoodCraft arts (events.Craft c v key body) = IsTrue (arts.is_good body)
+IsGoodCraft arts _ = Unit {0}
+
 -- signatures of every node's key have one length, and not only those of correct ones
 abbrev pub AreLong : Arts → Setting → Type 0
 AreLong arts x = (key : NodeId) → IsTrue (is_node x key) → (index : ℕ) (message : List ℕ)
@@ -25,7 +30,8 @@ AreLong arts x = (key : NodeId) → IsTrue (is_node x key) → (index : ℕ) (me
 
 abbrev pub OwnCraftsForgeNothing : Type 0
 OwnCraftsForgeNothing = (arts : Arts) (x : Setting) (es : List Event) (js : List Entry) (w : World) → SettingFits arts x → Carries arts → AreLong arts x
-    → Clean arts x es js w → (e : Event) (j : Entry) (new : World) → InRange x es e → NamesNoCorrectNode x e → (turn : Turn arts x es w e j new)
+    → Clean arts x es js w → (e : Event) (j : Entry) (new : World) → InRange x es e → IsGoodCraft arts e → NamesNoCorrectNode x e
+    → (turn : Turn arts x es w e j new)
     → forged_in arts x es js w e j new turn ≡ None
 
 -- it is refused by its length, its name or its version

@@ -22,6 +22,10 @@ IsOfBytes o = AreBytes (payload_of o.body) × AreBytes o.signature
 abbrev pub AreOfBytes : Contents → Type 0
 AreOfBytes s = All IsOfBytes (objects_in (pieces_of s))
 
+-- each message among them is good
+abbrev pub HasGoodMessages : Arts → Contents → Type 0
+HasGoodMessages arts s = All (λ o. IsTrue (arts.is_good o.body)) (objects_in (pieces_of s))
+
 -- a head and sections as a frame under its tag
 abbrev pub written : Arts → Head → Contents → (key : List ℕ) → List ℕ
 written arts h s key = arts.frame h s ++ arts.tag key (arts.frame h s)
@@ -30,19 +34,18 @@ pub record Carries (arts : Arts) : Type 0 where
   -- a message alone
   pub bodies : ReadsBack arts
   -- under any head and tag
-  pub back : (len : ℕ) (h : Head) (s : Contents) (key : List ℕ) → IsContents len s → arts.sections len (written arts h s key) ≡ Ok s
+  pub back : (len : ℕ) (h : Head) (s : Contents) (key : List ℕ) → IsContents len s → HasGoodMessages arts s → arts.sections len (written arts h s key) ≡ Ok s
   pub frames : (h : Head) (s : Contents) → AreOfBytes s → AreBytes (arts.frame h s)
   pub tags : (key bytes : List ℕ) → AreBytes (arts.tag key bytes)
   pub signatures : (height : LmsHeight) (seed : List ℕ) (index : ℕ) (message : List ℕ) → AreBytes (arts.sign height seed index message)
   pub reads : (len : ℕ) (bytes : List ℕ) (s : Contents) → AreBytes bytes → arts.sections len bytes ≡ Ok s → AreOfBytes s
-  pub goods : (len : ℕ) (bytes : List ℕ) (s : Contents) → AreBytes bytes → arts.sections len bytes ≡ Ok s
-      → All (λ o. IsTrue (arts.is_good o.body)) (objects_in (pieces_of s))
+  pub goods : (len : ℕ) (bytes : List ℕ) (s : Contents) → AreBytes bytes → arts.sections len bytes ≡ Ok s → HasGoodMessages arts s
 
 -- and where signatures have this length, a frame that is written passes each test of its bytes at the other end of its edge
 pub record ComesThrough (arts : Arts) (len : ℕ) : Type 0 where
   pub carries : Carries arts
   -- its length, its name and its version are right
-  pub opens : (h : Head) (s : Contents) (key : List ℕ) → IsHead h → IsContents len s → arts.opened (written arts h s key) ≡ Ok (written arts h s key)
+  pub opens : (h : Head) (s : Contents) (key : List ℕ) → IsHead h → IsContents len s → HasGoodMessages arts s → arts.opened (written arts h s key) ≡ Ok (written arts h s key)
   -- its head is read back, its tag is right under the key, and its sections are read back by `back`
   pub heads : (h : Head) (s : Contents) (key : List ℕ) → IsHead h → arts.head (written arts h s key) ≡ h
   pub tags_are_right : (h : Head) (s : Contents) (key : List ℕ) → is_right arts key (written arts h s key) ≡ true

@@ -112,8 +112,8 @@ pub fn each_event_has_a_turn()
     ensures { EachEventHasATurn }
 {}
 
-/// A law: what a compromised node crafts in the names of compromised nodes is never forged. So a schedule whose crafts are all such names no
-/// forgery by them.
+/// A law: what a compromised node crafts of good messages in the names of compromised nodes is never forged. So a schedule whose crafts are all
+/// such names no forgery by them.
 pub fn own_crafts_forge_nothing()
     ensures { OwnCraftsForgeNothing }
 {}

@@ -78,7 +78,7 @@ back body tag long =
 pub format_comes_through : FormatComesThrough
 format_comes_through height = record {
   carries = format_carries;
-  opens = λ h s key range is. opens (signature_len (param_of height)) (signatures_are_short height) h s key is;
+  opens = λ h s key range is good. opens (signature_len (param_of height)) (signatures_are_short height) h s key is;
   heads = λ h s key is.
       let tag = hmac key (head_bytes h ++ sections_bytes s) in
       ap head_of (append_assoc (head_bytes h) (sections_bytes s) tag) ∙ head_is_read h (sections_bytes s ++ tag) is;

@@ -35,7 +35,7 @@ part_are bytes are = All-drop (λ (b : ℕ). b < 256) 33 (signed_part bytes) (Al
 pub format_carries : FormatCarries
 format_carries = record {
   bodies = λ body good. whole_is_read body (fields_are_good body good);
-  back = λ len h s key is.
+  back = λ len h s key is good.
       let inner = head_bytes h ++ sections_bytes s in
       ap (sections_of len) (between h s (hmac key inner) (length-hmac key inner)) ∙ spelled_is_read len s is;
   frames = λ h s of. joined (head_bytes h) (sections_bytes s) (head_are h) (sections_in s of);

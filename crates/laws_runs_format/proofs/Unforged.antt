@@ -17,6 +17,7 @@ use Rattle.laws_runs.proofs.Passes.{only_the_adversary}
 use Rattle.laws_runs.specs.Laws.{IsHostile}
 use Rattle.laws_runs_format.specs.Unforged.{HarmlessSchedulesForgeNothing, IsHarmless}
 use Rattle.laws_runs_format.proofs.Headers.{headers_fit, signatures_are_long}
+use Rattle.sp_node_core.proofs.GoodFields.{fields_pass}
 use Rattle.laws_runs_format.proofs.ReadBack.{format_carries}
 use Rattle.laws_runs_format.proofs.Schedules.{scheduled_events_are_in_range}
 
@@ -34,9 +35,11 @@ harmless : (s : Scenario) (es : List Event) (js : List Entry) (w : World) (event
 harmless s es js w (events.Inject u v bytes) what good range run none hostile at =
     never _ what (no_frame_is_forged format (setting_of s) es js w at.new u v bytes at.entry none at.turn) at.is
 harmless s es js w (events.Craft c v key body) what good range run names hostile at =
-    never _ what (own_crafts_forge_nothing format (setting_of s) es js w (headers_fit s good) format_carries (signatures_are_long s) run (events.Craft c v key body) at.entry at.new range names at.turn) at.is
+    never _ what (own_crafts_forge_nothing format (setting_of s) es js w (headers_fit s good) format_carries (signatures_are_long s) run (events.Craft c v key body) at.entry at.new range
+    (fields_pass body range.3) names at.turn) at.is
 harmless s es js w (events.CraftStatus c v a d base have) what good range run names hostile at =
-    never _ what (own_crafts_forge_nothing format (setting_of s) es js w (headers_fit s good) format_carries (signatures_are_long s) run (events.CraftStatus c v a d base have) at.entry at.new range names at.turn) at.is
+    never _ what (own_crafts_forge_nothing format (setting_of s) es js w (headers_fit s good) format_carries (signatures_are_long s) run (events.CraftStatus c v a d base have) at.entry at.new range
+    tt names at.turn) at.is
 harmless s es js w (events.Flip u v number back bit) what good range run none hostile at = absurd none
 harmless s es js w (events.Rel a d payload) what good range run none hostile at = absurd hostile
 harmless s es js w (events.Prio a d prio expiry paths payload) what good range run none hostile at = absurd hostile
