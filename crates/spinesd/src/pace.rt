@@ -1,5 +1,8 @@
-// How fast a daemon turns: it naps while nothing happens, and goes with its neighbours while messages come, so that no one is sent more frames
-// than it takes.
+// How fast a daemon turns: it naps while nothing happens, and goes with its neighbours while messages come. A neighbour that has a frame to
+// answer is sent no other, so none is sent more frames than it takes.
+//
+//     made for a neighbour     1 sent      2 not sent                3 sent
+//     heard of it                                        its answer
 
 /// A longer datagram carries a signed message. A frame that carries none is far shorter.
 const MESSAGE_BYTES: usize = 1_000;
@@ -7,14 +10,17 @@ const MESSAGE_BYTES: usize = 1_000;
 /// More neighbours than any topology has.
 const MOST_NEIGHBOURS: usize = 16;
 
-/// Where so many frames went to a neighbour beyond those that came from it, a daemon waits for one.
-const WINDOW: u8 = 1;
+/// After so many cycles of its neighbours without a message or a request a daemon is idle.
+const QUIET: u8 = 8;
 
-/// At so many a daemon naps: the neighbour takes fewer frames than it is sent.
-const FAR: u8 = 2;
+/// So many frames that aren't sent are made while a client asks, before a daemon holds.
+const MOST_AHEAD: u8 = 3;
 
-/// At so many the neighbour counts as silent: nobody waits for it.
-const SILENT: u8 = 10;
+/// After so many that weren't sent one goes in any case: the one before may be lost.
+const MOST_UNSENT: u8 = 32;
+
+/// A neighbour that so often gave nothing in a long wait counts as silent: nobody waits for it.
+const SILENT: u8 = 3;
 
 /// What a daemon does before it looks for a datagram of a neighbour.
 #[derive(Clone, Copy, Debug, PartialEq, Eq)]
@@ -23,6 +29,8 @@ pub enum Pause {
     No,
     /// It waits for a datagram.
     Wait,
+    /// It waits longer, since each neighbour has a frame to answer.
+    Hold,
     /// It naps, and then waits.
     Nap,
 }
@@ -31,8 +39,32 @@ pub enum Pause {
 #[derive(Clone, Copy, Debug)]
 struct Neighbour {
     port: Option<u16>,
-    /// How many frames went to it beyond those that came from it, at most `SILENT`.
-    ahead: u8,
+    /// Whether a frame went to it, and none has come from it since.
+    owes: bool,
+    /// How many frames for it weren't sent since then.
+    unsent: u8,
+    /// How many long waits for it ended with nothing since it was heard, at most `SILENT`.
+    missed: u8,
+}
+
+impl Neighbour {
+    const fn at(port: Option<u16>) -> Self {
+        Neighbour {
+            port,
+            owes: false,
+            unsent: 0,
+            missed: 0,
+        }
+    }
+
+    fn is_silent(&self) -> bool {
+        self.missed == SILENT
+    }
+
+    /// Whether it has nothing to answer, and answers.
+    fn is_free(&self) -> bool {
+        self.port.is_some() && !self.owes && !self.is_silent()
+    }
 }
 
 /// Where a daemon stands in the cycle of its neighbours, and what happened in it.
@@ -42,26 +74,23 @@ pub struct Pace {
     neighbours: [Neighbour; MOST_NEIGHBOURS],
     /// The place of the neighbour whose turn it is. A cycle begins with the first.
     next: usize,
-    /// Whether a message or a request came in this cycle, or in the one before.
-    is_busy: bool,
-    was_busy: bool,
+    /// How many cycles ago the last message or request came, at most `QUIET`.
+    quiet: u8,
     /// Whether a request came in the last turn.
     was_asked: bool,
+    /// Whether the daemon holds.
+    holds: bool,
 }
 
 impl Pace {
     /// Nothing was sent yet.
     pub fn new() -> Self {
-        let unknown = Neighbour {
-            port: None,
-            ahead: 0,
-        };
         Pace {
-            neighbours: [unknown; MOST_NEIGHBOURS],
+            neighbours: [Neighbour::at(None); MOST_NEIGHBOURS],
             next: 0,
-            is_busy: false,
-            was_busy: false,
+            quiet: QUIET,
             was_asked: false,
+            holds: false,
         }
     }
 
@@ -69,69 +98,85 @@ impl Pace {
     pub fn pause(&mut self) -> Pause {
         let begins = self.next == 0;
         if begins {
-            self.was_busy = self.is_busy;
-            self.is_busy = false;
+            self.quiet = self.quiet.saturating_add(1).min(QUIET);
         }
-        let is_asked = self.was_asked;
-        self.was_asked = false;
         let is_idle = self.is_idle();
-        match self.ahead_of_next() {
+        let may_go = self.was_asked && self.unsent_to_next() < MOST_AHEAD;
+        self.was_asked = false;
+        self.holds = !is_idle && !may_go && !self.neighbours.iter().any(Neighbour::is_free);
+        match self.holds {
             _ if is_idle && begins => Pause::Nap,
-            FAR..SILENT => Pause::Nap,
-            WINDOW..FAR => Pause::Wait,
-            _ if is_idle || !is_asked => Pause::Wait,
-            _ => Pause::No,
+            _ if is_idle => Pause::Wait,
+            true => Pause::Hold,
+            false => Pause::No,
         }
     }
 
-    fn ahead_of_next(&self) -> u8 {
+    fn unsent_to_next(&self) -> u8 {
         match self.neighbours.get(self.next) {
-            Some(neighbour) => neighbour.ahead,
+            Some(neighbour) => neighbour.unsent,
             None => 0,
         }
     }
 
-    /// Whether nothing came in this cycle or in the one before, or no neighbour answers.
+    /// Whether nothing came for a while, or no neighbour answers.
     fn is_idle(&self) -> bool {
-        !self.was_busy && !self.is_busy
+        self.quiet == QUIET
             || self.neighbours.iter().all(|neighbour| neighbour.port.is_none()
-                || neighbour.ahead == SILENT)
+                || neighbour.is_silent())
     }
 
-    /// A datagram of so many bytes came from this port of a neighbour. Those of others are nothing. What went to it before a nap is forgiven.
+    /// A datagram of so many bytes came from this port of a neighbour. Those of others are nothing.
     pub fn heard(&mut self, port: u16, count: usize) {
         let Some(place) = self.place_of(Some(port)) else {
             return;
         };
-        let is_idle = self.is_idle();
         if let Some(neighbour) = self.neighbours.get_mut(place) {
-            neighbour.ahead = match neighbour.ahead {
-                ahead if is_idle || FAR <= ahead => 0,
-                ahead => ahead.saturating_sub(1),
-            };
+            *neighbour = Neighbour::at(Some(port));
         }
-        self.is_busy |= MESSAGE_BYTES < count;
+        if MESSAGE_BYTES < count {
+            self.quiet = 0;
+        }
+    }
+
+    /// Nothing came. Where the daemon held, what the neighbour had to answer is lost.
+    pub fn unheard(&mut self) {
+        if !self.holds {
+            return;
+        }
+        if let Some(neighbour) = self.neighbours.get_mut(self.next) {
+            neighbour.owes = false;
+            neighbour.missed = neighbour.missed.saturating_add(1).min(SILENT);
+        }
     }
 
     /// A client asked for something.
     pub fn asked(&mut self) {
-        self.is_busy = true;
+        self.quiet = 0;
         self.was_asked = true;
     }
 
-    /// A frame goes to the neighbour of this port.
-    pub fn sent_to(&mut self, port: u16) {
+    /// There is a frame for the neighbour of this port. Gives whether it is sent.
+    pub fn goes_to(&mut self, port: u16) -> bool {
         let Some(place) = self.place_of(Some(port)).or_else(|| self.place_of(None)) else {
-            return;
+            return true;
         };
-        if let Some(neighbour) = self.neighbours.get_mut(place) {
-            neighbour.port = Some(port);
-            neighbour.ahead = neighbour.ahead.saturating_add(1).min(SILENT);
-        }
         self.next = match self.neighbours.get(place.saturating_add(1)) {
             Some(Neighbour { port: Some(_), .. }) => place.saturating_add(1),
             _ => 0,
         };
+        let Some(neighbour) = self.neighbours.get_mut(place) else {
+            return true;
+        };
+        neighbour.port = Some(port);
+        let goes = !neighbour.owes || neighbour.is_silent() || MOST_UNSENT <= neighbour.unsent;
+        neighbour.unsent = if goes {
+            0
+        } else {
+            neighbour.unsent.saturating_add(1)
+        };
+        neighbour.owes = true;
+        goes
     }
 
     fn place_of(&self, port: Option<u16>) -> Option<usize> {

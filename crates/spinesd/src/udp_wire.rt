@@ -13,19 +13,23 @@ use std::{io, thread};
 /// How long a receive waits for a datagram, at most.
 const WAIT_MS: u64 = 5;
 
+/// How long it waits where a neighbour has a frame to answer.
+const HOLD_MS: u64 = 40;
+
 /// How long a daemon naps, so that idle ones don't wake each other with each frame.
 const NAP_MS: u64 = 4;
 
 /// The system's sockets of the two sides. A receive of the overlay side naps, waits or does neither, as its pace wants it; one of the
-/// client side doesn't wait, unless it is the only side that is open. A datagram from another address than 127.0.0.1 is none, whatever
-/// port it comes from.
+/// client side doesn't wait, unless it is the only side that is open. A frame isn't sent where its pace wants that: it is lost, as a network
+/// loses some, and what it carried goes again with the next. A datagram from another address than 127.0.0.1 is none, whatever port it comes
+/// from.
 #[derive(Drop)]
 pub struct UdpWire<'r, R: Net + Clock> {
     rt: &'r R,
     overlay: Option<UdpSocket>,
     client: Option<UdpSocket>,
-    /// Whether a receive of the overlay side waits.
-    waits: bool,
+    /// How long a receive of the overlay side waits, in milliseconds. For 0 it doesn't.
+    wait_ms: u64,
     pace: Pace,
     failed_opens: u64,
     faults: u64,
@@ -38,7 +42,7 @@ impl<'r, R: Net + Clock> UdpWire<'r, R> {
             rt,
             overlay: None,
             client: None,
-            waits: true,
+            wait_ms: WAIT_MS,
             pace: Pace::new(),
             failed_opens: 0,
             faults: 0,
@@ -63,9 +67,9 @@ impl<'r, R: Net + Clock> UdpWire<'r, R> {
         if pause == Pause::Nap {
             thread::sleep(self.rt, Duration::from_millis(NAP_MS));
         }
-        let waits = pause != Pause::No;
-        if waits != self.waits && socket.set_nonblocking(!waits).is_ok() {
-            self.waits = waits;
+        let wait_ms = wait_of(pause);
+        if wait_ms != self.wait_ms && set_wait(socket, wait_ms).is_ok() {
+            self.wait_ms = wait_ms;
         }
     }
 
@@ -80,17 +84,30 @@ impl<'r, R: Net + Clock> UdpWire<'r, R> {
     }
 }
 
+fn wait_of(pause: Pause) -> u64 {
+    match pause {
+        Pause::No => 0,
+        Pause::Wait | Pause::Nap => WAIT_MS,
+        Pause::Hold => HOLD_MS,
+    }
+}
+
+/// Has the receives of a socket wait so long. For 0 they don't.
+fn set_wait(socket: &UdpSocket, wait_ms: u64) -> io::Result<()> {
+    socket.set_nonblocking(wait_ms == 0)?;
+    if wait_ms != 0 {
+        socket.set_read_timeout(Some(Duration::from_millis(wait_ms)))?;
+    }
+    Ok(())
+}
+
 /// A socket on this port of 127.0.0.1, whose receives wait for a while, or don't. There is none for port 0.
 fn bound<R: Net>(rt: &R, port: u16, waits: bool) -> io::Result<Option<UdpSocket>> {
     if port == 0 {
         return Ok(None);
     }
     let socket = UdpSocket::bind(rt, SocketAddrV4::new(Ipv4Addr::LOCALHOST, port))?;
-    if waits {
-        socket.set_read_timeout(Some(Duration::from_millis(WAIT_MS)))?;
-    } else {
-        socket.set_nonblocking(true)?;
-    }
+    set_wait(&socket, if waits { WAIT_MS } else { 0 })?;
     Ok(Some(socket))
 }
 
@@ -162,7 +179,7 @@ impl<R: Net + Clock> Wire for UdpWire<'_, R> {
             Ok((overlay, client)) => {
                 self.overlay = overlay;
                 self.client = client;
-                self.waits = true;
+                self.wait_ms = WAIT_MS;
                 Ok(())
             }
             Err(_) => {
@@ -179,6 +196,7 @@ impl<R: Net + Clock> Wire for UdpWire<'_, R> {
         let got = received_on(self.socket(side), buf);
         match got {
             Ok(Some((port, count))) => self.heard(side, port, count),
+            Ok(None) if side == Side::Overlay => self.pace.unheard(),
             Ok(None) => {}
             Err(_) => self.faults = self.faults.saturating_add(1),
         }
@@ -186,8 +204,8 @@ impl<R: Net + Clock> Wire for UdpWire<'_, R> {
     }
 
     fn send(&mut self, side: Side, port: u16, bytes: &[u8]) -> Result<(), Failed> {
-        if side == Side::Overlay {
-            self.pace.sent_to(port);
+        if side == Side::Overlay && !self.pace.goes_to(port) {
+            return Ok(());
         }
         let done = sent_on(self.socket(side), port, bytes);
         if done.is_err() {
