@@ -33,7 +33,7 @@ def of_neighbours(watch):
         ("neighbour_frames_sent_total", "counter", "Frames that were made for a neighbour.", [({"neighbour": node}, n.polls) for node, n in near]),
         ("neighbour_datagrams_total", "counter", "Datagrams of a neighbour's port by their answer.",
          [({"neighbour": node, "answer": answer}, n.answers[answer]) for node, n in near for answer in ANSWERS]),
-        ("neighbour_frames_lost_total", "counter", "Frames that a neighbour counted and that never came, or came too late.",
+        ("neighbour_frames_lost_total", "counter", "Frames that a neighbour made and that never came, or came too late. A busy one sends not all.",
          [({"neighbour": node}, n.lost) for node, n in near]),
         ("neighbour_bad_signatures_total", "counter", "Messages with a wrong signature that a neighbour passed on, where the digest tells it.",
          [({"neighbour": node}, n.bad_signatures) for node, n in near]),
