@@ -2,6 +2,7 @@ pub mod HeaderLemmas
 pub mod ReadingLemmas
 pub mod StageLemmas
 pub mod WalkLemmas
+pub mod WaitingLemmas
 pub mod FeedLemmas
 pub mod OnLemmas
 pub mod LawLemmas

@@ -2,4 +2,6 @@
 #![tactic(auto)]
 
 #[cfg(test)]
+mod drafts;
+#[cfg(test)]
 mod topologies;

@@ -5,7 +5,7 @@ ghost use Rattle.sp_topology.specs.Ranges.{IsTopology};
 use hex::decode;
 use sha2::{Digest, Sha256};
 use sp_base::NodeId;
-use sp_topology::{Edge, Topology, TopologyRefused, first_fault};
+use sp_topology::{Topology, TopologyRefused};
 use std::alloc::Global;
 use std::fmt::Write;
 use std::process::Abort;
@@ -83,33 +83,6 @@ Order|node 0, and cut before its key|4d544d570100000001050201[01]00
 Short|a bad key, cut|4d544d570100000001050201[01]020000000100000005000000030202020202020202020202020202020202020202020202020202020202020202020202020202020202020202020202"
 }
 
-/// Rows of the nodes and edges of a draft, and its first fault. An edge is its two ends and its weight.
-fn draft_rows() -> &'static str {
-    "\
-|1-2-10|TooFew
-1|1-2-10|TooFew
-1 2 4|1-2-10 2-4-1|no fault
-1 2 4||no fault
-0 2 4|1-2-10|Order
-1 2 17|1-2-10|Order
-2 1 4|1-2-10|Order
-1 1 4|1-2-10|Twice
-1 2 4|1-1-10|Loop
-1 2 4|5-5-10|Loop
-1 2 4|2-1-10|Order
-1 2 4|2-4-1 1-2-10|Order
-1 2 4|1-2-10 1-2-10|Twice
-1 2 4|1-2-10 1-2-0|Twice
-1 2 4|1-5-10|Unknown
-1 2 4|0-1-10|Unknown
-1 2 4|1-200-10|Unknown
-1 2 4|200-1-10|Order
-1 2 4|1-2-0|Weight
-1 2 4|1-2-1000001|Weight
-1 2 4|1-5-0|Unknown
-1 2 4|1-2-0 1-1-10|Weight"
-}
-
 /// Appends 48 times a byte, which stands before this bracket, and gives what follows.
 fn push_key<'a>(
     alloc: Global,
@@ -167,7 +140,7 @@ fn bytes_of(alloc: Global, written: &str) -> Result<Vec<u8>, Fail> {
 }
 
 /// The name of a refusal.
-fn name_of(refused: TopologyRefused) -> &'static str {
+pub fn name_of(refused: TopologyRefused) -> &'static str {
     match refused {
         TopologyRefused::Short(_) => "Short",
         TopologyRefused::Magic => "Magic",
@@ -367,83 +340,5 @@ fn the_largest_document_is_read_and_written(rt: HostRuntime) -> Result<(), Fail>
     assert_eq!(rt; length, 1709);
     assert_eq!(rt; edge_between(&topology, 16, 15), 119);
     assert!(rt; topology.write(alloc)?.as_slice() == bytes.as_slice());
-    Ok(())
-}
-
-/// The nodes of a row.
-fn nodes_of(alloc: Global, written: &str) -> Result<Vec<NodeId>, Fail> {
-    let mut nodes = Vec::new(alloc);
-    for id in written.split_whitespace() {
-        nodes.push(NodeId(id.parse()?))?;
-    }
-    Ok(nodes)
-}
-
-/// The edges of a row.
-fn edges_of(alloc: Global, written: &str) -> Result<Vec<Edge>, Fail> {
-    let mut edges = Vec::new(alloc);
-    for edge in written.split_whitespace() {
-        let (low, rest) = edge.split_once('-').ok_or("no higher end")?;
-        let (high, weight) = rest.split_once('-').ok_or("no weight")?;
-        edges.push(Edge {
-            low: NodeId(low.parse()?),
-            high: NodeId(high.parse()?),
-            weight: weight.parse()?,
-        })?;
-    }
-    Ok(edges)
-}
-
-/// The first fault of a draft.
-fn fault_name(nodes: &[NodeId], edges: &[Edge]) -> &'static str {
-    match first_fault(nodes, edges) {
-        Some(fault) => name_of(fault),
-        None => "no fault",
-    }
-}
-
-#[test]
-fn a_draft_is_judged_as_its_document_would_be(rt: HostRuntime) -> Result<(), Fail> {
-    let alloc = rt.alloc();
-    for row in draft_rows().lines() {
-        let (nodes, rest) = row.split_once('|').ok_or("no edges")?;
-        let (edges, answer) = rest.split_once('|').ok_or("no answer")?;
-        let nodes = nodes_of(alloc, nodes)?;
-        let edges = edges_of(alloc, edges)?;
-        assert_eq!(rt; fault_name(&nodes, &edges), answer, "{row}");
-    }
-    Ok(())
-}
-
-/// The first fault of so many nodes, the last of them node 16 again and again, and so many edges that are all one.
-fn fault_of(alloc: Global, nodes: u32, edges: usize) -> Result<&'static str, Fail> {
-    let mut ids = Vec::new(alloc);
-    for place in 0..nodes {
-        ids.push(NodeId(place.min(15) as u8 + 1))?;
-    }
-    let edge = Edge {
-        low: NodeId(1),
-        high: NodeId(2),
-        weight: 1,
-    };
-    let edges = vec![in alloc; edge; edges]?;
-    Ok(fault_name(&ids, &edges))
-}
-
-#[test]
-fn a_draft_may_have_more_than_a_document_can_count(rt: HostRuntime) -> Result<(), Fail> {
-    let alloc = rt.alloc();
-    assert_eq!(rt; fault_of(alloc, 16, 1)?, "no fault");
-    assert_eq!(rt; fault_of(alloc, 258, 0)?, "TooMany");
-    assert_eq!(rt; fault_of(alloc, 16, 65_537)?, "TooMany");
-    Ok(())
-}
-
-#[test]
-fn a_draft_has_one_node_or_edge_too_many(rt: HostRuntime) -> Result<(), Fail> {
-    let alloc = rt.alloc();
-    assert_eq!(rt; fault_of(alloc, 17, 0)?, "TooMany");
-    assert_eq!(rt; fault_of(alloc, 16, 121)?, "TooMany");
-    assert_eq!(rt; fault_of(alloc, 16, 120)?, "Twice");
     Ok(())
 }

@@ -1,5 +1,5 @@
 use Rattle.std.proofs.Common.{ℕ, List, Bor, Vec, Global, map, refl}
-use Rattle.sp_schedule.proofs.FeedLemmas.{is_long, no_words_lead, words_lead}
+use Rattle.sp_schedule.proofs.WaitingLemmas.{is_long, no_words_lead, words_lead}
 use Rattle.sp_schedule.proofs.feed.lead_of.Goals as goal
 
 pub returns-in_default : goal.returns-in_default

@@ -1,5 +1,5 @@
 use Rattle.std.proofs.Common.{sym}
-use Rattle.sp_schedule.proofs.FeedLemmas.{ready_open}
+use Rattle.sp_schedule.proofs.WaitingLemmas.{ready_open}
 use Rattle.sp_schedule.proofs.feed.Feed.ready.Goals as goal
 
 pub returns-in-None : goal.returns-in-None
