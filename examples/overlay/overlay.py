@@ -1,8 +1,8 @@
 """An overlay of daemons on this machine: its keys and files, its processes, and the requests of its clients.
 
 Everything lies in one folder, which nobody else may read: NODE.toml is a configuration with its keys, NODE.recording what the daemon recorded,
-NODE.keys the folder that it is started in, with its key file, NODE.session the port and the last number of a client, and overlay.json the ports. The program is the environment's SPINESD, or the one that this
-checkout built.
+NODE.keys the folder that it is started in, with its key file, NODE.session the port and the last number of a client, and overlay.json the ports. The
+program is the environment's SPINESD, or the one that this checkout built.
 """
 
 import json
@@ -14,7 +14,9 @@ import subprocess
 import time
 
 ROOT = os.path.dirname(os.path.dirname(os.path.dirname(os.path.abspath(__file__))))
-PROGRAM = os.environ.get("SPINESD", os.path.join(ROOT, "crates", "spinesd", "out", "spinesd"))
+# where this checkout's program is, once it is built
+BUILT = os.path.join(ROOT, "crates", "spinesd", "out", "spinesd")
+PROGRAM = os.environ.get("SPINESD", BUILT)
 # a client listens for this many receives before it sends the same request again; one takes 5 to 15 ms
 ASK_TURNS = 20
 # what a request is answered that didn't run

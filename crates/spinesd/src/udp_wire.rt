@@ -13,7 +13,7 @@ use std::{io, thread};
 /// How long a receive waits for a datagram, at most.
 const WAIT_MS: u64 = 5;
 
-/// How long it waits where a neighbour has a frame to answer.
+/// How long it waits where each neighbour has a frame to answer.
 const HOLD_MS: u64 = 40;
 
 /// How long a daemon naps, so that idle ones don't wake each other with each frame.
@@ -84,6 +84,7 @@ impl<'r, R: Net + Clock> UdpWire<'r, R> {
     }
 }
 
+/// How long a receive waits after this pause, in milliseconds. For 0 it doesn't.
 fn wait_of(pause: Pause) -> u64 {
     match pause {
         Pause::No => 0,
