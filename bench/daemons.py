@@ -3,13 +3,19 @@
 Two idle daemons: the share of a core and the memory of each. Then a line of three, whose client at one end sends messages of 64 bytes as fast as they
 are accepted, and one at the other end takes them: how many arrive in a second, with their acknowledgements back, and how much of a core each daemon
 takes. Then a hub of five leaves, each of which sends to the next over the hub: the same, and how many datagrams the system dropped at the hub. Each
-runs for SECONDS, 10 if not said. Last two daemons that end by themselves: the processor time of their turns, and that of the verification of what they
-recorded. Figures depend on the machine, and nothing is judged.
+runs for SECONDS, 10 if not said. Of the line also the signatures and checks that a message took in all daemons together, and how many messages a second one
+core would allow that made nothing else; a signature is timed while as many cores sign as the line has daemons, since cores of one machine slow each other.
+Last two daemons that end by themselves: the processor time of their turns, and that of the verification of what they recorded. Figures depend on the
+machine, and nothing is judged.
+
+The daemons' files lie in the system's folder of temporary files; TMPDIR=/dev/shm takes the disk, which each start and each 28 signatures wait for, out of
+the figures.
 """
 
 import os
 import resource
 import socket
+import subprocess
 import sys
 import tempfile
 import threading
@@ -25,6 +31,14 @@ RECORDED_TURNS = 8_000
 PAYLOAD = "5a" * 64
 # how many requests of a client are on their way at a time
 ON_THEIR_WAY = 4
+# the greatest bounds of a daemon: messages of a flow, and entries of a store
+BOUNDS = 64, 256
+# how many indexes a line `reserve` of a recording stands for
+RESERVED = 32
+# how many messages are signed in a schedule, and how often it is timed
+SIGNED, ROUNDS = 5_000, 5
+# a check takes so much of a signature's time, where the front of its signer is remembered (docs/SPEED.md, height 10)
+CHECK = 0.377
 TICKS = os.sysconf("SC_CLK_TCK")
 
 
@@ -112,25 +126,73 @@ def carried(overlay, ways, seconds):
     return len(arrived)
 
 
+def signed(overlay, node):
+    """How many signatures a daemon took for itself, by its recording: at most 32 more than it made."""
+    with open(overlay.path(f"{node}.recording"), "rb") as lines:
+        return RESERVED * sum(line.startswith(b"reserve ") for line in lines)
+
+
 def measured(program, name, graph, ways, seconds):
-    """Runs an overlay, and tells what its daemons carried and took."""
+    """Runs an overlay, and tells what its daemons carried and took. Gives the messages of a second, and the signatures of each node."""
     with tempfile.TemporaryDirectory() as folder:
-        overlay = Overlay(folder, program)
+        overlay = Overlay(folder, program, BOUNDS)
         overlay.make(graph)
         try:
             pids = {node: overlay.start(node, MANY_TURNS).pid for node in overlay.ports}
             time.sleep(2)
             before = {node: seconds_of(pid) for node, pid in pids.items()}
+            rate = 0
             if ways:
-                arrived = carried(overlay, ways, seconds)
-                print(f"{name}: {arrived / seconds:.0f} messages a second arrived")
+                rate = carried(overlay, ways, seconds) / seconds
+                print(f"{name}: {rate:.0f} messages a second arrived")
             else:
                 time.sleep(seconds)
             for node, pid in pids.items():
                 share = (seconds_of(pid) - before[node]) / seconds
                 print(f"{name}, node {node}: {100 * share:.1f} % of a core, {memory_of(pid)} KB, {drops_of(overlay.ports[node][0])} datagrams dropped")
+            return rate, {node: signed(overlay, node) / seconds for node in pids}
         finally:
             overlay.end_all()
+
+
+def signing(sends):
+    """A schedule in which so many messages are signed at height 10, and no frame goes."""
+    header = f"schedule 1\nseed {'00' * 32}\nheight 10\nbounds 1 256\nnodes 2\nedge 1 2 10\nbegin\n"
+    return header + f"prio 1 2 5 18446744073709551615 0 {PAYLOAD}\n" * sends + "end\n"
+
+
+def spent(program, path, at_once):
+    """The least processor time of one of so many replays of a schedule that run at once."""
+    started = []
+    for _ in range(at_once):
+        with open(path, "rb") as schedule:
+            started.append(subprocess.Popen([program, "replay"], stdin=schedule, stdout=subprocess.DEVNULL))
+    used = [os.wait4(each.pid, 0)[2] for each in started]
+    return min(each.ru_utime + each.ru_stime for each in used)
+
+
+def signature_time(program, at_once):
+    """How many seconds of a core a signature takes while so many cores sign."""
+    with tempfile.TemporaryDirectory() as folder:
+        least = {}
+        for sends in (0, SIGNED):
+            path = os.path.join(folder, str(sends))
+            with open(path, "w", encoding="ascii") as file:
+                file.write(signing(sends))
+            least[sends] = min(spent(program, path, at_once) for _ in range(ROUNDS))
+        return (least[SIGNED] - least[0]) / SIGNED
+
+
+def line_of_three(program, seconds):
+    """What a line carries, and what one core would that made its signatures and checks and nothing else: each message and each acknowledgement is checked
+    by two daemons."""
+    rate, signatures = measured(program, "a line of three", line_of(3), [(1, 3)], seconds)
+    signature, acks = signature_time(program, 3), signatures[3] / rate
+    print(f"a line of three: {1e3 * signature:.3f} ms a signature, three at once; {1 + acks:.2f} signatures and {2 + 2 * acks:.2f} checks a message")
+    whole = signature * (1 + acks + CHECK * (2 + 2 * acks))
+    source = signature * (1 + CHECK * acks)
+    print(f"one core that made nothing else allows {1 / whole:.0f} a second: the line carries {rate * whole:.2f} of that")
+    print(f"its source alone, on a core of its own, {1 / source:.0f}: the line carries {rate * source:.2f} of that")
 
 
 def recorded(program, seconds):
@@ -161,7 +223,7 @@ def main():
     program, seconds = os.path.abspath(sys.argv[1]), float(sys.argv[2] if len(sys.argv) == 3 else 10)
     hub = (6, [(1, leaf, 10) for leaf in range(2, 7)])
     measured(program, "two idle daemons", line_of(2), [], seconds)
-    measured(program, "a line of three", line_of(3), [(1, 3)], seconds)
+    line_of_three(program, seconds)
     measured(program, "a hub of five leaves", hub, [(leaf, leaf % 5 + 2 if leaf < 6 else 2) for leaf in range(2, 7)], seconds)
     recorded(program, seconds)
 

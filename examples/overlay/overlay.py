@@ -65,8 +65,9 @@ def draft_of(seeds, edges, height):
 class Overlay:
     """The overlay of a folder."""
 
-    def __init__(self, folder, program=PROGRAM):
-        self.folder, self.program, self.children = os.path.abspath(folder), os.path.abspath(program), {}
+    def __init__(self, folder, program=PROGRAM, bounds=(16, 64)):
+        """The bounds are those of a flow and of a store, in messages."""
+        self.folder, self.program, self.bounds, self.children = os.path.abspath(folder), os.path.abspath(program), bounds, {}
         path = self.path("overlay.json")
         self.ports = {}
         if os.path.exists(path):
@@ -111,7 +112,8 @@ class Overlay:
         """What an operator tells a daemon."""
         overlay, client = self.ports[node]
         text = f'node = {node}\nseed = "{seed}"\nadmin = "{admin}"\ntopology = "{document}"\n'
-        text += f"port = {overlay}\nclient_port = {client}\nbuffer = 16\nstore = 64\n"
+        buffer, store = self.bounds
+        text += f"port = {overlay}\nclient_port = {client}\nbuffer = {buffer}\nstore = {store}\n"
         for peer in sorted(keys):
             text += f'\n[[peer]]\nid = {peer}\nport = {self.ports[peer][0]}\nkey = "{keys[peer]}"\n'
         return text

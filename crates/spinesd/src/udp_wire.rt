@@ -17,7 +17,7 @@ const WAIT_MS: u64 = 5;
 const HOLD_MS: u64 = 40;
 
 /// How long a daemon naps, so that idle ones don't wake each other with each frame.
-const NAP_MS: u64 = 4;
+const NAP_MS: u64 = 8;
 
 /// The system's sockets of the two sides. A receive of the overlay side naps, waits or does neither, as its pace wants it; one of the
 /// client side doesn't wait, unless it is the only side that is open. A frame isn't sent where its pace wants that: it is lost, as a network
