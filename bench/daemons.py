@@ -1,12 +1,12 @@
 """What daemons of the built program cost and carry on this machine: python3 bench/daemons.py PATH/TO/spinesd [SECONDS]
 
-Two idle daemons: the share of a core and the memory of each. Then a line of three, whose client at one end sends messages of 64 bytes as fast as they
-are accepted, and one at the other end takes them: how many arrive in a second, with their acknowledgements back, and how much of a core each daemon
-takes. Then a hub of five leaves, each of which sends to the next over the hub: the same, and how many datagrams the system dropped at the hub. Each
-runs for SECONDS, 10 if not said. Of the line also the signatures and checks that a message took in all daemons together, and how many messages a second one
-core would allow that made nothing else; a signature is timed while as many cores sign as the line has daemons, since cores of one machine slow each other.
+Two idle daemons, and an idle hub of five leaves: the share of a core and the memory of each. Then a line of three, whose client at one end sends messages
+of 64 bytes as fast as they are accepted, and one at the other end takes them: how many arrive in a second, with their acknowledgements back, and how much
+of a core each daemon takes. Then that hub, each leaf of which sends to the next over it: the same, and how many datagrams the system dropped at the hub.
+Each runs for SECONDS, 10 if not said. Of the line also the signatures and checks that a message took in all daemons together, and how many messages a
+second one core would allow that made nothing else; a signature is timed beside the line, since the speed of a core changes with what its neighbours do.
 Last two daemons that end by themselves: the processor time of their turns, and that of the verification of what they recorded. Figures depend on the
-machine, and nothing is judged.
+machine, and nothing is judged. On a virtual machine look at the time that its host stole (`st` of `vmstat`): where it isn't near 0 they say little.
 
 The daemons' files lie in the system's folder of temporary files; TMPDIR=/dev/shm takes the disk, which each start and each 28 signatures wait for, out of
 the figures.
@@ -15,6 +15,7 @@ the figures.
 import os
 import resource
 import socket
+import statistics
 import subprocess
 import sys
 import tempfile
@@ -35,8 +36,8 @@ ON_THEIR_WAY = 4
 BOUNDS = 64, 256
 # how many indexes a line `reserve` of a recording stands for
 RESERVED = 32
-# how many messages are signed in a schedule, and how often it is timed
-SIGNED, ROUNDS = 5_000, 5
+# how many messages are signed in a schedule that is timed
+SIGNED = 2_000
 # a check takes so much of a signature's time, where the front of its signer is remembered (docs/SPEED.md, height 10)
 CHECK = 0.377
 TICKS = os.sysconf("SC_CLK_TCK")
@@ -161,38 +162,38 @@ def signing(sends):
     return header + f"prio 1 2 5 18446744073709551615 0 {PAYLOAD}\n" * sends + "end\n"
 
 
-def spent(program, path, at_once):
-    """The least processor time of one of so many replays of a schedule that run at once."""
-    started = []
-    for _ in range(at_once):
-        with open(path, "rb") as schedule:
-            started.append(subprocess.Popen([program, "replay"], stdin=schedule, stdout=subprocess.DEVNULL))
-    used = [os.wait4(each.pid, 0)[2] for each in started]
-    return min(each.ru_utime + each.ru_stime for each in used)
+def replayed(program, path):
+    """The processor time of a replay."""
+    with open(path, "rb") as schedule:
+        child = subprocess.Popen([program, "replay"], stdin=schedule, stdout=subprocess.DEVNULL)
+    used = os.wait4(child.pid, 0)[2]
+    return used.ru_utime + used.ru_stime
 
 
-def signature_time(program, at_once):
-    """How many seconds of a core a signature takes while so many cores sign."""
+def signature_times(program, until, times):
+    """Times signatures again and again, in seconds of a core."""
     with tempfile.TemporaryDirectory() as folder:
-        least = {}
-        for sends in (0, SIGNED):
-            path = os.path.join(folder, str(sends))
+        paths = {sends: os.path.join(folder, str(sends)) for sends in (0, SIGNED)}
+        for sends, path in paths.items():
             with open(path, "w", encoding="ascii") as file:
                 file.write(signing(sends))
-            least[sends] = min(spent(program, path, at_once) for _ in range(ROUNDS))
-        return (least[SIGNED] - least[0]) / SIGNED
+        while time.monotonic() < until:
+            times.append((replayed(program, paths[SIGNED]) - replayed(program, paths[0])) / SIGNED)
 
 
 def line_of_three(program, seconds):
     """What a line carries, and what one core would that made its signatures and checks and nothing else: each message and each acknowledgement is checked
-    by two daemons."""
+    by two daemons. A signature is timed beside the line."""
+    times = []
+    timer = threading.Thread(target=signature_times, args=(program, time.monotonic() + seconds, times))
+    timer.start()
     rate, signatures = measured(program, "a line of three", line_of(3), [(1, 3)], seconds)
-    signature, acks = signature_time(program, 3), signatures[3] / rate
-    print(f"a line of three: {1e3 * signature:.3f} ms a signature, three at once; {1 + acks:.2f} signatures and {2 + 2 * acks:.2f} checks a message")
-    whole = signature * (1 + acks + CHECK * (2 + 2 * acks))
-    source = signature * (1 + CHECK * acks)
-    print(f"one core that made nothing else allows {1 / whole:.0f} a second: the line carries {rate * whole:.2f} of that")
-    print(f"its source alone, on a core of its own, {1 / source:.0f}: the line carries {rate * source:.2f} of that")
+    timer.join()
+    signature, acks = statistics.median(times), signatures[3] / rate
+    print(f"a line of three: {1e3 * signature:.3f} ms a signature beside it; {1 + acks:.2f} signatures and {2 + 2 * acks:.2f} checks a message")
+    for whose, signed_here, checked in (("of all three daemons", 1 + acks, 2 + 2 * acks), ("of its source", 1, acks)):
+        work = signature * (signed_here + CHECK * checked)
+        print(f"one core that made the signatures and checks {whose} and nothing else allows {1 / work:.0f} a second: the line carries {rate * work:.2f} of that")
 
 
 def recorded(program, seconds):
@@ -223,6 +224,7 @@ def main():
     program, seconds = os.path.abspath(sys.argv[1]), float(sys.argv[2] if len(sys.argv) == 3 else 10)
     hub = (6, [(1, leaf, 10) for leaf in range(2, 7)])
     measured(program, "two idle daemons", line_of(2), [], seconds)
+    measured(program, "an idle hub of five leaves", hub, [], seconds)
     line_of_three(program, seconds)
     measured(program, "a hub of five leaves", hub, [(leaf, leaf % 5 + 2 if leaf < 6 else 2) for leaf in range(2, 7)], seconds)
     recorded(program, seconds)

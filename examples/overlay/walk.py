@@ -13,7 +13,7 @@ import sys
 from overlay import BUILT, Overlay, PROGRAM, line_of, read_graph
 
 FOLDER = os.environ.get("OVERLAY", os.path.join(os.path.dirname(os.path.abspath(__file__)), "run"))
-# a daemon ends by itself after so many turns: a few minutes
+# a daemon ends by itself after so many turns: some twenty minutes where nothing happens
 TURNS = 150_000
 
 
@@ -89,7 +89,7 @@ def start(words):
         send(overlay, last, "are you there?")
         arrives(overlay, last, 3.0)
         print(f"The recording of node {middle}, up to where it was killed: {overlay.verify(middle)[1]}")
-    print("The others go on for a few minutes. Ask them by examples/overlay/ask, and end them by examples/overlay/stop.")
+    print("The others go on for some twenty minutes. Ask them by examples/overlay/ask, and end them by examples/overlay/stop.")
 
 
 def ask(words):

@@ -16,9 +16,6 @@ const WAIT_MS: u64 = 5;
 /// How long it waits where each neighbour has a frame to answer.
 const HOLD_MS: u64 = 40;
 
-/// How long a daemon naps, so that idle ones don't wake each other with each frame.
-const NAP_MS: u64 = 8;
-
 /// The system's sockets of the two sides. A receive of the overlay side naps, waits or does neither, as its pace wants it; one of the
 /// client side doesn't wait, unless it is the only side that is open. A frame isn't sent where its pace wants that: it is lost, as a network
 /// loses some, and what it carried goes again with the next. A datagram from another address than 127.0.0.1 is none, whatever port it comes
@@ -65,7 +62,7 @@ impl<'r, R: Net + Clock> UdpWire<'r, R> {
         };
         let pause = self.pace.pause();
         if pause == Pause::Nap {
-            thread::sleep(self.rt, Duration::from_millis(NAP_MS));
+            thread::sleep(self.rt, Duration::from_millis(self.pace.nap_ms()));
         }
         let wait_ms = wait_of(pause);
         if wait_ms != self.wait_ms && set_wait(socket, wait_ms).is_ok() {
