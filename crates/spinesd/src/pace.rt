@@ -13,11 +13,8 @@ const MOST_NEIGHBOURS: usize = 16;
 /// After so many cycles of its neighbours without a message or a request a daemon is idle.
 const QUIET: u8 = 8;
 
-/// An idle daemon naps so long for each neighbour, once in a cycle, so that idle ones don't wake each other with each frame.
+/// An idle daemon naps so long for itself and for each neighbour, once in a cycle, so that idle ones don't wake each other with each frame.
 const NAP_MS: u64 = 4;
-
-/// It naps at least so long.
-const LEAST_NAP_MS: u64 = 8;
 
 /// So many frames that aren't sent are made while a client asks, before a daemon holds.
 const MOST_AHEAD: u8 = 3;
@@ -123,8 +120,7 @@ impl Pace {
         self.neighbours
             .iter()
             .filter(|neighbour| neighbour.port.is_some())
-            .fold(0_u64, |naps, _| naps.saturating_add(NAP_MS))
-            .max(LEAST_NAP_MS)
+            .fold(NAP_MS, |nap, _| nap.saturating_add(NAP_MS))
     }
 
     fn unsent_to_next(&self) -> u8 {
