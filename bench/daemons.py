@@ -1,12 +1,13 @@
 """What daemons of the built program cost and carry on this machine: python3 bench/daemons.py PATH/TO/spinesd [SECONDS]
 
-Two idle daemons, and an idle hub of five leaves: the share of a core and the memory of each. Then a line of three, whose client at one end sends messages
-of 64 bytes as fast as they are accepted, and one at the other end takes them: how many arrive in a second, with their acknowledgements back, and how much
-of a core each daemon takes. Then that hub, each leaf of which sends to the next over it: the same, and how many datagrams the system dropped at the hub.
-Each runs for SECONDS, 10 if not said. Of the line also the signatures and checks that a message took in all daemons together, and how many messages a
-second one core would allow that made nothing else; a signature is timed beside the line, since the speed of a core changes with what its neighbours do.
-Last two daemons that end by themselves: the processor time of their turns, and that of the verification of what they recorded. Figures depend on the
-machine, and nothing is judged. On a virtual machine look at the time that its host stole (`st` of `vmstat`): where it isn't near 0 they say little.
+Two idle daemons, and an idle hub of five leaves: the share of a core and the memory of each. How long single messages take over idle daemons, of which
+nobody knows that one comes. Then a line of three, whose client at one end sends messages of 64 bytes as fast as they are accepted, and one at the other end
+takes them: how many arrive in a second, with their acknowledgements back, and how much of a core each daemon takes. Then that hub, each leaf of which sends
+to the next over it: the same, and how many datagrams the system dropped at the hub. Each runs for SECONDS, 10 if not said. Of the line also the signatures
+and checks that a message took in all daemons together, and how many messages a second one core would allow that made nothing else; a signature is timed
+beside the line, since the speed of a core changes with what its neighbours do. Last two daemons that end by themselves: the processor time of their turns,
+and that of the verification of what they recorded. Figures depend on the machine, and nothing is judged. On a virtual machine look at the time that its host
+stole (`st` of `vmstat`): where it isn't near 0 they say little.
 
 The daemons' files lie in the system's folder of temporary files; TMPDIR=/dev/shm takes the disk, which each start and each 28 signatures wait for, out of
 the figures.
@@ -32,6 +33,8 @@ RECORDED_TURNS = 8_000
 PAYLOAD = "5a" * 64
 # how many requests of a client are on their way at a time
 ON_THEIR_WAY = 4
+# how many messages are sent one after another over idle daemons
+LONE_MESSAGES = 40
 # the greatest bounds of a daemon: messages of a flow, and entries of a store
 BOUNDS = 64, 256
 # how many indexes a line `reserve` of a recording stands for
@@ -156,6 +159,33 @@ def measured(program, name, graph, ways, seconds):
             overlay.end_all()
 
 
+def delays(program, name, graph, way):
+    """Messages of idle daemons, one after another: how long after its request each was accepted, and taken at its destination, in milliseconds."""
+    source, target = way
+    with tempfile.TemporaryDirectory() as folder:
+        overlay = Overlay(folder, program, BOUNDS)
+        overlay.make(graph)
+        try:
+            for node in overlay.ports:
+                overlay.start(node, MANY_TURNS)
+            time.sleep(2)
+            sender, taker = Client(overlay.ports[source][1]), Client(overlay.ports[target][1])
+            taker.ask("listen")
+            accepted, taken = [], []
+            for _ in range(LONE_MESSAGES):
+                time.sleep(0.3)
+                begin = time.monotonic()
+                sender.ask(f"send {target} {PAYLOAD}")
+                accepted.append(time.monotonic() - begin)
+                while taker.ask(f"take {source}")[0] != "payload":
+                    pass
+                taken.append(time.monotonic() - begin)
+        finally:
+            overlay.end_all()
+        told = ", ".join(f"{word} after {1e3 * statistics.median(each):.1f} ms, at most {1e3 * max(each):.1f}" for word, each in (("accepted", accepted), ("taken", taken)))
+        print(f"{name}: {told}")
+
+
 def signing(sends):
     """A schedule in which so many messages are signed at height 10, and no frame goes."""
     header = f"schedule 1\nseed {'00' * 32}\nheight 10\nbounds 1 256\nnodes 2\nedge 1 2 10\nbegin\n"
@@ -225,6 +255,9 @@ def main():
     hub = (6, [(1, leaf, 10) for leaf in range(2, 7)])
     measured(program, "two idle daemons", line_of(2), [], seconds)
     measured(program, "an idle hub of five leaves", hub, [], seconds)
+    delays(program, "over an idle line of three", line_of(3), (1, 3))
+    delays(program, "over an idle hub of five leaves", hub, (2, 6))
+    delays(program, "over an idle line of eight", line_of(8), (1, 8))
     line_of_three(program, seconds)
     measured(program, "a hub of five leaves", hub, [(leaf, leaf % 5 + 2 if leaf < 6 else 2) for leaf in range(2, 7)], seconds)
     recorded(program, seconds)
