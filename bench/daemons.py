@@ -136,8 +136,9 @@ def signed(overlay, node):
         return RESERVED * sum(line.startswith(b"reserve ") for line in lines)
 
 
-def measured(program, name, graph, ways, seconds):
-    """Runs an overlay, and tells what its daemons carried and took. Gives the messages of a second, and the signatures of each node."""
+def measured(program, name, graph, ways, seconds, times=None):
+    """Runs an overlay, and tells what its daemons carried and took. Gives the messages of a second, and the signatures of each node. Where there is a list
+    of times, signatures are timed beside the messages."""
     with tempfile.TemporaryDirectory() as folder:
         overlay = Overlay(folder, program, BOUNDS)
         overlay.make(graph)
@@ -145,14 +146,19 @@ def measured(program, name, graph, ways, seconds):
             pids = {node: overlay.start(node, MANY_TURNS).pid for node in overlay.ports}
             time.sleep(2)
             before = {node: seconds_of(pid) for node, pid in pids.items()}
-            rate = 0
+            rate, timer = 0, threading.Thread(target=signature_times, args=(program, time.monotonic() + seconds, times))
+            if times is not None:
+                timer.start()
             if ways:
                 rate = carried(overlay, ways, seconds) / seconds
                 print(f"{name}: {rate:.0f} messages a second arrived")
             else:
                 time.sleep(seconds)
+            used = {node: seconds_of(pid) - before[node] for node, pid in pids.items()}
+            if times is not None:
+                timer.join()
             for node, pid in pids.items():
-                share = (seconds_of(pid) - before[node]) / seconds
+                share = used[node] / seconds
                 print(f"{name}, node {node}: {100 * share:.1f} % of a core, {memory_of(pid)} KB, {drops_of(overlay.ports[node][0])} datagrams dropped")
             return rate, {node: signed(overlay, node) / seconds for node in pids}
         finally:
@@ -182,8 +188,8 @@ def delays(program, name, graph, way):
                 taken.append(time.monotonic() - begin)
         finally:
             overlay.end_all()
-        told = ", ".join(f"{word} after {1e3 * statistics.median(each):.1f} ms, at most {1e3 * max(each):.1f}" for word, each in (("accepted", accepted), ("taken", taken)))
-        print(f"{name}: {told}")
+        for word, each in (("accepted", accepted), ("taken", taken)):
+            print(f"{name}: {word} after {1e3 * statistics.median(each):.1f} ms, at most {1e3 * max(each):.1f}")
 
 
 def signing(sends):
@@ -215,15 +221,12 @@ def line_of_three(program, seconds):
     """What a line carries, and what one core would that made its signatures and checks and nothing else: each message and each acknowledgement is checked
     by two daemons. A signature is timed beside the line."""
     times = []
-    timer = threading.Thread(target=signature_times, args=(program, time.monotonic() + seconds, times))
-    timer.start()
-    rate, signatures = measured(program, "a line of three", line_of(3), [(1, 3)], seconds)
-    timer.join()
+    rate, signatures = measured(program, "a line of three", line_of(3), [(1, 3)], seconds, times)
     signature, acks = statistics.median(times), signatures[3] / rate
     print(f"a line of three: {1e3 * signature:.3f} ms a signature beside it; {1 + acks:.2f} signatures and {2 + 2 * acks:.2f} checks a message")
     for whose, signed_here, checked in (("of all three daemons", 1 + acks, 2 + 2 * acks), ("of its source", 1, acks)):
         work = signature * (signed_here + CHECK * checked)
-        print(f"one core that made the signatures and checks {whose} and nothing else allows {1 / work:.0f} a second: the line carries {rate * work:.2f} of that")
+        print(f"one core with nothing but the signatures and checks {whose} allows {1 / work:.0f} a second: the line carries {rate * work:.2f} of that")
 
 
 def recorded(program, seconds):

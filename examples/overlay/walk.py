@@ -17,13 +17,12 @@ FOLDER = os.environ.get("OVERLAY", os.path.join(os.path.dirname(os.path.abspath(
 TURNS = 150_000
 
 
-def has_program():
-    """Whether there is a program to run. The one of this checkout is built first where it is missing, by the kit's `rt`."""
+def build():
+    """Builds the program of this checkout where it is missing, by the kit's `rt`."""
     if PROGRAM == BUILT and not os.path.exists(BUILT) and shutil.which("rt"):
         print("The program isn't built yet. `rt run` proves and builds it, once: some twenty minutes on four cores.", flush=True)
         folder = os.path.dirname(os.path.dirname(BUILT))
         subprocess.run(["rt", "run", "--", "generate", "--seed", "7"], cwd=folder, stdin=subprocess.DEVNULL, stdout=subprocess.DEVNULL, check=False)
-    return os.access(PROGRAM, os.X_OK)
 
 
 def graph_of(words):
@@ -104,7 +103,9 @@ def stop():
 
 def main():
     words = sys.argv[1:]
-    if not has_program():
+    if words[:1] == ["start"]:
+        build()
+    if not os.access(PROGRAM, os.X_OK):
         sys.exit(f"There is no program {PROGRAM}. `cd crates/spinesd && rt run -- generate --seed 7` builds it; another one is named by SPINESD.")
     if words[:1] == ["start"] and len(words) <= 2:
         start(words[1:])
