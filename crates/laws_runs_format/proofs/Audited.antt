@@ -1,5 +1,5 @@
 -- No run of a schedule without forgery breaks a promise that an auditor asks for.
-use Rattle.sp_node_core.specs.Format.{format}
+use Rattle.sp_node_format.specs.Format.{format}
 use Rattle.sp_runs.specs.Scenarios.{setting_of}
 use Rattle.laws_runs.proofs.GoodRuns.{is_good, runs_are_good}
 use Rattle.laws_runs_format.specs.Audited.{ClaimedRunsPassAudits, RunsPassAudits}

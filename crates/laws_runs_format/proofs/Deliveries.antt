@@ -27,7 +27,7 @@ use Rattle.sp_journal.specs.JournalText.{is_delivered, is_delivered_prio}
 use Rattle.sp_journal.specs.declared.entry.Entry.{Entry}
 use Rattle.sp_msg.specs.declared.effect.Effect.{Effect}
 use Rattle.sp_msg.specs.declared.kept.Kept.{Kept}
-use Rattle.sp_node_core.specs.Format.{format}
+use Rattle.sp_node_format.specs.Format.{format}
 use Rattle.sp_rules.proofs.ArrivalLemmas.{of_frame}
 use Rattle.sp_rules.specs.Arrivals.{arrival_at, handled, pieces_in, pieces_where, reply_at, sections_in}
 use Rattle.sp_rules.specs.Node.{NodeState, call_refusal, link_in}

@@ -17,9 +17,9 @@ use Rattle.sp_frame.specs.declared.refused.FrameRefused.{FrameRefused}
 use Rattle.sp_frame.specs.declared.refused.FrameRefused.TheVariants as refusals
 use Rattle.sp_hmac.proofs.Lengths.{length-hmac}
 use Rattle.sp_hmac.specs.Hmac.{hmac}
-use Rattle.sp_node_core.proofs.PolledFrames.{polled_is_read_back, signatures_are_short}
-use Rattle.sp_node_core.specs.Format.{format}
-use Rattle.sp_node_core.specs.PolledFrames.{most_signature}
+use Rattle.sp_node_format.proofs.PolledFrames.{polled_is_read_back, signatures_are_short}
+use Rattle.sp_node_format.specs.Format.{format}
+use Rattle.sp_node_format.specs.PolledFrames.{most_signature}
 use Rattle.sp_rules.specs.Link.{next_head}
 use Rattle.sp_rules.specs.Node.{NodeState, link_in}
 use Rattle.sp_rules.specs.Parts.{Fixed}

@@ -11,8 +11,8 @@ use Rattle.sp_frame.specs.Views.{as_list}
 use Rattle.sp_frame.specs.declared.kind.Kind.{Kind}
 use Rattle.sp_frame.specs.declared.kind.Kind.TheVariants as kinds
 use Rattle.sp_msg.specs.declared.kept.Kept.{Kept}
-use Rattle.sp_node_core.proofs.GoodFields.{fields_pass}
-use Rattle.sp_node_core.specs.Format.{format}
+use Rattle.sp_node_format.proofs.GoodFields.{fields_pass}
+use Rattle.sp_node_format.specs.Format.{format}
 use Rattle.sp_rules.specs.Pieces.{pieces_of}
 use Rattle.laws_node.proofs.Priority.{all_map}
 use Rattle.laws_node.proofs.Tables.{all_weaker}

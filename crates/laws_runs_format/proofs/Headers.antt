@@ -4,7 +4,7 @@ use Rattle.std.specs.List.{range_with_len}
 use Rattle.std.proofs.lemmas.Bool.{cases_Bool, eqb-true}
 use Rattle.sp_base.specs.declared.id.NodeId.{NodeId}
 use Rattle.sp_hss.specs.KeyTree.{public_key, signature_len, total}
-use Rattle.sp_node_core.proofs.FormatFits.{format_fits}
+use Rattle.sp_node_format.proofs.FormatFits.{format_fits}
 use Rattle.sp_sign.specs.Heights.{param_of}
 use Rattle.sp_topology.specs.Keys.{key_of}
 use Rattle.sp_topology.specs.declared.topology.LmsHeight.{LmsHeight}

@@ -1,6 +1,6 @@
 -- All laws of runs, of what a schedule's header makes.
 use Rattle.std.proofs.Common.{List}
-use Rattle.sp_node_core.specs.Format.{format}
+use Rattle.sp_node_format.specs.Format.{format}
 use Rattle.sp_runs.specs.Scenarios.{setting_of}
 use Rattle.sp_runs.specs.Settings.{Setting, SettingFits}
 use Rattle.sp_runs.specs.Runs.{Clean}

@@ -15,9 +15,9 @@ use Rattle.sp_frame.specs.declared.refused.FrameRefused.{FrameRefused}
 use Rattle.sp_hmac.proofs.Lengths.{length-hmac}
 use Rattle.sp_hmac.specs.Hmac.{hmac}
 use Rattle.sp_hss.specs.KeyTree.{signature_len}
-use Rattle.sp_node_core.proofs.PolledFrames.{signatures_are_short}
-use Rattle.sp_node_core.specs.Format.{format}
-use Rattle.sp_node_core.specs.PolledFrames.{most_signature}
+use Rattle.sp_node_format.proofs.PolledFrames.{signatures_are_short}
+use Rattle.sp_node_format.specs.Format.{format}
+use Rattle.sp_node_format.specs.PolledFrames.{most_signature}
 use Rattle.sp_runs.specs.Scenarios.{setting_of}
 use Rattle.sp_sign.specs.Heights.{param_of}
 use Rattle.laws_runs.proofs.Lists.{same_bytes}

@@ -10,7 +10,7 @@ use Rattle.sp_frame.specs.declared.head.Head.{Head}
 use Rattle.sp_msg.proofs.EncodedIsRead.{whole_is_read}
 use Rattle.sp_hmac.proofs.Lengths.{length-hmac}
 use Rattle.sp_hmac.specs.Hmac.{hmac}
-use Rattle.sp_node_core.proofs.GoodFields.{fields_are_good}
+use Rattle.sp_node_format.proofs.GoodFields.{fields_are_good}
 use Rattle.sp_sign.specs.Heights.{param_of}
 use Rattle.laws_runs_format.specs.FormatCarries.{FormatCarries}
 use Rattle.laws_runs_format.proofs.Bytes.{joined, of_tag}

@@ -1,5 +1,5 @@
 -- Each event of a schedule has a turn.
-use Rattle.sp_node_core.specs.Format.{format}
+use Rattle.sp_node_format.specs.Format.{format}
 use Rattle.sp_rules.specs.Masks.{graph_of}
 use Rattle.sp_runs.specs.Scenarios.{setting_of}
 use Rattle.laws_runs.proofs.Turns.{each_event_has_a_turn}

@@ -3,7 +3,7 @@ use Rattle.std.proofs.Common.{◌≡◌, List, [], ◌∷◌, ◌++◌, Option, 
 use Rattle.std.specs.List.{All}
 use Rattle.std.proofs.lemmas.List.Elements.{All-head, All-tail}
 use Rattle.sp_journal.specs.declared.entry.Entry.{Entry}
-use Rattle.sp_node_core.specs.Format.{format}
+use Rattle.sp_node_format.specs.Format.{format}
 use Rattle.sp_runs.specs.Runs.{Clean, InRange, IsForgedAt}
 use Rattle.sp_runs.specs.Scenarios.{setting_of}
 use Rattle.sp_runs.specs.Worlds.{World}
@@ -17,7 +17,7 @@ use Rattle.laws_runs.proofs.Passes.{only_the_adversary}
 use Rattle.laws_runs.specs.Laws.{IsHostile}
 use Rattle.laws_runs_format.specs.Unforged.{HarmlessSchedulesForgeNothing, IsHarmless}
 use Rattle.laws_runs_format.proofs.Headers.{headers_fit, signatures_are_long}
-use Rattle.sp_node_core.proofs.GoodFields.{fields_pass}
+use Rattle.sp_node_format.proofs.GoodFields.{fields_pass}
 use Rattle.laws_runs_format.proofs.ReadBack.{format_carries}
 use Rattle.laws_runs_format.proofs.Schedules.{scheduled_events_are_in_range}
 

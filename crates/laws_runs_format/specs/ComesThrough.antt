@@ -1,6 +1,6 @@
 -- What counted delivery asks of arts, of this format with the signatures of trees of either height.
 use Rattle.sp_hss.specs.KeyTree.{signature_len}
-use Rattle.sp_node_core.specs.Format.{format}
+use Rattle.sp_node_format.specs.Format.{format}
 use Rattle.sp_sign.specs.Heights.{param_of}
 use Rattle.sp_topology.specs.declared.topology.LmsHeight.{LmsHeight}
 use Rattle.laws_runs.specs.Premises.{ComesThrough}

@@ -1,7 +1,7 @@
 -- Counted delivery over this format, in every setting that a schedule's header makes: nothing is asked of what the format writes, and of the header its ranges.
 use Rattle.std.specs.Prelude.{◌≤◌}
 use Rattle.sp_graph.specs.Edges.{IsGraph}
-use Rattle.sp_node_core.specs.Format.{format}
+use Rattle.sp_node_format.specs.Format.{format}
 use Rattle.sp_runs.specs.Scenarios.{setting_of}
 use Rattle.sp_schedule_events.specs.declared.scenario.Scenario.{Scenario}
 use Rattle.laws_progress.specs.Delivery.{DeliversInRounds, ReturnsInRounds}

@@ -1,7 +1,7 @@
 -- What the laws of runs ask of settings, of a schedule's header.
 use Rattle.sp_graph.specs.Edges.{IsGraph}
 use Rattle.sp_topology.specs.Ranges.{IsTopology}
-use Rattle.sp_node_core.specs.Format.{format}
+use Rattle.sp_node_format.specs.Format.{format}
 use Rattle.sp_runs.specs.Scenarios.{setting_of, topology_of}
 use Rattle.sp_runs.specs.Settings.{SettingFits}
 use Rattle.sp_schedule_events.specs.declared.scenario.Scenario.{Scenario}

@@ -4,7 +4,7 @@ use Rattle.sp_frame.specs.declared.frame.TheConstants.{MAX_FRAME_BYTES}
 use Rattle.sp_graph.specs.Edges.{IsGraph}
 use Rattle.sp_journal.specs.JournalText.{delivered_count, priority_count}
 use Rattle.sp_journal.specs.declared.entry.Entry.{Entry}
-use Rattle.sp_node_core.specs.Format.{format}
+use Rattle.sp_node_format.specs.Format.{format}
 use Rattle.sp_runs.specs.Runs.{Clean}
 use Rattle.sp_runs.specs.Scenarios.{setting_of}
 use Rattle.sp_runs.specs.Worlds.{World}

@@ -6,7 +6,7 @@ use Rattle.sp_base.proofs.RowLemmas.{first_where-put, first_where-put_other}
 use Rattle.sp_base.specs.declared.id.NodeId.{NodeId}
 use Rattle.sp_hss.specs.KeyTree.{total}
 use Rattle.sp_msg.specs.Bodies.{encoded}
-use Rattle.sp_node_core.specs.Format.{format}
+use Rattle.sp_node_format.specs.Format.{format}
 use Rattle.sp_runs.specs.Inputs.{crafts, is_craft_of}
 use Rattle.sp_runs.specs.Scenarios.{node_seed, setting_of}
 use Rattle.sp_schedule_events.specs.declared.event.Event.{Event}

@@ -7,7 +7,7 @@ use Rattle.sp_frame.specs.Frames.{frame_bytes, head_bytes, signed_part}
 use Rattle.sp_frame.specs.Sections.{Contents, sections_bytes}
 use Rattle.sp_frame.specs.declared.head.Head.{Head}
 use Rattle.sp_hmac.specs.Hmac.{hmac}
-use Rattle.sp_node_core.specs.Format.{format}
+use Rattle.sp_node_format.specs.Format.{format}
 use Rattle.sp_runs.specs.Inputs.{sealed_frame}
 
 -- before the zeros

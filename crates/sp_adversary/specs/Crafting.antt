@@ -7,7 +7,7 @@ use Rattle.sp_frame.specs.Writing.{IsWritable}
 use Rattle.sp_msg.specs.Bodies.{encoded}
 use Rattle.sp_msg.specs.declared.body.Body.{Body}
 use Rattle.sp_msg.specs.declared.kept.Kept.{Kept}
-use Rattle.sp_node_core.specs.Format.{format}
+use Rattle.sp_node_format.specs.Format.{format}
 use Rattle.sp_runs.specs.Inputs.{crafts}
 use Rattle.sp_runs.specs.Scenarios.{node_seed}
 use Rattle.sp_schedule_events.specs.declared.event.Event.{Event}

@@ -3,7 +3,7 @@ use Rattle.std.specs.Prelude.{◌≡◌, ◌<◌, ◌≤◌, ◌++◌, false, Li
 use Rattle.sp_base.specs.declared.id.NodeId.{NodeId}
 use Rattle.sp_base.specs.declared.memory.Memory.{Memory}
 use Rattle.sp_msg.specs.declared.body.Body.{Body}
-use Rattle.sp_node_core.specs.Format.{format}
+use Rattle.sp_node_format.specs.Format.{format}
 use Rattle.sp_runs.specs.Inputs.{crafted_object, crafts, is_craft_of}
 use Rattle.sp_runs.specs.Scenarios.{setting_of}
 use Rattle.sp_schedule_events.specs.declared.event.Event.{Event}

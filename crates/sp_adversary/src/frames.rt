@@ -4,7 +4,7 @@ ghost use Rattle.sp_frame.specs.Frames.{frame_bytes, signed_part};
 ghost use Rattle.sp_frame.specs.Writing.{IsWritable};
 ghost use Rattle.sp_frame.specs.declared.frame.TheConstants.{TAG_BYTES};
 ghost use Rattle.sp_hmac.specs.Hmac.{hmac};
-ghost use Rattle.sp_node_core.specs.Format.{format};
+ghost use Rattle.sp_node_format.specs.Format.{format};
 ghost use Rattle.sp_runs.specs.Inputs.{counter_after, object_alone, sealed_frame, slot_alone};
 
 use sp_base::{Bytes, Flow, Four, Memory, NodeId};

@@ -3,3 +3,4 @@ pub mod RefusalLemmas
 pub mod RowLemmas
 pub mod ListLemmas
 pub mod FewLemmas
+pub mod FormatLemmas

@@ -1,4 +1,5 @@
 pub mod Cursor
+pub mod Formats
 pub mod Lending
 pub mod Reading
 pub mod Refusals

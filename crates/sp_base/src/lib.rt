@@ -2,6 +2,7 @@
 #![tactic(auto)]
 
 mod cursor;
+mod format;
 mod four;
 mod id;
 mod limits;
@@ -12,11 +13,13 @@ mod reader;
 mod room;
 
 pub use cursor::Cursor;
+pub use format::{FORMAT_1, FORMAT_2, max_edges, max_nodes, max_rels};
 pub use four::Four;
 pub use id::{EdgeId, Flow, Limits, NodeId};
 pub use limits::{
-    MAX_BUFFER, MAX_EDGES, MAX_EVENTS, MAX_INPUT_BYTES, MAX_LINE_BYTES, MAX_MESSAGES, MAX_NODES,
-    MAX_PAYLOAD_BYTES, MAX_PRIORITY, MAX_SEQ, MAX_STORE, MAX_WEIGHT,
+    MAX_BUFFER, MAX_EDGES, MAX_EDGES_2, MAX_EVENTS, MAX_INPUT_BYTES, MAX_LINE_BYTES, MAX_MESSAGES,
+    MAX_NODES, MAX_NODES_2, MAX_PAYLOAD_BYTES, MAX_PRIORITY, MAX_RELS_2, MAX_SEQ, MAX_STORE,
+    MAX_WEIGHT,
 };
 pub use listed::{Bytes, Listed};
 pub use memory::Memory;

@@ -4,7 +4,7 @@ use Rattle.sp_client.specs.Locals.{StepsBy, sent}
 use Rattle.sp_client.specs.declared.answer.Answer.{Answer}
 use Rattle.sp_client.specs.declared.answer.Answer.TheVariants as answers
 use Rattle.sp_client.specs.declared.request.Command.{Command}
-use Rattle.sp_node_core.specs.Format.{format}
+use Rattle.sp_node_format.specs.Format.{format}
 use Rattle.sp_msg.specs.Caused.{Caused}
 use Rattle.sp_msg.specs.declared.refused.SendRefused.{SendRefused}
 use Rattle.sp_msg.specs.declared.refused.SendRefused.TheVariants as refusals

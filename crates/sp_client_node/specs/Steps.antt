@@ -6,7 +6,7 @@ use Rattle.sp_client.specs.declared.answer.Answer.{Answer}
 use Rattle.sp_client.specs.declared.answer.Answer.TheVariants as answers
 use Rattle.sp_client.specs.declared.request.Command.{Command}
 use Rattle.sp_client.specs.declared.request.Command.TheVariants as commands
-use Rattle.sp_node_core.specs.Format.{format}
+use Rattle.sp_node_format.specs.Format.{format}
 use Rattle.sp_msg.specs.Caused.{Caused}
 use Rattle.sp_msg.specs.declared.effect.Effect.{Effect}
 use Rattle.sp_node_state.specs.States.{is_other}

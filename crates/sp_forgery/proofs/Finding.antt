@@ -21,7 +21,7 @@ use Rattle.sp_runs.specs.Forgery.{forged_object}
 use Rattle.sp_runs.specs.Settings.{Setting}
 use Rattle.sp_journal.specs.declared.entry.Entry.{Entry}
 use Rattle.sp_schedule_events.specs.declared.event.Event.{Event}
-use Rattle.sp_node_core.specs.Format.{format}
+use Rattle.sp_node_format.specs.Format.{format}
 use Rattle.sp_forgery.specs.Found.{found_at}
 use Rattle.sp_forgery.specs.Turns.{forged_in_turn}
 use Rattle.laws_node.proofs.Objects.{objects_are_answered}

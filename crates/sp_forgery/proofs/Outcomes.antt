@@ -14,7 +14,7 @@ use Rattle.sp_runs.specs.Worlds.{Direction, World, frames_in}
 use Rattle.sp_journal.specs.declared.entry.Entry.{Entry}
 use Rattle.sp_schedule_events.specs.declared.event.Event.{Event}
 use Rattle.sp_runs.specs.declared.what.What.TheVariants as whats
-use Rattle.sp_node_core.specs.Format.{format}
+use Rattle.sp_node_format.specs.Format.{format}
 use Rattle.sp_forgery.specs.Found.{Answered}
 
 reply_is : (n new : NodeState) (u : NodeId) (bytes : List ℕ) (step : Step Taken) → call_refusal n u ≡ None → Answered n u bytes step new

@@ -3,7 +3,7 @@ use Rattle.std.proofs.Common.{◌≡◌, ℕ, List, [], ◌∷◌, ◌++◌, map
 use Rattle.laws_node.specs.Objects.{objects_in}
 use Rattle.sp_base.specs.declared.id.Flow.{Flow}
 use Rattle.sp_msg.specs.declared.kept.Kept.{Kept}
-use Rattle.sp_node_core.specs.Format.{format}
+use Rattle.sp_node_format.specs.Format.{format}
 use Rattle.sp_rules.specs.Pieces.{AckPiece, PrioAckPiece, RelPiece, WeightPiece, pieces_of, prio_piece, slot_pieces}
 use Rattle.sp_rules.specs.declared.answers.Item.{Item}
 use Rattle.std.specs.Prelude.{option_map}

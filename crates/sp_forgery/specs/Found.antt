@@ -6,7 +6,7 @@ use Rattle.sp_frame.specs.Sections.{Contents}
 use Rattle.sp_frame.specs.declared.refused.FrameRefused.{FrameRefused}
 use Rattle.sp_frame.specs.declared.refused.SectionRefused.{SectionRefused}
 use Rattle.sp_journal.specs.declared.entry.Entry.{Entry}
-use Rattle.sp_node_core.specs.Format.{format}
+use Rattle.sp_node_format.specs.Format.{format}
 use Rattle.sp_rules.specs.Arrivals.{handled}
 use Rattle.sp_rules.specs.Node.{NodeState}
 use Rattle.sp_rules.specs.Pieces.{pieces_of}

@@ -5,7 +5,7 @@ use Rattle.sp_frame.specs.declared.sections.Slot.{Slot}
 use Rattle.sp_journal.specs.declared.entry.Entry.{Entry}
 use Rattle.sp_msg.specs.Bodies.{encoded}
 use Rattle.sp_msg.specs.declared.kept.Kept.{Kept}
-use Rattle.sp_node_core.specs.Format.{format}
+use Rattle.sp_node_format.specs.Format.{format}
 use Rattle.sp_rules.specs.declared.answers.Item.{Item}
 use Rattle.sp_runs.specs.Forgery.{is_forged}
 use Rattle.sp_runs.specs.Settings.{Setting}

@@ -2,7 +2,7 @@
 ghost use Rattle.std.specs.Prelude.{◌≡◌, ◌≤◌, [], IfSome, None as Nothing, length, map, option_map, vec_capacity};
 ghost use Rattle.sp_frame.specs.Frames.{opened, sections_part};
 ghost use Rattle.sp_frame.specs.Sections.{sections_of};
-ghost use Rattle.sp_node_core.specs.Format.{format};
+ghost use Rattle.sp_node_format.specs.Format.{format};
 ghost use Rattle.sp_rules.specs.Arrivals.{handled, reply_at};
 ghost use Rattle.sp_rules.specs.Node.{NodeState, call_refusal};
 ghost use Rattle.sp_base.specs.declared.id.NodeId.{NodeId};

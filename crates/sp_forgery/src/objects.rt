@@ -5,7 +5,7 @@ ghost use Rattle.sp_frame.specs.Views.{as_contents, as_list, as_object};
 ghost use Rattle.sp_msg.specs.Bodies.{encoded, read_body};
 ghost use Rattle.sp_msg.specs.Views.{as_body};
 ghost use Rattle.sp_msg.specs.declared.kept.Kept.{Kept};
-ghost use Rattle.sp_node_core.specs.Format.{format};
+ghost use Rattle.sp_node_format.specs.Format.{format};
 ghost use Rattle.sp_rules.specs.Answers.{is_new};
 ghost use Rattle.sp_rules.specs.Pieces.{pieces_of};
 ghost use Rattle.sp_runs.specs.Forgery.{is_forged};

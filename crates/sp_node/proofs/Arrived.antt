@@ -2,7 +2,7 @@
 use Rattle.std.proofs.Common.{◌≡◌, ◌∙◌, ℕ, List, map, Option, None, Ok, sym, ap}
 use Rattle.sp_base.specs.declared.id.NodeId.{NodeId}
 use Rattle.sp_node_arrivals.specs.Admitted.{IsAdmitted}
-use Rattle.sp_node_core.specs.Format.{format}
+use Rattle.sp_node_format.specs.Format.{format}
 use Rattle.sp_msg.specs.declared.effect.Effect.{Effect}
 use Rattle.sp_msg.specs.declared.kept.Kept.{Kept}
 use Rattle.sp_rules.specs.Arrivals.{after_datagram, arrival_at, handled, link_after, pieces_in, pieces_where, reply_at, sections_in}

@@ -9,7 +9,7 @@ use Rattle.sp_frame.specs.Sections.{Contents, sections_bytes}
 use Rattle.sp_frame.specs.declared.head.Head.{Head}
 use Rattle.sp_hmac.specs.Hmac.{hmac}
 use Rattle.sp_link.specs.Sealing.{sealed}
-use Rattle.sp_node_core.specs.Format.{format}
+use Rattle.sp_node_format.specs.Format.{format}
 use Rattle.sp_rules.specs.Link.{Link, next_head}
 use Rattle.sp_rules.specs.Node.{NodeState, link_in}
 use Rattle.sp_rules.specs.Polls.{contents_to, frame_to}

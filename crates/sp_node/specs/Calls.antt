@@ -2,7 +2,7 @@
 -- the rules refuse the call for no other cause.
 use Rattle.std.specs.Prelude.{ℕ, ◌≡◌, List, [], Option, None, Result, Ok, Err}
 use Rattle.sp_base.specs.declared.id.NodeId.{NodeId}
-use Rattle.sp_node_core.specs.Format.{format}
+use Rattle.sp_node_format.specs.Format.{format}
 use Rattle.sp_msg.specs.declared.effect.Why.TheVariants.{Taken as TakenAway}
 use Rattle.sp_rules.specs.Arrivals.{handled}
 use Rattle.sp_rules.specs.Node.{NodeState, call_refusal}

@@ -1,7 +1,7 @@
 // A poll: the next frame to a neighbour.
 ghost use Rattle.std.specs.Prelude.{◌≡◌, ◌<◌, ◌≤◌, ◌+◌, ◌^◌, All, IfOk, Some as There, length, position, replicate};
 ghost use Rattle.laws_node.specs.Nodes.{IsKept};
-ghost use Rattle.sp_node_core.specs.Format.{format};
+ghost use Rattle.sp_node_format.specs.Format.{format};
 ghost use Rattle.sp_frame.specs.Frames.{frame_bytes};
 ghost use Rattle.sp_frame.specs.Ranges.{IsContents};
 ghost use Rattle.sp_node.specs.Calls.{Polls};
@@ -20,7 +20,7 @@ ghost use Rattle.sp_rules.specs.Weights.{moved};
 use sp_base::{Bytes, Memory, NodeId};
 use sp_frame::{Head, write};
 use sp_link::Link;
-use sp_node_core::{Core, Fixed};
+use sp_node_parts::{Parts, Fixed};
 use sp_node_state::State;
 use sp_rules::NodeRefused;
 use sp_topology::NodeKey;
@@ -75,7 +75,7 @@ fn unsealed(
     alloc: Global,
     head: &Head,
     fixed: &Fixed,
-    core: &Core,
+    core: &Parts,
     v: NodeId,
 ) -> Result<Bytes, Memory>
     requires contents { IsContents fixed.now.signature_len (contents_to fixed.now core.now v) }
@@ -92,7 +92,7 @@ fn unsealed(
 }
 
 /// What was next in turn of each part went to a neighbour, the node in this place.
-fn moved(core: &mut Core, at: usize, v: NodeId)
+fn moved(core: &mut Parts, at: usize, v: NodeId)
     requires { (peer_in core.old.prio v.0).number + MAX_MESSAGES ≤ 2 ^ 63 }
     ensures { core.new ≡ record { weights = moved core.old.weights at; prio = carried core.old.prio v.0; rel = served core.old.rel v } }
 {

@@ -1,7 +1,7 @@
 // A tick: the time goes on, what expired leaves, and the acknowledgement that is due is signed.
 ghost use Rattle.std.specs.Prelude.{◌≡◌, ◌≤◌, ◌+◌, ◌-◌, ◌++◌, IfOk, IsOk, [], None as Nothing};
 ghost use Rattle.laws_node.specs.Nodes.{IsKept};
-ghost use Rattle.sp_node_core.specs.Format.{format};
+ghost use Rattle.sp_node_format.specs.Format.{format};
 ghost use Rattle.sp_node.specs.Calls.{Ticks};
 ghost use Rattle.sp_node.specs.Ready.{IsDue, told_of};
 ghost use Rattle.sp_rules.specs.Prio.{expired, expired_effects, expiring};
@@ -12,7 +12,7 @@ ghost use Rattle.sp_rules.specs.Told.{told};
 
 use sp_base::Memory;
 use sp_msg::{Ack, Body, Effect, Effects, SendRefused};
-use sp_node_core::Core;
+use sp_node_parts::Parts;
 use sp_node_state::State;
 use sp_rules::{NodeRefused, Step, TickReply};
 use sp_sign::Blank;
@@ -102,7 +102,7 @@ fn settle(state: &mut State, owed: Due, effects: &mut Effects) -> TickReply
 }
 
 /// The acknowledgement that is due.
-fn due_of(core: &Core) -> Option<Ack>
+fn due_of(core: &Parts) -> Option<Ack>
     ensures { result ≡ due core.now.rel }
 {
     core.rel.due()
@@ -110,7 +110,7 @@ fn due_of(core: &Core) -> Option<Ack>
 
 /// What expired before this time leaves.
 #[tactic(auto, using(crate::proofs::Expired::expired_length))]
-fn expire(core: &mut Core, time: u64, effects: &mut Effects)
+fn expire(core: &mut Parts, time: u64, effects: &mut Effects)
     requires { expiring core.old.prio time ≤ effects.old.room }
     ensures core { core.new ≡ record core.old { prio = expired core.old.prio time } }
     ensures list { effects.new.list ≡ effects.old.list ++ expired_effects core.old.prio time }

@@ -8,7 +8,7 @@ use Rattle.sp_msg.specs.Bodies.{HasGoodFields, encoded, read_body}
 use Rattle.sp_msg.specs.declared.body.Body.{Body}
 use Rattle.sp_rules.specs.Parts.{is_signed_by}
 use Rattle.sp_sign.specs.Checks.{IsSigned}
-use Rattle.sp_node_core.specs.Format.{format}
+use Rattle.sp_node_format.specs.Format.{format}
 
 pub good_fields : (bytes : List ℕ) (body : Body) → AreBytes bytes → read_body bytes ≡ Ok body → HasGoodFields body
 good_fields bytes body are e = (read_is_encoded bytes body are e).1

@@ -25,7 +25,7 @@ use Rattle.sp_rules.specs.declared.rel.RelJudged.TheVariants as rels
 use Rattle.sp_rules.specs.declared.weights.Offer.TheVariants as offers
 use Rattle.sp_topology.specs.Keys.{key_of}
 use Rattle.sp_topology.specs.declared.topology.NodeKey.{NodeKey}
-use Rattle.sp_node_core.specs.Format.{format}
+use Rattle.sp_node_format.specs.Format.{format}
 use Rattle.sp_node_arrivals.specs.declared.ready.Ready.{Ready}
 use Rattle.sp_node_arrivals.specs.declared.ready.SlotReady.{SlotReady}
 

@@ -6,7 +6,7 @@ ghost use Rattle.sp_rules.specs.Handle.{handle_all};
 ghost use Rattle.sp_rules.specs.Pieces.{PrioPiece, WeightPiece, pieces_of, prio_piece};
 ghost use Rattle.sp_node_arrivals.specs.Done.{IsDone, items_of};
 ghost use Rattle.sp_node_arrivals.specs.Arrival.{as_arrival};
-ghost use Rattle.sp_node_core.specs.Format.{format};
+ghost use Rattle.sp_node_format.specs.Format.{format};
 ghost use Rattle.sp_node_arrivals.specs.Ready.{ArePriosReady, IsPrioReady, IsReady, IsWeightReady};
 ghost use Rattle.sp_node_arrivals.specs.Rooms.{HasIds, HasRoom, frame_room, prio_room};
 
@@ -16,14 +16,14 @@ use crate::{Arrival, Ready, recall};
 use sp_base::Four;
 use sp_frame::{ObjectRef, Sections};
 use sp_msg::{Effects, Kept};
-use sp_node_core::Core;
+use sp_node_parts::Parts;
 use sp_prio::Parcel;
 use sp_rules::Item;
 
 /// Takes the objects of a frame in the order of the rules.
 pub(crate) fn admit(
     at: &Arrival<'_>,
-    core: &mut Core,
+    core: &mut Parts,
     sections: &Sections<'_>,
     ready: Ready,
     out: &mut Effects,
@@ -53,7 +53,7 @@ pub(crate) fn admit(
 
 fn admit_weights(
     at: &Arrival<'_>,
-    core: &mut Core,
+    core: &mut Parts,
     weight: &Option<ObjectRef<'_>>,
     ready: Option<Kept>,
     out: &mut Effects,
@@ -76,7 +76,7 @@ fn admit_weights(
 
 fn admit_weight(
     at: &Arrival<'_>,
-    core: &mut Core,
+    core: &mut Parts,
     object: &ObjectRef<'_>,
     ready: Option<Kept>,
     out: &mut Effects,
@@ -99,7 +99,7 @@ fn admit_weight(
 /// The priority messages from this place on.
 fn admit_prios(
     at: &Arrival<'_>,
-    core: &mut Core,
+    core: &mut Parts,
     prios: &Four<(u64, ObjectRef<'_>)>,
     place: usize,
     ready: Four<Option<Parcel>>,
@@ -127,7 +127,7 @@ fn admit_prios(
 
 fn admit_prio(
     at: &Arrival<'_>,
-    core: &mut Core,
+    core: &mut Parts,
     number: u64,
     object: &ObjectRef<'_>,
     ready: Option<Parcel>,

@@ -1,6 +1,6 @@
 // Where the objects of a frame come to.
 use sp_base::NodeId;
-use sp_node_core::Fixed;
+use sp_node_parts::Fixed;
 
 /// The node that a frame comes to, when, and from which neighbour.
 #[derive(Clone, Copy, Debug)]

@@ -5,7 +5,7 @@ ghost use Rattle.sp_frame.specs.Views.{as_contents, as_list};
 ghost use Rattle.sp_rules.specs.Handle.{handle_all};
 ghost use Rattle.sp_rules.specs.Pieces.{pieces_of};
 ghost use Rattle.sp_node_arrivals.specs.Done.{items_of};
-ghost use Rattle.sp_node_core.specs.Format.{format};
+ghost use Rattle.sp_node_format.specs.Format.{format};
 ghost use Rattle.sp_node_arrivals.specs.Admitted.{IsAdmitted};
 ghost use Rattle.sp_node_arrivals.specs.Arrival.{as_arrival};
 ghost use Rattle.sp_node_arrivals.specs.Ready.{IsReady};
@@ -19,7 +19,7 @@ use crate::{Arrival, Ready, make_ready};
 use sp_base::{Four, Listed, MAX_MESSAGES, Memory, NodeId, push_in_room};
 use sp_frame::Sections;
 use sp_msg::Effects;
-use sp_node_core::{Core, Fixed};
+use sp_node_parts::{Parts, Fixed};
 use sp_rules::Item;
 use sp_sign::Checker;
 use std::alloc::Global;
@@ -39,7 +39,7 @@ pub struct Arrived {
 pub fn arrive(
     alloc: Global,
     fixed: &Fixed,
-    core: &mut Core,
+    core: &mut Parts,
     checker: &mut Checker,
     now: u64,
     from: NodeId,
@@ -74,7 +74,7 @@ struct Room {
 }
 
 /// No effects and no answers yet, with room for all that a frame can give.
-fn room_for(alloc: Global, core: &Core) -> Result<Room, Memory>
+fn room_for(alloc: Global, core: &Parts) -> Result<Room, Memory>
     ensures effects { IfOk result (λ room. room.effects ≡ record { list = []; room = frame_room core.now.prio }) }
     ensures empty { IfOk result (λ room. room.items.items ≡ []) }
     ensures items { IfOk result (λ room. MOST_OBJECTS ≤ vec_capacity room.items) }
@@ -87,7 +87,7 @@ fn room_for(alloc: Global, core: &Core) -> Result<Room, Memory>
 /// Takes the objects that were made ready, in the order of the rules. It takes no memory.
 fn taken(
     at: &Arrival<'_>,
-    core: &mut Core,
+    core: &mut Parts,
     sections: &Sections<'_>,
     ready: Ready,
     room: Room,
@@ -110,7 +110,7 @@ fn taken(
 }
 
 /// No effects yet, with room for all that a frame can cause.
-fn with_room(alloc: Global, core: &Core) -> Result<Effects, Memory>
+fn with_room(alloc: Global, core: &Parts) -> Result<Effects, Memory>
     ensures { IfOk result (λ effects. effects ≡ record { list = []; room = frame_room core.now.prio }) }
 {
     let of_a_message = 2 * core.prio.neighbours() + 3;

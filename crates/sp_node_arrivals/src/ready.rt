@@ -16,7 +16,7 @@ use crate::signed::{copy_of, is_right, payload_of};
 use sp_base::{Bytes, Flow, Four, Memory};
 use sp_frame::{ObjectRef, Sections, Slot};
 use sp_msg::{BodyRef, Kept};
-use sp_node_core::Core;
+use sp_node_parts::Parts;
 use sp_prio::{Parcel, PrioJudged};
 use sp_rel::{AckJudged, RelJudged, Seat};
 use sp_rules::Offer;
@@ -43,7 +43,7 @@ pub struct Ready {
 pub fn make_ready(
     alloc: Global,
     at: &Arrival<'_>,
-    core: &Core,
+    core: &Parts,
     checker: &mut Checker,
     sections: &Sections<'_>,
 ) -> Result<Ready, Memory>
@@ -60,7 +60,7 @@ pub fn make_ready(
 fn ready_sections(
     alloc: Global,
     at: &Arrival<'_>,
-    core: &Core,
+    core: &Parts,
     checker: &mut Checker,
     sections: &Sections<'_>,
 ) -> Result<Ready, Memory>
@@ -98,7 +98,7 @@ fn leave(ready: Four<Option<Parcel>>) {
 fn ready_weight(
     alloc: Global,
     at: &Arrival<'_>,
-    core: &Core,
+    core: &Parts,
     checker: &mut Checker,
     object: &ObjectRef<'_>,
 ) -> Result<Option<Kept>, Memory>
@@ -122,7 +122,7 @@ fn ready_weight(
 fn ready_prios(
     alloc: Global,
     at: &Arrival<'_>,
-    core: &Core,
+    core: &Parts,
     checker: &mut Checker,
     prios: &Four<(u64, ObjectRef<'_>)>,
     place: usize,
@@ -145,7 +145,7 @@ fn ready_prios(
 fn ready_prio(
     alloc: Global,
     at: &Arrival<'_>,
-    core: &Core,
+    core: &Parts,
     checker: &mut Checker,
     object: &ObjectRef<'_>,
 ) -> Result<Option<Parcel>, Memory>
@@ -169,7 +169,7 @@ fn ready_prio(
 fn ready_slots(
     alloc: Global,
     at: &Arrival<'_>,
-    core: &Core,
+    core: &Parts,
     checker: &mut Checker,
     slot: &Option<Slot<'_>>,
 ) -> Result<SlotReady, Memory>
@@ -191,7 +191,7 @@ fn ready_slots(
 fn ready_slot(
     alloc: Global,
     at: &Arrival<'_>,
-    core: &Core,
+    core: &Parts,
     checker: &mut Checker,
     slot: &Slot<'_>,
 ) -> Result<SlotReady, Memory>
@@ -219,7 +219,7 @@ fn ready_slot(
 
 fn ready_ack(
     alloc: Global,
-    core: &Core,
+    core: &Parts,
     checker: &mut Checker,
     flow: Flow,
     object: &ObjectRef<'_>,
@@ -243,7 +243,7 @@ fn ready_ack(
 /// The messages from this place on. `moved` is whether something that is ready comes before them in the slot.
 fn ready_rels(
     alloc: Global,
-    core: &Core,
+    core: &Parts,
     checker: &mut Checker,
     flow: Flow,
     rels: &Four<ObjectRef<'_>>,
@@ -268,7 +268,7 @@ fn ready_rels(
 
 fn ready_rel(
     alloc: Global,
-    core: &Core,
+    core: &Parts,
     checker: &mut Checker,
     flow: Flow,
     object: &ObjectRef<'_>,
@@ -292,7 +292,7 @@ fn ready_rel(
 }
 
 /// What is said of the acknowledgement of a slot, but for its signature.
-fn judge_ack_of(core: &Core, flow: Flow, body: &BodyRef<'_>) -> AckJudged
+fn judge_ack_of(core: &Parts, flow: Flow, body: &BodyRef<'_>) -> AckJudged
     ensures { result ≡ judge_ack_of core.now.rel flow (as_body body.now) }
 {
     match body {
@@ -302,7 +302,7 @@ fn judge_ack_of(core: &Core, flow: Flow, body: &BodyRef<'_>) -> AckJudged
 }
 
 /// What is said of a message of a slot, but for its signature.
-fn judge_rel_of(core: &Core, flow: Flow, body: &BodyRef<'_>) -> RelJudged
+fn judge_rel_of(core: &Parts, flow: Flow, body: &BodyRef<'_>) -> RelJudged
     ensures { result ≡ judge_rel_of core.now.rel flow (as_body body.now) }
 {
     match body {
@@ -325,7 +325,7 @@ fn may_be_new(moved: bool, judged: RelJudged) -> bool
 }
 
 /// The memory that the flow needs where it isn't active yet.
-fn seat_of(alloc: Global, core: &Core, flow: Flow) -> Result<Seat, Memory>
+fn seat_of(alloc: Global, core: &Parts, flow: Flow) -> Result<Seat, Memory>
     ensures { IfOk result (IsSeated core.now.rel flow) }
 {
     match core.rel.seat(alloc, flow) {

@@ -7,7 +7,7 @@ ghost use Rattle.sp_rules.specs.Handle.{handle_all};
 ghost use Rattle.sp_rules.specs.Pieces.{AckPiece, RelPiece, slot_pieces};
 ghost use Rattle.sp_node_arrivals.specs.Done.{IsDone, slot_items};
 ghost use Rattle.sp_node_arrivals.specs.Arrival.{as_arrival};
-ghost use Rattle.sp_node_core.specs.Format.{format};
+ghost use Rattle.sp_node_format.specs.Format.{format};
 ghost use Rattle.sp_node_arrivals.specs.Ready.{AreRelsReady, IsAckReady, IsRelReady, IsSlotReady, StaysReady};
 
 use crate::answers::SlotAnswers;
@@ -15,14 +15,14 @@ use crate::{Arrival, SlotReady, recall};
 use sp_base::{Bytes, Flow, Four};
 use sp_frame::{ObjectRef, Slot};
 use sp_msg::{Effects, Kept};
-use sp_node_core::Core;
+use sp_node_parts::Parts;
 use sp_rel::Seat;
 use sp_rules::Item;
 
 /// Takes the slot of a frame, where it has one.
 pub(crate) fn admit_slot(
     at: &Arrival<'_>,
-    core: &mut Core,
+    core: &mut Parts,
     slot: &Option<Slot<'_>>,
     ready: SlotReady,
     out: &mut Effects,
@@ -55,7 +55,7 @@ fn leave(ready: Four<Option<(Kept, Bytes, Seat)>>) {
 
 fn admit_report(
     at: &Arrival<'_>,
-    core: &mut Core,
+    core: &mut Parts,
     slot: &Slot<'_>,
     ready: SlotReady,
     out: &mut Effects,
@@ -75,7 +75,7 @@ fn admit_report(
 
 fn admit_acks(
     at: &Arrival<'_>,
-    core: &mut Core,
+    core: &mut Parts,
     flow: Flow,
     ack: &Option<ObjectRef<'_>>,
     ready: Option<(Kept, Seat)>,
@@ -94,7 +94,7 @@ fn admit_acks(
 
 fn admit_ack(
     at: &Arrival<'_>,
-    core: &mut Core,
+    core: &mut Parts,
     flow: Flow,
     object: &ObjectRef<'_>,
     ready: Option<(Kept, Seat)>,
@@ -113,7 +113,7 @@ fn admit_ack(
 /// The messages from this place on.
 fn admit_rels(
     at: &Arrival<'_>,
-    core: &mut Core,
+    core: &mut Parts,
     flow: Flow,
     rels: &Four<ObjectRef<'_>>,
     place: usize,
@@ -140,7 +140,7 @@ fn admit_rels(
 
 fn admit_rel(
     at: &Arrival<'_>,
-    core: &mut Core,
+    core: &mut Parts,
     flow: Flow,
     object: &ObjectRef<'_>,
     ready: Option<(Kept, Bytes, Seat)>,

@@ -1,7 +1,7 @@
 -- The arts of the format fit a node whose signer has the key that its topology has for it.
 use Rattle.std.proofs.Common.{◌∙◌, Some, ap}
-use Rattle.sp_node_core.proofs.FormatFits.{format_fits}
-use Rattle.sp_node_core.specs.Format.{format}
+use Rattle.sp_node_format.proofs.FormatFits.{format_fits}
+use Rattle.sp_node_format.specs.Format.{format}
 use Rattle.sp_hss.specs.KeyTree.{public_key, signature_len, total}
 use Rattle.sp_lms.specs.declared.param.LmsParam.{LmsParam}
 use Rattle.sp_rules.specs.Parts.{Fixed}

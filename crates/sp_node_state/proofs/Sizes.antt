@@ -1,6 +1,6 @@
 -- The bounds of a node, under the arts of the format.
 use Rattle.std.specs.Prelude.{IsTrue}
-use Rattle.sp_node_core.specs.Format.{format}
+use Rattle.sp_node_format.specs.Format.{format}
 use Rattle.sp_rules.specs.Node.{NodeState}
 use Rattle.sp_rules.specs.Parts.{is_signed}
 use Rattle.laws_node.specs.Nodes.{sizes_of}

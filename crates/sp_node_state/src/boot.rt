@@ -12,7 +12,7 @@ ghost use Rattle.sp_topology.specs.Ranges.{IsTopology};
 use crate::state::State;
 use sp_base::{EdgeId, Limits, Listed, Memory, NodeId};
 use sp_link::Link;
-use sp_node_core::{Core, Fixed};
+use sp_node_parts::{Parts, Fixed};
 use sp_rules::NodeRefused;
 use sp_sign::{NodeSigner, param_of};
 use sp_topology::{Edge, LmsHeight, Topology};
@@ -117,7 +117,7 @@ impl State {
             signature_len: signer.signature_len(),
         };
         let links = links_of(alloc, &fixed, keys.as_slice())?;
-        let core = Core::new(alloc, me, &fixed.topology, limits)?;
+        let core = Parts::new(alloc, me, &fixed.topology, limits)?;
         let _reserved = (signer.index(), signer.bound());
         Ok(State {
             fixed,

@@ -3,7 +3,7 @@ ghost use Rattle.std.specs.Prelude.{ℕ, ◌≡◌, ◌≢◌, ◌≤◌, ◌<�
 ghost use Rattle.sp_base.specs.declared.limits.TheConstants.{MAX_WEIGHT};
 ghost use Rattle.laws_node.specs.Inputs.{PrioSendFits};
 ghost use Rattle.laws_node.specs.Nodes.{IsKept};
-ghost use Rattle.sp_node_core.specs.Format.{format};
+ghost use Rattle.sp_node_format.specs.Format.{format};
 ghost use Rattle.sp_node_state.specs.Fewer.{SaysFewer};
 ghost use Rattle.sp_msg.specs.Bodies.{HasGoodFields};
 ghost use Rattle.sp_node_state.specs.Sends.{Sends};
@@ -24,7 +24,7 @@ ghost use Rattle.sp_topology.specs.Ranges.{IsTopology};
 use crate::{NoMask, State, mask_to};
 use sp_base::{Bytes, Memory, NodeId};
 use sp_msg::{Body, Effect, Effects, Kept, Mask, Prio, SendRefused};
-use sp_node_core::{Core, Fixed};
+use sp_node_parts::{Parts, Fixed};
 use sp_paths::PathBook;
 use sp_prio::Spare;
 use sp_rules::Step;
@@ -189,7 +189,7 @@ fn choose(
     book: &mut PathBook,
     alloc: Global,
     fixed: &Fixed,
-    core: &Core,
+    core: &Parts,
     message: &PrioSend<'_>,
 ) -> Result<Mask, NoMask>
     requires topology { IsTopology fixed.now.topology }
@@ -214,7 +214,7 @@ fn choose(
 }
 
 /// Puts a message that is signed into its places, with the copies that were made before.
-fn place_own(core: &mut Core, kept: Kept, spare: Spare, out: &mut Effects)
+fn place_own(core: &mut Parts, kept: Kept, spare: Spare, out: &mut Effects)
     requires spare { IsSpareFor kept spare }
     requires copies { spare.copies ≡ places core.old.prio kept.body Nothing }
     requires fields { HasGoodFields kept.body }

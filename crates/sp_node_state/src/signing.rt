@@ -1,6 +1,6 @@
 // Signing the messages of this node: memory first, and then the signature of the next index.
 ghost use Rattle.std.specs.Prelude.{◌≡◌, IfOk, None as Nothing};
-ghost use Rattle.sp_node_core.specs.Format.{format};
+ghost use Rattle.sp_node_format.specs.Format.{format};
 ghost use Rattle.sp_msg.specs.Bodies.{HasGoodFields, encoded};
 ghost use Rattle.sp_msg.specs.Views.{signer_of};
 ghost use Rattle.sp_node_state.specs.ReadyStates.{IsReadyBlank};

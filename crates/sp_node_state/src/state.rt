@@ -1,7 +1,7 @@
 // A node in memory: its parts, and where the link to a neighbour stands among them.
 ghost use Rattle.std.specs.Prelude.{◌≡◌, ◌≢◌, ◌≤◌, IfErr, IfOk, Some as There, position};
 ghost use Rattle.laws_node.specs.Inputs.{ArtsFit};
-ghost use Rattle.sp_node_core.specs.Format.{format};
+ghost use Rattle.sp_node_format.specs.Format.{format};
 ghost use Rattle.sp_node_state.specs.ReadyStates.{IsAnswered};
 ghost use Rattle.sp_node_state.specs.States.{is_other};
 ghost use Rattle.sp_rules.specs.Node.{call_refusal, is_link, link_in};
@@ -9,7 +9,7 @@ ghost use Rattle.sp_rules.specs.declared.node.TheConstants.{MAX_CALLS};
 
 use sp_base::NodeId;
 use sp_link::Link;
-use sp_node_core::{Core, Fixed};
+use sp_node_parts::{Parts, Fixed};
 use sp_rules::{MAX_CALLS, NodeRefused};
 use sp_sign::NodeSigner;
 use std::marker::Model;
@@ -22,7 +22,7 @@ pub struct State {
     pub calls: u64,
     pub links: Vec<Link>,
     pub signer: NodeSigner,
-    pub core: Core,
+    pub core: Parts,
 }
 
 impl Model for State {

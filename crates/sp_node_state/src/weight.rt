@@ -2,7 +2,7 @@
 ghost use Rattle.std.specs.Prelude.{◌≡◌, ◌≢◌, ◌≤◌, IfErr, IfOk, None as Nothing, Some as There, ◌∷◌};
 ghost use Rattle.laws_node.specs.Nodes.{IsKept};
 ghost use Rattle.sp_base.specs.declared.limits.TheConstants.{MAX_WEIGHT};
-ghost use Rattle.sp_node_core.specs.Format.{format};
+ghost use Rattle.sp_node_format.specs.Format.{format};
 ghost use Rattle.sp_node_state.specs.Sends.{Sends};
 ghost use Rattle.sp_node_state.specs.ReadySends.{IsReadyUpdate};
 ghost use Rattle.sp_rules.specs.Handle.{weight_effects};

@@ -1,7 +1,7 @@
 -- A node at its start has signatures of a length that this format has.
 use Rattle.std.proofs.Common.{◌≡◌, ℕ, ◌≤◌, ap, arith}
-use Rattle.sp_node_core.proofs.PolledFrames.{signatures_are_short}
-use Rattle.sp_node_core.specs.PolledFrames.{most_signature}
+use Rattle.sp_node_format.proofs.PolledFrames.{signatures_are_short}
+use Rattle.sp_node_format.specs.PolledFrames.{most_signature}
 use Rattle.sp_node_state.specs.Boots.{booted_of}
 use Rattle.sp_node_state.specs.declared.boot.NodeConfig.{NodeConfig}
 use Rattle.sp_rules.specs.Node.{NodeState}

@@ -11,8 +11,8 @@ use Rattle.sp_client.specs.declared.request.Request.{Request}
 use Rattle.sp_client_node.specs.Steps.{AnswersBy, TakesFrom}
 use Rattle.sp_client_node.specs.declared.local.LocalNode.{LocalNode}
 use Rattle.sp_frame.specs.declared.frame.TheConstants.{MAX_FRAME_BYTES}
-use Rattle.sp_node_core.specs.Format.{format}
-use Rattle.sp_node_core.specs.PolledFrames.{most_signature}
+use Rattle.sp_node_format.specs.Format.{format}
+use Rattle.sp_node_format.specs.PolledFrames.{most_signature}
 use Rattle.sp_rules.specs.Node.{NodeState, call_refusal}
 use Rattle.sp_rules.specs.Polls.{frame_to}
 use Rattle.sp_node_state.specs.States.{is_other}

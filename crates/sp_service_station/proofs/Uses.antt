@@ -6,7 +6,7 @@ use Rattle.laws_node.proofs.Shapes.{shapes_stay}
 use Rattle.laws_node.specs.Shapes.{Shape}
 use Rattle.sp_msg.specs.declared.body.Ack.{Ack}
 use Rattle.sp_msg.specs.declared.refused.SendRefused.{SendRefused}
-use Rattle.sp_node_core.specs.Format.{format}
+use Rattle.sp_node_format.specs.Format.{format}
 use Rattle.sp_rules.specs.Link.{Link}
 use Rattle.sp_rules.specs.Node.{NodeState, called, extended, kept_or, signed_once}
 use Rattle.sp_rules.specs.Parts.{Parts}

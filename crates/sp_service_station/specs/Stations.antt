@@ -4,7 +4,7 @@ use Rattle.std.specs.Prelude.{ℕ, ◌≡◌, ◌&&◌, nat_le, List, [], if◌t
 use Rattle.sp_client.specs.Tables as tables
 use Rattle.sp_client_node.specs.Steps.{AnswersBy}
 use Rattle.sp_client_node.specs.declared.local.LocalNode.{LocalNode}
-use Rattle.sp_node_core.specs.Format.{format}
+use Rattle.sp_node_format.specs.Format.{format}
 use Rattle.sp_rules.specs.Node.{NodeState, extended}
 use Rattle.sp_rules.specs.Steps as steps
 use Rattle.sp_service_turns.specs.Inputs.{Datagram, Input, Poll, Request, Reserve, Tick}

@@ -4,7 +4,7 @@ ghost use Rattle.sp_client.specs.Tables as tables;
 ghost use Rattle.sp_client_node.specs.Steps.{AnswersBy};
 ghost use Rattle.sp_runs.specs.Journals.{item_word, link_word};
 ghost use Rattle.sp_journal.specs.JournalText.{reply_text};
-ghost use Rattle.sp_node_core.specs.PolledFrames.{most_signature};
+ghost use Rattle.sp_node_format.specs.PolledFrames.{most_signature};
 ghost use Rattle.sp_outside.specs.declared.wire.TheConstants.{DATAGRAM_BYTES};
 ghost use Rattle.sp_rules.specs.Steps.{Datagram, Poll, Tick};
 ghost use Rattle.sp_service_station.specs.Stations.{Gives, frame_of, indexes_of, reserved};

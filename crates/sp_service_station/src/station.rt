@@ -23,7 +23,7 @@ pub struct Station {
 
 impl Model for Station {
     ghost use Rattle.std.specs.Prelude.{◌≤◌};
-    ghost use Rattle.sp_node_core.specs.PolledFrames.{most_signature};
+    ghost use Rattle.sp_node_format.specs.PolledFrames.{most_signature};
     ghost use Rattle.sp_service_station.specs.Stations as stations;
 
     ghost Value = { stations.Station };

@@ -3,7 +3,7 @@ use Rattle.std.proofs.Common.{◌≡◌, ◌<◌, ◌≤◌, ◌+◌, ◌^◌, �
 use Rattle.sp_journal.specs.declared.entry.Entry.{Entry}
 use Rattle.sp_journal.specs.JournalText.{entries_from, entry_text, journal_lines, journal_text, summary_words, version_words}
 use Rattle.sp_lines.specs.Rows.{line_text}
-use Rattle.sp_node_core.specs.Format.{format}
+use Rattle.sp_node_format.specs.Format.{format}
 use Rattle.sp_runs.specs.Runs.{Clean, Starts, Turn, Turned, forged_in}
 use Rattle.sp_runs.specs.Scenarios.{setting_of}
 use Rattle.sp_runs.specs.Worlds.{World, at_start}

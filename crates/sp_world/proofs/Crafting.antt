@@ -24,8 +24,8 @@ use Rattle.sp_hss.specs.declared.tree.Tree.TheVariants.{Lower}
 use Rattle.sp_lms.proofs.Validity as lms
 use Rattle.sp_lms.specs.Parameters.{leaf_count}
 use Rattle.sp_lms.specs.declared.param.LmsParam.{LmsParam}
-use Rattle.sp_node_core.proofs.PolledFrames.{signatures_are_short}
-use Rattle.sp_node_core.specs.Format.{format}
+use Rattle.sp_node_format.proofs.PolledFrames.{signatures_are_short}
+use Rattle.sp_node_format.specs.Format.{format}
 use Rattle.sp_ots.specs.declared.param.OtsParam.TheVariants.{W4}
 use Rattle.sp_rules.specs.Node.{NodeState, link_in}
 use Rattle.sp_rules.specs.Steps.{Datagram, Input}

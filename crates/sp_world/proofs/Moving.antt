@@ -4,7 +4,7 @@ use Rattle.std.proofs.lemmas.Option.{same_Some}
 use Rattle.sp_base.specs.declared.id.NodeId.{NodeId}
 use Rattle.sp_journal.specs.declared.entry.Entry.{Entry}
 use Rattle.sp_journal.specs.declared.entry.Reply.TheVariants as replies
-use Rattle.sp_node_core.specs.Format.{format}
+use Rattle.sp_node_format.specs.Format.{format}
 use Rattle.sp_rules.specs.Node.{NodeState}
 use Rattle.sp_rules.specs.Steps.{Datagram, Frame, Input, Output, Poll, Reply, SendPrio, SendRel, SetWeight, TakePrio, TakeRel, Tick, replied}
 use Rattle.sp_runs.specs.Forgery.{forged, has_forged_tag}

@@ -5,7 +5,7 @@ use Rattle.sp_adversary.specs.Crafting.{AreAfter, no_crafts}
 use Rattle.sp_base.specs.declared.limits.TheConstants.{MAX_EVENTS}
 use Rattle.sp_graph.specs.Edges.{IsGraph}
 use Rattle.sp_journal.specs.declared.entry.Entry.{Entry}
-use Rattle.sp_node_core.specs.Format.{format}
+use Rattle.sp_node_format.specs.Format.{format}
 use Rattle.sp_runs.specs.Runs as runs
 use Rattle.sp_runs.specs.Runs.{Clean, InRange, Turn}
 use Rattle.sp_runs.specs.Scenarios.{setting_of}

@@ -4,9 +4,9 @@ use Rattle.std.specs.Prelude.{IsTrue}
 use Rattle.std.proofs.lemmas.List.Sums.{count_by-le-length}
 use Rattle.sp_base.specs.declared.id.NodeId.{NodeId}
 use Rattle.sp_journal.specs.declared.entry.Entry.{Entry}
-use Rattle.sp_node_core.proofs.PolledFrames.{signatures_are_short}
-use Rattle.sp_node_core.specs.Format.{format}
-use Rattle.sp_node_core.specs.PolledFrames.{most_signature}
+use Rattle.sp_node_format.proofs.PolledFrames.{signatures_are_short}
+use Rattle.sp_node_format.specs.Format.{format}
+use Rattle.sp_node_format.specs.PolledFrames.{most_signature}
 use Rattle.sp_rules.specs.Node.{NodeState}
 use Rattle.sp_rules.specs.Parts.{Fixed}
 use Rattle.sp_rules.specs.Steps.{Input}

@@ -3,7 +3,7 @@ ghost use Rattle.sp_topology.specs.Neighbours.{joins};
 ghost use Rattle.std.specs.Prelude.{ℕ, position, ◌≡◌, ◌∷◌, ◌++◌, [], List, IfOk, None as Nothing, OnOk, Some as There};
 ghost use Rattle.sp_adversary.specs.Crafting.{AreAfter};
 ghost use Rattle.sp_msg.specs.Bodies.{HasGoodFields};
-ghost use Rattle.sp_node_core.specs.Format.{format};
+ghost use Rattle.sp_node_format.specs.Format.{format};
 ghost use Rattle.sp_rules.specs.Node.{NodeState};
 ghost use Rattle.sp_runs.specs.Inputs.{crafted_frame, crafted_head, slot_alone};
 ghost use Rattle.sp_runs.specs.Scenarios.{edge_key, setting_of};

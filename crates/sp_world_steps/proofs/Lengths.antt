@@ -5,9 +5,9 @@ use Rattle.laws_node.specs.Nodes.{IsKept}
 use Rattle.sp_base.specs.declared.id.NodeId.{NodeId}
 use Rattle.sp_frame.specs.Frames.{opened}
 use Rattle.sp_frame.specs.declared.frame.TheConstants.{MAX_FRAME_BYTES, MIN_FRAME_BYTES}
-use Rattle.sp_node_core.proofs.PolledFrames.{polled_is_read_back}
-use Rattle.sp_node_core.specs.Format.{format}
-use Rattle.sp_node_core.specs.PolledFrames.{most_signature}
+use Rattle.sp_node_format.proofs.PolledFrames.{polled_is_read_back}
+use Rattle.sp_node_format.specs.Format.{format}
+use Rattle.sp_node_format.specs.PolledFrames.{most_signature}
 use Rattle.sp_rules.specs.Node.{NodeState, call_refusal, is_neighbour}
 use Rattle.sp_rules.specs.Polls.{frame_to}
 use Rattle.sp_rules.specs.Steps.{Frame, NodeStep, Output, Poll, Reply, refused_call, replied}

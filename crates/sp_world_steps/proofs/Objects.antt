@@ -18,7 +18,7 @@ use Rattle.sp_frame.specs.declared.kind.Kind.TheVariants as kinds
 use Rattle.sp_frame.specs.declared.refused.SectionRefused.{SectionRefused}
 use Rattle.sp_msg.specs.Bodies.{HasGoodFields}
 use Rattle.sp_msg.specs.declared.kept.Kept.{Kept}
-use Rattle.sp_node_core.specs.Format.{format}
+use Rattle.sp_node_format.specs.Format.{format}
 use Rattle.sp_rules.specs.Arrivals.{arrival_at, handled, pieces_in, pieces_where, reply_at, sections_in}
 use Rattle.sp_rules.specs.Node.{NodeState, call_refusal}
 use Rattle.sp_rules.specs.Pieces.{AckPiece, Piece, PrioAckPiece, RelPiece, WeightPiece, pieces_of, prio_piece, slot_pieces}

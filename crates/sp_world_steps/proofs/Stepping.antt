@@ -9,7 +9,7 @@ use Rattle.sp_msg.specs.declared.effect.Why.TheVariants.{Taken as TakenAway}
 use Rattle.sp_msg.specs.declared.refused.SendRefused.{SendRefused}
 use Rattle.sp_msg.specs.declared.refused.SendRefused.TheVariants as sends
 use Rattle.sp_node.specs.Calls.{Datagrams, Polls, TakesPrio, TakesRel, Ticks}
-use Rattle.sp_node_core.specs.Format.{format}
+use Rattle.sp_node_format.specs.Format.{format}
 use Rattle.sp_node_state.specs.Sends.{Sends}
 use Rattle.sp_rules.specs.Arrivals.{handled}
 use Rattle.sp_rules.specs.Node.{NodeState, call_refusal}

@@ -2,8 +2,8 @@
 use Rattle.std.specs.Prelude.{ℕ, ◌≡◌, ◌≤◌, List, [], ◌∷◌, None, Some, if◌then◌else◌}
 use Rattle.sp_base.specs.declared.id.NodeId.{NodeId}
 use Rattle.sp_journal.specs.declared.entry.Entry.{Entry}
-use Rattle.sp_node_core.specs.Format.{format}
-use Rattle.sp_node_core.specs.PolledFrames.{most_signature}
+use Rattle.sp_node_format.specs.Format.{format}
+use Rattle.sp_node_format.specs.PolledFrames.{most_signature}
 use Rattle.sp_rules.specs.Node.{NodeState, call_refusal}
 use Rattle.sp_rules.specs.Steps.{Frame, NodeStep, Poll, replied}
 use Rattle.sp_rules.specs.declared.node.Step.{Step}

@@ -2,7 +2,7 @@
 use Rattle.std.specs.Prelude.{ℕ, ◌≡◌, ◌+◌, List, [], ◌∷◌, ◌++◌, Some, length}
 use Rattle.sp_base.specs.declared.id.NodeId.{NodeId}
 use Rattle.sp_journal.specs.declared.entry.Entry.{Entry}
-use Rattle.sp_node_core.specs.Format.{format}
+use Rattle.sp_node_format.specs.Format.{format}
 use Rattle.sp_rules.specs.Node.{NodeState}
 use Rattle.sp_rules.specs.Steps.{Frame, NodeStep, Poll, replied}
 use Rattle.sp_runs.specs.Worlds.{Direction, World, frames_in, node_in, with_frame, with_node}

@@ -3,8 +3,8 @@ ghost use Rattle.std.specs.Prelude.{◌≡◌, ◌≢◌, ◌≤◌, Err, IfErr,
 ghost use Rattle.sp_base.specs.declared.limits.TheConstants.{MAX_PAYLOAD_BYTES, MAX_PRIORITY, MAX_WEIGHT};
 ghost use Rattle.sp_msg.specs.declared.refused.SendRefused as sends;
 ghost use Rattle.sp_frame.specs.declared.frame.TheConstants.{MAX_FRAME_BYTES};
-ghost use Rattle.sp_node_core.specs.Format.{format};
-ghost use Rattle.sp_node_core.specs.PolledFrames.{most_signature};
+ghost use Rattle.sp_node_format.specs.Format.{format};
+ghost use Rattle.sp_node_format.specs.PolledFrames.{most_signature};
 ghost use Rattle.sp_node_state.specs.Sends.{Sends};
 ghost use Rattle.sp_paths.specs.declared.limits.TheConstants.{MAX_PATHS};
 ghost use Rattle.sp_rules.specs.Node.{NodeState, call_refusal};

@@ -1,8 +1,8 @@
 // A correct node under its id.
 ghost use Rattle.std.specs.Prelude.{◌≡◌, ◌≤◌, IfOk, None as Nothing, OnErr, length};
 ghost use Rattle.sp_frame.specs.declared.frame.TheConstants.{MAX_FRAME_BYTES};
-ghost use Rattle.sp_node_core.specs.Format.{format};
-ghost use Rattle.sp_node_core.specs.PolledFrames.{most_signature};
+ghost use Rattle.sp_node_format.specs.Format.{format};
+ghost use Rattle.sp_node_format.specs.PolledFrames.{most_signature};
 ghost use Rattle.sp_rules.specs.Node.{call_refusal};
 ghost use Rattle.sp_rules.specs.Steps.{Frame, NodeStep, Poll, replied};
 ghost use Rattle.sp_world_steps.specs.declared.entries.TheConstants.{MOST_OBJECTS};

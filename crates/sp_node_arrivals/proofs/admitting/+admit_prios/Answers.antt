@@ -11,7 +11,7 @@ use Rattle.sp_node_arrivals.proofs.DoneLemmas.{done_then, none_done}
 use Rattle.sp_node_arrivals.proofs.PrioLemmas.{Follows, both_rooms, never_past, none_ready, piece_follows, piece_ids, prios_follow, ready_in_turn, room_after}
 use Rattle.sp_node_arrivals.specs.Arrival.{as_arrival}
 use Rattle.sp_node_arrivals.specs.Rooms.{HasIds, HasRoom, prio_room}
-use Rattle.sp_node_core.specs.Format.{format}
+use Rattle.sp_node_format.specs.Format.{format}
 use Rattle.sp_node_arrivals.proofs.admitting.+admit_prios.Goals as goal
 
 pub returns-in_default-clause-done : goal.returns-in_default-clause-done

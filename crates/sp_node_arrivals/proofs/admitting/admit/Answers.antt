@@ -12,7 +12,7 @@ use Rattle.sp_node_arrivals.specs.Done.{IsDone, slot_items}
 use Rattle.sp_node_arrivals.specs.Arrival.{as_arrival}
 use Rattle.sp_node_arrivals.specs.Ready.{ArePriosReady}
 use Rattle.sp_node_arrivals.specs.Rooms.{HasIds}
-use Rattle.sp_node_core.specs.Format.{format}
+use Rattle.sp_node_format.specs.Format.{format}
 use Rattle.sp_node_arrivals.proofs.admitting.admit.Goals as goal
 
 pub admit_prios-prios-requires-clause-ready : goal.admit_prios-prios-requires-clause-ready

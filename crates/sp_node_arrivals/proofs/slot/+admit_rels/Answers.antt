@@ -8,7 +8,7 @@ use Rattle.sp_rules.specs.Pieces.{RelPiece}
 use Rattle.sp_node_arrivals.proofs.DoneLemmas.{done_then, none_done}
 use Rattle.sp_node_arrivals.proofs.RelLemmas.{first_stays, never_past_rel, no_rel_ready, rel_in_turn}
 use Rattle.sp_node_arrivals.specs.Arrival.{as_arrival}
-use Rattle.sp_node_core.specs.Format.{format}
+use Rattle.sp_node_format.specs.Format.{format}
 use Rattle.sp_node_arrivals.proofs.slot.+admit_rels.Goals as goal
 
 pub returns-in_default-clause-done : goal.returns-in_default-clause-done

@@ -6,7 +6,7 @@ use Rattle.sp_rules.specs.Handle.{handle_all}
 use Rattle.sp_rules.specs.Pieces.{AckPiece}
 use Rattle.sp_node_arrivals.specs.Done.{IsDone}
 use Rattle.sp_node_arrivals.specs.Arrival.{as_arrival}
-use Rattle.sp_node_core.specs.Format.{format}
+use Rattle.sp_node_format.specs.Format.{format}
 use Rattle.sp_node_arrivals.proofs.slot.admit_acks.Goals as goal
 
 pub returns-in-Some-clause-done : goal.returns-in-Some-clause-done

@@ -9,7 +9,7 @@ use Rattle.sp_node_arrivals.proofs.DoneLemmas.{quiet_then}
 use Rattle.sp_node_arrivals.proofs.RelLemmas.{slot_stays}
 use Rattle.sp_node_arrivals.specs.Done.{IsDone}
 use Rattle.sp_node_arrivals.specs.Arrival.{as_arrival}
-use Rattle.sp_node_core.specs.Format.{format}
+use Rattle.sp_node_format.specs.Format.{format}
 use Rattle.sp_node_arrivals.proofs.slot.admit_report.Goals as goal
 
 pub admit_rels-rels-requires-clause-ready : goal.admit_rels-rels-requires-clause-ready

@@ -1,6 +1,6 @@
 use Rattle.std.proofs.Common.{sym, subst, ap, arith}
 use Rattle.laws_node.specs.Nodes.{IsKept, SignerHolds}
-use Rattle.sp_node_core.specs.Format.{format}
+use Rattle.sp_node_format.specs.Format.{format}
 use Rattle.sp_rules.specs.Node.{NodeState}
 use Rattle.sp_sign.specs.Checker.{Checking}
 use Rattle.sp_node.proofs.Starts.{kept_at_start}

@@ -1,6 +1,6 @@
 use Rattle.std.proofs.Common.{subst}
 use Rattle.laws_node.specs.Inputs.{ArtsFit}
-use Rattle.sp_node_core.specs.Format.{format}
+use Rattle.sp_node_format.specs.Format.{format}
 use Rattle.sp_rules.specs.Node.{NodeState}
 use Rattle.sp_node_state.proofs.Fitted.{fitted}
 use Rattle.sp_node_state.proofs.state.State.recall.Goals as goal

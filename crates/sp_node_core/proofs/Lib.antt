@@ -1,5 +1,0 @@
-pub mod Slots
-pub mod Starts
-pub mod FormatFits
-pub mod GoodFields
-pub mod PolledFrames

@@ -1,0 +1,3 @@
+pub mod FormatFits
+pub mod GoodFields
+pub mod PolledFrames

@@ -1,0 +1,9 @@
+//! What a node is made of: what stays as it is in one of its lives, and its three parts in memory.
+#![tactic(auto)]
+
+mod fixed;
+mod objects;
+mod parts;
+
+pub use fixed::Fixed;
+pub use parts::Parts;

@@ -1,0 +1,86 @@
+// The three parts of a node in memory.
+ghost use Rattle.std.specs.Prelude.{◌≡◌, IfOk, map};
+ghost use Rattle.sp_rules.specs.Parts.{as_neighbour, empty_parts};
+ghost use Rattle.sp_topology.specs.Neighbours.{neighbours_from};
+ghost use Rattle.sp_topology.specs.Ranges.{IsTopology};
+
+use sp_base::{EdgeId, Limits, Memory, NodeId};
+use sp_prio::{Neighbour, PrioTable};
+use sp_rel::RelTable;
+use sp_topology::{NodeKey, Topology};
+use sp_weights::Weights;
+use std::alloc::Global;
+use std::marker::Model;
+
+/// What a node keeps for others. A contract sees the three parts of the rules (`sp_rules`).
+#[derive(Drop)]
+pub struct Parts {
+    pub weights: Weights,
+    pub prio: PrioTable,
+    pub rel: RelTable,
+}
+
+impl Model for Parts {
+    ghost use Rattle.sp_rules.specs.Parts as rules;
+
+    ghost Value = { rules.Parts };
+
+    ghost view = { λ c. record { weights = c.weights; prio = c.prio; rel = c.rel } };
+}
+
+impl Parts {
+    /// The parts of a node under a topology, with nothing in them: room for `limits.buffer` messages of each flow and `limits.store` entries of
+    /// each store. It is refused for want of memory alone.
+    pub fn new(
+        alloc: Global,
+        me: NodeId,
+        topology: &Topology,
+        limits: Limits,
+    ) -> Result<Parts, Memory>
+        requires { IsTopology topology.now }
+        ensures { IfOk result (λ core. core ≡ empty_parts (record { me = me; boot = 0; topology = topology.now; signature_len = 0 }) limits.buffer limits.store) }
+    {
+        let Ok(joined) = topology.neighbours(alloc, me) else {
+            return Err(Memory);
+        };
+        let nodes = ids_of(alloc, topology.nodes.as_slice())?;
+        let neighbours = neighbours_of(alloc, &joined)?;
+        let peers = peers_of(alloc, &joined)?;
+        let weights = Weights::new(alloc, topology)?;
+        let prio = PrioTable::new(alloc, me, &nodes, &neighbours, limits.store)?;
+        let Ok(rel) = RelTable::new(alloc, me, &nodes, &peers, limits.buffer) else {
+            return Err(Memory);
+        };
+        Ok(Parts { weights, prio, rel })
+    }
+}
+
+fn ids_of(alloc: Global, nodes: &[NodeKey]) -> Result<Vec<NodeId>, Memory>
+    ensures { IfOk result (λ ids. ids.items ≡ map (λ n. n.id) nodes.now) }
+{
+    let mut ids = Vec::with_capacity(alloc, nodes.len())?;
+    'nodes: for node in nodes {
+        ids.push(node.id)?;
+    }
+    Ok(ids)
+}
+
+fn neighbours_of(alloc: Global, joined: &[(NodeId, EdgeId)]) -> Result<Vec<Neighbour>, Memory>
+    ensures { IfOk result (λ neighbours. neighbours.items ≡ map as_neighbour joined.now) }
+{
+    let mut neighbours = Vec::with_capacity(alloc, joined.len())?;
+    'joined: for &(id, edge) in joined {
+        neighbours.push(Neighbour { id, edge })?;
+    }
+    Ok(neighbours)
+}
+
+fn peers_of(alloc: Global, joined: &[(NodeId, EdgeId)]) -> Result<Vec<NodeId>, Memory>
+    ensures { IfOk result (λ peers. peers.items ≡ map (λ n. n.0) joined.now) }
+{
+    let mut peers = Vec::with_capacity(alloc, joined.len())?;
+    'joined: for &(id, _) in joined {
+        peers.push(id)?;
+    }
+    Ok(peers)
+}
