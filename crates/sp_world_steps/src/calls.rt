@@ -10,7 +10,7 @@ ghost use Rattle.sp_paths.specs.declared.limits.TheConstants.{MAX_PATHS};
 ghost use Rattle.sp_rules.specs.Node.{NodeState, call_refusal};
 ghost use Rattle.sp_rules.specs.Steps.{Frame, Input, NodeStep, Poll, SendPrio, SendRel, SetWeight, TakePrio, TakeRel, Tick, replied};
 ghost use Rattle.sp_runs.specs.Journals.{body_word, refused_word};
-ghost use Rattle.sp_world_steps.specs.declared.entries.TheConstants.{MOST_OBJECTS};
+ghost use Rattle.sp_frame.specs.declared.sections.TheConstants.{MOST_OBJECTS};
 ghost use Rattle.sp_world_steps.specs.Gave.{Gave, GaveTaken, HasWords};
 
 use crate::entries::{quiet, told};

@@ -15,10 +15,6 @@ use sp_msg::Effects;
 use sp_rules::{Step, Taken};
 use std::alloc::Global;
 
-/// How many objects a frame has at most, so that its entry has as many words: an update, four priority messages, an acknowledgement and four reliable
-/// messages.
-pub const MOST_OBJECTS: usize = 10;
-
 /// An entry without effects. It takes no memory.
 pub fn quiet(alloc: Global, reply: Reply) -> Entry
     ensures reply { result.reply ≡ reply }
