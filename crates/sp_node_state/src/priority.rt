@@ -169,8 +169,10 @@ fn ready_prio(
 /// Signs a message that is ready, and puts it into its places.
 fn admit_own(state: &mut State, ready: ReadyPrio) -> Effects
     requires { IsReadyPrio state.old ready }
-    ensures state { state.new ≡ signed_once state.old (record state.old.parts { prio = admit_prio state.old.parts.prio (signed_now format state.old ready.blank.kept.body) Nothing }) }
-    ensures told { result.list ≡ signed_effect format ready.blank.kept.body ∷ prio_effects state.old.parts.prio (signed_now format state.old ready.blank.kept.body) Nothing }
+    ensures state { state.new ≡ signed_once state.old
+        (record state.old.parts { prio = admit_prio state.old.parts.prio (signed_now format state.old ready.blank.kept.body) Nothing }) }
+    ensures told { result.list ≡ signed_effect format ready.blank.kept.body ∷ prio_effects state.old.parts.prio
+        (signed_now format state.old ready.blank.kept.body) Nothing }
 {
     state.recall();
     let ReadyPrio {

@@ -59,7 +59,8 @@ pub fn serve<W: Wire, C: Clock, P: Keeper, K: Sink>(
 ///
 /// First the configuration is judged, then the wire is opened, then a start is taken from the key file, and then the first line is written: the first
 /// of these that fails ends it.
-#[tactic(auto, using(crate::proofs::Endings::told, crate::proofs::Endings::daemon, crate::proofs::Endings::no_memory, crate::proofs::Endings::kept_quiet, crate::proofs::Beginnings::begins))]
+#[tactic(auto, using(crate::proofs::Endings::told, crate::proofs::Endings::daemon, crate::proofs::Endings::no_memory,
+    crate::proofs::Endings::kept_quiet, crate::proofs::Beginnings::begins))]
 pub fn start<W: Wire, P: Keeper, K: Sink>(
     alloc: Global,
     text: &[u8],
@@ -158,7 +159,8 @@ fn start_node<K: Sink>(
     requires few { length peers.items < 2 ^ 16 }
     requires room { DATAGRAM_BYTES ≤ length buffer.items }
     ensures begins { IfOk result (BeginsStarted config.now topology started (K.contents sink.old) (K.contents sink.new)) }
-    ensures ended { (wire : Option (List Call)) (clock : Option (List ℕ)) (disk : Option Disk) (turns : ℕ) → IfErr result (λ ended. EndsStarted config.now topology turns started ended
+    ensures ended { (wire : Option (List Call)) (clock : Option (List ℕ)) (disk : Option Disk) (turns : ℕ)
+        → IfErr result (λ ended. EndsStarted config.now topology turns started ended
         (record { wire = wire; clock = clock; disk = disk; text = K.contents sink.old })
         (record { wire = wire; clock = clock; disk = disk; text = K.contents sink.new })) }
     ensures unopened { result ≢ Err Served.Wire }

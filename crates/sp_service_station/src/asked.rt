@@ -32,7 +32,8 @@ fn text_of(alloc: Global, entry: &Entry) -> Result<Bytes, Memory>
 /// The text of what became of a datagram, and of what that caused.
 #[tactic(auto, using(crate::proofs::Entries::same_text))]
 fn arrived_text(alloc: Global, step: Step<Taken>) -> Result<Bytes, Memory>
-    ensures { IfOk result (λ text. text ≡ reply_text (record { reply = Reply.Arrived (link_word step.reply.link) (map item_word step.reply.items); effects = step.effects.list })) }
+    ensures { IfOk result (λ text. text ≡ reply_text
+        (record { reply = Reply.Arrived (link_word step.reply.link) (map item_word step.reply.items); effects = step.effects.list })) }
 {
     let entry = entry_of(alloc, step)?;
     text_of(alloc, &entry)

@@ -38,7 +38,8 @@ pub fn act(
     requires stands { Stands known.now.scenario.now known.now.events.now known.now.journal.now (world_of nodes.old.items directions.old) event.now }
     requires crafters { AreAfter known.now.scenario.now known.now.events.now crafters.old }
     requires long { known.now.signature_len ≡ (setting_of known.now.scenario.now).signature_len }
-    ensures done { IfOk result (λ done. ComesTo (setting_of known.now.scenario.now) known.now.events.now known.now.journal.now (world_of nodes.old.items directions.old) event.now done (world_of nodes.new.items directions.new)) }
+    ensures done { IfOk result (λ done. ComesTo (setting_of known.now.scenario.now) known.now.events.now known.now.journal.now
+        (world_of nodes.old.items directions.old) event.now done (world_of nodes.new.items directions.new)) }
     ensures crafters { OnOk result (AreAfter known.now.scenario.now (known.now.events.now ++ event.now ∷ []) crafters.new) }
     ensures as_before { OnErr result (world_of nodes.new.items directions.new ≡ world_of nodes.old.items directions.old) }
 {
@@ -67,7 +68,8 @@ fn arrival(
     requires stands { Stands known.now.scenario.now known.now.events.now known.now.journal.now (world_of nodes.old.items directions.now) event.now }
     requires crafters { AreAfter known.now.scenario.now known.now.events.now crafters.old }
     requires long { known.now.signature_len ≡ (setting_of known.now.scenario.now).signature_len }
-    ensures done { IfOk result (λ done. ComesTo (setting_of known.now.scenario.now) known.now.events.now known.now.journal.now (world_of nodes.old.items directions.now) event.now done (world_of nodes.new.items directions.now)) }
+    ensures done { IfOk result (λ done. ComesTo (setting_of known.now.scenario.now) known.now.events.now known.now.journal.now
+        (world_of nodes.old.items directions.now) event.now done (world_of nodes.new.items directions.now)) }
     ensures crafters { OnOk result (AreAfter known.now.scenario.now (known.now.events.now ++ event.now ∷ []) crafters.new) }
     ensures as_before { OnErr result (nodes.new.items ≡ nodes.old.items) }
 {

@@ -26,7 +26,8 @@ use std::alloc::Global;
 #[tactic(auto, using(crate::proofs::Stepping::gave_by_send))]
 fn sent(alloc: Global, done: Result<Step<u64>, SendRefused>) -> Result<Entry, Memory>
     requires words { IfErr done (λ refused. refused ≢ SendRefused.Memory → refused_word refused ≡ Nothing → ⊥) }
-    ensures gave { (input : Input) (refusal : Option sends.SendRefused) (old new : NodeState) → Sends input refusal old done new → IfOk result (λ entry. Gave old input entry new) }
+    ensures gave { (input : Input) (refusal : Option sends.SendRefused) (old new : NodeState) → Sends input refusal old done new
+        → IfOk result (λ entry. Gave old input entry new) }
     ensures memory { OnErr result (done ≡ Err SendRefused.Memory) }
 {
     match done {
@@ -64,7 +65,8 @@ pub fn prio(
     requires few { paths ≤ MAX_PATHS }
     requires short { length payload.now ≤ MAX_PAYLOAD_BYTES }
     requires words { HasWords node.old.state (SendPrio (record { dst = d; prio = prio; expiry = expiry; paths = paths; payload = payload.now })) }
-    ensures gave { IfOk result (λ entry. Gave node.old.state (SendPrio (record { dst = d; prio = prio; expiry = expiry; paths = paths; payload = payload.now })) entry node.new.state) }
+    ensures gave { IfOk result (λ entry. Gave node.old.state
+        (SendPrio (record { dst = d; prio = prio; expiry = expiry; paths = paths; payload = payload.now })) entry node.new.state) }
     ensures as_before { OnErr result (node.new.state ≡ node.old.state) }
     ensures fixed { node.new.state.fixed ≡ node.old.state.fixed }
 {
