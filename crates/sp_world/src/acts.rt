@@ -11,9 +11,10 @@ use sp_adversary::Crafters;
 use sp_base::Memory;
 use sp_forgery::{Known, acting};
 use sp_journal::Entry;
+use sp_node_words::spent;
 use sp_runs::What;
 use sp_schedule_events::Event;
-use sp_world_steps::{Directions, Member, ask, spent};
+use sp_world_steps::{Directions, Member, ask};
 use std::alloc::Global;
 
 /// What an event came to.

@@ -1,6 +1,6 @@
 // The words of a journal for what a node answered.
 ghost use Rattle.std.specs.Prelude.{◌≡◌, ◌≤◌, [], None as Nothing, Some as There, length, map, vec_capacity};
-ghost use Rattle.sp_runs.specs.Journals.{ack_word, item_word, link_word, prio_word, refused_word, rel_word, section_word, tick_word, weight_word};
+ghost use Rattle.sp_node_words.specs.Words.{ack_word, item_word, link_word, prio_word, refused_word, rel_word, section_word, tick_word, weight_word};
 
 use sp_base::{Listed, push_in_room};
 use sp_frame::SectionRefused;

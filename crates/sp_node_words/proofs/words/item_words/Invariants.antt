@@ -1,7 +1,7 @@
 use Rattle.std.proofs.Common.{◌≡◌, ◌+◌, ◌≤◌, drop, map, length, take}
 use Rattle.std.specs.Prelude.{vec_len, vec_capacity}
-use Rattle.sp_runs.specs.Journals.{item_word}
-use Rattle.sp_world_steps.proofs.words.item_words.Given as goal
+use Rattle.sp_node_words.specs.Words.{item_word}
+use Rattle.sp_node_words.proofs.words.item_words.Given as goal
 
 abbrev pub invariant-items : goal.invariant-items
 invariant-items l = record {
