@@ -12,7 +12,7 @@ use Rattle.sp_service_turns.specs.Daemons.{first_text}
 use Rattle.sp_service_turns.specs.Done.{Text}
 use Rattle.sp_service_turns.specs.declared.daemon.Daemon.{Daemon}
 use Rattle.sp_keystate.specs.declared.starts.Started.{Started}
-use Rattle.sp_service_setup.specs.NodeParts.{peers_of}
+use Rattle.sp_service.specs.NodeParts.{peers_of}
 use Rattle.sp_service_turns.specs.Served.{EndsTurns, FailsToOpen, IsOpened, Outside, opening_of}
 use Rattle.sp_service_turns.specs.declared.served.Served.{Served}
 use Rattle.sp_service_turns.specs.declared.served.Served.TheVariants as served

@@ -6,7 +6,7 @@ use Rattle.sp_config.specs.declared.config.Config.{Config}
 use Rattle.sp_keystate.specs.Starting.{StartsSafely}
 use Rattle.sp_keystate.specs.declared.starts.Started.{Started}
 use Rattle.sp_outside.specs.Streams.{AppendsFront}
-use Rattle.sp_service_setup.specs.NodeParts.{peers_of}
+use Rattle.sp_service.specs.NodeParts.{peers_of}
 use Rattle.sp_service_station.specs.Stations.{Station, StationStep, indexes_in}
 use Rattle.sp_service_turns.specs.Daemons.{first_text}
 use Rattle.sp_service_turns.specs.Keys.{HoldsKeys}

@@ -1,7 +1,8 @@
 -- What a configuration that fits makes of a node: its signer, its link keys and where its neighbours are met.
-use Rattle.std.specs.Prelude.{ℕ, List, map, zip}
+use Rattle.std.specs.Prelude.{ℕ, ◌≡◌, List, map, zip}
 use Rattle.sp_base.specs.declared.id.EdgeId.{EdgeId}
 use Rattle.sp_config.specs.declared.config.Config.{Config}
+use Rattle.sp_hss.specs.SeedKey.{SeedKey}
 use Rattle.sp_hss.specs.Signer.{Signer}
 use Rattle.sp_service_turns.specs.declared.peer.Peer.{Peer}
 use Rattle.sp_sign.specs.Heights.{param_of}
@@ -9,6 +10,10 @@ use Rattle.sp_sign.specs.NodeSigner.{NodeSigner}
 use Rattle.sp_topology.specs.Neighbours.{neighbours_from}
 use Rattle.sp_topology.specs.declared.topology.LmsHeight.{LmsHeight}
 use Rattle.sp_topology.specs.declared.topology.Topology.{Topology}
+
+-- the key of the configuration's seed in trees of this height
+abbrev pub IsKeyOf : Config → LmsHeight → SeedKey → Type 0
+IsKeyOf c height key = key ≡ record { height = param_of height; seed = c.seed }
 
 -- the signer of the seed, which signs with the indexes from the first on and below the bound
 abbrev pub node_signer : Config → LmsHeight → ℕ → ℕ → NodeSigner

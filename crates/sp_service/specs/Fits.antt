@@ -17,8 +17,8 @@ use Rattle.sp_topology.specs.Documents.{read_of}
 use Rattle.sp_topology.specs.Keys.{key_of}
 use Rattle.sp_topology.specs.Neighbours.{neighbours_from}
 use Rattle.sp_topology.specs.declared.topology.Topology.{Topology}
-use Rattle.sp_service_setup.specs.declared.refused.SetupRefused.{SetupRefused}
-use Rattle.sp_service_setup.specs.declared.refused.SetupRefused.TheVariants as refusals
+use Rattle.sp_service.specs.declared.refused.SetupRefused.{SetupRefused}
+use Rattle.sp_service.specs.declared.refused.SetupRefused.TheVariants as refusals
 
 -- ---- the judgements. The document has so many bytes; what comes after them is its signature
 

@@ -1,6 +1,6 @@
 use Rattle.std.proofs.Common.{◌≡◌, drop, map}
 use Rattle.std.specs.Prelude.{◌↔◌}
-use Rattle.sp_service_setup.proofs.peers.are_neighbours.Given as goal
+use Rattle.sp_service.proofs.peers.are_neighbours.Given as goal
 
 -- the rest of the peers are the rest of the neighbours exactly where all are
 abbrev pub invariant-peers : goal.invariant-peers

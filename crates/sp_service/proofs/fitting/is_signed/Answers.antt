@@ -1,7 +1,7 @@
 use Rattle.std.proofs.Common.{ℕ, List, subst, take, drop}
 use Rattle.std.specs.Prelude.{◌↔◌, IsTrue}
 use Rattle.sp_hss.specs.Validity.{IsValid}
-use Rattle.sp_service_setup.proofs.judged.is_signed.Goals as goal
+use Rattle.sp_service.proofs.fitting.is_signed.Goals as goal
 
 pub returns : goal.returns
 returns c =

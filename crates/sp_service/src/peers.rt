@@ -1,7 +1,7 @@
 // Whether the peers of a configuration are its neighbours.
 ghost use Rattle.std.specs.Prelude.{◌≡◌, ◌==◌, ◌↔◌, IsTrue, map};
 ghost use Rattle.std.specs.List.{list_any};
-ghost use Rattle.sp_service_setup.specs.Fits.{have_own_ports};
+ghost use Rattle.sp_service.specs.Fits.{have_own_ports};
 
 use sp_base::{EdgeId, NodeId};
 use sp_config::Peer;

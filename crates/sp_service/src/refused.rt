@@ -23,7 +23,7 @@ pub enum SetupRefused {
 
 impl From<Memory> for SetupRefused {
     ghost use Rattle.std.specs.Prelude.{◌≡◌};
-    ghost use Rattle.sp_service_setup.specs.declared.refused.SetupRefused.TheVariants.{Memory as NoMemory};
+    ghost use Rattle.sp_service.specs.declared.refused.SetupRefused.TheVariants.{Memory as NoMemory};
 
     ghost from_gives = { λ _ refused. refused ≡ NoMemory };
 

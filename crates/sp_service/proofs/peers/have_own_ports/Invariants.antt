@@ -1,6 +1,6 @@
 use Rattle.std.proofs.Common.{◌≡◌, drop}
-use Rattle.sp_service_setup.specs.Fits.{have_own_ports}
-use Rattle.sp_service_setup.proofs.peers.have_own_ports.Given as goal
+use Rattle.sp_service.specs.Fits.{have_own_ports}
+use Rattle.sp_service.proofs.peers.have_own_ports.Given as goal
 
 -- no two of the rest have one port exactly where no two of all have
 abbrev pub invariant-peers : goal.invariant-peers

@@ -1,32 +1,34 @@
 // What a configuration that fits makes of a node.
 ghost use Rattle.std.specs.Prelude.{◌≡◌, ◌≤◌, IfOk};
 ghost use Rattle.sp_hss.specs.KeyTree.{total};
-ghost use Rattle.sp_service_setup.specs.NodeParts.{link_keys, node_signer, peers_of};
-ghost use Rattle.sp_sign.specs.Heights.{param_of};
+ghost use Rattle.sp_service.specs.NodeParts.{link_keys, peers_of};
 ghost use Rattle.sp_topology.specs.Ranges.{IsTopology};
 
-use sp_base::{EdgeId, Memory};
+use sp_base::{EdgeId, Memory, NodeId};
 use sp_config::Config;
-use sp_hss::Signer;
+use sp_hss::{SeedKey, Signer};
 use sp_service_turns::Peer;
-use sp_sign::{NodeSigner, param_of};
-use sp_topology::{LmsHeight, Topology};
+use sp_sign::NodeSigner;
+use sp_topology::Topology;
 use std::alloc::Global;
 
-/// The signer of the configuration's seed, which signs with the indexes from `index` on and below `bound`.
+/// The signer that the key of the configuration's seed becomes, which signs with the indexes from `index` on and below `bound`.
 pub fn node_signer(
     alloc: Global,
-    config: &Config,
-    height: LmsHeight,
+    node: NodeId,
+    key: SeedKey,
     index: u64,
     bound: u64,
 ) -> Result<NodeSigner, Memory>
     requires ordered { index ≤ bound }
-    requires within { bound ≤ total (param_of height) }
-    ensures { IfOk result (λ signer. signer ≡ node_signer config.now height index bound) }
+    requires within { bound ≤ total key.height }
+    ensures { IfOk result (λ signer. signer ≡ record {
+      node = node;
+      signer = record { height = key.height; seed = key.seed; index = index; bound = bound };
+    }) }
 {
-    match Signer::make(alloc, param_of(height), config.seed, index, bound) {
-        Ok(signer) => Ok(NodeSigner::new(config.node, signer)),
+    match Signer::of(alloc, key, index, bound) {
+        Ok(signer) => Ok(NodeSigner::new(node, signer)),
         Err(_) => Err(Memory),
     }
 }

@@ -2,7 +2,7 @@ use Rattle.std.proofs.Common.{◌≡◌, ℕ, ◌-◌, List, length, take, drop,
 use Rattle.std.proofs.Math.Seq.{take-length}
 use Rattle.std.specs.Prelude.{◌↔◌, IsTrue}
 use Rattle.sp_hss.specs.Validity.{IsValid}
-use Rattle.sp_service_setup.proofs.judged.is_signed_at.Goals as goal
+use Rattle.sp_service.proofs.fitting.is_signed_at.Goals as goal
 
 rest : (n : ℕ) (bs : List ℕ) → take (length bs - n) (drop n bs) ≡ drop n bs
 rest n bs = ap (λ k. take k (drop n bs)) (sym (length-drop n bs)) ∙ take-length (drop n bs)

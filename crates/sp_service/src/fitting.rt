@@ -1,8 +1,9 @@
 // The judgements on a configuration, in their order.
 ghost use Rattle.std.specs.Prelude.{◌≡◌, ◌≤◌, ◌↔◌, IfErr, IfOk, IsTrue, Ok as Read, drop, length, take};
 ghost use Rattle.sp_hss.specs.Validity.{IsValid};
-ghost use Rattle.sp_service_setup.specs.Fits.{ArePeers, Fits, IsSigned, Misfits};
-ghost use Rattle.sp_service_setup.specs.Judged.{IsKeyFault};
+ghost use Rattle.sp_service.specs.Fits.{ArePeers, Fits, IsSigned, Misfits};
+ghost use Rattle.sp_service.specs.KeyFaults.{IsKeyFault};
+ghost use Rattle.sp_service.specs.NodeParts.{IsKeyOf};
 ghost use Rattle.sp_topology.specs.Documents.{read_of};
 ghost use Rattle.sp_topology.specs.Ranges.{IsTopology};
 
@@ -10,28 +11,37 @@ use crate::SetupRefused;
 use crate::peers::{are_neighbours, have_own_ports};
 use sp_base::Memory;
 use sp_config::Config;
-use sp_hss::public_key;
+use sp_hss::SeedKey;
 use sp_sign::{check_topology, param_of};
 use sp_topology::{Topology, TopologyRefused};
 use std::alloc::Global;
 
-/// The topology that the configuration fits. Else the first judgement that it fails, in the order of `SetupRefused`.
-pub fn judge(alloc: Global, config: &Config) -> Result<Topology, SetupRefused>
-    ensures fits { IfOk result (Fits config.now) }
-    ensures ranges { IfOk result IsTopology }
+/// The topology that a configuration fits, and the key of its seed there, whose upper tree is hashed once.
+#[derive(Drop)]
+pub struct Fitted {
+    pub topology: Topology,
+    pub key: SeedKey,
+}
+
+/// What the configuration fits. Else the first judgement that it fails, in the order of `SetupRefused`.
+pub fn judge(alloc: Global, config: &Config) -> Result<Fitted, SetupRefused>
+    ensures fits { IfOk result (λ fitted. Fits config.now fitted.topology) }
+    ensures ranges { IfOk result (λ fitted. IsTopology fitted.topology) }
+    ensures key { IfOk result (λ fitted. IsKeyOf config.now fitted.topology.height fitted.key) }
     ensures refused { IfErr result (Misfits config.now) }
 {
     let (topology, size) = read(alloc, config)?;
     if !is_signed(config, size) {
         return Err(SetupRefused::Signature);
     }
-    if let Some(fault) = key_fault(alloc, config, &topology)? {
+    let key = own_key(alloc, config, &topology)?;
+    if let Some(fault) = key_fault(config, &topology, &key) {
         return Err(fault);
     }
     if !are_peers(alloc, config, &topology)? {
         return Err(SetupRefused::Peer);
     }
-    Ok(topology)
+    Ok(Fitted { topology, key })
 }
 
 /// The topology, and the bytes of its document.
@@ -65,24 +75,28 @@ fn is_signed_at(admin: &[u8; 60], bytes: &[u8], size: usize) -> bool
     check_topology(admin, &bytes[..size], &bytes[size..])
 }
 
+/// The key of the configuration's seed, at the height of the topology.
+fn own_key(alloc: Global, config: &Config, topology: &Topology) -> Result<SeedKey, Memory>
+    ensures { IfOk result (λ key. IsKeyOf config.now topology.now.height key) }
+{
+    match SeedKey::make(alloc, param_of(topology.height), config.seed) {
+        Ok(key) => Ok(key),
+        Err(_) => Err(Memory),
+    }
+}
+
 /// What is wrong with the node's key in the document.
-fn key_fault(
-    alloc: Global,
-    config: &Config,
-    topology: &Topology,
-) -> Result<Option<SetupRefused>, Memory>
-    ensures { IfOk result (IsKeyFault config.now topology.now) }
+fn key_fault(config: &Config, topology: &Topology, key: &SeedKey) -> Option<SetupRefused>
+    requires { IsKeyOf config.now topology.now.height key.now }
+    ensures { IsKeyFault config.now topology.now result }
 {
     let Some(known) = topology.key_of(config.node) else {
-        return Ok(Some(SetupRefused::Me));
+        return Some(SetupRefused::Me);
     };
-    let Ok(own) = public_key(alloc, param_of(topology.height), &config.seed) else {
-        return Err(Memory);
-    };
-    if *known == own {
-        Ok(None)
+    if *known == key.public() {
+        None
     } else {
-        Ok(Some(SetupRefused::Key))
+        Some(SetupRefused::Key)
     }
 }
 
