@@ -9,4 +9,5 @@ use Rattle.laws_node.specs.Nodes.{IsKept}
 -- so what a run tells determines it, though the paths of a message are chosen freely among the cheapest ones
 abbrev pub StepsAreDetermined : Type 0
 StepsAreDetermined = (arts : Arts) (old : NodeState) (input : Input) (output : Output) (one two : NodeState)
-    → ReadsBack arts → ArtsFit arts old.fixed old.signer → InputFits input → IsKept arts old → NodeStep arts old input output one → NodeStep arts old input output two → one ≡ two
+    → ReadsBack arts → ArtsFit arts old.fixed old.signer → InputFits input → IsKept arts old → NodeStep arts old input output one
+    → NodeStep arts old input output two → one ≡ two

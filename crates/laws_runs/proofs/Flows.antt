@@ -41,7 +41,8 @@ use Rattle.laws_node.proofs.Own.{either}
 use Rattle.laws_node.proofs.Reliable.{due_fits}
 use Rattle.sp_runs.specs.Forgery.{is_among}
 use Rattle.sp_runs.specs.Inputs.{acting, crafted_frame, flipped, input_of, slot_alone}
-use Rattle.sp_runs.specs.Journals.{Says, refused_word, reply_word}
+use Rattle.sp_node_words.specs.Words.{refused_word}
+use Rattle.sp_runs.specs.Journals.{Says, reply_word}
 use Rattle.sp_runs.specs.Settings.{Setting, SettingFits, is_correct}
 use Rattle.sp_runs.specs.Told.{Message, accepted_in, delivered, sent, signed}
 use Rattle.sp_runs.specs.Worlds.{World, node_in}

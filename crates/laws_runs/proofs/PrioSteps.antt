@@ -44,7 +44,8 @@ use Rattle.laws_node.proofs.Spellings.{no_other_is_spelled_so}
 use Rattle.laws_node.proofs.About.{ack_good, prio_good, rel_good, weight_good}
 use Rattle.laws_node.proofs.Own.{either}
 use Rattle.sp_runs.specs.Forgery.{is_among}
-use Rattle.sp_runs.specs.Journals.{Says, refused_word, reply_word}
+use Rattle.sp_node_words.specs.Words.{refused_word}
+use Rattle.sp_runs.specs.Journals.{Says, reply_word}
 use Rattle.sp_runs.specs.Settings.{Setting, SettingFits}
 use Rattle.sp_runs.specs.Told.{Message, prio_accepted_in, prio_by, signed_by}
 use Rattle.sp_journal.specs.declared.entry.Entry.{Entry}

@@ -32,7 +32,8 @@ use Rattle.laws_node.specs.Shapes.{Shape}
 use Rattle.laws_node.specs.Sizes.{Sizes}
 use Rattle.laws_node.specs.Stores.{EntryHolds, IsPrio}
 use Rattle.sp_runs.specs.Inputs.{acting, crafted_frame, crafted_object, crafts, flipped, input_of, object_alone, slot_alone}
-use Rattle.sp_runs.specs.Journals.{body_word, message_word, refused_word, reply_word}
+use Rattle.sp_node_words.specs.Words.{refused_word}
+use Rattle.sp_runs.specs.Journals.{body_word, message_word, reply_word}
 use Rattle.sp_runs.specs.Runs.{InRange, is_hop, is_other}
 use Rattle.sp_runs.specs.Settings.{Setting, is_correct, is_node, is_one_of}
 use Rattle.sp_runs.specs.Worlds.{node_in}

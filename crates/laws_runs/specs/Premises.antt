@@ -45,7 +45,8 @@ pub record Carries (arts : Arts) : Type 0 where
 pub record ComesThrough (arts : Arts) (len : ℕ) : Type 0 where
   pub carries : Carries arts
   -- its length, its name and its version are right
-  pub opens : (h : Head) (s : Contents) (key : List ℕ) → IsHead h → IsContents len s → HasGoodMessages arts s → arts.opened (written arts h s key) ≡ Ok (written arts h s key)
+  pub opens : (h : Head) (s : Contents) (key : List ℕ) → IsHead h → IsContents len s → HasGoodMessages arts s
+      → arts.opened (written arts h s key) ≡ Ok (written arts h s key)
   -- its head is read back, its tag is right under the key, and its sections are read back by `back`
   pub heads : (h : Head) (s : Contents) (key : List ℕ) → IsHead h → arts.head (written arts h s key) ≡ h
   pub tags_are_right : (h : Head) (s : Contents) (key : List ℕ) → is_right arts key (written arts h s key) ≡ true

@@ -55,5 +55,6 @@ pub record TurnsKeepWeights : Type 0 where
       → SettingFits arts x → Carries arts
       → Signs arts x es js old → InRange x es e → (turn : Turn arts x es old e j new) → forged_in arts x es js old e j new turn ≡ None
       → WeightPart arts x es js old → WeightPart arts x (es ++ e ∷ []) (js ++ j ∷ []) new
-  pub claims : (arts : Arts) (x : Setting) (es : List Event) (js : List Entry) (w : World) → SettingFits arts x → Signs arts x es js w → WeightPart arts x es js w
+  pub claims : (arts : Arts) (x : Setting) (es : List Event) (js : List Entry) (w : World) → SettingFits arts x → Signs arts x es js w
+      → WeightPart arts x es js w
       → WeightClaims arts x es js w

@@ -13,7 +13,7 @@ use Rattle.laws_runs.proofs.Signed.{even, reached}
 use Rattle.sp_base.specs.Spelling.{AreBytes}
 use Rattle.sp_base.specs.declared.id.NodeId.{NodeId}
 use Rattle.sp_frame.proofs.SectionLemmas.{read_is_spelled}
-use Rattle.sp_frame.specs.Frames.{opened, sections_part, signed_part}
+use Rattle.sp_frame.specs.Frames.{opened, sections_part, tagged_part}
 use Rattle.sp_frame.specs.Objects.{object_bytes}
 use Rattle.sp_frame.specs.Prioritized.{numbered_bytes, prios_bytes}
 use Rattle.sp_frame.specs.Reliable.{Report, ack_bytes, place_bytes, rels_bytes, report_bytes, slot_bytes}
@@ -111,7 +111,7 @@ sections_long s =
 -- ---- so a datagram has fewer objects than a frame may have bytes
 
 part_short : (bytes : List ℕ) → length (sections_part bytes) ≤ length bytes - 33
-part_short bytes = omega (arith, length-drop 33 (signed_part bytes), length-take (length bytes - 32) bytes)
+part_short bytes = omega (arith, length-drop 33 (tagged_part bytes), length-take (length bytes - 32) bytes)
 
 nothing_more : (l : LinkReply) (ps : List Piece) → length (objects_in (pieces_where l ps)) ≤ length (objects_in ps)
 nothing_more links.Fresh ps = omega arith

@@ -7,7 +7,7 @@ use Rattle.std.proofs.lemmas.Bool.Decides.{nat_tests}
 use Rattle.std.proofs.lemmas.List.{length-append}
 use Rattle.byteorder.specs.Endian.{big_number}
 use Rattle.sp_frame.proofs.HeadLemmas.{head_is_read}
-use Rattle.sp_frame.specs.Frames.{ends_bytes, head_bytes, head_of, numbers_bytes, opened, signed_part, tag_part}
+use Rattle.sp_frame.specs.Frames.{ends_bytes, head_bytes, head_of, numbers_bytes, opened, tagged_part, tag_part}
 use Rattle.sp_frame.specs.Ranges.{IsContents}
 use Rattle.sp_frame.specs.Sections.{Contents, sections_bytes}
 use Rattle.sp_frame.specs.declared.head.Head.{Head}
@@ -63,7 +63,7 @@ opens len small h s key is =
 
 -- ---- its tag
 
-front : (body tag : List ℕ) → length tag ≡ 32 → signed_part (body ++ tag) ≡ body
+front : (body tag : List ℕ) → length tag ≡ 32 → tagged_part (body ++ tag) ≡ body
 front body tag long =
     let all : length (body ++ tag) - 32 ≡ length body = omega (arith, length-append body tag, long) in
     ap (λ n. take n (body ++ tag)) all ∙ take-append_seam body tag
@@ -86,7 +86,7 @@ format_comes_through height = record {
       let body = head_bytes h ++ sections_bytes s in
       let tag = hmac key body in
       let long = length-hmac key body in
-      ap (λ t. pointwise nat_eq t (hmac key (signed_part (body ++ tag)))) (back body tag long) ∙ ap (λ b. pointwise nat_eq tag (hmac key b)) (front body tag long) ∙ same_bytes tag;
+      ap (λ t. pointwise nat_eq t (hmac key (tagged_part (body ++ tag)))) (back body tag long) ∙ ap (λ b. pointwise nat_eq tag (hmac key b)) (front body tag long) ∙ same_bytes tag;
 }
 
 pub schedules_deliver : SchedulesDeliver

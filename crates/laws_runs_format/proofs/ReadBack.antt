@@ -4,7 +4,7 @@ use Rattle.std.proofs.Math.Seq.{drop-append_seam, take-append_seam}
 use Rattle.std.proofs.lemmas.List.Elements.{All-drop, All-take}
 use Rattle.sp_base.specs.Spelling.{AreBytes}
 use Rattle.sp_frame.proofs.SectionLemmas.{read_is_spelled, spelled_is_read}
-use Rattle.sp_frame.specs.Frames.{ends_bytes, head_bytes, numbers_bytes, sections_part, signed_part}
+use Rattle.sp_frame.specs.Frames.{ends_bytes, head_bytes, numbers_bytes, sections_part, tagged_part}
 use Rattle.sp_frame.specs.Sections.{Contents, sections_bytes, sections_of}
 use Rattle.sp_frame.specs.declared.head.Head.{Head}
 use Rattle.sp_msg.proofs.EncodedIsRead.{whole_is_read}
@@ -30,7 +30,7 @@ between h s tag long =
     ∙ ap (λ n. drop n body) (sym (head_long h)) ∙ drop-append_seam (head_bytes h) (sections_bytes s)
 
 pub part_are : (bytes : List ℕ) → AreBytes bytes → AreBytes (sections_part bytes)
-part_are bytes are = All-drop (λ (b : ℕ). b < 256) 33 (signed_part bytes) (All-take (λ (b : ℕ). b < 256) (length bytes - 32) bytes are)
+part_are bytes are = All-drop (λ (b : ℕ). b < 256) 33 (tagged_part bytes) (All-take (λ (b : ℕ). b < 256) (length bytes - 32) bytes are)
 
 pub format_carries : FormatCarries
 format_carries = record {

@@ -29,7 +29,7 @@ pub fn tags(frames: &[Bytes]) -> u32 {
 
 fn has_right_tag(bytes: &[u8]) -> bool {
     match Frame::open(bytes) {
-        Ok(frame) => sp_hmac::verify(&KEY, &[], frame.signed_part(), frame.tag()),
+        Ok(frame) => sp_hmac::verify(&KEY, &[], frame.tagged_part(), frame.tag()),
         Err(_) => false,
     }
 }

@@ -1,6 +1,6 @@
 // Frames that a compromised node crafts: fresh to their receiver, and under the right tag.
 ghost use Rattle.std.specs.Prelude.{◌≡◌, ◌≤◌, ◌++◌, [], IfOk, None as Nothing, length, replicate};
-ghost use Rattle.sp_frame.specs.Frames.{frame_bytes, signed_part};
+ghost use Rattle.sp_frame.specs.Frames.{frame_bytes, tagged_part};
 ghost use Rattle.sp_frame.specs.Writing.{IsWritable};
 ghost use Rattle.sp_frame.specs.declared.frame.TheConstants.{TAG_BYTES};
 ghost use Rattle.sp_hmac.specs.Hmac.{hmac};
@@ -110,7 +110,7 @@ fn with_object(alloc: Global, head: &Head, object: &Kept) -> Result<Bytes, Memor
 /// Writes the tag of all bytes before it into the last 32 bytes (RFC 2104, section 2).
 fn seal(key: &[u8; 32], frame: &mut Bytes)
     requires { TAG_BYTES ≤ length frame.old }
-    ensures { frame.new ≡ signed_part frame.old ++ hmac key.now (signed_part frame.old) }
+    ensures { frame.new ≡ tagged_part frame.old ++ hmac key.now (tagged_part frame.old) }
 {
     let at = frame.as_slice().len() - TAG_BYTES;
     let (signed, _) = frame.as_slice().split_at(at);

@@ -19,7 +19,8 @@ EffectHolds x es js u all before (effects.Delivered src seq payload) =
     IsTrue (is_correct x src) → IsTrue (is_correct x u) → IsPrefix (flat_map (delivered_by src) all) (sent es js src u)
 EffectHolds x es js u all before (effects.DeliveredPrio src seq payload) = IsTrue (is_correct x u) → AreOnce (numbers src all)
 EffectHolds x es js u all before (effects.Stored place id src seq prio) = length (held_in place all) ≤ x.store
-EffectHolds x es js u all before (effects.Gone place id why) = (length (held_in place all) ≤ x.store) × ShareIf x.store place (held_in place before) (effects.Gone place id why)
+EffectHolds x es js u all before (effects.Gone place id why) = (length (held_in place all) ≤ x.store)
+    × ShareIf x.store place (held_in place before) (effects.Gone place id why)
 EffectHolds x es js u all before _ = Unit {0}
 
 -- the effect asks anything

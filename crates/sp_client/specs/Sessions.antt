@@ -1,5 +1,6 @@
 -- Sessions as a reader of the protocol says them: by the list of what was asked and answered, the latest first.
-use Rattle.std.specs.Prelude.{ℕ, ◌≡◌, ◌+◌, ◌^◌, ◌==◌, ◌&&◌, ◌||◌, nat_lt, Bool, true, false, not, List, length, filter, find, take_while, option_map, slice_get, Option, Some, None, if◌then◌else◌}
+use Rattle.std.specs.Prelude.{ℕ, ◌≡◌, ◌+◌, ◌^◌, ◌==◌, ◌&&◌, ◌||◌, nat_lt, Bool, true, false, not, List, length, filter, find, take_while}
+use Rattle.std.specs.Prelude.{option_map, slice_get, Option, Some, None, if◌then◌else◌}
 use Rattle.std.specs.List.{list_any, range_with_len}
 use Rattle.sp_client.specs.declared.limits.TheConstants.{MAX_SESSIONS}
 use Rattle.sp_client.specs.declared.request.Command.{Command}

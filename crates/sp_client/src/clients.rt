@@ -1,5 +1,6 @@
 // The sessions of all clients of a node. All memory is taken at the start, but for that of a reply that is given out.
-ghost use Rattle.std.specs.Prelude.{◌≡◌, ◌<◌, ◌≤◌, [], IfNone, IfOk, IfSome, OnErr, OnOk, None as Nothing, find, length, option_map, position, true, vec_capacity};
+ghost use Rattle.std.specs.Prelude.{◌≡◌, ◌<◌, ◌≤◌, [], IfNone, IfOk, IfSome, OnErr, OnOk, None as Nothing, find, length, option_map};
+ghost use Rattle.std.specs.Prelude.{position, true, vec_capacity};
 ghost use Rattle.sp_client.specs.Replies.{IsShort};
 ghost use Rattle.sp_client.specs.Requests.{IsCommand, IsInRange};
 ghost use Rattle.sp_client.specs.Sessions.{Answers, is_local};

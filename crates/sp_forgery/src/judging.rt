@@ -72,10 +72,13 @@ pub fn judge<'a>(
     step: &Step<Taken>,
 ) -> Option<Forgery<'a>>
     requires { length known.now.events.now ≡ length known.now.journal.now }
-    ensures judged { (n new : NodeState) (w : World) → n.fixed.me ≡ v → n.fixed.signature_len ≡ known.now.signature_len → call_refusal n u ≡ Nothing → w.directions ≡ directions.now
+    ensures judged { (n new : NodeState) (w : World) → n.fixed.me ≡ v → n.fixed.signature_len ≡ known.now.signature_len
+        → call_refusal n u ≡ Nothing → w.directions ≡ directions.now
         → Answered n u bytes.now step.now new
-        → option_map what_of result ≡ forged format (setting_of known.now.scenario.now) known.now.events.now known.now.journal.now w n (Datagram u bytes.now) (answered n u bytes.now step.now) }
-    ensures short { (n new : NodeState) → n.fixed.signature_len ≡ known.now.signature_len → call_refusal n u ≡ Nothing → Answered n u bytes.now step.now new → IfSome result IsShort }
+        → option_map what_of result ≡ forged format (setting_of known.now.scenario.now) known.now.events.now known.now.journal.now w n
+        (Datagram u bytes.now) (answered n u bytes.now step.now) }
+    ensures short { (n new : NodeState) → n.fixed.signature_len ≡ known.now.signature_len → call_refusal n u ≡ Nothing
+        → Answered n u bytes.now step.now new → IfSome result IsShort }
 {
     if has_forged_tag(known.scenario, directions, u, v, bytes, &step.reply.link) {
         return Some(Forgery::Tag);
@@ -97,7 +100,8 @@ fn forged_in<'a>(
     requires { length known.now.events.now ≡ length known.now.journal.now }
     ensures { (n : NodeState) (u : NodeId) → n.fixed.signature_len ≡ known.now.signature_len → link.now ≡ reply_at format n u bytes.now
         → items.now ≡ map (λ a. a.1) (handled format n u bytes.now).answered
-        → option_map (λ b. b.now) result ≡ forged_object format (setting_of known.now.scenario.now) known.now.events.now known.now.journal.now (handled format n u bytes.now).answered }
+        → option_map (λ b. b.now) result ≡ forged_object format (setting_of known.now.scenario.now) known.now.events.now known.now.journal.now
+        (handled format n u bytes.now).answered }
 {
     match link {
         LinkReply::Fresh => found(known, bytes, items),
@@ -109,7 +113,8 @@ fn forged_in<'a>(
 fn found<'a>(known: &Known<'_>, bytes: &'a [u8], items: &[Item]) -> Option<&'a [u8]>
     requires { length known.now.events.now ≡ length known.now.journal.now }
     ensures { option_map (λ b. b.now) result
-        ≡ found_at (setting_of known.now.scenario.now) known.now.events.now known.now.journal.now (opened bytes.now) (sections_of known.now.signature_len (sections_part bytes.now)) items.now }
+        ≡ found_at (setting_of known.now.scenario.now) known.now.events.now known.now.journal.now (opened bytes.now)
+        (sections_of known.now.signature_len (sections_part bytes.now)) items.now }
 {
     let Ok(frame) = Frame::open(bytes) else {
         return None;

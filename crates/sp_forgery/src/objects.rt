@@ -50,7 +50,8 @@ pub fn first_forged<'a>(
 ) -> Option<&'a [u8]>
     requires { length known.now.events.now ≡ length known.now.journal.now }
     ensures { option_map (λ b. b.now) result
-        ≡ forged_in_turn (setting_of known.now.scenario.now) known.now.events.now known.now.journal.now (objects_in (pieces_of (as_contents sections.now))) items.now }
+        ≡ forged_in_turn (setting_of known.now.scenario.now) known.now.events.now known.now.journal.now
+        (objects_in (pieces_of (as_contents sections.now))) items.now }
 {
     let weight = look(known, &sections.weight, items);
     if weight.found.is_some() {
@@ -88,8 +89,10 @@ fn look<'a, 'b>(
     items: &'b [Item],
 ) -> Looked<'a, 'b>
     requires { length known.now.events.now ≡ length known.now.journal.now }
-    ensures { (os : List Kept) → forged_in_turn (setting_of known.now.scenario.now) known.now.events.now known.now.journal.now (as_list (option_map as_object object.now) ++ os) items.now
-        ≡ or_later (option_map (λ b. b.now) result.found) (forged_in_turn (setting_of known.now.scenario.now) known.now.events.now known.now.journal.now os result.rest.now) }
+    ensures { (os : List Kept) → forged_in_turn (setting_of known.now.scenario.now) known.now.events.now known.now.journal.now
+        (as_list (option_map as_object object.now) ++ os) items.now
+        ≡ or_later (option_map (λ b. b.now) result.found)
+        (forged_in_turn (setting_of known.now.scenario.now) known.now.events.now known.now.journal.now os result.rest.now) }
 {
     match object {
         Some(object) => look_at(known, object, items),
@@ -108,8 +111,10 @@ fn look_all<'a, 'b>(
     items: &'b [Item],
 ) -> Looked<'a, 'b>
     requires { length known.now.events.now ≡ length known.now.journal.now }
-    ensures { (os : List Kept) → forged_in_turn (setting_of known.now.scenario.now) known.now.events.now known.now.journal.now (map as_object (drop place objects.now) ++ os) items.now
-        ≡ or_later (option_map (λ b. b.now) result.found) (forged_in_turn (setting_of known.now.scenario.now) known.now.events.now known.now.journal.now os result.rest.now) }
+    ensures { (os : List Kept) → forged_in_turn (setting_of known.now.scenario.now) known.now.events.now known.now.journal.now
+        (map as_object (drop place objects.now) ++ os) items.now
+        ≡ or_later (option_map (λ b. b.now) result.found)
+        (forged_in_turn (setting_of known.now.scenario.now) known.now.events.now known.now.journal.now os result.rest.now) }
 {
     let Some(object) = objects.get(place) else {
         return Looked {
@@ -127,8 +132,10 @@ fn look_all<'a, 'b>(
 /// Looks at an object with the first of the answers.
 fn look_at<'a, 'b>(known: &Known<'_>, object: &ObjectRef<'a>, items: &'b [Item]) -> Looked<'a, 'b>
     requires { length known.now.events.now ≡ length known.now.journal.now }
-    ensures { (os : List Kept) → forged_in_turn (setting_of known.now.scenario.now) known.now.events.now known.now.journal.now (as_object object.now ∷ os) items.now
-        ≡ or_later (option_map (λ b. b.now) result.found) (forged_in_turn (setting_of known.now.scenario.now) known.now.events.now known.now.journal.now os result.rest.now) }
+    ensures { (os : List Kept) → forged_in_turn (setting_of known.now.scenario.now) known.now.events.now known.now.journal.now
+        (as_object object.now ∷ os) items.now
+        ≡ or_later (option_map (λ b. b.now) result.found)
+        (forged_in_turn (setting_of known.now.scenario.now) known.now.events.now known.now.journal.now os result.rest.now) }
 {
     match items.split_first() {
         None => Looked {
@@ -145,7 +152,9 @@ fn look_at<'a, 'b>(known: &Known<'_>, object: &ObjectRef<'a>, items: &'b [Item])
 /// The bytes of an object that is forged.
 fn found_in<'a>(known: &Known<'_>, object: &ObjectRef<'a>, item: Item) -> Option<&'a [u8]>
     requires { length known.now.events.now ≡ length known.now.journal.now }
-    ensures { option_map (λ b. b.now) result ≡ (if is_forged format (setting_of known.now.scenario.now) known.now.events.now known.now.journal.now (as_object object.now, item) then Some (encoded (as_object object.now).body) else None) }
+    ensures { option_map (λ b. b.now) result
+        ≡ (if is_forged format (setting_of known.now.scenario.now) known.now.events.now known.now.journal.now
+        (as_object object.now, item) then Some (encoded (as_object object.now).body) else None) }
 {
     if is_forged(known, object, item) {
         Some(message_of(object))

@@ -39,15 +39,15 @@ head_of bytes = record {
 }
 
 -- all before the tag
-abbrev pub signed_part : List ℕ → List ℕ
-signed_part bytes = take (length bytes - TAG_BYTES) bytes
+abbrev pub tagged_part : List ℕ → List ℕ
+tagged_part bytes = take (length bytes - TAG_BYTES) bytes
 
 abbrev pub tag_part : List ℕ → List ℕ
 tag_part bytes = drop (length bytes - TAG_BYTES) bytes
 
 -- all between the head and the tag
 abbrev pub sections_part : List ℕ → List ℕ
-sections_part bytes = drop HEAD_BYTES (signed_part bytes)
+sections_part bytes = drop HEAD_BYTES (tagged_part bytes)
 
 -- ---- the bytes of a frame
 -- what it is, from whom and to whom

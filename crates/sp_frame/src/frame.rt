@@ -1,7 +1,7 @@
 // A datagram as a frame: its head, its sections and its tag, borrowed from it.
 ghost use Rattle.std.specs.Prelude.{◌≡◌};
 ghost use Rattle.sp_base.specs.Refusals.{Gives};
-ghost use Rattle.sp_frame.specs.Frames.{head_of, opened, sections_part, signed_part, tag_part};
+ghost use Rattle.sp_frame.specs.Frames.{head_of, opened, sections_part, tagged_part, tag_part};
 ghost use Rattle.sp_frame.specs.Sections.{sections_of};
 ghost use Rattle.sp_frame.specs.Views.{as_contents};
 
@@ -85,8 +85,8 @@ impl<'a> Frame<'a> {
     }
 
     /// All bytes before the tag.
-    pub fn signed_part(&self) -> &'a [u8]
-        ensures { result.now ≡ signed_part self.now }
+    pub fn tagged_part(&self) -> &'a [u8]
+        ensures { result.now ≡ tagged_part self.now }
     {
         let bytes = self.bytes;
         &bytes[..bytes.len() - TAG_BYTES]

@@ -1,6 +1,7 @@
 pub mod KeyTree
 pub mod Validity
 pub mod Decision
+pub mod SeedKey
 pub mod Signer
 pub mod Uses
 pub mod Laws

@@ -16,7 +16,7 @@ pub use laws::{
     two_indexes_have_two_leaves, two_leaves_make_a_signature, what_a_seed_signs_is_valid,
 };
 pub use refused::HssRefused;
-pub use seed_key::public_key;
+pub use seed_key::{SeedKey, public_key};
 pub use signer::Signer;
 pub use sp_lms::LmsParam;
 pub use tree::Tree;

@@ -4,7 +4,8 @@ ghost use Rattle.sp_hss.specs.KeyTree.{public_key, signature, signature_len, tot
 ghost use Rattle.sp_hss.specs.Validity.{IsValid};
 
 use crate::front::{front_len, go_to, grow_next, sign_next, write_front};
-use crate::{HssRefused, Tree};
+use crate::seed_key::spelled;
+use crate::{HssRefused, SeedKey, Tree};
 use sp_lms::{GrowingKey, LmsKey, LmsParam};
 use sp_ots::OtsParam;
 use std::alloc::Global;
@@ -58,11 +59,24 @@ impl Signer {
         ensures ok { IfOk result (λ signer. signer ≡ record { height = height; seed = seed; index = from; bound = upto }) }
         ensures memory { IfErr result (λ refused. refused ≡ HssRefused.Memory) }
     {
+        let key = SeedKey::make(alloc, height, seed)?;
+        Signer::of(alloc, key, from, upto)
+    }
+
+    /// The signer that the key of a seed becomes, for the indexes from `from` up to, and not with, `upto`: as `make`, but the upper tree is there.
+    pub fn of(alloc: Global, key: SeedKey, from: u64, upto: u64) -> Result<Signer, HssRefused>
+        requires ordered { from ≤ upto }
+        requires within { upto ≤ total key.height }
+        ensures ok { IfOk result (λ signer. signer ≡ record { height = key.height; seed = key.seed; index = from; bound = upto }) }
+        ensures memory { IfErr result (λ refused. refused ≡ HssRefused.Memory) }
+    {
+        let SeedKey {
+            height,
+            seed,
+            mut upper,
+        } = key;
         let leaves = u64::from(height.leaf_count());
         let tree = (from / leaves).min(leaves - 1) as u32;
-        let Ok(mut upper) = Tree::Upper.key(alloc, height, &seed) else {
-            return Err(HssRefused::Memory);
-        };
         let Ok(mut lower) = Tree::Lower(tree).key(alloc, height, &seed) else {
             return Err(HssRefused::Memory);
         };
@@ -97,10 +111,7 @@ impl Signer {
     pub fn public(&self) -> [u8; 60]
         ensures { result ≡ public_key self.now.height self.now.seed }
     {
-        let mut public = [0u8; 60];
-        public[..4].copy_from_slice(&2u32.to_be_bytes());
-        public[4..].copy_from_slice(&self.upper.public());
-        public
+        spelled(&self.upper.public())
     }
 
     /// The index of the next signature. None below is used again.

@@ -144,5 +144,5 @@ fn is_right(key: &[u8; 32], frame: &Frame<'_>, tags: &mut u64) -> bool
     ensures work { tags.new ≡ one_more tags.old }
 {
     *tags = tags.saturating_add(1);
-    sp_hmac::verify(key, &[], frame.signed_part(), frame.tag())
+    sp_hmac::verify(key, &[], frame.tagged_part(), frame.tag())
 }

@@ -1,7 +1,8 @@
 // The message that bytes are, read from the left; its payload is borrowed from them.
 ghost use Rattle.std.specs.Prelude.{IfOk, ◌-◌, ◌^◌};
 ghost use Rattle.sp_base.specs.Refusals.{Gives};
-ghost use Rattle.sp_msg.specs.Bodies.{HasGoodFields, ack_fields, ack_from, prio_fields, prio_from, read_body, rel_fields, rel_from, of_fields, weight_fields, weight_from, with_payload};
+ghost use Rattle.sp_msg.specs.Bodies.{HasGoodFields, ack_fields, ack_from, prio_fields, prio_from, read_body, rel_fields, rel_from};
+ghost use Rattle.sp_msg.specs.Bodies.{of_fields, weight_fields, weight_from, with_payload};
 ghost use Rattle.sp_msg.specs.Fields.{field_at, free, ranged};
 ghost use Rattle.sp_msg.specs.Views.{as_body};
 ghost use Rattle.sp_msg.specs.declared.body.BodyRef.TheVariants as borrowed;

@@ -4,7 +4,7 @@ use Rattle.std.specs.Prelude.{replicate}
 use Rattle.std.proofs.lemmas.List.{length-append, length-replicate}
 use Rattle.std.proofs.Math.Seq.{take-append_seam}
 use Rattle.sp_base.specs.declared.id.NodeId.{NodeId}
-use Rattle.sp_frame.specs.Frames.{frame_bytes, head_bytes, signed_part}
+use Rattle.sp_frame.specs.Frames.{frame_bytes, head_bytes, tagged_part}
 use Rattle.sp_frame.specs.Sections.{Contents, sections_bytes}
 use Rattle.sp_frame.specs.declared.head.Head.{Head}
 use Rattle.sp_hmac.specs.Hmac.{hmac}
@@ -15,7 +15,7 @@ use Rattle.sp_rules.specs.Node.{NodeState, link_in}
 use Rattle.sp_rules.specs.Polls.{contents_to, frame_to}
 
 -- before the zeros
-signed_is : (body zeros : List ℕ) → length zeros ≡ 32 → signed_part (body ++ zeros) ≡ body
+signed_is : (body zeros : List ℕ) → length zeros ≡ 32 → tagged_part (body ++ zeros) ≡ body
 signed_is body zeros long =
     let place : length (body ++ zeros) - 32 ≡ length body = omega (arith, length-append body zeros, long) in
     ap (λ (n : ℕ). take n (body ++ zeros)) place ∙ take-append_seam body zeros

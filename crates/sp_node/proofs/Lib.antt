@@ -6,3 +6,5 @@ pub mod Passed
 pub mod Starts
 pub mod Steps
 pub mod Written
+pub mod FixedStays
+pub mod Lengths

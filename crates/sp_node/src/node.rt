@@ -24,7 +24,7 @@ use crate::tick::tick;
 use sp_base::{Bytes, Flow, Memory, NodeId};
 use sp_msg::SendRefused;
 use sp_node_state::{NodeConfig, State, send_prio, send_rel, set_weight};
-use sp_paths::PathBook;
+use sp_routes::PathBook;
 use sp_rules::{Entry, NodeRefused, Step, Taken, TickReply};
 use sp_sign::{Checker, NodeSigner};
 use std::alloc::Global;

@@ -20,7 +20,7 @@ ghost use Rattle.sp_rules.specs.Weights.{moved};
 use sp_base::{Bytes, Memory, NodeId};
 use sp_frame::{Head, write};
 use sp_link::Link;
-use sp_node_parts::{Parts, Fixed};
+use sp_node_parts::{Fixed, Parts};
 use sp_node_state::State;
 use sp_rules::NodeRefused;
 use sp_topology::NodeKey;

@@ -14,7 +14,7 @@ use Rattle.sp_base.specs.declared.limits.TheConstants.{MAX_MESSAGES}
 use Rattle.sp_node_format.specs.Format.{format}
 use Rattle.sp_frame.proofs.HeadLemmas.{head_is_read}
 use Rattle.sp_frame.proofs.SectionLemmas.{spelled_is_read}
-use Rattle.sp_frame.specs.Frames.{ends_bytes, head_bytes, head_of, numbers_bytes, opened, signed_part, tag_part}
+use Rattle.sp_frame.specs.Frames.{ends_bytes, head_bytes, head_of, numbers_bytes, opened, tagged_part, tag_part}
 use Rattle.sp_frame.specs.Grammar.{counted_bytes}
 use Rattle.sp_frame.specs.Objects.{IsObject, object_bytes}
 use Rattle.sp_frame.specs.Prioritized.{numbered_bytes, prios_bytes}
@@ -168,7 +168,7 @@ read_back len h s tag small head contents long =
     let size = sections_len len small s contents in
     let all : length (sections_bytes s ++ tag) ≡ length (sections_bytes s) + length tag = length-append (sections_bytes s) tag in
     let whole : length bytes ≡ length inner + length tag = length-append inner tag in
-    let signed : signed_part bytes ≡ inner = take_at inner tag (length bytes - 32) (omega (arith, whole, long)) in
+    let signed : tagged_part bytes ≡ inner = take_at inner tag (length bytes - 32) (omega (arith, whole, long)) in
     record {
       opens = rw together (opens h (sections_bytes s ++ tag) (omega (arith, all, long)) (omega (arith, all, long, size)));
       head = ap head_of together ∙ head_is_read h (sections_bytes s ++ tag) head;
@@ -209,7 +209,7 @@ polled_is_read_back n v kept small is =
     let tag = hmac l.key inner in
     let long = tag_len l.key inner in
     let whole : length (inner ++ tag) ≡ length inner + length tag = length-append inner tag in
-    let signed : signed_part (inner ++ tag) ≡ inner = take_at inner tag (length (inner ++ tag) - 32) (omega (arith, whole, long)) in
+    let signed : tagged_part (inner ++ tag) ≡ inner = take_at inner tag (length (inner ++ tag) - 32) (omega (arith, whole, long)) in
     let behind : tag_part (inner ++ tag) ≡ tag = drop_at inner tag (length (inner ++ tag) - 32) (omega (arith, whole, long)) in (
       read_back n.fixed.signature_len h s tag small (head_fits n v kept is) (frames_fit format n v kept) long,
       ap₂ (λ (a b : List ℕ). pointwise nat_eq a (hmac l.key b)) behind signed ∙ same_bytes tag,

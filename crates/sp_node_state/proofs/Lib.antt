@@ -6,6 +6,3 @@ pub mod Ends
 pub mod InEffect
 pub mod Sent
 pub mod Urgent
-pub mod WeighedLemmas
-pub mod JoinedLemmas
-pub mod ChoiceLemmas

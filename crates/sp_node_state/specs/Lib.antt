@@ -3,9 +3,6 @@ pub mod States
 -- ---- what a client sends
 pub mod Messages
 pub mod Sends
--- ---- the edges over which an own priority message goes
-pub mod Fewer
-pub mod Joined
 -- ---- what the calls of a node use of each other's proofs
 pub mod ReadyStates
 pub mod ReadySends

@@ -12,7 +12,7 @@ ghost use Rattle.sp_topology.specs.Ranges.{IsTopology};
 use crate::state::State;
 use sp_base::{EdgeId, Limits, Listed, Memory, NodeId};
 use sp_link::Link;
-use sp_node_parts::{Parts, Fixed};
+use sp_node_parts::{Fixed, Parts};
 use sp_rules::NodeRefused;
 use sp_sign::{NodeSigner, param_of};
 use sp_topology::{Edge, LmsHeight, Topology};

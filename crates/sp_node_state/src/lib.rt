@@ -3,22 +3,14 @@
 #![tactic(auto)]
 
 mod boot;
-mod cheapest;
-mod chosen;
-mod joined;
 mod priority;
-mod refused;
 mod reliable;
 mod signing;
 mod state;
-mod union;
-mod weighed;
 mod weight;
 
 pub use boot::{NodeConfig, can_boot};
-pub use chosen::mask_to;
 pub use priority::{PrioSend, send_prio};
-pub use refused::NoMask;
 pub use reliable::send_rel;
 pub use state::State;
 pub use weight::set_weight;

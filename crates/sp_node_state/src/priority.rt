@@ -4,7 +4,7 @@ ghost use Rattle.sp_base.specs.declared.limits.TheConstants.{MAX_WEIGHT};
 ghost use Rattle.laws_node.specs.Inputs.{PrioSendFits};
 ghost use Rattle.laws_node.specs.Nodes.{IsKept};
 ghost use Rattle.sp_node_format.specs.Format.{format};
-ghost use Rattle.sp_node_state.specs.Fewer.{SaysFewer};
+ghost use Rattle.sp_routes.specs.Fewer.{SaysFewer};
 ghost use Rattle.sp_msg.specs.Bodies.{HasGoodFields};
 ghost use Rattle.sp_node_state.specs.Sends.{Sends};
 ghost use Rattle.sp_node_state.specs.Messages.{as_send};
@@ -21,12 +21,12 @@ ghost use Rattle.sp_rules.specs.Told.{told};
 ghost use Rattle.sp_rules.specs.Weights.{effective};
 ghost use Rattle.sp_topology.specs.Ranges.{IsTopology};
 
-use crate::{NoMask, State, mask_to};
+use crate::State;
 use sp_base::{Bytes, Memory, NodeId};
 use sp_msg::{Body, Effect, Effects, Kept, Mask, Prio, SendRefused};
-use sp_node_parts::{Parts, Fixed};
-use sp_paths::PathBook;
+use sp_node_parts::{Fixed, Parts};
 use sp_prio::Spare;
+use sp_routes::{NoMask, PathBook, mask_to};
 use sp_rules::Step;
 use sp_sign::Blank;
 use std::alloc::Global;
@@ -169,8 +169,10 @@ fn ready_prio(
 /// Signs a message that is ready, and puts it into its places.
 fn admit_own(state: &mut State, ready: ReadyPrio) -> Effects
     requires { IsReadyPrio state.old ready }
-    ensures state { state.new ≡ signed_once state.old (record state.old.parts { prio = admit_prio state.old.parts.prio (signed_now format state.old ready.blank.kept.body) Nothing }) }
-    ensures told { result.list ≡ signed_effect format ready.blank.kept.body ∷ prio_effects state.old.parts.prio (signed_now format state.old ready.blank.kept.body) Nothing }
+    ensures state { state.new ≡ signed_once state.old
+        (record state.old.parts { prio = admit_prio state.old.parts.prio (signed_now format state.old ready.blank.kept.body) Nothing }) }
+    ensures told { result.list ≡ signed_effect format ready.blank.kept.body ∷ prio_effects state.old.parts.prio
+        (signed_now format state.old ready.blank.kept.body) Nothing }
 {
     state.recall();
     let ReadyPrio {

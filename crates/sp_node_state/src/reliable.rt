@@ -123,7 +123,8 @@ fn ready_rel(
 /// Signs a message that is ready, and keeps it.
 fn push_rel(state: &mut State, ready: ReadyRel) -> Effects
     requires { IsReadyRel state.old ready }
-    ensures state { state.new ≡ signed_once state.old (record state.old.parts { rel = pushed_in state.old.parts.rel (signed_now format state.old ready.blank.kept.body) }) }
+    ensures state { state.new ≡ signed_once state.old
+        (record state.old.parts { rel = pushed_in state.old.parts.rel (signed_now format state.old ready.blank.kept.body) }) }
     ensures told { result.list ≡ signed_effect format ready.blank.kept.body ∷ [] }
 {
     let ReadyRel {

@@ -9,7 +9,7 @@ ghost use Rattle.sp_rules.specs.declared.node.TheConstants.{MAX_CALLS};
 
 use sp_base::NodeId;
 use sp_link::Link;
-use sp_node_parts::{Parts, Fixed};
+use sp_node_parts::{Fixed, Parts};
 use sp_rules::{MAX_CALLS, NodeRefused};
 use sp_sign::NodeSigner;
 use std::marker::Model;

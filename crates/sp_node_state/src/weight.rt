@@ -113,7 +113,8 @@ fn ready_update(
 /// Signs an update that is ready, and holds it.
 fn hold_own(state: &mut State, ready: ReadyUpdate) -> Effects
     requires { IsReadyUpdate state.old ready }
-    ensures state { state.new ≡ signed_once state.old (record state.old.parts { weights = held state.old.parts.weights (signed_now format state.old ready.blank.kept.body) }) }
+    ensures state { state.new ≡ signed_once state.old
+        (record state.old.parts { weights = held state.old.parts.weights (signed_now format state.old ready.blank.kept.body) }) }
     ensures told { result.list ≡ signed_effect format ready.blank.kept.body ∷ weight_effects ready.blank.kept.body }
 {
     let ReadyUpdate { blank, mut effects } = ready;

@@ -1,6 +1,7 @@
 // Chains on their way, four at a time: when the chain of a lane is at its end, the lane takes another one. The longest go first, so that
 // no lane waits long for the others at the end.
-ghost use Rattle.std.specs.Prelude.{◌≡◌, ℕ, ◌+◌, ◌-◌, ◌<◌, ◌≤◌, ◌^◌, ◌++◌, ◌↔◌, IsTrue, List, [], length, map, take, drop, replicate, slice_index, slice_index_or, slice_set};
+ghost use Rattle.std.specs.Prelude.{◌≡◌, ℕ, ◌+◌, ◌-◌, ◌<◌, ◌≤◌, ◌^◌, ◌++◌, ◌↔◌, IsTrue, List, [], length, map, take, drop, replicate};
+ghost use Rattle.std.specs.Prelude.{slice_index, slice_index_or, slice_set};
 ghost use Rattle.sha2.specs.Sha256.{sha256};
 ghost use Rattle.sp_ots.specs.Lanes.{lanes};
 ghost use Rattle.sp_ots.specs.Strings.{u8str};

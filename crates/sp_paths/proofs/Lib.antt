@@ -24,5 +24,3 @@ pub mod Placed
 pub mod UsedArcs
 pub mod FitLemmas
 pub mod CheckLemmas
-pub mod FewSets
-pub mod PageLemmas

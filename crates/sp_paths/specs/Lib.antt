@@ -15,4 +15,3 @@ pub mod Fewer
 pub mod Checks
 pub mod Tests
 pub mod Laws
-pub mod Pages

@@ -1,5 +1,6 @@
 -- Tests that decide what `check` asks for, over any lists of nodes. No public clause names these.
-use Rattle.std.specs.Prelude.{ℕ, ◌≡◌, ◌+◌, ◌-◌, ◌*◌, ◌<◌, nat_lt, MatchBool, ◌+ℤ◌, ◌==◌, ◌&&◌, ◌||◌, Bool, true, false, not, cond, List, [], ◌∷◌, drop, Option, Some, None, ℤ, pos, ◌≤ℤ◌}
+use Rattle.std.specs.Prelude.{ℕ, ◌≡◌, ◌+◌, ◌-◌, ◌*◌, ◌<◌, nat_lt, MatchBool, ◌+ℤ◌, ◌==◌, ◌&&◌, ◌||◌, Bool, true, false, not, cond, List, []}
+use Rattle.std.specs.Prelude.{◌∷◌, drop, Option, Some, None, ℤ, pos, ◌≤ℤ◌}
 use Rattle.std.specs.List.{list_all, list_any}
 use Rattle.sp_base.specs.declared.id.NodeId.{NodeId}
 use Rattle.sp_topology.specs.declared.topology.Edge.{Edge}

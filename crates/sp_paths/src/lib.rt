@@ -3,7 +3,6 @@
 
 mod apart;
 mod augment;
-mod book;
 mod certified;
 mod cheapest;
 mod checked;
@@ -28,7 +27,6 @@ mod walk;
 mod walked;
 mod walks;
 
-pub use book::PathBook;
 pub use cheapest::{disjoint, disjoint_paths};
 pub use checked::check;
 pub use laws::{what_is_accepted_is_least, what_is_found_is_accepted};

@@ -2,7 +2,7 @@
 -- of a node looks into the grammar of frames, into tags or into signatures.
 use Rattle.std.specs.Prelude.{ℕ, Bool, List, Result, nat_eq}
 use Rattle.std.specs.Cmp.Lexicographic.{pointwise}
-use Rattle.sp_frame.specs.Frames.{signed_part, tag_part}
+use Rattle.sp_frame.specs.Frames.{tagged_part, tag_part}
 use Rattle.sp_frame.specs.Sections.{Contents}
 use Rattle.sp_frame.specs.declared.head.Head.{Head}
 use Rattle.sp_frame.specs.declared.refused.FrameRefused.{FrameRefused}
@@ -35,4 +35,4 @@ pub record Arts : Type 0 where
 
 -- whether the tag of a frame is that of all bytes before it
 abbrev pub is_right : Arts → List ℕ → List ℕ → Bool
-is_right arts key bytes = pointwise nat_eq (tag_part bytes) (arts.tag key (signed_part bytes))
+is_right arts key bytes = pointwise nat_eq (tag_part bytes) (arts.tag key (tagged_part bytes))

@@ -1,7 +1,8 @@
 -- The priority part of a node: a store for each neighbour and an inbox, and for each source a window of the numbers that were seen.
 --
 -- Place 0 is the inbox, and the place of a neighbour is its id.
-use Rattle.std.specs.Prelude.{ℕ, ◌==◌, ◌+◌, nat_lt, Bool, not, ◌||◌, List, [], ◌∷◌, ◌++◌, length, map, replicate, count_by, sum_by, position, slice_index_or, slice_set, Option, Some, None, if◌then◌else◌}
+use Rattle.std.specs.Prelude.{ℕ, ◌==◌, ◌+◌, nat_lt, Bool, not, ◌||◌, List, [], ◌∷◌, ◌++◌, length, map, replicate, count_by, sum_by}
+use Rattle.std.specs.Prelude.{position, slice_index_or, slice_set, Option, Some, None, if◌then◌else◌}
 use Rattle.std.specs.List.{flat_map, list_any}
 use Rattle.sp_base.specs.Rows.{first_where, replace_where}
 use Rattle.sp_base.specs.declared.id.NodeId.{NodeId}

@@ -5,7 +5,8 @@
 --
 --     in flight     7: entry 31 | 8: entry 35 | 9: entry 33         the neighbour acknowledges 8: entries 31 and 35 leave the store
 --     then                                      9: entry 33 | 10: entry 36 | 11: entry 34 | 12: entry 40        the next poll fills up
-use Rattle.std.specs.Prelude.{ℕ, zero, suc, ◌==◌, ◌+◌, ◌-◌, nat_le, max, Bool, false, not, ◌&&◌, List, [], ◌∷◌, ◌++◌, length, map, filter, Option, Some, None, option_map, if◌then◌else◌}
+use Rattle.std.specs.Prelude.{ℕ, zero, suc, ◌==◌, ◌+◌, ◌-◌, nat_le, max, Bool, false, not, ◌&&◌, List, [], ◌∷◌, ◌++◌, length, map, filter}
+use Rattle.std.specs.Prelude.{Option, Some, None, option_map, if◌then◌else◌}
 use Rattle.std.specs.List.{flat_map, list_any}
 use Rattle.sp_base.specs.declared.id.NodeId.{NodeId}
 use Rattle.sp_base.specs.declared.limits.TheConstants.{MAX_MESSAGES}

@@ -5,7 +5,8 @@
 --     signed    the place of the flow to this node whose acknowledgement was signed last
 --
 -- Rows are only ever replaced, so each place stays that of its flow.
-use Rattle.std.specs.Prelude.{ℕ, ◌≡◌, ◌+◌, ◌-◌, ◌==◌, Bool, not, ◌&&◌, nat_le, nat_lt, max, List, [], ◌∷◌, length, map, filter, take, drop, Option, Some, None, Result, Ok, Err, slice_get, if◌then◌else◌}
+use Rattle.std.specs.Prelude.{ℕ, ◌≡◌, ◌+◌, ◌-◌, ◌==◌, Bool, not, ◌&&◌, nat_le, nat_lt, max, List, [], ◌∷◌, length, map, filter, take, drop}
+use Rattle.std.specs.Prelude.{Option, Some, None, Result, Ok, Err, slice_get, if◌then◌else◌}
 use Rattle.std.specs.List.{All, flat_map, list_any}
 use Rattle.std.specs.Option.{option_and_then, option_map}
 use Rattle.sp_base.specs.Cursor.{next_after}
@@ -22,7 +23,8 @@ use Rattle.sp_msg.specs.declared.body.Body.TheVariants as bodies
 use Rattle.sp_msg.specs.declared.effect.Effect.{Effect}
 use Rattle.sp_msg.specs.declared.effect.Effect.TheVariants.{Delivered}
 use Rattle.sp_msg.specs.declared.kept.Kept.{Kept}
-use Rattle.sp_rules.specs.Flow.{FlowState, IsStanding, no_flow, ends, is_flow, is_full, flow_said, number_said, pushed, received, acknowledged_by, concluded, after_take}
+use Rattle.sp_rules.specs.Flow.{FlowState, IsStanding, no_flow, ends, is_flow, is_full, flow_said, number_said, pushed, received}
+use Rattle.sp_rules.specs.Flow.{acknowledged_by, concluded, after_take}
 use Rattle.sp_rules.specs.declared.rel.AckJudged.{AckJudged}
 use Rattle.sp_rules.specs.declared.rel.AckJudged.TheVariants as acks
 use Rattle.sp_rules.specs.declared.rel.RelJudged.{RelJudged}

@@ -10,7 +10,9 @@ use Rattle.sp_rules.specs.Masks.{Choice, IsChoice, graph_of}
 use Rattle.sp_rules.specs.Node.{NodeState, call_refusal}
 use Rattle.sp_rules.specs.Polls.{after_poll, frame_to}
 use Rattle.sp_rules.specs.Rel as rel
-use Rattle.sp_rules.specs.Sends.{PrioSend, after_send_prio, after_send_rel, after_set_weight, after_take_prio, after_take_rel, prio_refusal, prio_sent, rel_number, rel_refusal, rel_sent, send_prio_refusal, take_prio_effects, weight_number, weight_refusal, weight_sent}
+use Rattle.sp_rules.specs.Sends.{PrioSend, after_send_prio, after_send_rel, after_set_weight, after_take_prio, after_take_rel, prio_refusal}
+use Rattle.sp_rules.specs.Sends.{prio_sent, rel_number, rel_refusal, rel_sent, send_prio_refusal, take_prio_effects, weight_number}
+use Rattle.sp_rules.specs.Sends.{weight_refusal, weight_sent}
 use Rattle.sp_rules.specs.Store.{oldest}
 use Rattle.sp_rules.specs.Ticks.{after_tick, tick_effects, tick_reply}
 use Rattle.sp_rules.specs.declared.answers.Item.{Item}

@@ -6,7 +6,8 @@
 --     priority     3   1   1   5   1   9
 --                          ^
 --     source 2 has most entries; of these, 3 and 5 have the lowest priority; of these, 3 is the oldest: it goes
-use Rattle.std.specs.Prelude.{ℕ, ◌==◌, ◌+◌, nat_lt, Bool, not, List, [], ◌∷◌, ◌++◌, length, map, filter, find, count_by, drop, slice_get, Option, Some, None, if◌then◌else◌}
+use Rattle.std.specs.Prelude.{ℕ, ◌==◌, ◌+◌, nat_lt, Bool, not, List, [], ◌∷◌, ◌++◌, length, map, filter, find, count_by, drop, slice_get}
+use Rattle.std.specs.Prelude.{Option, Some, None, if◌then◌else◌}
 use Rattle.std.specs.List.{list_any, range_with_len}
 use Rattle.std.specs.Option.{option_and_then}
 use Rattle.sp_base.specs.Cursor.{next_after}

@@ -2,7 +2,8 @@
 --
 --     row 2e       the lower end of edge e
 --     row 2e + 1   its higher end
-use Rattle.std.specs.Prelude.{ℕ, ◌==◌, ◌+◌, ◌*◌, nat_lt, nat_le, max, List, map, length, replicate, Option, Some, None, is_none, is_some, slice_get, slice_set, if◌then◌else◌}
+use Rattle.std.specs.Prelude.{ℕ, ◌==◌, ◌+◌, ◌*◌, nat_lt, nat_le, max, List, map, length, replicate, Option, Some, None, is_none, is_some}
+use Rattle.std.specs.Prelude.{slice_get, slice_set, if◌then◌else◌}
 use Rattle.std.specs.Option.{option_and_then}
 use Rattle.sp_base.specs.Cursor.{next_after}
 use Rattle.sp_msg.specs.declared.body.Body.{Body}

@@ -52,7 +52,8 @@ is_forged arts x es js answered =
 -- the first one in the order of handling
 abbrev pub forged_object : Arts → Setting → List Event → List Entry → List (Kept × Item) → Option (List ℕ)
 forged_object arts x es js [] = None
-forged_object arts x es js (answered ∷ others) = if is_forged arts x es js answered then Some (arts.spell answered.0.body) else forged_object arts x es js others
+forged_object arts x es js (answered ∷ others) = if is_forged arts x es js answered then Some
+    (arts.spell answered.0.body) else forged_object arts x es js others
 
 -- ---- what of a step is forged, after these events: the tag, or else the first object
 

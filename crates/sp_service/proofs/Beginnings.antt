@@ -8,7 +8,7 @@ use Rattle.sp_keystate.specs.declared.starts.Started.{Started}
 use Rattle.sp_outside.specs.Calls.{Call}
 use Rattle.sp_outside.specs.Disk.{Disk}
 use Rattle.sp_recording.specs.declared.line.Opening.{Opening}
-use Rattle.sp_service_setup.specs.NodeParts.{peers_of}
+use Rattle.sp_service.specs.NodeParts.{peers_of}
 use Rattle.sp_service_station.specs.Stations.{Station, StationStep, indexes_in}
 use Rattle.sp_service_turns.proofs.EndingLemmas.{not_begun}
 use Rattle.sp_service_turns.specs.Daemons.{EndsAfter, FailsToWrite, first_text}

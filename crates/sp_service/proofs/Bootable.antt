@@ -7,8 +7,8 @@ use Rattle.sp_config.specs.declared.config.Config.{Config}
 use Rattle.sp_config.specs.declared.config.Peer.{Peer}
 use Rattle.sp_node_state.specs.Boots.{IsBootable}
 use Rattle.sp_recording.specs.declared.line.Opening.{Opening}
-use Rattle.sp_service_setup.specs.Fits.{Fits}
-use Rattle.sp_service_setup.specs.NodeParts.{node_signer}
+use Rattle.sp_service.specs.Fits.{Fits}
+use Rattle.sp_service.specs.NodeParts.{node_signer}
 use Rattle.sp_topology.specs.Neighbours.{neighbours_from}
 use Rattle.sp_topology.specs.Ranges.{IsTopology}
 use Rattle.sp_topology.specs.declared.topology.Topology.{Topology}

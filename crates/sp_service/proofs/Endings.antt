@@ -15,7 +15,7 @@ use Rattle.sp_outside.proofs.DiskLemmas.{bytes_of-still}
 use Rattle.sp_outside.specs.Calls.{Call}
 use Rattle.sp_outside.specs.Disk.{Disk, bytes_of, still}
 use Rattle.sp_recording.specs.declared.line.Opening.{Opening}
-use Rattle.sp_service_setup.specs.NodeParts.{peers_of}
+use Rattle.sp_service.specs.NodeParts.{peers_of}
 use Rattle.sp_service_station.specs.Stations.{Station, StationStep, indexes_in}
 use Rattle.sp_service_turns.specs.Done.{Text}
 use Rattle.sp_service_turns.specs.Keys.{KeepsKeys}

@@ -11,7 +11,7 @@ use Rattle.sp_recording.specs.declared.stage.Ending.TheVariants as endings
 use Rattle.sp_recording.specs.declared.stage.Reading.{Reading}
 use Rattle.sp_recording.specs.declared.stage.Stage.{Stage}
 use Rattle.sp_recording.specs.declared.stage.Stage.TheVariants as stages
-use Rattle.sp_service_setup.specs.Fits.{Fits, neighbours}
+use Rattle.sp_service.specs.Fits.{Fits, neighbours}
 use Rattle.sp_service_station.specs.Stations.{Station}
 use Rattle.sp_topology.specs.declared.topology.Topology.{Topology}
 use Rattle.sp_service.specs.Parts.{ComeTo, ComesFrom}

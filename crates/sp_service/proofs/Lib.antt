@@ -5,3 +5,4 @@ pub mod Beginnings
 pub mod Judging
 pub mod OneInput
 pub mod Tellings
+pub mod Sizes

@@ -2,9 +2,9 @@
 use Rattle.std.proofs.Common.{◌≡◌, ℕ, List, Ok, Err, refl, sym, ap, subst, ◌∙◌, inl, inr}
 use Rattle.sp_config.specs.declared.config.Config.{Config}
 use Rattle.sp_config.specs.declared.refused.ConfigRefused.{ConfigRefused}
-use Rattle.sp_service_setup.specs.Fits.{Fails, Fits, IsSigned, Misfits}
-use Rattle.sp_service_setup.specs.declared.refused.SetupRefused.{SetupRefused}
-use Rattle.sp_service_setup.specs.declared.refused.SetupRefused.TheVariants as setups
+use Rattle.sp_service.specs.Fits.{Fails, Fits, IsSigned, Misfits}
+use Rattle.sp_service.specs.declared.refused.SetupRefused.{SetupRefused}
+use Rattle.sp_service.specs.declared.refused.SetupRefused.TheVariants as setups
 use Rattle.sp_topology.specs.Documents.{read_of}
 use Rattle.sp_topology.specs.declared.topology.Topology.{Topology}
 use Rattle.sp_service.specs.Configured.{IsConfigured, IsRefused, SaysConfig}

@@ -5,8 +5,8 @@ use Rattle.sp_base.specs.declared.id.NodeId.{NodeId}
 use Rattle.sp_base.specs.declared.limits.TheConstants.{MAX_EDGES}
 use Rattle.sp_config.specs.declared.config.Config.{Config}
 use Rattle.sp_config.specs.declared.config.Peer.{Peer}
-use Rattle.sp_service_setup.specs.Fits.{Fits, neighbours}
-use Rattle.sp_service_setup.specs.NodeParts.{peers_of}
+use Rattle.sp_service.specs.Fits.{Fits, neighbours}
+use Rattle.sp_service.specs.NodeParts.{peers_of}
 use Rattle.sp_service_turns.specs.declared.peer.Peer as near
 use Rattle.sp_topology.specs.Neighbours.{neighbour, neighbours_from, other_end}
 use Rattle.sp_topology.specs.Ranges.{IsTopology}

@@ -10,9 +10,10 @@ use Rattle.sp_config.specs.RefusedLines.{fault_word, refused_line}
 use Rattle.sp_config.specs.declared.config.Config.{Config}
 use Rattle.sp_config.specs.declared.refused.ConfigRefused.{ConfigRefused}
 use Rattle.sp_config.specs.declared.refused.ConfigRefused.TheVariants as refusals
-use Rattle.sp_service_setup.specs.Fits.{Fits, Misfits}
-use Rattle.sp_service_setup.specs.declared.refused.SetupRefused.{SetupRefused}
-use Rattle.sp_service_setup.specs.declared.refused.SetupRefused.TheVariants as setups
+use Rattle.sp_service.specs.NodeParts.{IsKeyOf}
+use Rattle.sp_service.specs.Fits.{Fits, Misfits}
+use Rattle.sp_service.specs.declared.refused.SetupRefused.{SetupRefused}
+use Rattle.sp_service.specs.declared.refused.SetupRefused.TheVariants as setups
 use Rattle.sp_topology.specs.Ranges.{IsTopology}
 use Rattle.sp_topology.specs.declared.topology.Topology.{Topology}
 use Rattle.sp_service.specs.declared.configured.Configured.{Configured}
@@ -66,5 +67,5 @@ IsRefused text out = IsBadText text out ⊎ IsMisfit text out
 
 -- what the text comes to
 abbrev pub ComesTo : List ℕ → Configured → Type 0
-ComesTo text (configured.Fits c t) = IsConfigured text c t
+ComesTo text (configured.Fits c fitted) = IsConfigured text c fitted.topology × IsKeyOf c fitted.topology.height fitted.key
 ComesTo text (configured.Refused out) = IsRefused text out

@@ -1,5 +1,7 @@
 -- ---- configurations
 pub mod Configured
+pub mod Fits
+pub mod NodeParts
 pub mod Starts
 -- ---- the daemon
 pub mod Served
@@ -9,3 +11,4 @@ pub mod Splits
 pub mod Verdicts
 -- ---- what proofs and the parts of this crate use among themselves
 pub mod Parts
+pub mod KeyFaults

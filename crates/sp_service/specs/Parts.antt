@@ -12,7 +12,7 @@ use Rattle.sp_service_turns.specs.Daemons.{first_text}
 use Rattle.sp_service_turns.specs.Done.{Text}
 use Rattle.sp_service_turns.specs.declared.daemon.Daemon.{Daemon}
 use Rattle.sp_keystate.specs.declared.starts.Started.{Started}
-use Rattle.sp_service_setup.specs.NodeParts.{peers_of}
+use Rattle.sp_service.specs.NodeParts.{peers_of}
 use Rattle.sp_service_turns.specs.Served.{EndsTurns, FailsToOpen, IsOpened, Outside, opening_of}
 use Rattle.sp_service_turns.specs.declared.served.Served.{Served}
 use Rattle.sp_service_turns.specs.declared.served.Served.TheVariants as served
@@ -39,7 +39,8 @@ pub data EndsConfigured (c : Config) (t : Topology) (count : ℕ) (before after 
 -- how it ended once its wire was open and its start was taken
 abbrev pub EndsStarted : Config → Topology → ℕ → Started → Served → Outside → Outside → Type 0
 EndsStarted c t count started ended before after =
-    ((start : Station) × IsStarted c t (opening_of started) start × EndsTurns StationStep indexes_in (peers_of c) (opening_of started) count start started.state.serial before after ended)
+    ((start : Station) × IsStarted c t (opening_of started) start
+    × EndsTurns StationStep indexes_in (peers_of c) (opening_of started) count start started.state.serial before after ended)
     ⊎ ((ended ≡ served.Memory) × (after ≡ before))
 
 -- the daemon whose wire was open and whose start was taken: what its recording got is its first line
@@ -54,7 +55,8 @@ pub record BeginsStarted (c : Config) (t : Topology) (started : Started) (before
 
 -- what comes of the lines of a recording, asked of a node again from here on
 abbrev pub ComeTo : Station → ℕ → Reading → Verdict → List ℕ → Type 0
-ComeTo start before reading verdicts.Verified out = (last : Station) × (count : ℕ) × AgreesWhole StationStep start reading last count × (out ≡ verified_line count)
+ComeTo start before reading verdicts.Verified out = (last : Station) × (count : ℕ) × AgreesWhole StationStep start reading last count
+    × (out ≡ verified_line count)
 ComeTo start before reading verdicts.Mismatch out =
     (line : ℕ) × (recorded : Digest) × (computed : Digest) × DiffersAt StationStep start before reading line recorded computed
     × (out ≡ mismatch_line line recorded computed)

@@ -6,7 +6,7 @@ use Rattle.sp_config.specs.declared.config.Config.{Config}
 use Rattle.sp_keystate.specs.Starting.{StartsSafely}
 use Rattle.sp_keystate.specs.declared.starts.Started.{Started}
 use Rattle.sp_outside.specs.Streams.{AppendsFront}
-use Rattle.sp_service_setup.specs.NodeParts.{peers_of}
+use Rattle.sp_service.specs.NodeParts.{peers_of}
 use Rattle.sp_service_station.specs.Stations.{Station, StationStep, indexes_in}
 use Rattle.sp_service_turns.specs.Daemons.{first_text}
 use Rattle.sp_service_turns.specs.Keys.{HoldsKeys}
@@ -64,7 +64,8 @@ IsRefusal text false out = IsRefused text out
 -- how a daemon of this input ended that was to make so many turns; of the input there was more where it is cut
 pub data Ends (text : List ℕ) (is_cut : Bool) (count : ℕ) (before after : Outside) : Served → Type 0 where
   -- nothing was opened, and the refusal was written, or a beginning of it
-  Refusal : (out : List ℕ) → IsRefusal text is_cut out → IsQuiet before after → Appends before.text after.text out → Ends text is_cut count before after served.Refused
+  Refusal : (out : List ℕ) → IsRefusal text is_cut out → IsQuiet before after → Appends before.text after.text out
+      → Ends text is_cut count before after served.Refused
   Refusal_begun : (out : List ℕ) → IsRefusal text is_cut out → IsQuiet before after → AppendsFront before.text after.text out
       → Ends text is_cut count before after served.Sink
   -- the configuration fits, and the wire couldn't be opened, or the key file gave no start

@@ -7,7 +7,7 @@ use Rattle.sp_hss.specs.KeyTree.{total}
 use Rattle.sp_node_state.specs.Boots.{booted_of}
 use Rattle.sp_node_state.specs.declared.boot.NodeConfig.{NodeConfig}
 use Rattle.sp_recording.specs.declared.line.Opening.{Opening}
-use Rattle.sp_service_setup.specs.NodeParts.{link_keys, node_signer}
+use Rattle.sp_service.specs.NodeParts.{link_keys, node_signer}
 use Rattle.sp_service_station.specs.Stations.{Station, node_of}
 use Rattle.sp_sign.specs.Heights.{param_of}
 use Rattle.sp_topology.specs.declared.topology.Topology.{Topology}

@@ -14,7 +14,7 @@ use Rattle.sp_recording.specs.declared.line.Digest.{Digest}
 use Rattle.sp_recording.specs.declared.line.Opening.{Opening}
 use Rattle.sp_recording.specs.declared.stage.Ending.TheVariants as endings
 use Rattle.sp_recording.specs.declared.stage.Reading.{Reading}
-use Rattle.sp_service_setup.specs.Fits.{neighbours}
+use Rattle.sp_service.specs.Fits.{neighbours}
 use Rattle.sp_service_station.specs.Stations.{Station, StationStep}
 use Rattle.sp_service_turns.specs.Compared.{AgreesWhole, DiffersAt, IsBadAfter}
 use Rattle.sp_text.specs.Spelling.{hex_word}

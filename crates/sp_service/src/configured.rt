@@ -2,18 +2,18 @@
 ghost use Rattle.std.specs.Prelude.{◌≡◌, ◌≢◌, ◌++◌, IfErr, IfOk, OnOk};
 ghost use Rattle.sp_service.specs.Configured.{ComesTo, SaysConfig, misfit_line, misfit_word};
 
+use crate::fitting::{Fitted, judge};
+use crate::refused::SetupRefused;
 use sp_base::{Bytes, Listed, Memory};
 use sp_config::{Config, ConfigRefused, fault_word, read_config, refused_line};
-use sp_service_setup::{SetupRefused, judge};
-use sp_topology::Topology;
 use std::alloc::Global;
 use std::str;
 
 /// What the text of a configuration comes to.
 #[derive(Drop)]
 pub enum Configured {
-    /// The configuration, and the topology that it fits.
-    Fits(Config, Topology),
+    /// The configuration, and what it fits.
+    Fits(Config, Fitted),
     /// The line that refuses it.
     Refused(Bytes),
 }
@@ -28,7 +28,7 @@ pub fn configure(alloc: Global, text: &[u8]) -> Result<Configured, Memory>
         Err(refused) => return Ok(Configured::Refused(refused_line(alloc, &refused)?)),
     };
     match judge(alloc, &config) {
-        Ok(topology) => Ok(Configured::Fits(config, topology)),
+        Ok(fitted) => Ok(Configured::Fits(config, fitted)),
         Err(SetupRefused::Memory) => Err(Memory),
         Err(refused) => Ok(Configured::Refused(misfit_line(alloc, refused)?)),
     }

@@ -10,12 +10,13 @@ ghost use Rattle.sp_recording.specs.declared.line.TheConstants.{MAX_TURNS};
 ghost use Rattle.sp_service.specs.Parts.{BeginsStarted, EndsConfigured, EndsStarted, IsTold};
 ghost use Rattle.sp_service.specs.Served.{Begins, BeginsConfigured, Ends, ports_of};
 ghost use Rattle.sp_service.specs.Starts.{IsOpening};
-ghost use Rattle.sp_service_setup.specs.Fits.{Fits};
-ghost use Rattle.sp_service_setup.specs.NodeParts.{peers_of};
+ghost use Rattle.sp_service.specs.Fits.{Fits};
+ghost use Rattle.sp_service.specs.NodeParts.{IsKeyOf, peers_of};
 ghost use Rattle.sp_service_turns.specs.Served.{opening_of};
 ghost use Rattle.sp_topology.specs.Ranges.{IsTopology};
 
 use crate::configured::{Configured, configure};
+use crate::fitting::Fitted;
 use crate::ready::{neighbours_at, ports_of, room, total};
 use crate::starts::station_at;
 use sp_config::Config;
@@ -23,7 +24,6 @@ use sp_keystate::Started;
 use sp_outside::{Clock, Keeper, Sink, Wire, write_all};
 use sp_service_station::Station;
 use sp_service_turns::{Daemon, Peer, Served, open, opening_of, serve as make_turns};
-use sp_topology::Topology;
 use std::alloc::Global;
 
 /// Serves as the daemon of a configuration for so many turns. A text that `is_cut` had more bytes than may be read, and is refused for that.
@@ -85,8 +85,8 @@ pub fn start<W: Wire, P: Keeper, K: Sink>(
         return Err(refuse(b"refused 0 TooBig\n", sink));
     }
     match configure(alloc, text) {
-        Ok(Configured::Fits(config, topology)) => {
-            start_configured(alloc, &config, topology, wire, keeper, sink)
+        Ok(Configured::Fits(config, fitted)) => {
+            start_configured(alloc, &config, fitted, wire, keeper, sink)
         }
         Ok(Configured::Refused(line)) => Err(refuse(line.as_slice(), sink)),
         Err(_) => Err(Served::Memory),
@@ -109,17 +109,18 @@ fn refuse<K: Sink>(line: &[u8], sink: &mut K) -> Served
 fn start_configured<W: Wire, P: Keeper, K: Sink>(
     alloc: Global,
     config: &Config,
-    topology: Topology,
+    fitted: Fitted,
     wire: &mut W,
     keeper: &mut P,
     sink: &mut K,
 ) -> Result<Daemon<Station>, Served>
-    requires fits { Fits config.now topology }
-    requires topology { IsTopology topology }
-    ensures begins { (clock : Option (List ℕ)) → IfOk result (BeginsConfigured config.now topology
+    requires fits { Fits config.now fitted.topology }
+    requires topology { IsTopology fitted.topology }
+    requires key { IsKeyOf config.now fitted.topology.height fitted.key }
+    ensures begins { (clock : Option (List ℕ)) → IfOk result (BeginsConfigured config.now fitted.topology
         (record { wire = W.told wire.old; clock = clock; disk = P.disk keeper.old; text = K.contents sink.old })
         (record { wire = W.told wire.new; clock = clock; disk = P.disk keeper.new; text = K.contents sink.new })) }
-    ensures ended { (clock : Option (List ℕ)) (turns : ℕ) → IfErr result (EndsConfigured config.now topology turns
+    ensures ended { (clock : Option (List ℕ)) (turns : ℕ) → IfErr result (EndsConfigured config.now fitted.topology turns
         (record { wire = W.told wire.old; clock = clock; disk = P.disk keeper.old; text = K.contents sink.old })
         (record { wire = W.told wire.new; clock = clock; disk = P.disk keeper.new; text = K.contents sink.new })) }
     ensures kept { KeepsAll (P.disk keeper.old) (P.past keeper.old) (P.past keeper.new) }
@@ -129,14 +130,20 @@ fn start_configured<W: Wire, P: Keeper, K: Sink>(
     ensures later { OnOk result (K.faults sink.old ≤ K.faults sink.new) }
     ensures write { result ≡ Err Served.Sink → Rose (K.faults sink.old) (K.faults sink.new) }
 {
-    let Ok(peers) = neighbours_at(alloc, config, &topology) else {
+    let Ok(peers) = neighbours_at(alloc, config, &fitted.topology) else {
         return Err(Served::Memory);
     };
     let Ok(buffer) = room(alloc) else {
         return Err(Served::Memory);
     };
-    match open(ports_of(config), total(topology.height), wire, keeper, sink) {
-        Ok(started) => start_node(alloc, config, topology, started, peers, buffer, sink),
+    match open(
+        ports_of(config),
+        total(fitted.topology.height),
+        wire,
+        keeper,
+        sink,
+    ) {
+        Ok(started) => start_node(alloc, config, fitted, started, peers, buffer, sink),
         Err(ended) => Err(ended),
     }
 }
@@ -145,20 +152,22 @@ fn start_configured<W: Wire, P: Keeper, K: Sink>(
 fn start_node<K: Sink>(
     alloc: Global,
     config: &Config,
-    topology: Topology,
+    fitted: Fitted,
     started: Started,
     peers: Vec<Peer>,
     buffer: Vec<u8>,
     sink: &mut K,
 ) -> Result<Daemon<Station>, Served>
-    requires fits { Fits config.now topology }
-    requires topology { IsTopology topology }
-    requires opening { IsOpening topology (opening_of started) }
+    requires fits { Fits config.now fitted.topology }
+    requires topology { IsTopology fitted.topology }
+    requires key { IsKeyOf config.now fitted.topology.height fitted.key }
+    requires opening { IsOpening fitted.topology (opening_of started) }
     requires peers { peers.items ≡ peers_of config.now }
     requires few { length peers.items < 2 ^ 16 }
     requires room { DATAGRAM_BYTES ≤ length buffer.items }
-    ensures begins { IfOk result (BeginsStarted config.now topology started (K.contents sink.old) (K.contents sink.new)) }
-    ensures ended { (wire : Option (List Call)) (clock : Option (List ℕ)) (disk : Option Disk) (turns : ℕ) → IfErr result (λ ended. EndsStarted config.now topology turns started ended
+    ensures begins { IfOk result (BeginsStarted config.now fitted.topology started (K.contents sink.old) (K.contents sink.new)) }
+    ensures ended { (wire : Option (List Call)) (clock : Option (List ℕ)) (disk : Option Disk) (turns : ℕ)
+        → IfErr result (λ ended. EndsStarted config.now fitted.topology turns started ended
         (record { wire = wire; clock = clock; disk = disk; text = K.contents sink.old })
         (record { wire = wire; clock = clock; disk = disk; text = K.contents sink.new })) }
     ensures unopened { result ≢ Err Served.Wire }
@@ -167,7 +176,7 @@ fn start_node<K: Sink>(
     ensures write { result ≡ Err Served.Sink → Rose (K.faults sink.old) (K.faults sink.new) }
 {
     let opening = opening_of(&started);
-    match station_at(alloc, config, topology, opening) {
+    match station_at(alloc, config, fitted, opening) {
         Ok(station) => Daemon::begin(alloc, station, started.state, peers, buffer, &opening, sink),
         Err(_) => Err(Served::Memory),
     }

@@ -3,7 +3,11 @@
 
 mod configured;
 mod daemon;
+mod fitting;
+mod node_parts;
+mod peers;
 mod ready;
+mod refused;
 mod split;
 mod starts;
 mod verdict;
@@ -12,6 +16,8 @@ mod verifying;
 
 pub use configured::{Configured, configure};
 pub use daemon::{serve, start};
+pub use fitting::{Fitted, judge};
+pub use refused::SetupRefused;
 pub use sp_service_turns::Served;
 pub use verdict::{Judged, Verdict};
 pub use verifying::verify;

@@ -3,15 +3,15 @@ ghost use Rattle.std.specs.Prelude.{◌≡◌, ◌≤◌, ◌<◌, ◌^◌, IfOk
 ghost use Rattle.sp_hss.specs.KeyTree.{total};
 ghost use Rattle.sp_outside.specs.declared.wire.TheConstants.{DATAGRAM_BYTES};
 ghost use Rattle.sp_service.specs.Served.{ports_of};
-ghost use Rattle.sp_service_setup.specs.Fits.{Fits};
-ghost use Rattle.sp_service_setup.specs.NodeParts.{peers_of};
+ghost use Rattle.sp_service.specs.Fits.{Fits};
+ghost use Rattle.sp_service.specs.NodeParts.{peers_of};
 ghost use Rattle.sp_sign.specs.Heights.{param_of};
 ghost use Rattle.sp_topology.specs.Ranges.{IsTopology};
 
+use crate::node_parts::peers_of;
 use sp_base::Memory;
 use sp_config::Config;
 use sp_outside::DATAGRAM_BYTES;
-use sp_service_setup::peers_of;
 use sp_service_turns::{Peer, Ports};
 use sp_topology::{LmsHeight, Topology};
 use std::alloc::{AllocError, Global};

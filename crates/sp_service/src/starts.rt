@@ -1,16 +1,17 @@
 // A daemon's node at its start.
 ghost use Rattle.std.specs.Prelude.{IfOk};
 ghost use Rattle.sp_service.specs.Starts.{IsOpening, IsStarted};
-ghost use Rattle.sp_service_setup.specs.Fits.{Fits};
+ghost use Rattle.sp_service.specs.Fits.{Fits};
+ghost use Rattle.sp_service.specs.NodeParts.{IsKeyOf};
 ghost use Rattle.sp_topology.specs.Ranges.{IsTopology};
 
+use crate::fitting::Fitted;
+use crate::node_parts::{link_keys, node_signer};
 use sp_base::{Limits, Listed, Memory};
 use sp_config::Config;
 use sp_node::NodeConfig;
 use sp_recording::Opening;
-use sp_service_setup::{link_keys, node_signer};
 use sp_service_station::Station;
-use sp_topology::Topology;
 use std::alloc::Global;
 
 /// The station of a configuration that fits its topology, at the start that the first line of a recording says.
@@ -18,15 +19,17 @@ use std::alloc::Global;
 pub fn station_at(
     alloc: Global,
     config: &Config,
-    topology: Topology,
+    fitted: Fitted,
     opening: Opening,
 ) -> Result<Station, Memory>
-    requires fits { Fits config.now topology }
-    requires topology { IsTopology topology }
-    requires opening { IsOpening topology opening }
-    ensures { IfOk result (IsStarted config.now topology opening) }
+    requires fits { Fits config.now fitted.topology }
+    requires topology { IsTopology fitted.topology }
+    requires key { IsKeyOf config.now fitted.topology.height fitted.key }
+    requires opening { IsOpening fitted.topology opening }
+    ensures { IfOk result (IsStarted config.now fitted.topology opening) }
 {
-    let signer = node_signer(alloc, config, topology.height, opening.index, opening.bound)?;
+    let Fitted { topology, key } = fitted;
+    let signer = node_signer(alloc, config.node, key, opening.index, opening.bound)?;
     let keys = link_keys(alloc, config, &topology)?;
     let node = NodeConfig {
         me: config.node,

@@ -5,10 +5,12 @@ ghost use Rattle.sp_recording.specs.Reading.{lines_in, opening_in};
 ghost use Rattle.sp_service.specs.Parts.{ComeTo, ComesFrom};
 ghost use Rattle.sp_service.specs.Starts.{IsOpening};
 ghost use Rattle.sp_service.specs.Verdicts.{IsJudged, IsVerdict, form_line};
-ghost use Rattle.sp_service_setup.specs.Fits.{Fits, neighbours};
+ghost use Rattle.sp_service.specs.Fits.{Fits, neighbours};
+ghost use Rattle.sp_service.specs.NodeParts.{IsKeyOf};
 ghost use Rattle.sp_topology.specs.Ranges.{IsTopology};
 
 use crate::configured::{Configured, configure};
+use crate::fitting::Fitted;
 use crate::ready::total;
 use crate::split::{line_count, split};
 use crate::starts::station_at;
@@ -38,8 +40,8 @@ pub fn verify(alloc: Global, text: &[u8], is_cut: bool) -> Result<Judged, Memory
     let place = split(text);
     let (front, rest) = parts(text, place);
     match configure(alloc, front)? {
-        Configured::Fits(config, topology) => {
-            verify_text(alloc, &config, topology, line_count(front), rest)
+        Configured::Fits(config, fitted) => {
+            verify_text(alloc, &config, fitted, line_count(front), rest)
         }
         Configured::Refused(line) => Ok(Judged {
             verdict: Verdict::Refused,
@@ -63,19 +65,20 @@ fn parts(text: &[u8], place: usize) -> (&[u8], &[u8])
 fn verify_text(
     alloc: Global,
     config: &Config,
-    topology: Topology,
+    fitted: Fitted,
     before: u32,
     text: &[u8],
 ) -> Result<Judged, Memory>
-    requires fits { Fits config.now topology }
-    requires topology { IsTopology topology }
+    requires fits { Fits config.now fitted.topology }
+    requires topology { IsTopology fitted.topology }
+    requires key { IsKeyOf config.now fitted.topology.height fitted.key }
     requires within { before + length text.now ≤ MAX_INPUT_BYTES }
-    ensures { IfOk result (λ judged. IsVerdict config.now topology before text.now judged.verdict judged.line) }
+    ensures { IfOk result (λ judged. IsVerdict config.now fitted.topology before text.now judged.verdict judged.line) }
 {
-    let near = neighbours(alloc, config, &topology)?;
-    let reading = read(alloc, total(topology.height), &near, before, text)?;
+    let near = neighbours(alloc, config, &fitted.topology)?;
+    let reading = read(alloc, total(fitted.topology.height), &near, before, text)?;
     match opening_in(&reading.stage) {
-        Some(opening) => verify_opened(alloc, config, topology, opening, before, &reading),
+        Some(opening) => verify_opened(alloc, config, fitted, opening, before, &reading),
         None => no_first_line(alloc, &reading),
     }
 }
@@ -85,18 +88,19 @@ fn verify_text(
 fn verify_opened(
     alloc: Global,
     config: &Config,
-    topology: Topology,
+    fitted: Fitted,
     opening: Opening,
     before: u32,
     reading: &Reading,
 ) -> Result<Judged, Memory>
-    requires fits { Fits config.now topology }
-    requires topology { IsTopology topology }
-    requires opening { IsOpening topology opening }
+    requires fits { Fits config.now fitted.topology }
+    requires topology { IsTopology fitted.topology }
+    requires key { IsKeyOf config.now fitted.topology.height fitted.key }
+    requires opening { IsOpening fitted.topology opening }
     requires within { before + length (lines_in reading.now.stage) ≤ MAX_INPUT_BYTES }
-    ensures { IfOk result (λ judged. ComesFrom config.now topology opening before reading.now judged.verdict judged.line) }
+    ensures { IfOk result (λ judged. ComesFrom config.now fitted.topology opening before reading.now judged.verdict judged.line) }
 {
-    let mut station = station_at(alloc, config, topology, opening)?;
+    let mut station = station_at(alloc, config, fitted, opening)?;
     let judged = verify_lines(alloc, &mut station, before, reading)?;
     Ok(judged)
 }

@@ -18,8 +18,8 @@ use Rattle.sp_rules.specs.Polls.{frame_to}
 use Rattle.sp_node_state.specs.States.{is_other}
 use Rattle.sp_rules.specs.Steps.{Frame, Input, NodeStep, NotCalled, Output, Poll, SendPrio, SendRel, SetWeight, TakePrio, TakeRel, refused_call, replied}
 use Rattle.sp_rules.specs.declared.node.NodeRefused.{NodeRefused}
-use Rattle.sp_world_steps.proofs.Lengths as lengths
-use Rattle.sp_world_steps.proofs.Stepping.{fixed_stays}
+use Rattle.sp_node.proofs.Lengths as lengths
+use Rattle.sp_node.proofs.FixedStays.{fixed_stays}
 use Rattle.sp_service_station.proofs.Uses.{uses_none, uses_one}
 use Rattle.sp_service_station.specs.Stations.{indexes_of}
 use Rattle.sp_service_turns.specs.Indexes.{UsesOne}

@@ -5,7 +5,7 @@ use Rattle.sp_journal.specs.declared.entry.Reply.{Reply}
 use Rattle.sp_journal.specs.declared.entry.Reply.TheVariants as replies
 use Rattle.sp_msg.specs.declared.effect.Effect.{Effect}
 use Rattle.sp_rules.specs.Steps as steps
-use Rattle.sp_runs.specs.Journals.{item_word, link_word, tick_word}
+use Rattle.sp_node_words.specs.Words.{item_word, link_word, tick_word}
 
 -- what a journal says of the answer to a tick or a datagram. None of any other
 abbrev pub word_of : steps.Reply → Option Reply

@@ -2,7 +2,7 @@
 ghost use Rattle.std.specs.Prelude.{◌≡◌, ◌≤◌, IfOk, length, map};
 ghost use Rattle.sp_client.specs.Tables as tables;
 ghost use Rattle.sp_client_node.specs.Steps.{AnswersBy};
-ghost use Rattle.sp_runs.specs.Journals.{item_word, link_word};
+ghost use Rattle.sp_node_words.specs.Words.{item_word, link_word};
 ghost use Rattle.sp_journal.specs.JournalText.{reply_text};
 ghost use Rattle.sp_node_format.specs.PolledFrames.{most_signature};
 ghost use Rattle.sp_outside.specs.declared.wire.TheConstants.{DATAGRAM_BYTES};
@@ -16,9 +16,9 @@ use sp_client::Clients;
 use sp_client_node::LocalNode;
 use sp_journal::{Entry, Reply, reply_text};
 use sp_node::{Node, NodeRefused};
+use sp_node_words::{entry_of, tick_word, told};
 use sp_rules::{Step, Taken};
 use sp_service_turns::Indexes;
-use sp_world_steps::{entry_of, tick_word, told};
 use std::alloc::Global;
 
 /// The text of an entry, as a recording has its digest.
@@ -32,7 +32,8 @@ fn text_of(alloc: Global, entry: &Entry) -> Result<Bytes, Memory>
 /// The text of what became of a datagram, and of what that caused.
 #[tactic(auto, using(crate::proofs::Entries::same_text))]
 fn arrived_text(alloc: Global, step: Step<Taken>) -> Result<Bytes, Memory>
-    ensures { IfOk result (λ text. text ≡ reply_text (record { reply = Reply.Arrived (link_word step.reply.link) (map item_word step.reply.items); effects = step.effects.list })) }
+    ensures { IfOk result (λ text. text ≡ reply_text
+        (record { reply = Reply.Arrived (link_word step.reply.link) (map item_word step.reply.items); effects = step.effects.list })) }
 {
     let entry = entry_of(alloc, step)?;
     text_of(alloc, &entry)
@@ -83,7 +84,7 @@ pub fn reserve(node: &mut Node, upto: u64)
 }
 
 /// The clock says so.
-#[tactic(auto, using(sp_world_steps::proofs::Stepping::fixed_by_tick, crate::proofs::Uses::uses_one))]
+#[tactic(auto, using(sp_node::proofs::FixedStays::fixed_by_tick, crate::proofs::Uses::uses_one))]
 pub fn tick(alloc: Global, node: &mut Node, now: u64) -> Result<Bytes, Memory>
     ensures uses { IfOk result (λ _. UsesOne (indexes_of node.old.state) (indexes_of node.new.state)) }
     ensures gives { IfOk result (λ answer. Gives answer_text node.old.state (Tick now) answer node.new.state) }
@@ -96,7 +97,7 @@ pub fn tick(alloc: Global, node: &mut Node, now: u64) -> Result<Bytes, Memory>
 }
 
 /// A datagram comes from a neighbour. A node that it doesn't answer gives nothing.
-#[tactic(auto, using(sp_world_steps::proofs::Stepping::fixed_by_datagram, crate::proofs::Uses::uses_one))]
+#[tactic(auto, using(sp_node::proofs::FixedStays::fixed_by_datagram, crate::proofs::Uses::uses_one))]
 pub fn datagram(alloc: Global, node: &mut Node, from: NodeId, bytes: &[u8]) -> Result<Bytes, Memory>
     ensures uses { IfOk result (λ _. UsesOne (indexes_of node.old.state) (indexes_of node.new.state)) }
     ensures gives { IfOk result (λ answer. Gives answer_text node.old.state (Datagram from bytes.now) answer node.new.state) }
@@ -110,7 +111,7 @@ pub fn datagram(alloc: Global, node: &mut Node, from: NodeId, bytes: &[u8]) -> R
 }
 
 /// The next frame for a neighbour. A node that isn't called gives nothing.
-#[tactic(auto, using(sp_world_steps::proofs::Stepping::fixed_by_poll, crate::proofs::Stays::polled_is_short, crate::proofs::Uses::uses_one))]
+#[tactic(auto, using(sp_node::proofs::FixedStays::fixed_by_poll, crate::proofs::Stays::polled_is_short, crate::proofs::Uses::uses_one))]
 pub fn poll(alloc: Global, node: &mut Node, to: NodeId) -> Result<Bytes, Memory>
     requires { node.old.state.fixed.signature_len ≤ most_signature }
     ensures uses { IfOk result (λ _. UsesOne (indexes_of node.old.state) (indexes_of node.new.state)) }

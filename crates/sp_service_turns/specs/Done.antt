@@ -39,7 +39,8 @@ pub record Done {N : Type 0} (steps : Steps N) (indexes : N → Indexes) (peers 
 -- ---- the parts
 
 -- indexes were reserved where few were left, and so many are left now
-pub record Restocked {N : Type 0} (steps : Steps N) (indexes : N → Indexes) (old new : N) (text_before text_after : Text) (serial_before serial_after : ℕ) : Type 0 where
+pub record Restocked {N : Type 0} (steps : Steps N) (indexes : N → Indexes) (old new : N) (text_before text_after : Text)
+    (serial_before serial_after : ℕ) : Type 0 where
   pub reserved : Option ℕ
   pub due : reserved ≡ reserved_by (indexes old)
   pub step : Restocks steps reserved old new

@@ -97,7 +97,8 @@ impl<N: Core + Drop> Daemon<N> {
         ensures made { OnOk result (MakesTurn N.steps N.indexes self.old self.new
             (record { wire = W.told wire.old; clock = C.told clock.old; disk = P.disk keeper.old; text = K.contents sink.old })
             (record { wire = W.told wire.new; clock = C.told clock.new; disk = P.disk keeper.new; text = K.contents sink.new })) }
-        ensures ended { IfErr result (EndsTurn self.old.peers.items (polled_by self.old.peers.items self.old.turns) (N.indexes self.old.node) self.old.keys.serial
+        ensures ended { IfErr result (EndsTurn self.old.peers.items (polled_by self.old.peers.items self.old.turns)
+            (N.indexes self.old.node) self.old.keys.serial
             (record { wire = W.told wire.old; clock = C.told clock.old; disk = P.disk keeper.old; text = K.contents sink.old })
             (record { wire = W.told wire.new; clock = C.told clock.new; disk = P.disk keeper.new; text = K.contents sink.new })) }
         ensures held { OnOk result (HoldsKeys (P.disk keeper.new) self.new.keys (N.indexes self.new.node)) }
@@ -129,7 +130,8 @@ impl<N: Core + Drop> Daemon<N> {
         sink: &mut K,
     ) -> Result<u32, Ended>
         requires held { HoldsKeys (P.disk keeper.old) self.old.keys (N.indexes self.old.node) }
-        ensures done { IfOk result (λ lost. Done N.steps N.indexes self.old.peers.items (polled_by self.old.peers.items self.old.turns) self.old.node self.new.node
+        ensures done { IfOk result (λ lost. Done N.steps N.indexes self.old.peers.items
+            (polled_by self.old.peers.items self.old.turns) self.old.node self.new.node
             (W.told wire.old) (W.told wire.new) (C.told clock.old) (C.told clock.new) (K.contents sink.old) (K.contents sink.new) self.old.keys.serial
             self.new.keys.serial lost) }
         ensures four { IfOk result (λ lost. lost ≤ 4) }
@@ -140,7 +142,8 @@ impl<N: Core + Drop> Daemon<N> {
         ensures on { OnOk result (KeysGoOn self.old.keys self.new.keys (P.disk keeper.old) (P.disk keeper.new)) }
         ensures faultless { OnOk result (P.faults keeper.new ≡ P.faults keeper.old) }
         ensures kept { KeepsKeys self.old.keys (P.disk keeper.old) (P.past keeper.old) (P.past keeper.new) }
-        ensures unmoved { IfKeysEnd result ((W.told wire.new ≡ W.told wire.old) × (C.told clock.new ≡ C.told clock.old) × (K.contents sink.new ≡ K.contents sink.old)) }
+        ensures unmoved { IfKeysEnd result ((W.told wire.new ≡ W.told wire.old) × (C.told clock.new ≡ C.told clock.old)
+            × (K.contents sink.new ≡ K.contents sink.old)) }
         ensures spent { IfKeysEndBy result (NoMore (N.indexes self.old.node) self.old.keys.serial) }
         ensures later { K.faults sink.old ≤ K.faults sink.new }
         ensures failed { result ≡ Err Ended.Sink → Rose (K.faults sink.old) (K.faults sink.new) }

@@ -114,7 +114,8 @@ impl NodeSigner {
     /// After a refusal the signer and the blank are as before.
     pub fn sign(&mut self, blank: &mut Blank) -> Result<(), HssRefused>
         requires { IsBlank self.old blank.old }
-        ensures signature { OnOk result (blank.new ≡ with_signature blank.old (signature self.old.signer.height self.old.signer.seed self.old.signer.index blank.old.bytes)) }
+        ensures signature { OnOk result (blank.new
+            ≡ with_signature blank.old (signature self.old.signer.height self.old.signer.seed self.old.signer.index blank.old.bytes)) }
         ensures valid { OnOk result (IsValid (public_key self.old.signer.height self.old.signer.seed) (encoded blank.new.kept.body) blank.new.kept.signature) }
         ensures index { OnOk result (self.new ≡ record { node = self.old.node; signer = record self.old.signer { index = self.old.signer.index + 1 } }) }
         ensures spent { (result ≡ Err (HssRefused.Spent self.old.signer.index)) ↔ (self.old.signer.index ≡ total self.old.signer.height) }

@@ -2,7 +2,8 @@
 --
 --     line  newline  line  newline  ..          a line has at most 131,200 bytes
 --     word  space  word  space  ..  word        a word has at least one byte, each from ! (33) to ~ (126)
-use Rattle.std.specs.Prelude.{ℕ, ◌≡◌, ◌≢◌, ◌+◌, ◌-◌, ◌^◌, ◌==◌, ◌&&◌, ◌||◌, nat_lt, nat_le, min, not, Bool, List, [], ◌∷◌, length, Option, Some, None, Result, Ok, Err, IsOk, if◌then◌else◌, All, ◌<◌, ◌≤◌, ◌++◌}
+use Rattle.std.specs.Prelude.{ℕ, ◌≡◌, ◌≢◌, ◌+◌, ◌-◌, ◌^◌, ◌==◌, ◌&&◌, ◌||◌, nat_lt, nat_le, min, not, Bool, List, [], ◌∷◌, length, Option}
+use Rattle.std.specs.Prelude.{Some, None, Result, Ok, Err, IsOk, if◌then◌else◌, All, ◌<◌, ◌≤◌, ◌++◌}
 use Rattle.std.specs.List.{after_first, before_first, join_with_byte, position_or_len}
 use Rattle.sp_base.specs.declared.limits.TheConstants.{MAX_LINE_BYTES}
 use Rattle.sp_text.specs.declared.place.Line.{Line}

@@ -58,12 +58,14 @@ abbrev pub question_of : Ask → Question
 question_of a = record { port = a.port; local = a.local; turns = a.turns; request = a.request }
 
 abbrev pub AskEnds : Ask → Status → Outside → Outside → Type 0
-AskEnds a status before after = IsAnswered (question_of a) status before after ⊎ (IsUntold (question_of a) status before after ⊎ IsForgotten (question_of a) status before after)
+AskEnds a status before after = IsAnswered (question_of a) status before after
+    ⊎ (IsUntold (question_of a) status before after ⊎ IsForgotten (question_of a) status before after)
 
 -- the run ended so, and this line was written; or the sink failed, and has a beginning of it; or there was no memory for it
 abbrev pub IsTold : Status → List ℕ → Status → Option (List ℕ) → Option (List ℕ) → Type 0
 IsTold would line status before after =
-    ((status ≡ would) × Appends before after line) ⊎ (((status ≡ statuses.Sink) × AppendsFront before after line) ⊎ ((status ≡ statuses.Memory) × (after ≡ before)))
+    ((status ≡ would) × Appends before after line)
+    ⊎ (((status ≡ statuses.Sink) × AppendsFront before after line) ⊎ ((status ≡ statuses.Memory) × (after ≡ before)))
 
 -- ---- a key file is made
 

@@ -22,7 +22,8 @@ use std::alloc::Global;
 /// Runs the schedule of a number, of which nothing is forged, and writes its summary and the digest of its journal. It reads nothing.
 pub fn generate<K: Sink>(alloc: Global, number: u32, sink: &mut K) -> Outcome
     requires { 1 ≤ number }
-    ensures wrote { (left : Option (List ℕ)) → Wrote (Some (Command.Generate number)) left result.world result.status (K.contents sink.old) (K.contents sink.new) }
+    ensures wrote { (left : Option (List ℕ))
+        → Wrote (Some (Command.Generate number)) left result.world result.status (K.contents sink.old) (K.contents sink.new) }
     ensures claims { IfSome result.world WorldClaims }
     ensures ends { IsDoneOrFailed result.status }
     ensures quiet { result.status ≡ Status.Memory → sink.new ≡ sink.old }

@@ -26,7 +26,8 @@ use std::alloc::Global;
 /// Reads a schedule line by line. Each event is done, and its entry is written, before the next line is read.
 pub fn replay<S: Source, K: Sink>(alloc: Global, source: &mut S, sink: &mut K) -> Outcome
     ensures wrote { Wrote (Some Command.Replay) (S.left source.old) result.world result.status (K.contents sink.old) (K.contents sink.new) }
-    ensures broken { result.status ≡ Status.Source → IsBrokenOff (S.left source.old) (S.left source.new) result.world (K.contents sink.old) (K.contents sink.new) }
+    ensures broken { result.status ≡ Status.Source
+        → IsBrokenOff (S.left source.old) (S.left source.new) result.world (K.contents sink.old) (K.contents sink.new) }
     ensures claims { IfSome result.world WorldClaims }
     ensures faultless { result.status ≢ Status.Source → S.faults source.new ≡ S.faults source.old }
     ensures sunk { result.status ≢ Status.Sink → K.faults sink.new ≡ K.faults sink.old }

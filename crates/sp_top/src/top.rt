@@ -56,14 +56,17 @@ pub fn run<S: Source, K: Sink, W: Wire, C: Clock, P: Keeper>(
     ensures claims { IfSome result.world WorldClaims }
 
     // Where the source of a replay fails, the journal of all events that had come was written, and none of their lines is bad.
-    ensures broken { BySaid (map string_bytes words.now) (λ said. said ≡ Some Command.Replay → result.status ≡ Status.Source → IsBrokenOff (S.left source.old) (S.left source.new) result.world (K.contents sink.old) (K.contents sink.new)) }
+    ensures broken { BySaid (map string_bytes words.now)
+        (λ said. said ≡ Some Command.Replay → result.status ≡ Status.Source
+        → IsBrokenOff (S.left source.old) (S.left source.new) result.world (K.contents sink.old) (K.contents sink.new)) }
 
     // A command calls only what it needs, and where it wrote nothing, the sink wasn't called.
     ensures unread { BySaid (map string_bytes words.now) (λ said. reads said ≡ false → source.new ≡ source.old) }
     ensures uncalled { BySaid (map string_bytes words.now) (λ said. calls_wire said ≡ false → wire.new ≡ wire.old) }
     ensures timeless { BySaid (map string_bytes words.now) (λ said. calls_clock said ≡ false → clock.new ≡ clock.old) }
     ensures untouched { BySaid (map string_bytes words.now) (λ said. calls_keeper said ≡ false → keeper.new ≡ keeper.old) }
-    ensures quiet { BySaid (map string_bytes words.now) (λ said. writes_at_end said ≡ true → (result.status ≡ Status.Source) ⊎ (result.status ≡ Status.Memory) → sink.new ≡ sink.old) }
+    ensures quiet { BySaid (map string_bytes words.now)
+        (λ said. writes_at_end said ≡ true → (result.status ≡ Status.Source) ⊎ (result.status ≡ Status.Memory) → sink.new ≡ sink.old) }
 
     // A status that tells a fault comes only with one.
     ensures faultless { result.status ≢ Status.Source → S.faults source.new ≡ S.faults source.old }
@@ -80,7 +83,9 @@ pub fn run<S: Source, K: Sink, W: Wire, C: Clock, P: Keeper>(
 }
 
 /// Does what the words say.
-#[tactic(auto, using(crate::proofs::SaidRuns::replayed, crate::proofs::SaidRuns::generated, crate::proofs::SaidRuns::answered, crate::proofs::SaidRuns::verified, crate::proofs::SaidRuns::served, crate::proofs::SaidRuns::asked, crate::proofs::SaidRuns::formatted, crate::proofs::SaidRuns::no_command, crate::proofs::Daemons::runs))]
+#[tactic(auto, using(crate::proofs::SaidRuns::replayed, crate::proofs::SaidRuns::generated, crate::proofs::SaidRuns::answered,
+    crate::proofs::SaidRuns::verified, crate::proofs::SaidRuns::served, crate::proofs::SaidRuns::asked, crate::proofs::SaidRuns::formatted,
+    crate::proofs::SaidRuns::no_command, crate::proofs::Daemons::runs))]
 fn run_said<S: Source, K: Sink, W: Wire, C: Clock, P: Keeper>(
     alloc: Global,
     said: Option<Command<'_>>,
@@ -100,7 +105,8 @@ fn run_said<S: Source, K: Sink, W: Wire, C: Clock, P: Keeper>(
     ensures timeless { calls_clock said.entry ≡ false → clock.new ≡ clock.old }
     ensures untouched { calls_keeper said.entry ≡ false → keeper.new ≡ keeper.old }
     ensures kept { KeepsFile said.entry (P.disk keeper.old) (P.past keeper.old) (P.past keeper.new) }
-    ensures broken { said.entry ≡ Some Command.Replay → result.status ≡ Status.Source → IsBrokenOff (S.left source.old) (S.left source.new) result.world (K.contents sink.old) (K.contents sink.new) }
+    ensures broken { said.entry ≡ Some Command.Replay → result.status ≡ Status.Source
+        → IsBrokenOff (S.left source.old) (S.left source.new) result.world (K.contents sink.old) (K.contents sink.new) }
     ensures quiet { writes_at_end said.entry ≡ true → (result.status ≡ Status.Source) ⊎ (result.status ≡ Status.Memory) → sink.new ≡ sink.old }
     ensures faultless { result.status ≢ Status.Source → S.faults source.new ≡ S.faults source.old }
     ensures read { result.status ≡ Status.Source → Rose (S.faults source.old) (S.faults source.new) }

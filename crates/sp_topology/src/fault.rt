@@ -1,7 +1,8 @@
 // What is wrong with a node, with an edge, and with a whole graph.
 ghost use Rattle.std.specs.Prelude.{◌≡◌, ◌≢◌, ◌≤◌, ◌==◌, length, map};
 ghost use Rattle.std.specs.List.{list_any};
-ghost use Rattle.sp_topology.specs.Faults.{are_nodes, edge_count_fault, edges_fault, ends_fault, graph_fault, id_fault, ids_fault, key_fault, node_count_fault, weight_fault};
+ghost use Rattle.sp_topology.specs.Faults.{are_nodes, edge_count_fault, edges_fault, ends_fault, graph_fault, id_fault, ids_fault};
+ghost use Rattle.sp_topology.specs.Faults.{key_fault, node_count_fault, weight_fault};
 ghost use Rattle.sp_topology.specs.Ranges.{ends_of, has_id};
 
 use crate::{Edge, LmsHeight, TopologyRefused};

@@ -23,7 +23,8 @@ abbrev pub with_option : App → Text → App
 with_option a name = with_rule a (option_rule name)
 
 abbrev pub routes_app : App
-routes_app = with_option (with_option (with_option (with_option (with_rule (bare (new_app (codes "spinesd"))) command_rule) (codes "from")) (codes "to")) (codes "paths")) (codes "seed")
+routes_app = with_option (with_option (with_option (with_option (with_rule (bare (new_app (codes "spinesd"))) command_rule) (codes "from"))
+    (codes "to")) (codes "paths")) (codes "seed")
 
 abbrev pub app : App
 app = with_option (with_option (with_option (with_option routes_app (codes "turns")) (codes "port")) (codes "local")) (codes "request")

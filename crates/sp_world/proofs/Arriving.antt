@@ -12,7 +12,7 @@ use Rattle.sp_rules.specs.Steps.{Datagram}
 use Rattle.sp_rules.specs.declared.node.Step.{Step}
 use Rattle.sp_rules.specs.declared.node.Taken.{Taken}
 use Rattle.sp_runs.specs.Forgery.{forged}
-use Rattle.sp_runs.specs.Journals.{item_word, link_word}
+use Rattle.sp_node_words.specs.Words.{item_word, link_word}
 use Rattle.sp_runs.specs.Scenarios.{setting_of}
 use Rattle.sp_runs.specs.Worlds.{Direction, World, is_me}
 use Rattle.sp_runs.specs.declared.what.What.{What}
@@ -20,7 +20,7 @@ use Rattle.sp_schedule_events.specs.declared.event.Event.{Event}
 use Rattle.sp_schedule_events.specs.declared.scenario.Scenario.{Scenario}
 use Rattle.sp_world.specs.Arrivals.{CanHear, IsFound, IsHeard}
 use Rattle.sp_world_steps.specs.Polls.{world_of}
-use Rattle.sp_world_steps.proofs.Stepping.{fixed_stays}
+use Rattle.sp_node.proofs.FixedStays.{fixed_stays}
 use Rattle.sp_world_steps.proofs.Without.{without_is_same}
 use Rattle.sp_world_steps.specs.Gave.{Tells, taken}
 use Rattle.sp_world_steps.specs.Members.{HeardAmong, without_node}

@@ -30,7 +30,7 @@ use Rattle.sp_world.proofs.Standing.{at_first, fits}
 use Rattle.sp_world.specs.Stands.{CanCraft, IsAtFirst, IsEdgeOf, Stands}
 use Rattle.sp_world_steps.specs.Polls.{world_of}
 use Rattle.sp_world_steps.proofs.Among.{place_of_any}
-use Rattle.sp_world_steps.proofs.Lengths.{opened_is_between}
+use Rattle.sp_node.proofs.Lengths.{opened_is_between}
 
 -- ---- a frame that was made
 

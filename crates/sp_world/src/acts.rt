@@ -11,9 +11,10 @@ use sp_adversary::Crafters;
 use sp_base::Memory;
 use sp_forgery::{Known, acting};
 use sp_journal::Entry;
+use sp_node_words::spent;
 use sp_runs::What;
 use sp_schedule_events::Event;
-use sp_world_steps::{Directions, Member, ask, spent};
+use sp_world_steps::{Directions, Member, ask};
 use std::alloc::Global;
 
 /// What an event came to.
@@ -38,7 +39,8 @@ pub fn act(
     requires stands { Stands known.now.scenario.now known.now.events.now known.now.journal.now (world_of nodes.old.items directions.old) event.now }
     requires crafters { AreAfter known.now.scenario.now known.now.events.now crafters.old }
     requires long { known.now.signature_len ≡ (setting_of known.now.scenario.now).signature_len }
-    ensures done { IfOk result (λ done. ComesTo (setting_of known.now.scenario.now) known.now.events.now known.now.journal.now (world_of nodes.old.items directions.old) event.now done (world_of nodes.new.items directions.new)) }
+    ensures done { IfOk result (λ done. ComesTo (setting_of known.now.scenario.now) known.now.events.now known.now.journal.now
+        (world_of nodes.old.items directions.old) event.now done (world_of nodes.new.items directions.new)) }
     ensures crafters { OnOk result (AreAfter known.now.scenario.now (known.now.events.now ++ event.now ∷ []) crafters.new) }
     ensures as_before { OnErr result (world_of nodes.new.items directions.new ≡ world_of nodes.old.items directions.old) }
 {
@@ -67,7 +69,8 @@ fn arrival(
     requires stands { Stands known.now.scenario.now known.now.events.now known.now.journal.now (world_of nodes.old.items directions.now) event.now }
     requires crafters { AreAfter known.now.scenario.now known.now.events.now crafters.old }
     requires long { known.now.signature_len ≡ (setting_of known.now.scenario.now).signature_len }
-    ensures done { IfOk result (λ done. ComesTo (setting_of known.now.scenario.now) known.now.events.now known.now.journal.now (world_of nodes.old.items directions.now) event.now done (world_of nodes.new.items directions.now)) }
+    ensures done { IfOk result (λ done. ComesTo (setting_of known.now.scenario.now) known.now.events.now known.now.journal.now
+        (world_of nodes.old.items directions.now) event.now done (world_of nodes.new.items directions.now)) }
     ensures crafters { OnOk result (AreAfter known.now.scenario.now (known.now.events.now ++ event.now ∷ []) crafters.new) }
     ensures as_before { OnErr result (nodes.new.items ≡ nodes.old.items) }
 {

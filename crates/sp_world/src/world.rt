@@ -41,9 +41,21 @@ impl Model for World {
 
     ghost Value = { past.Past };
 
-    ghost view = { λ w. record { scenario = w.scenario; events = w.events.items; journal = w.journal.items; world = record { nodes = w.nodes.items; directions = w.directions }; stopped = w.stopped } };
+    ghost view = { λ w. record {
+      scenario = w.scenario;
+      events = w.events.items;
+      journal = w.journal.items;
+      world = record { nodes = w.nodes.items; directions = w.directions };
+      stopped = w.stopped;
+    } };
 
-    ghost invariant = { λ w. IsKept (record { scenario = w.scenario; events = w.events.items; journal = w.journal.items; world = record { nodes = w.nodes.items; directions = w.directions }; stopped = w.stopped }) w.signature_len w.crafters };
+    ghost invariant = { λ w. IsKept (record {
+      scenario = w.scenario;
+      events = w.events.items;
+      journal = w.journal.items;
+      world = record { nodes = w.nodes.items; directions = w.directions };
+      stopped = w.stopped;
+    }) w.signature_len w.crafters };
 }
 
 impl World {

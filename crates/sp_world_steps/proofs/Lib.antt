@@ -1,6 +1,5 @@
 pub mod Stepping
 pub mod Among
-pub mod Lengths
 pub mod Without
 pub mod Objects
 pub mod FrameRows

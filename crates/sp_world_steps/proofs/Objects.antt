@@ -8,7 +8,7 @@ use Rattle.laws_node.specs.Objects.{objects_in, objects_of}
 use Rattle.sp_base.specs.Spelling.{AreBytes}
 use Rattle.sp_base.specs.declared.id.NodeId.{NodeId}
 use Rattle.sp_frame.proofs.SectionLemmas.{read_is_spelled}
-use Rattle.sp_frame.specs.Frames.{sections_part, signed_part}
+use Rattle.sp_frame.specs.Frames.{sections_part, tagged_part}
 use Rattle.sp_frame.specs.Objects.{IsObject, most}
 use Rattle.sp_frame.specs.Ranges.{IsContents, IsNumbered, IsReport}
 use Rattle.sp_frame.specs.Reliable.{Report}
@@ -108,7 +108,7 @@ contents_are len s is =
 -- ---- of whatever bytes come
 
 part_are : (bytes : List ℕ) → AreBytes bytes → AreBytes (sections_part bytes)
-part_are bytes are = All-drop (λ (b : ℕ). b < 256) 33 (signed_part bytes) (All-take (λ (b : ℕ). b < 256) (length bytes - 32) bytes are)
+part_are bytes are = All-drop (λ (b : ℕ). b < 256) 33 (tagged_part bytes) (All-take (λ (b : ℕ). b < 256) (length bytes - 32) bytes are)
 
 sections_are : (len : ℕ) (bytes : List ℕ) (r : Result Contents SectionRefused) → AreBytes bytes
     → sections_of len (sections_part bytes) ≡ r → AreObjects (objects_in (pieces_in r))

@@ -1,44 +1,25 @@
--- What a call of a node gives: what is fixed of it stays, and its refusal has its word.
+-- What a call of a node gives: its refusal has its word.
 use Rattle.std.proofs.Common.{◌≡◌, ◌≢◌, ℕ, List, Option, None, Some, Result, Ok, Err, [], refl, ap, ◌∙◌, subst}
 use Rattle.std.specs.Prelude.{IfErr}
-use Rattle.laws_node.proofs.Shapes.{shapes_stay}
-use Rattle.laws_node.specs.Shapes.{Shape}
 use Rattle.sp_base.specs.declared.id.NodeId.{NodeId}
 use Rattle.sp_journal.specs.declared.entry.Entry.{Entry}
 use Rattle.sp_msg.specs.declared.effect.Why.TheVariants.{Taken as TakenAway}
 use Rattle.sp_msg.specs.declared.refused.SendRefused.{SendRefused}
 use Rattle.sp_msg.specs.declared.refused.SendRefused.TheVariants as sends
-use Rattle.sp_node.specs.Calls.{Datagrams, Polls, TakesPrio, TakesRel, Ticks}
+use Rattle.sp_node.specs.Calls.{Datagrams, Polls, TakesPrio, Ticks}
 use Rattle.sp_node_format.specs.Format.{format}
 use Rattle.sp_node_state.specs.Sends.{Sends}
-use Rattle.sp_rules.specs.Arrivals.{handled}
 use Rattle.sp_rules.specs.Node.{NodeState, call_refusal}
 use Rattle.sp_rules.specs.Polls.{frame_to}
 use Rattle.sp_rules.specs.PrioPeer.{gone}
-use Rattle.sp_rules.specs.Steps.{Arrived, Datagram, Frame, Input, Message, NodeStep, NotCalled, Output, Payload, Poll, Refused, TakePrio, TakeRel, Tick, Ticked, accepted, arrived, refused_call, replied}
+use Rattle.sp_rules.specs.Steps.{Frame, Input, Message, NodeStep, Output, Refused, TakePrio, arrived, refused_call, replied}
 use Rattle.sp_rules.specs.declared.node.NodeRefused.{NodeRefused}
 use Rattle.sp_rules.specs.declared.node.NodeRefused.TheVariants as calls
 use Rattle.sp_rules.specs.declared.node.Step.{Step}
-use Rattle.sp_rules.specs.declared.node.Taken.{Taken}
-use Rattle.sp_rules.specs.declared.node.TickReply.{TickReply}
 use Rattle.sp_rules.specs.declared.store.Entry.{Entry as Stored}
-use Rattle.sp_runs.specs.Journals.{body_word, refused_word}
+use Rattle.sp_node_words.specs.Words.{refused_word}
+use Rattle.sp_runs.specs.Journals.{body_word}
 use Rattle.sp_world_steps.specs.Gave.{Gave, HasWords}
-
-pub fixed_stays : (old : NodeState) (input : Input) (output : Output) (new : NodeState) → NodeStep format old input output new → new.fixed ≡ old.fixed
-fixed_stays old input output new step = ap (λ (s : Shape). s.fixed) (shapes_stay format old input output new step)
-
-pub fixed_by_send : (input : Input) (refusal : Option SendRefused) (old new : NodeState) (done : Result (Step ℕ) SendRefused) → Sends input refusal old done new
-    → new.fixed ≡ old.fixed
-fixed_by_send input refusal old new (Ok step) gave = fixed_stays old input (accepted step.reply step.effects.list) new gave
-fixed_by_send input refusal old new (Err sends.Memory) gave = ap (λ (n : NodeState). n.fixed) gave.1
-fixed_by_send input refusal old new (Err sends.BadEnd) gave = fixed_stays old input (replied (Refused sends.BadEnd)) new gave
-fixed_by_send input refusal old new (Err (sends.Full base have)) gave = fixed_stays old input (replied (Refused (sends.Full base have))) new gave
-fixed_by_send input refusal old new (Err (sends.Expired now)) gave = fixed_stays old input (replied (Refused (sends.Expired now))) new gave
-fixed_by_send input refusal old new (Err (sends.NoPaths found)) gave = fixed_stays old input (replied (Refused (sends.NoPaths found))) new gave
-fixed_by_send input refusal old new (Err (sends.Low least)) gave = fixed_stays old input (replied (Refused (sends.Low least))) new gave
-fixed_by_send input refusal old new (Err (sends.Spent index)) gave = fixed_stays old input (replied (Refused (sends.Spent index))) new gave
-fixed_by_send input refusal old new (Err (sends.NotReserved bound)) gave = fixed_stays old input (replied (Refused (sends.NotReserved bound))) new gave
 
 -- after want of memory a node is as before
 pub memory_by_send : (input : Input) (refusal : Option SendRefused) (old new : NodeState) (done : Result (Step ℕ) SendRefused) → Sends input refusal old done new
@@ -78,26 +59,6 @@ gave_by_send input refusal old new (sends.Low least) entry word effects gave = r
 gave_by_send input refusal old new (sends.Spent index) entry word effects gave = refused_gave input old new (sends.Spent index) entry gave word effects
 gave_by_send input refusal old new (sends.NotReserved bound) entry word effects gave = refused_gave input old new (sends.NotReserved bound) entry gave word effects
 
-pub fixed_by_poll : (old : NodeState) (v : NodeId) (new : NodeState) (done : Result (List ℕ) NodeRefused) → Polls old v done new → new.fixed ≡ old.fixed
-fixed_by_poll old v new (Ok bytes) gave = fixed_stays old (Poll v) (replied (Frame bytes)) new gave
-fixed_by_poll old v new (Err calls.NotNeighbour) gave = fixed_stays old (Poll v) (replied (NotCalled calls.NotNeighbour)) new gave
-fixed_by_poll old v new (Err calls.Worn) gave = fixed_stays old (Poll v) (replied (NotCalled calls.Worn)) new gave
-fixed_by_poll old v new (Err calls.Memory) gave = ap (λ (n : NodeState). n.fixed) gave.1
-
-pub fixed_by_datagram : (old : NodeState) (u : NodeId) (bytes : List ℕ) (new : NodeState) (done : Result (Step Taken) NodeRefused) → Datagrams old u bytes done new
-    → new.fixed ≡ old.fixed
-fixed_by_datagram old u bytes new (Ok step) gave =
-    fixed_stays old (Datagram u bytes)
-    (record { reply = Arrived step.reply.link step.reply.items; effects = step.effects.list; answered = (handled format old u bytes).answered }) new gave
-fixed_by_datagram old u bytes new (Err calls.NotNeighbour) gave = fixed_stays old (Datagram u bytes) (replied (NotCalled calls.NotNeighbour)) new gave
-fixed_by_datagram old u bytes new (Err calls.Worn) gave = fixed_stays old (Datagram u bytes) (replied (NotCalled calls.Worn)) new gave
-fixed_by_datagram old u bytes new (Err calls.Memory) gave = ap (λ (n : NodeState). n.fixed) gave.1
-
-pub fixed_by_tick : (old : NodeState) (now : ℕ) (new : NodeState) (done : Result (Step TickReply) NodeRefused) → Ticks old now done new → new.fixed ≡ old.fixed
-fixed_by_tick old now new (Ok step) gave =
-    fixed_stays old (Tick now) (record { reply = Ticked step.reply; effects = step.effects.list; answered = [] }) new gave
-fixed_by_tick old now new (Err refused) gave = ap (λ (n : NodeState). n.fixed) gave.1
-
 -- a call that is answered is refused for want of memory alone
 pub memory_by_poll : (old : NodeState) (v : NodeId) (new : NodeState) (refused : NodeRefused) → call_refusal old v ≡ None → Polls old v (Err refused) new → new ≡ old
 memory_by_poll old v new calls.NotNeighbour called gave =
@@ -116,13 +77,6 @@ memory_by_datagram old u bytes new calls.Memory called gave = gave.1
 
 pub memory_by_tick : (old : NodeState) (now : ℕ) (new : NodeState) (refused : NodeRefused) → Ticks old now (Err refused) new → new ≡ old
 memory_by_tick old now new refused gave = gave.1
-
-pub fixed_by_take_rel : (old : NodeState) (src : NodeId) (payload : Option (List ℕ)) (new : NodeState) → TakesRel old src payload new → new.fixed ≡ old.fixed
-fixed_by_take_rel old src payload new gave = fixed_stays old (TakeRel src) (replied (Payload payload)) new gave
-
-pub fixed_by_take_prio : (old : NodeState) (entry : Option Stored) (new : NodeState) → TakesPrio old entry new → new.fixed ≡ old.fixed
-fixed_by_take_prio old entry new gave =
-    fixed_stays old TakePrio (record { reply = Message entry; effects = gone 0 TakenAway entry; answered = [] }) new gave
 
 -- what is taken of a priority inbox is a priority message
 pub words_by_take_prio : (old : NodeState) (entry : Stored) (new : NodeState) → HasWords old TakePrio → TakesPrio old (Some entry) new

@@ -9,16 +9,16 @@ ghost use Rattle.sp_node_state.specs.Sends.{Sends};
 ghost use Rattle.sp_paths.specs.declared.limits.TheConstants.{MAX_PATHS};
 ghost use Rattle.sp_rules.specs.Node.{NodeState, call_refusal};
 ghost use Rattle.sp_rules.specs.Steps.{Frame, Input, NodeStep, Poll, SendPrio, SendRel, SetWeight, TakePrio, TakeRel, Tick, replied};
-ghost use Rattle.sp_runs.specs.Journals.{body_word, refused_word};
+ghost use Rattle.sp_node_words.specs.Words.{refused_word};
+ghost use Rattle.sp_runs.specs.Journals.{body_word};
 ghost use Rattle.sp_frame.specs.declared.sections.TheConstants.{MOST_OBJECTS};
 ghost use Rattle.sp_world_steps.specs.Gave.{Gave, GaveTaken, HasWords};
 
-use crate::entries::{quiet, told};
-use crate::words::{refused_word, tick_word};
 use sp_base::{Bytes, Listed, Memory, NodeId, push_in_room};
 use sp_journal::{Entry, Reply};
 use sp_msg::{Body, Effect, Kept, Prio, SendRefused, Why};
 use sp_node::Node;
+use sp_node_words::{quiet, refused_word, tick_word, told};
 use sp_rules::{Step, Taken};
 use std::alloc::Global;
 
@@ -26,7 +26,8 @@ use std::alloc::Global;
 #[tactic(auto, using(crate::proofs::Stepping::gave_by_send))]
 fn sent(alloc: Global, done: Result<Step<u64>, SendRefused>) -> Result<Entry, Memory>
     requires words { IfErr done (λ refused. refused ≢ SendRefused.Memory → refused_word refused ≡ Nothing → ⊥) }
-    ensures gave { (input : Input) (refusal : Option sends.SendRefused) (old new : NodeState) → Sends input refusal old done new → IfOk result (λ entry. Gave old input entry new) }
+    ensures gave { (input : Input) (refusal : Option sends.SendRefused) (old new : NodeState) → Sends input refusal old done new
+        → IfOk result (λ entry. Gave old input entry new) }
     ensures memory { OnErr result (done ≡ Err SendRefused.Memory) }
 {
     match done {
@@ -37,7 +38,7 @@ fn sent(alloc: Global, done: Result<Step<u64>, SendRefused>) -> Result<Entry, Me
 }
 
 /// A client sends a reliable message.
-#[tactic(auto, using(crate::proofs::Stepping::fixed_by_send, crate::proofs::Stepping::memory_by_send, crate::proofs::Stepping::words_by_send))]
+#[tactic(auto, using(sp_node::proofs::FixedStays::fixed_by_send, crate::proofs::Stepping::memory_by_send, crate::proofs::Stepping::words_by_send))]
 pub fn rel(alloc: Global, node: &mut Node, d: NodeId, payload: &[u8]) -> Result<Entry, Memory>
     requires short { length payload.now ≤ MAX_PAYLOAD_BYTES }
     requires words { HasWords node.old.state (SendRel d payload.now) }
@@ -50,7 +51,7 @@ pub fn rel(alloc: Global, node: &mut Node, d: NodeId, payload: &[u8]) -> Result<
 }
 
 /// A client sends a priority message.
-#[tactic(auto, using(crate::proofs::Stepping::fixed_by_send, crate::proofs::Stepping::memory_by_send, crate::proofs::Stepping::words_by_send))]
+#[tactic(auto, using(sp_node::proofs::FixedStays::fixed_by_send, crate::proofs::Stepping::memory_by_send, crate::proofs::Stepping::words_by_send))]
 pub fn prio(
     alloc: Global,
     node: &mut Node,
@@ -64,7 +65,8 @@ pub fn prio(
     requires few { paths ≤ MAX_PATHS }
     requires short { length payload.now ≤ MAX_PAYLOAD_BYTES }
     requires words { HasWords node.old.state (SendPrio (record { dst = d; prio = prio; expiry = expiry; paths = paths; payload = payload.now })) }
-    ensures gave { IfOk result (λ entry. Gave node.old.state (SendPrio (record { dst = d; prio = prio; expiry = expiry; paths = paths; payload = payload.now })) entry node.new.state) }
+    ensures gave { IfOk result (λ entry. Gave node.old.state
+        (SendPrio (record { dst = d; prio = prio; expiry = expiry; paths = paths; payload = payload.now })) entry node.new.state) }
     ensures as_before { OnErr result (node.new.state ≡ node.old.state) }
     ensures fixed { node.new.state.fixed ≡ node.old.state.fixed }
 {
@@ -73,7 +75,7 @@ pub fn prio(
 }
 
 /// An administrator sets the weight of a link.
-#[tactic(auto, using(crate::proofs::Stepping::fixed_by_send, crate::proofs::Stepping::memory_by_send, crate::proofs::Stepping::words_by_send))]
+#[tactic(auto, using(sp_node::proofs::FixedStays::fixed_by_send, crate::proofs::Stepping::memory_by_send, crate::proofs::Stepping::words_by_send))]
 pub fn weight(alloc: Global, node: &mut Node, v: NodeId, weight: u32) -> Result<Entry, Memory>
     requires least { 1 ≤ weight }
     requires most { weight ≤ MAX_WEIGHT }
@@ -87,7 +89,7 @@ pub fn weight(alloc: Global, node: &mut Node, v: NodeId, weight: u32) -> Result<
 }
 
 /// A client takes the oldest message of the flow from `s`. It takes no memory.
-#[tactic(auto, using(crate::proofs::Stepping::fixed_by_take_rel))]
+#[tactic(auto, using(sp_node::proofs::FixedStays::fixed_by_take_rel))]
 pub fn take(alloc: Global, node: &mut Node, s: NodeId) -> Entry
     ensures gave { Gave node.old.state (TakeRel s) result node.new.state }
     ensures fixed { node.new.state.fixed ≡ node.old.state.fixed }
@@ -99,7 +101,7 @@ pub fn take(alloc: Global, node: &mut Node, s: NodeId) -> Entry
 }
 
 /// A client takes the oldest priority message. The room for its one effect is taken first.
-#[tactic(auto, using(crate::proofs::Stepping::fixed_by_take_prio, crate::proofs::Stepping::words_by_take_prio))]
+#[tactic(auto, using(sp_node::proofs::FixedStays::fixed_by_take_prio, crate::proofs::Stepping::words_by_take_prio))]
 pub fn take_prio(alloc: Global, node: &mut Node) -> Result<Entry, Memory>
     requires words { HasWords node.old.state TakePrio }
     ensures gave { IfOk result (λ entry. Gave node.old.state TakePrio entry node.new.state) }
@@ -145,7 +147,7 @@ fn payload_word(kept: Kept) -> Reply
 }
 
 /// The clock says so.
-#[tactic(auto, using(crate::proofs::Stepping::fixed_by_tick, crate::proofs::Stepping::memory_by_tick))]
+#[tactic(auto, using(sp_node::proofs::FixedStays::fixed_by_tick, crate::proofs::Stepping::memory_by_tick))]
 pub fn tick(alloc: Global, node: &mut Node, now: u64) -> Result<Entry, Memory>
     ensures gave { IfOk result (λ entry. Gave node.old.state (Tick now) entry node.new.state) }
     ensures as_before { OnErr result (node.new.state ≡ node.old.state) }
@@ -158,7 +160,7 @@ pub fn tick(alloc: Global, node: &mut Node, now: u64) -> Result<Entry, Memory>
 }
 
 /// The next frame to a neighbour.
-#[tactic(auto, using(crate::proofs::Stepping::fixed_by_poll, crate::proofs::Stepping::memory_by_poll, crate::proofs::Lengths::polled_is_short))]
+#[tactic(auto, using(sp_node::proofs::FixedStays::fixed_by_poll, crate::proofs::Stepping::memory_by_poll, sp_node::proofs::Lengths::polled_is_short))]
 pub fn poll(alloc: Global, node: &mut Node, v: NodeId) -> Result<Bytes, Memory>
     requires answered { call_refusal node.old.state v ≡ Nothing }
     requires short { node.old.state.fixed.signature_len ≤ most_signature }
@@ -175,7 +177,7 @@ pub fn poll(alloc: Global, node: &mut Node, v: NodeId) -> Result<Bytes, Memory>
 }
 
 /// A datagram arrives.
-#[tactic(auto, using(crate::proofs::Stepping::fixed_by_datagram, crate::proofs::Stepping::memory_by_datagram))]
+#[tactic(auto, using(sp_node::proofs::FixedStays::fixed_by_datagram, crate::proofs::Stepping::memory_by_datagram))]
 pub fn datagram(
     alloc: Global,
     node: &mut Node,

@@ -9,10 +9,8 @@ mod entries;
 mod frames;
 mod member;
 mod members;
-mod words;
 
 pub use directions::Directions;
-pub use entries::{arrived, entry_of, spent, told};
+pub use entries::arrived;
 pub use member::Member;
 pub use members::{ask, forget, hear, member_of};
-pub use words::tick_word;

@@ -64,7 +64,7 @@ impl Member {
         ensures as_before { OnErr result (self.new ≡ self.old) }
         ensures fixed { self.new.fixed ≡ self.old.fixed }
     {
-        ask(alloc, &mut self.node, event)
+        call_for(alloc, &mut self.node, event)
     }
 
     /// The next frame to a neighbour.
@@ -97,7 +97,7 @@ impl Member {
 }
 
 /// A client or the clock asks something of a node.
-fn ask(alloc: Global, node: &mut Node, event: &Event) -> Result<Entry, Memory>
+fn call_for(alloc: Global, node: &mut Node, event: &Event) -> Result<Entry, Memory>
     requires { MayAsk node.old.state event.now }
     ensures answered { IfOk result (λ entry. GaveAnswer node.old.state event.now entry node.new.state) }
     ensures as_before { OnErr result (node.new.state ≡ node.old.state) }

@@ -30,12 +30,14 @@ pub fn program<R: Read, W: Write, N: Wire + Drop, C: Clock + Drop, P: Keeper + D
     mut clock: C,
     mut keeper: P,
 ) -> Finished<R, W>
-    ensures ended { IfOk words (λ words. Ended (map string_bytes words.items) (R.remaining reader) (R.remaining result.reader) (W.contents writer) (W.contents result.writer) result.code) }
+    ensures ended { IfOk words (λ words. Ended (map string_bytes words.items) (R.remaining reader) (R.remaining result.reader)
+        (W.contents writer) (W.contents result.writer) result.code) }
 
     // no word was kept, so none is run
     ensures wordless { OnErr words ((result.code ≡ 9) × (result.reader ≡ reader) × (result.writer ≡ writer)) }
     ensures unread { IfOk words (λ words. BySaid (map string_bytes words.items) (λ said. reads said ≡ false → result.reader ≡ reader)) }
-    ensures quiet { IfOk words (λ words. BySaid (map string_bytes words.items) (λ said. writes_at_end said ≡ true → (result.code ≡ 5) ⊎ (result.code ≡ 9) → result.writer ≡ writer)) }
+    ensures quiet { IfOk words (λ words. BySaid (map string_bytes words.items)
+        (λ said. writes_at_end said ≡ true → (result.code ≡ 5) ⊎ (result.code ≡ 9) → result.writer ≡ writer)) }
 {
     let Ok(words) = words else {
         return Finished {

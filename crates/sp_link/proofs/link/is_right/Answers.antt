@@ -10,6 +10,6 @@ use Rattle.sp_link.proofs.link.is_right.Goals as goal
 pub returns-clause-right : goal.returns-clause-right
 unfolding is_right
 returns-clause-right c =
-    same_answer c.verify.result c.tag.result.now (hmac c.args.key.now c.signed_part.result.now) c.verify.ensures
-    ∙ ap (λ t. pointwise nat_eq t (hmac c.args.key.now c.signed_part.result.now)) c.tag.ensures
-    ∙ ap (λ s. pointwise nat_eq (tag_part c.args.frame.now) (hmac c.args.key.now s)) c.signed_part.ensures
+    same_answer c.verify.result c.tag.result.now (hmac c.args.key.now c.tagged_part.result.now) c.verify.ensures
+    ∙ ap (λ t. pointwise nat_eq t (hmac c.args.key.now c.tagged_part.result.now)) c.tag.ensures
+    ∙ ap (λ s. pointwise nat_eq (tag_part c.args.frame.now) (hmac c.args.key.now s)) c.tagged_part.ensures

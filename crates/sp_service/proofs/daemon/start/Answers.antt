@@ -16,13 +16,13 @@ returns-in-Ok-Refused-clause-ended g c = λ clock turns.
 pub returns-in-Ok-Fits-clause-begins : goal.returns-in-Ok-Fits-clause-begins
 returns-in-Ok-Fits-clause-begins g c = λ clock.
     map_ok c.start_configured.result _ _
-    (λ started begun. begins c.args.text.now c.args.is_cut c.in-Ok-Fits.config c.in-Ok-Fits.topology _ _ started c.if-is_cut.false
-    (rw c.in-Ok-Fits.field-0-is at c.in-Ok-Fits.ensures) begun)
+    (λ started begun. begins c.args.text.now c.args.is_cut c.in-Ok-Fits.config c.in-Ok-Fits.fitted.topology _ _ started c.if-is_cut.false
+    (rw c.in-Ok-Fits.field-0-is at c.in-Ok-Fits.ensures).0 begun)
     (c.start_configured.ensures.begins clock)
 
 pub returns-in-Ok-Fits-clause-ended : goal.returns-in-Ok-Fits-clause-ended
 returns-in-Ok-Fits-clause-ended g c = λ clock turns.
     map_err c.start_configured.result _ _
-    (λ ended ends. daemon c.args.text.now c.args.is_cut turns c.in-Ok-Fits.config c.in-Ok-Fits.topology ended _ _ c.if-is_cut.false
-    (rw c.in-Ok-Fits.field-0-is at c.in-Ok-Fits.ensures) ends)
+    (λ ended ends. daemon c.args.text.now c.args.is_cut turns c.in-Ok-Fits.config c.in-Ok-Fits.fitted.topology ended _ _ c.if-is_cut.false
+    (rw c.in-Ok-Fits.field-0-is at c.in-Ok-Fits.ensures).0 ends)
     (c.start_configured.ensures.ended clock turns)

@@ -1,4 +1,4 @@
-use Rattle.sp_world_steps.proofs.Lengths.{polled_is_short}
+use Rattle.sp_node.proofs.Lengths.{polled_is_short}
 use Rattle.sp_world_steps.proofs.calls.poll.Goals as goal
 
 pub returns-in-Ok-clause-long : goal.returns-in-Ok-clause-long

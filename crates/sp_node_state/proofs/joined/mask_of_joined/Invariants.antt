@@ -1,5 +1,0 @@
-use Rattle.sp_node_state.proofs.JoinedLemmas.{IsMaskTo}
-use Rattle.sp_node_state.proofs.joined.mask_of_joined.Given as goal
-
-abbrev pub invariant-edges : goal.invariant-edges
-invariant-edges l = IsMaskTo l.flags l.edges l.place l.mask

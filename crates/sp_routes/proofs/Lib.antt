@@ -1,0 +1,5 @@
+pub mod ChoiceLemmas
+pub mod FewSets
+pub mod JoinedLemmas
+pub mod PageLemmas
+pub mod WeighedLemmas
