@@ -1,6 +1,6 @@
 // The messages base + 1 to have of a flow, in order, whatever a message is. All memory is taken at the start.
 ghost use Rattle.std.specs.Prelude.{◌≡◌, ◌==◌, ◌+◌, ◌-◌, ◌^◌, ◌<◌, ◌≤◌};
-ghost use Rattle.std.specs.Prelude.{◌↔◌, List, IfOk, OnOk, OnErr, IfErr, IsErr, drop, length, map, take};
+ghost use Rattle.std.specs.Prelude.{◌↔◌, IfOk, OnOk, OnErr, IfErr, IsErr, drop, length, map, take};
 ghost use Rattle.sp_base.specs.Position.{IsPosition, kept, acknowledged, empty_buffer};
 ghost use Rattle.sp_base.specs.declared.limits.TheConstants.{MAX_MESSAGES};
 
@@ -77,13 +77,6 @@ impl<T: Drop> FlowBuffer<T> {
         ensures bounded { self.now.at.have ≤ self.now.at.base + self.now.bound }
     {
         self.base + self.items.len() as u64
-    }
-
-    /// Whether no further message is taken.
-    pub fn is_full(&self) -> bool
-        ensures { result ≡ (self.now.at.have - self.now.at.base == self.now.bound) }
-    {
-        self.items.len() == self.bound as usize
     }
 
     /// Takes message have + 1. Where the buffer is full nothing changes, and the message comes back.

@@ -4,6 +4,7 @@ ghost use Rattle.sp_frame.specs.Views.{as_list, as_object};
 ghost use Rattle.sp_msg.specs.Bodies.{HasGoodFields};
 ghost use Rattle.sp_msg.specs.Caused.{Caused};
 ghost use Rattle.sp_msg.specs.Views.{as_body};
+ghost use Rattle.sp_rel.specs.Places.{IsPlace};
 ghost use Rattle.sp_rel.specs.Seated.{IsSeated};
 ghost use Rattle.sp_rules.specs.Answers.{ack_answer};
 ghost use Rattle.sp_rules.specs.Handle.{ack_handled, handle_all};
@@ -17,11 +18,11 @@ ghost use Rattle.sp_node_format.specs.Format.{format};
 
 use crate::arrival::Arrival;
 use crate::signed::{copy_of, is_right, recall};
-use sp_base::{Flow, Memory};
+use sp_base::Memory;
 use sp_frame::ObjectRef;
 use sp_msg::{BodyRef, Kept};
 use sp_node_parts::Parts;
-use sp_rel::{AckJudged, Seat};
+use sp_rel::{AckJudged, Place, Seat};
 use sp_rules::{AckAnswer, Item};
 use sp_sign::Checker;
 use std::alloc::Global;
@@ -31,23 +32,24 @@ pub(crate) fn ready(
     alloc: Global,
     parts: &Parts,
     checker: &mut Checker,
-    flow: Flow,
+    row: Place,
     object: &ObjectRef<'_>,
 ) -> Result<Option<(Kept, Seat)>, Memory>
-    ensures ready { IfOk result (IsAckReady checker.old.nodes parts.now.rel flow (as_object object.now)) }
+    requires place { IsPlace parts.now.rel.flows row }
+    ensures ready { IfOk result (IsAckReady checker.old.nodes parts.now.rel row.flow (as_object object.now)) }
     ensures keys { checker.new.nodes ≡ checker.old.nodes }
-    ensures work { checker.new.checks ≤ checker.old.checks + ack_checks parts.now.rel flow (as_object object.now) }
-    ensures new { IfOk result (λ ready. is_some ready ≡ is_acked checker.old.nodes parts.now.rel flow (as_object object.now)) }
+    ensures work { checker.new.checks ≤ checker.old.checks + ack_checks parts.now.rel row.flow (as_object object.now) }
+    ensures new { IfOk result (λ ready. is_some ready ≡ is_acked checker.old.nodes parts.now.rel row.flow (as_object object.now)) }
     ensures few { checker.new.checks ≤ checker.old.checks + 1 }
 {
-    let AckJudged::New = judge(parts, flow, &object.body) else {
+    let AckJudged::New = judge(parts, row, &object.body) else {
         return Ok(None);
     };
     if !is_right(checker, object) {
         return Ok(None);
     }
     let kept = copy_of(alloc, object)?;
-    let Ok(seat) = parts.rel.seat(alloc, flow) else {
+    let Ok(seat) = parts.rel.seat(alloc, row) else {
         return Err(Memory);
     };
     Ok(Some((kept, seat)))
@@ -57,18 +59,20 @@ pub(crate) fn ready(
 pub(crate) fn admit(
     at: &Arrival<'_>,
     parts: &mut Parts,
-    flow: Flow,
+    row: Place,
     ack: &Option<ObjectRef<'_>>,
     ready: Option<(Kept, Seat)>,
 ) -> Option<Item>
-    requires ready { IfSome (option_map as_object ack.now) (λ o. IsAckReady at.now.fixed.now.topology.nodes parts.old.rel flow o ready) }
+    requires place { IsPlace parts.old.rel.flows row }
+    requires ready { IfSome (option_map as_object ack.now) (λ o. IsAckReady at.now.fixed.now.topology.nodes parts.old.rel row.flow o ready) }
     ensures done { (c : Caused) → IsDone
-        (handle_all format (as_arrival at.now) parts.old (map (AckPiece flow) (as_list (option_map as_object ack.now))))
+        (handle_all format (as_arrival at.now) parts.old (map (AckPiece row.flow) (as_list (option_map as_object ack.now))))
         parts.new (as_list result) c c }
-    ensures stays { StaysReady (is_some ready) at.now.fixed.now.topology.nodes flow parts.old.rel parts.new.rel }
+    ensures stays { StaysReady (is_some ready) at.now.fixed.now.topology.nodes row.flow parts.old.rel parts.new.rel }
+    ensures place { IsPlace parts.new.rel.flows row }
 {
     match ack {
-        Some(object) => Some(admit_one(at, parts, flow, object, ready)),
+        Some(object) => Some(admit_one(at, parts, row, object, ready)),
         None => None,
     }
 }
@@ -76,46 +80,50 @@ pub(crate) fn admit(
 fn admit_one(
     at: &Arrival<'_>,
     parts: &mut Parts,
-    flow: Flow,
+    row: Place,
     object: &ObjectRef<'_>,
     ready: Option<(Kept, Seat)>,
 ) -> Item
-    requires ready { IsAckReady at.now.fixed.now.topology.nodes parts.old.rel flow (as_object object.now) ready }
+    requires place { IsPlace parts.old.rel.flows row }
+    requires ready { IsAckReady at.now.fixed.now.topology.nodes parts.old.rel row.flow (as_object object.now) ready }
     ensures done { (c : Caused) → IsDone
-        (handle_all format (as_arrival at.now) parts.old (AckPiece flow (as_object object.now) ∷ []))
+        (handle_all format (as_arrival at.now) parts.old (AckPiece row.flow (as_object object.now) ∷ []))
         parts.new (result ∷ []) c c }
-    ensures stays { StaysReady (is_some ready) at.now.fixed.now.topology.nodes flow parts.old.rel parts.new.rel }
+    ensures stays { StaysReady (is_some ready) at.now.fixed.now.topology.nodes row.flow parts.old.rel parts.new.rel }
+    ensures place { IsPlace parts.new.rel.flows row }
 {
     recall(object);
-    let answer = take(parts, flow, object, ready);
+    let answer = take(parts, row, object, ready);
     Item::Ack(answer)
 }
 
 /// What is said of the acknowledgement of a slot, but for its signature.
-fn judge(parts: &Parts, flow: Flow, body: &BodyRef<'_>) -> AckJudged
-    ensures { result ≡ judge_ack_of parts.now.rel flow (as_body body.now) }
+fn judge(parts: &Parts, row: Place, body: &BodyRef<'_>) -> AckJudged
+    requires place { IsPlace parts.now.rel.flows row }
+    ensures { result ≡ judge_ack_of parts.now.rel row.flow (as_body body.now) }
 {
     match body {
-        BodyRef::Ack(ack) => parts.rel.judge_ack(flow, ack),
+        BodyRef::Ack(ack) => parts.rel.judge_ack(row, ack),
         _ => AckJudged::BadEnd,
     }
 }
 
 /// Keeps the acknowledgement where it is new. `ready` is a copy of it where its signature is right, with memory for its flow.
-#[tactic(auto, using(crate::proofs::FlowLemmas::ack_flow, crate::proofs::FlowLemmas::ack_again))]
 fn take(
     parts: &mut Parts,
-    flow: Flow,
+    row: Place,
     object: &ObjectRef<'_>,
     ready: Option<(Kept, Seat)>,
 ) -> AckAnswer
+    requires place { IsPlace parts.old.rel.flows row }
     requires fields { HasGoodFields (as_object object.now).body }
     requires copy { IfSome ready (λ r. r.0 ≡ as_object object.now) }
-    requires seat { IfSome ready (λ r. IsSeated parts.old.rel flow r.1) }
-    ensures answer { result ≡ ack_answer (is_some ready) (judge_ack_of parts.old.rel flow (as_object object.now).body) }
+    requires seat { IfSome ready (λ r. IsSeated parts.old.rel row.flow r.1) }
+    ensures answer { result ≡ ack_answer (is_some ready) (judge_ack_of parts.old.rel row.flow (as_object object.now).body) }
     ensures parts { parts.new ≡ (ack_handled result (as_object object.now) parts.old).parts }
+    ensures place { IsPlace parts.new.rel.flows row }
 {
-    match judge(parts, flow, &object.body) {
+    match judge(parts, row, &object.body) {
         AckJudged::BadEnd => AckAnswer::BadEnd,
         AckJudged::Old => AckAnswer::Old,
         AckJudged::Ahead => AckAnswer::Ahead,
@@ -123,7 +131,7 @@ fn take(
             let Some((kept, seat)) = ready else {
                 return AckAnswer::BadSig;
             };
-            parts.rel.admit_ack(kept, seat);
+            parts.rel.admit_ack(kept, row, seat);
             AckAnswer::New
         }
     }

@@ -4,6 +4,7 @@ ghost use Rattle.sp_base.specs.declared.limits.TheConstants.{MAX_MESSAGES};
 ghost use Rattle.sp_frame.specs.Views.{as_object};
 ghost use Rattle.sp_msg.specs.Bodies.{HasGoodFields, payload_of};
 ghost use Rattle.sp_msg.specs.Views.{as_body};
+ghost use Rattle.sp_rel.specs.Places.{IsPlace};
 ghost use Rattle.sp_rel.specs.Seated.{IsSeated};
 ghost use Rattle.sp_rules.specs.Answers.{rel_answer};
 ghost use Rattle.sp_rules.specs.Handle.{handle_all, rel_handled};
@@ -17,11 +18,11 @@ ghost use Rattle.sp_node_format.specs.Format.{format};
 
 use crate::arrival::Arrival;
 use crate::signed::{copy_of, is_right, recall};
-use sp_base::{Bytes, Flow, Four, Memory};
+use sp_base::{Bytes, Four, Memory};
 use sp_frame::ObjectRef;
 use sp_msg::{BodyRef, Effects, Kept};
 use sp_node_parts::Parts;
-use sp_rel::{RelJudged, Seat};
+use sp_rel::{Place, RelJudged, Seat};
 use sp_rules::{Item, RelAnswer};
 use sp_sign::Checker;
 use std::alloc::Global;
@@ -31,24 +32,25 @@ pub(crate) fn ready_from(
     alloc: Global,
     parts: &Parts,
     checker: &mut Checker,
-    flow: Flow,
+    row: Place,
     rels: &Four<ObjectRef<'_>>,
     place: usize,
     moved: bool,
 ) -> Result<Four<Option<(Kept, Bytes, Seat)>>, Memory>
-    ensures ready { IfOk result (AreRelsReady moved checker.old.nodes parts.now.rel flow (map as_object (drop place rels.now))) }
+    requires place { IsPlace parts.now.rel.flows row }
+    ensures ready { IfOk result (AreRelsReady moved checker.old.nodes parts.now.rel row.flow (map as_object (drop place rels.now))) }
     ensures many { IfOk result (λ ready. length ready ≡ length rels.now - place) }
     ensures keys { checker.new.nodes ≡ checker.old.nodes }
     ensures work { checker.new.checks ≤ checker.old.checks
-        + rels_checks moved checker.old.nodes parts.now.rel flow (map as_object (drop place rels.now)) }
+        + rels_checks moved checker.old.nodes parts.now.rel row.flow (map as_object (drop place rels.now)) }
     ensures few { checker.new.checks ≤ checker.old.checks + (MAX_MESSAGES - place) }
 {
     let Some(object) = rels.get(place) else {
         return Ok(Four::new());
     };
-    let first = ready_one(alloc, parts, checker, flow, object, moved)?;
+    let first = ready_one(alloc, parts, checker, row, object, moved)?;
     let moved = moved || first.is_some();
-    let others = ready_from(alloc, parts, checker, flow, rels, place + 1, moved)?;
+    let others = ready_from(alloc, parts, checker, row, rels, place + 1, moved)?;
     Ok(others.led_by(first))
 }
 
@@ -56,17 +58,18 @@ fn ready_one(
     alloc: Global,
     parts: &Parts,
     checker: &mut Checker,
-    flow: Flow,
+    row: Place,
     object: &ObjectRef<'_>,
     moved: bool,
 ) -> Result<Option<(Kept, Bytes, Seat)>, Memory>
-    ensures ready { IfOk result (IsRelReady moved checker.old.nodes parts.now.rel flow (as_object object.now)) }
+    requires place { IsPlace parts.now.rel.flows row }
+    ensures ready { IfOk result (IsRelReady moved checker.old.nodes parts.now.rel row.flow (as_object object.now)) }
     ensures keys { checker.new.nodes ≡ checker.old.nodes }
-    ensures work { checker.new.checks ≤ checker.old.checks + rel_checks moved parts.now.rel flow (as_object object.now) }
-    ensures new { IfOk result (λ ready. is_some ready ≡ is_followed moved checker.old.nodes parts.now.rel flow (as_object object.now)) }
+    ensures work { checker.new.checks ≤ checker.old.checks + rel_checks moved parts.now.rel row.flow (as_object object.now) }
+    ensures new { IfOk result (λ ready. is_some ready ≡ is_followed moved checker.old.nodes parts.now.rel row.flow (as_object object.now)) }
     ensures few { checker.new.checks ≤ checker.old.checks + 1 }
 {
-    if !may_be_new(moved, judge(parts, flow, &object.body)) {
+    if !may_be_new(moved, judge(parts, row, &object.body)) {
         return Ok(None);
     }
     if !is_right(checker, object) {
@@ -74,7 +77,7 @@ fn ready_one(
     }
     let kept = copy_of(alloc, object)?;
     let payload = payload_of(alloc, &object.body)?;
-    let Ok(seat) = parts.rel.seat(alloc, flow) else {
+    let Ok(seat) = parts.rel.seat(alloc, row) else {
         return Err(Memory);
     };
     Ok(Some((kept, payload, seat)))
@@ -91,16 +94,17 @@ pub(crate) fn leave(ready: Four<Option<(Kept, Bytes, Seat)>>) {
 pub(crate) fn admit_from(
     at: &Arrival<'_>,
     parts: &mut Parts,
-    flow: Flow,
+    row: Place,
     rels: &Four<ObjectRef<'_>>,
     place: usize,
     ready: Four<Option<(Kept, Bytes, Seat)>>,
     out: &mut Effects,
 ) -> Four<Item>
-    requires ready { AreRelsReady false at.now.fixed.now.topology.nodes parts.old.rel flow (map as_object (drop place rels.now)) ready }
+    requires place { IsPlace parts.old.rel.flows row }
+    requires ready { AreRelsReady false at.now.fixed.now.topology.nodes parts.old.rel row.flow (map as_object (drop place rels.now)) ready }
     requires room { MAX_MESSAGES - place ≤ out.old.room }
     ensures done { IsDone
-        (handle_all format (as_arrival at.now) parts.old (map (RelPiece flow) (map as_object (drop place rels.now))))
+        (handle_all format (as_arrival at.now) parts.old (map (RelPiece row.flow) (map as_object (drop place rels.now))))
         parts.new result out.old out.new }
     ensures many { length result ≡ length rels.now - place }
 {
@@ -110,38 +114,41 @@ pub(crate) fn admit_from(
     let Some(object) = rels.get(place) else {
         unreachable!()
     };
-    let item = admit_one(at, parts, flow, object, first, out);
-    let items = admit_from(at, parts, flow, rels, place + 1, others, out);
+    let item = admit_one(at, parts, row, object, first, out);
+    let items = admit_from(at, parts, row, rels, place + 1, others, out);
     items.led_by(item)
 }
 
 fn admit_one(
     at: &Arrival<'_>,
     parts: &mut Parts,
-    flow: Flow,
+    row: Place,
     object: &ObjectRef<'_>,
     ready: Option<(Kept, Bytes, Seat)>,
     out: &mut Effects,
 ) -> Item
-    requires ready { IsRelReady false at.now.fixed.now.topology.nodes parts.old.rel flow (as_object object.now) ready }
+    requires place { IsPlace parts.old.rel.flows row }
+    requires ready { IsRelReady false at.now.fixed.now.topology.nodes parts.old.rel row.flow (as_object object.now) ready }
     requires room { 1 ≤ out.old.room }
     ensures done { IsDone
-        (handle_all format (as_arrival at.now) parts.old (RelPiece flow (as_object object.now) ∷ []))
+        (handle_all format (as_arrival at.now) parts.old (RelPiece row.flow (as_object object.now) ∷ []))
         parts.new (result ∷ []) out.old out.new }
-    ensures stays { StaysReady (is_some ready) at.now.fixed.now.topology.nodes flow parts.old.rel parts.new.rel }
+    ensures stays { StaysReady (is_some ready) at.now.fixed.now.topology.nodes row.flow parts.old.rel parts.new.rel }
     ensures room { out.old.room ≤ out.new.room + 1 }
+    ensures place { IsPlace parts.new.rel.flows row }
 {
     recall(object);
-    let answer = take(parts, flow, object, ready, out);
+    let answer = take(parts, row, object, ready, out);
     Item::Rel(answer)
 }
 
 /// What is said of a message of a slot, but for its signature.
-fn judge(parts: &Parts, flow: Flow, body: &BodyRef<'_>) -> RelJudged
-    ensures { result ≡ judge_rel_of parts.now.rel flow (as_body body.now) }
+fn judge(parts: &Parts, row: Place, body: &BodyRef<'_>) -> RelJudged
+    requires place { IsPlace parts.now.rel.flows row }
+    ensures { result ≡ judge_rel_of parts.now.rel row.flow (as_body body.now) }
 {
     match body {
-        BodyRef::Rel(rel) => parts.rel.judge_rel(flow, rel.src, rel.dst, rel.seq),
+        BodyRef::Rel(rel) => parts.rel.judge_rel(row, rel.src, rel.dst, rel.seq),
         _ => RelJudged::BadEnd,
     }
 }
@@ -172,24 +179,25 @@ fn payload_of(alloc: Global, body: &BodyRef<'_>) -> Result<Bytes, Memory>
 }
 
 /// Keeps or delivers the message where it is new. `ready` is a copy of it where its signature is right, with memory for its delivery and for its flow.
-#[tactic(auto, using(crate::proofs::FlowLemmas::rel_flow, crate::proofs::FlowLemmas::rel_again))]
 fn take(
     parts: &mut Parts,
-    flow: Flow,
+    row: Place,
     object: &ObjectRef<'_>,
     ready: Option<(Kept, Bytes, Seat)>,
     out: &mut Effects,
 ) -> RelAnswer
+    requires place { IsPlace parts.old.rel.flows row }
     requires fields { HasGoodFields (as_object object.now).body }
     requires copy { IfSome ready (λ r. r.0 ≡ as_object object.now) }
     requires payload { IfSome ready (λ r. r.1 ≡ payload_of (as_object object.now).body) }
-    requires seat { IfSome ready (λ r. IsSeated parts.old.rel flow r.2) }
+    requires seat { IfSome ready (λ r. IsSeated parts.old.rel row.flow r.2) }
     requires room { 1 ≤ out.old.room }
-    ensures answer { result ≡ rel_answer (is_some ready) (judge_rel_of parts.old.rel flow (as_object object.now).body) }
+    ensures answer { result ≡ rel_answer (is_some ready) (judge_rel_of parts.old.rel row.flow (as_object object.now).body) }
     ensures parts { parts.new ≡ (rel_handled result (as_object object.now) parts.old).parts }
     ensures told { out.new ≡ told out.old (rel_handled result (as_object object.now) parts.old).effects }
+    ensures place { IsPlace parts.new.rel.flows row }
 {
-    match judge(parts, flow, &object.body) {
+    match judge(parts, row, &object.body) {
         RelJudged::BadEnd => RelAnswer::BadEnd,
         RelJudged::Old => RelAnswer::Old,
         RelJudged::Ahead => RelAnswer::Ahead,
@@ -200,7 +208,7 @@ fn take(
             let Some((kept, payload, seat)) = ready else {
                 return RelAnswer::BadSig;
             };
-            parts.rel.admit_rel(kept, payload, seat, out);
+            parts.rel.admit_rel(kept, payload, row, seat, out);
             RelAnswer::New
         }
     }

@@ -71,12 +71,13 @@ fn ready_slot(
     ensures work { checker.new.checks ≤ checker.old.checks + slot_checks at.now.fixed.now.topology.nodes parts.now.rel slot.now }
     ensures few { checker.new.checks ≤ checker.old.checks + (1 + MAX_MESSAGES) }
 {
+    let row = parts.rel.place(slot.flow);
     let ack = match &slot.ack {
-        Some(object) => ack::ready(alloc, parts, checker, slot.flow, object)?,
+        Some(object) => ack::ready(alloc, parts, checker, row, object)?,
         None => None,
     };
     let moved = ack.is_some();
-    let rels = rel::ready_from(alloc, parts, checker, slot.flow, &slot.rels, 0, moved)?;
+    let rels = rel::ready_from(alloc, parts, checker, row, &slot.rels, 0, moved)?;
     Ok(SlotReady { ack, rels })
 }
 
@@ -120,8 +121,9 @@ fn admit_slot(
         parts.new (slot_items result) out.old out.new }
 {
     let SlotReady { ack, rels } = ready;
-    parts.rel.report(at.from, slot.flow, slot.base, slot.have);
-    let ack = ack::admit(at, parts, slot.flow, &slot.ack, ack);
-    let rels = rel::admit_from(at, parts, slot.flow, &slot.rels, 0, rels, out);
+    let row = parts.rel.place(slot.flow);
+    parts.rel.report(at.from, row, slot.base, slot.have);
+    let ack = ack::admit(at, parts, row, &slot.ack, ack);
+    let rels = rel::admit_from(at, parts, row, &slot.rels, 0, rels, out);
     SlotAnswers { ack, rels }
 }

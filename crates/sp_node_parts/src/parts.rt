@@ -1,7 +1,6 @@
 // The three parts of a node in memory.
 ghost use Rattle.std.specs.Prelude.{◌≡◌, IfOk, map};
 ghost use Rattle.sp_rules.specs.Parts.{as_neighbour, empty_parts};
-ghost use Rattle.sp_topology.specs.Neighbours.{neighbours_from};
 ghost use Rattle.sp_topology.specs.Ranges.{IsTopology};
 
 use sp_base::{EdgeId, Limits, Memory, NodeId};

@@ -107,7 +107,8 @@ fn ready_rel(
         src: state.fixed.me,
         dst,
     };
-    let Ok(seat) = state.core.rel.seat(alloc, flow) else {
+    let place = state.core.rel.place(flow);
+    let Ok(seat) = state.core.rel.seat(alloc, place) else {
         return Err(Memory);
     };
     let Ok(effects) = Effects::with_room(alloc, 1) else {

@@ -1,5 +1,5 @@
 // What the priority part keeps of one neighbour: what waits for it, and what is in flight.
-ghost use Rattle.std.specs.Prelude.{◌≡◌, ◌<◌, ◌≤◌, ◌+◌, ◌-◌, ◌^◌, ◌↔◌, IfOk, IsTrue, length, map};
+ghost use Rattle.std.specs.Prelude.{◌≡◌, ◌<◌, ◌≤◌, ◌+◌, ◌-◌, ◌^◌, IfOk, length, map};
 ghost use Rattle.sp_base.specs.declared.limits.TheConstants.{MAX_MESSAGES};
 ghost use Rattle.sp_rules.specs.Polls.{as_message};
 ghost use Rattle.sp_rules.specs.Prio.{is_peer};
@@ -145,20 +145,6 @@ impl Peer {
     {
         let peer = self.id.0;
         self.flight.pairs = land_from(&self.flight.pairs, 0, number, &mut self.store, peer, out);
-    }
-
-    /// Whether its store has an id left for one more.
-    pub fn has_id(&self) -> bool
-        ensures { IsTrue result ↔ (self.now.store.last < 2 ^ 63) }
-    {
-        self.store.last() < 1 << 63
-    }
-
-    /// Whether a link number is left for each of as many more as may be in flight.
-    pub fn has_number(&self) -> bool
-        ensures { IsTrue result ↔ (self.now.number + MAX_MESSAGES ≤ 2 ^ 63) }
-    {
-        self.flight.number + MAX_MESSAGES as u64 <= 1 << 63
     }
 
     /// A message came under this link number.

@@ -1,6 +1,6 @@
 // The rows of all neighbours: what is done with one, and what is done with each.
-ghost use Rattle.std.specs.Prelude.{◌≡◌, ◌<◌, ◌≤◌, ◌+◌, ◌*◌, ◌^◌, ◌↔◌, All, IfOk, IfSome};
-ghost use Rattle.std.specs.Prelude.{IsTrue, count_by, if◌then◌else◌, length, map, position, replicate, sum_by, vec_capacity};
+ghost use Rattle.std.specs.Prelude.{◌≡◌, ◌<◌, ◌≤◌, ◌+◌, ◌*◌, ◌^◌, All, IfOk, IfSome};
+ghost use Rattle.std.specs.Prelude.{count_by, if◌then◌else◌, length, map, position, replicate, sum_by, vec_capacity};
 ghost use Rattle.std.specs.List.{flat_map};
 ghost use Rattle.sp_rules.specs.Prio.{is_peer};
 ghost use Rattle.sp_rules.specs.PrioPeer.{expired, expired_effects, given, given_effects, goes_to, new_peer};
@@ -36,13 +36,6 @@ pub fn place_of(peers: &[Peer], v: NodeId) -> Option<usize>
     ensures within { IfSome result (λ place. place < length peers.now) }
 {
     peers.iter().position(|peer| peer.is(v))
-}
-
-/// Whether each row's store has an id left for one more.
-pub fn have_ids(peers: &[Peer]) -> bool
-    ensures { IsTrue result ↔ All (λ q. q.store.last < 2 ^ 63) peers.now }
-{
-    peers.iter().all(|peer| peer.has_id())
 }
 
 /// To how many neighbours a message goes.

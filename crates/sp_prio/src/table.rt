@@ -1,10 +1,10 @@
 // The table of the priority part. Every call is judged first, its memory taken next, and changes come last.
-ghost use Rattle.std.specs.Prelude.{◌≡◌, ◌<◌, ◌≤◌, ◌+◌, ◌*◌, ◌^◌, ◌↔◌, All, IfOk, IsTrue, length, map, vec_capacity};
+ghost use Rattle.std.specs.Prelude.{◌≡◌, ◌<◌, ◌≤◌, ◌+◌, ◌*◌, ◌^◌, All, IfOk, length, map, vec_capacity};
 ghost use Rattle.sp_base.specs.declared.limits.TheConstants.{MAX_MESSAGES};
 ghost use Rattle.sp_msg.specs.Bodies.{HasGoodFields};
 ghost use Rattle.sp_msg.specs.Views.{as_body};
 ghost use Rattle.sp_rules.specs.Polls.{as_message};
-ghost use Rattle.sp_rules.specs.Prio.{acked, acked_effects, admit_prio, carried, expired, expired_effects, expiring, heard, is_node, judge};
+ghost use Rattle.sp_rules.specs.Prio.{acked, acked_effects, admit_prio, carried, expired, expired_effects, expiring, heard, is_node};
 ghost use Rattle.sp_rules.specs.Prio.{judge_fields, judge_prio, marked, next_prios, peer_in, places, prio_effects, spread, start, taken};
 ghost use Rattle.sp_rules.specs.Store.{oldest};
 ghost use Rattle.sp_rules.specs.Told.{told};
@@ -13,14 +13,13 @@ ghost use Rattle.sp_prio.specs.Spare.{IsSpareOf};
 ghost use Rattle.sp_rules.specs.declared.store.TheConstants.{IDS};
 
 use crate::field::{dst_of, next_after_own, seq_of, src_of};
-use crate::parcel::copy_of;
 use crate::peer::Peer;
-use crate::rows::{count_to, expire_peers, expiring_in, have_ids, peers_of, place_of, spread};
+use crate::rows::{count_to, expire_peers, expiring_in, peers_of, place_of, spread};
 use crate::windows::{is_node, mark, seen_in, windows_of};
 use crate::{Parcel, Spare, place};
 use sp_base::{Four, Memory, NodeId};
 use sp_dedup::Window;
-use sp_msg::{Body, BodyRef, Effects, Kept, Prio};
+use sp_msg::{Body, BodyRef, Effects, Kept};
 use sp_rules::{Entry, Neighbour, PrioJudged};
 use sp_store::Store;
 use std::alloc::Global;
@@ -74,14 +73,8 @@ impl PrioTable {
         })
     }
 
-    /// What becomes of a message when it comes, before its signature is looked at: the first answer that applies.
-    pub fn judge(&self, body: &Prio, now: u64) -> PrioJudged
-        ensures { result ≡ judge self.now body.now now }
-    {
-        self.judge_fields(body.src, body.dst, body.seq, body.expiry, now)
-    }
-
-    /// The same of a borrowed message. One of another kind has no end that is right.
+    /// What becomes of a message when it comes, before its signature is looked at: the first answer that applies. A message of another kind has no end
+    /// that is right.
     pub fn judge_ref(&self, body: &BodyRef<'_>, now: u64) -> PrioJudged
         ensures { result ≡ judge_prio self.now (as_body body.now) now }
     {
@@ -94,13 +87,6 @@ impl PrioTable {
     }
 
     /// The message with a copy for each place that it goes into, from a neighbour or from this node itself.
-    pub fn parcel(&self, alloc: Global, kept: &Kept, came: Option<NodeId>) -> Result<Parcel, Memory>
-        ensures { IfOk result (λ parcel. parcel ≡ record { kept = kept.now; came = came; copies = places self.now kept.now.body came }) }
-    {
-        self.parcel_of(alloc, copy_of(alloc, kept)?, came)
-    }
-
-    /// The same of a message that is handed over: it takes one copy less.
     pub fn parcel_of(
         &self,
         alloc: Global,
@@ -134,24 +120,6 @@ impl PrioTable {
         ensures few { result ≤ IDS }
     {
         self.peers.len()
-    }
-
-    /// Whether each place has an id left for one more.
-    pub fn has_ids(&self) -> bool
-        ensures { IsTrue result ↔ ((self.now.inbox.last < 2 ^ 63) × All (λ q. q.store.last < 2 ^ 63) self.now.peers) }
-    {
-        self.inbox.last() < 1 << 63 && have_ids(&self.peers)
-    }
-
-    /// Whether a link number to a neighbour is left for each of as many more as may be in flight.
-    #[tactic(auto, using(sp_base::proofs::RowLemmas::placed))]
-    pub fn has_number(&self, v: NodeId) -> bool
-        ensures { IsTrue result ↔ ((peer_in self.now v.0).number + MAX_MESSAGES ≤ 2 ^ 63) }
-    {
-        match place_of(&self.peers, v) {
-            Some(place) => self.peers[place].has_number(),
-            None => true,
-        }
     }
 
     /// Marks a message as seen and puts it into its places, and tells so. One from nowhere is this node's own, and uses up its number.

@@ -1,6 +1,7 @@
 -- Rows of flows: what is read at a flow's place, and what a row put there makes of the flows.
 use Rattle.std.proofs.Common.{◌≡◌, ◌<◌, ℕ, Bool, List, [], ◌∷◌, length, map, get_or, set, Some, None, refl, sym, ap, ◌∙◌, arith, cond, ◌+◌, not}
-use Rattle.std.proofs.lemmas.List.{get_or-map, length-map, map-set}
+use Rattle.std.proofs.lemmas.List.{get_or-map, length-map, length-set, map-set}
+use Rattle.std.proofs.lemmas.List.Folds.{prefix_len-set}
 use Rattle.std.specs.List.{position, prefix_len}
 use Rattle.sp_base.proofs.RowLemmas.{is_first, first_where-read, first_where-no_position, replace_where-position, replace_where-no_position}
 use Rattle.sp_base.specs.declared.id.Flow.{Flow}
@@ -24,13 +25,21 @@ place_within rows flow i at =
     let first = is_first (is_flow flow) (states rows) i (no_flow flow) at in
     omega (arith, first.within, length-map rows (λ row. row.state))
 
+-- where a list changes in an element that passes as the one before it, the first that passes stays in its place
+pub position_set : {X : Type 0} (test : X → Bool) (xs : List X) (i : ℕ) (y d : X) → test y ≡ test (get_or xs i d)
+    → position test (set xs i y) ≡ position test xs
+position_set test xs i y d same = rw (prefix_len-set (λ x. not (test x)) xs i y d (ap not same), length-set xs i y) refl
+
+-- the flow in the place of a row that was read
+pub state_there : (rows : List RowState) (flow : Flow) (i : ℕ) (row : RowState) → position (is_flow flow) (states rows) ≡ Some i
+    → row ≡ get_or rows i row → get_or (states rows) i row.state ≡ row.state
+state_there rows flow i row at is = get_or-map (λ r. r.state) rows i row row.state (place_within rows flow i at) ∙ ap (λ r. r.state) (sym is)
+
 -- the row that is read at the place of a flow is the flow's
 pub read_there : (rows : List RowState) (flow : Flow) (i : ℕ) (row : RowState) → position (is_flow flow) (states rows) ≡ Some i
     → row ≡ get_or rows i row → flow_in (states rows) flow ≡ row.state
 read_there rows flow i row at is =
-    let here : get_or (states rows) i row.state ≡ row.state = get_or-map (λ r. r.state) rows i row row.state (place_within rows flow i at)
-    ∙ ap (λ r. r.state) (sym is) in
-    first_where-read (is_flow flow) (no_flow flow) (states rows) i row.state at (sym here)
+    first_where-read (is_flow flow) (no_flow flow) (states rows) i row.state at (sym (state_there rows flow i row at is))
 
 pub read_none : (rows : List RowState) (flow : Flow) → position (is_flow flow) (states rows) ≡ None → flow_in (states rows) flow ≡ no_flow flow
 read_none rows flow none = first_where-no_position (is_flow flow) (no_flow flow) (states rows) none

@@ -3,3 +3,4 @@ pub mod SeatLemmas
 pub mod SoundLemmas
 pub mod Standing
 pub mod TableLemmas
+pub mod OwnFlows

@@ -1,4 +1,4 @@
--- For the callers of a table: a seat stays good whatever makes flows active after it, and what is new in a slot is new in its own flow.
+-- For the callers of a table: a seat stays good whatever makes flows active after it.
 use Rattle.std.proofs.Common.{◌≡◌, ℕ, ◌==◌, ◌&&◌, Bool, true, false, List, [], ◌∷◌, refl, sym, ap, ◌∙◌, subst, arith, cond, not}
 use Rattle.std.proofs.lemmas.Bool.Decides.{nat_tests}
 use Rattle.sp_base.specs.declared.id.Flow.{Flow}
@@ -13,8 +13,6 @@ use Rattle.sp_rules.specs.declared.rel.AckJudged.TheVariants as acks
 use Rattle.sp_rules.specs.declared.rel.RelJudged.{RelJudged}
 use Rattle.sp_rules.specs.declared.rel.RelJudged.TheVariants as rels
 use Rattle.sp_rel.specs.Seated.{IsSeated}
-
--- ---- a seat stays good
 
 same_row : (k flow : Flow) (x : FlowState) → is_flow k x ≡ true → is_flow flow x ≡ true → (f : FlowState) → ends f ≡ k → is_flow flow f ≡ true
 same_row k flow x at there f is = go (x.src.0 == k.src.0) refl (x.dst.0 == k.dst.0) refl (x.src.0 == flow.src.0) refl (x.dst.0 == flow.dst.0) refl at there
@@ -53,39 +51,3 @@ was_idle (x ∷ flows) k flow f is on off = go (is_flow k x) refl (is_flow flow 
 pub stays_seated : (r : RelState) (k flow : Flow) (f : FlowState) (seat : SeatState) → ends f ≡ k → f.active ≡ true → IsSeated r flow seat
     → IsSeated (with_flow r k f) flow seat
 stays_seated r k flow f seat is on seated off = seated (was_idle r.flows k flow f is on off)
-
--- ---- what is new in a slot is new in its own flow
-
-own_ends : (r : RelState) (flow : Flow) (src dst : NodeId) → are_ends r flow src dst ≡ true → flow ≡ record { src = src; dst = dst }
-own_ends r flow src dst e = go (src.0 == flow.src.0) refl (dst.0 == flow.dst.0) refl (not (src.0 == dst.0)) (is_node r src) (is_node r dst) e
-  where
-    go : (a : Bool) → (src.0 == flow.src.0) ≡ a → (b : Bool) → (dst.0 == flow.dst.0) ≡ b → (c d g : Bool) → (a && b && c && d && g) ≡ true
-        → flow ≡ record { src = src; dst = dst }
-    go true a true b c d g all =
-        let s : flow.src.0 ≡ src.0 = grind (arith, nat_tests) in
-        let t : flow.dst.0 ≡ dst.0 = grind (arith, nat_tests) in
-        ap (λ (n : ℕ). record { src = record { 0 = n }; dst = flow.dst }) s ∙ ap (λ (n : ℕ). record { src = src; dst = record { 0 = n } }) t
-    go true a false b c d g all = absurd (cc)
-    go false a b is_b c d g all = absurd (cc)
-
-ends_of_new : (t : Bool) (b : RelJudged) → cond (not t) rels.BadEnd b ≡ rels.New → t ≡ true
-ends_of_new true b e = refl
-ends_of_new false b e = absurd (cc)
-
-ends_of_new_ack : (t : Bool) (b : AckJudged) → cond (not t) acks.BadEnd b ≡ acks.New → t ≡ true
-ends_of_new_ack true b e = refl
-ends_of_new_ack false b e = absurd (cc)
-
-pub new_in_its_flow : (r : RelState) (flow : Flow) (body : Body) → judge_rel_of r flow body ≡ rels.New → judge_rel_of r (flow_said body) body ≡ rels.New
-new_in_its_flow r flow (bodies.Rel m) new =
-    subst (λ (fl : Flow). judge_rel r fl m.src m.dst m.seq ≡ rels.New) (own_ends r flow m.src m.dst (ends_of_new (are_ends r flow m.src m.dst) _ new)) new
-new_in_its_flow r flow (bodies.Prio m) new = new
-new_in_its_flow r flow (bodies.Ack m) new = new
-new_in_its_flow r flow (bodies.Weight m) new = new
-
-pub new_ack_in_its_flow : (r : RelState) (flow : Flow) (body : Body) → judge_ack_of r flow body ≡ acks.New → judge_ack_of r (flow_said body) body ≡ acks.New
-new_ack_in_its_flow r flow (bodies.Ack a) new =
-    subst (λ (fl : Flow). judge_ack r fl a ≡ acks.New) (own_ends r flow a.src a.dst (ends_of_new_ack (are_ends r flow a.src a.dst) _ new)) new
-new_ack_in_its_flow r flow (bodies.Prio m) new = new
-new_ack_in_its_flow r flow (bodies.Rel m) new = new
-new_ack_in_its_flow r flow (bodies.Weight m) new = new

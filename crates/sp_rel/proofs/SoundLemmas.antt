@@ -10,10 +10,11 @@ use Rattle.sp_rel.specs.Changes.{CanChange, changed}
 use Rattle.sp_rel.specs.Rows.{IsSeated, RowState, with_state}
 use Rattle.sp_rel.specs.Seats.{SeatState}
 use Rattle.sp_rel.specs.declared.change.Change.{Change}
+use Rattle.sp_rel.specs.declared.change.Change.TheVariants as changes
 use Rattle.sp_rules.specs.Flow.{FlowState, after_take, is_flow, no_flow, IsStanding}
 use Rattle.sp_rules.specs.Rel.{flow_in, is_due, put_flow}
 use Rattle.sp_rel.specs.Tables.{AreSound, IsSoundRow, idle_row, states}
-use Rattle.sp_rel.proofs.FlowLemmas.{place_within, put_there, read_there}
+use Rattle.sp_rel.proofs.FlowLemmas.{place_within, position_set, put_there, read_there, state_there}
 use Rattle.sp_rel.proofs.Standing.{standing_changed}
 use Rattle.sp_rules.proofs.Standing.{standing_at_start, standing_taken}
 
@@ -117,6 +118,22 @@ pub flows_changed : (rows : List RowState) (flow : Flow) (i : ℕ) (row new : Ro
     → new ≡ with_state row (changed change row.state) → states (set rows i new) ≡ put_flow (states rows) flow (changed change (flow_in (states rows) flow))
 flows_changed rows flow i row new change at read is =
     sym (put_there rows flow i new at) ∙ ap (put_flow (states rows) flow) (ap (λ r. r.state) is ∙ ap (changed change) (sym read))
+
+-- a change leaves the ends of a flow
+changed_is : (flow : Flow) (change : Change) (f : FlowState) → is_flow flow (changed change f) ≡ is_flow flow f
+changed_is flow (changes.Push message) f = refl
+changed_is flow (changes.Receive payload) f = refl
+changed_is flow (changes.Acknowledge ack) f = refl
+changed_is flow (changes.Conclude ack) f = refl
+
+-- no row moves where one changes
+pub place_changed : (rows : List RowState) (flow : Flow) (i : ℕ) (row new : RowState) (change : Change)
+    → position (is_flow flow) (states rows) ≡ Some i → row ≡ get_or rows i row
+    → new ≡ with_state row (changed change row.state) → position (is_flow flow) (states (set rows i new)) ≡ position (is_flow flow) (states rows)
+place_changed rows flow i row new change at read is =
+    ap (position (is_flow flow)) (map-set (λ r. r.state) rows i new)
+    ∙ position_set (is_flow flow) (states rows) i new.state row.state
+    (ap (λ r. is_flow flow r.state) is ∙ changed_is flow change row.state ∙ ap (is_flow flow) (sym (state_there rows flow i row at read)))
 
 pub sound_taken : (me : NodeId) (bound : ℕ) (rows : List RowState) (active due : List Bool) (flow : Flow) (i : ℕ) (row new : RowState)
     → AreSound me bound rows active due

@@ -1,4 +1,5 @@
 pub mod Seated
+pub mod Places
 -- ---- one flow at one node
 pub mod Changes
 pub mod Rows

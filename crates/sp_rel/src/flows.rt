@@ -1,19 +1,14 @@
-// The flows at a node, a row for each. Beside the rows stand their flags, which the cycles go over.
-ghost use Rattle.std.specs.Prelude.{◌≡◌, ◌==◌, ◌≤◌, ◌<◌, ◌+◌, All, IfOk, IfSome};
-ghost use Rattle.std.specs.Prelude.{IfNone, false, true, length, map, position, replicate, slice_get};
-ghost use Rattle.sp_base.specs.Cursor.{next_after};
+// The flows at a node, a row for each, and where a row stands. Beside the rows stand their flags, which the cycles go over.
+ghost use Rattle.std.specs.Prelude.{◌≡◌, ◌≤◌, All, IfOk, IfSome, IfNone, false, length, map, position, replicate};
 ghost use Rattle.sp_base.specs.declared.limits.TheConstants.{MAX_SEQ};
-ghost use Rattle.sp_rel.specs.Changes.{CanChange, changed};
-ghost use Rattle.sp_rel.specs.Rows.{IsSeated};
-ghost use Rattle.sp_rules.specs.Flow.{IsStanding, after_take, is_flow, no_flow};
-ghost use Rattle.sp_rules.specs.Rel.{flow_at, flow_in, is_due};
-ghost use Rattle.sp_rel.specs.Tables.{idle_row, put_in};
+ghost use Rattle.sp_rules.specs.Flow.{IsStanding, is_flow, no_flow};
+ghost use Rattle.sp_rules.specs.Rel.{flow_in};
+ghost use Rattle.sp_rel.specs.Places.{IsPlace, place_in};
+ghost use Rattle.sp_rel.specs.Tables.{idle_row};
 
-use crate::change::Change;
+use crate::place::Place;
 use crate::row::{FlowRow, Numbers};
-use crate::seat::Seat;
-use sp_base::{Bytes, Cursor, Flow, Memory, NodeId};
-use sp_msg::Kept;
+use sp_base::{Flow, Memory, NodeId};
 use std::alloc::Global;
 use std::marker::Model;
 
@@ -22,11 +17,11 @@ use std::marker::Model;
 pub(crate) struct Flows {
     me: NodeId,
     bound: u16,
-    rows: Vec<FlowRow>,
+    pub(crate) rows: Vec<FlowRow>,
     /// Which of them are active.
-    active: Vec<bool>,
+    pub(crate) active: Vec<bool>,
     /// Which of them end here and owe an acknowledgement.
-    due: Vec<bool>,
+    pub(crate) due: Vec<bool>,
 }
 
 impl Model for Flows {
@@ -67,83 +62,43 @@ impl Flows {
         self.bound
     }
 
-    /// The row of a flow.
-    #[tactic(auto, using(crate::proofs::FlowLemmas::read))]
-    pub fn row(&self, flow: Flow) -> Option<&FlowRow>
-        ensures there { IfSome result (λ row. row.now.state ≡ flow_in self.now.flows flow) }
-        ensures none { IfNone result (flow_in self.now.flows flow ≡ no_flow flow) }
+    /// Where the row of a flow stands.
+    pub fn place(&self, flow: Flow) -> Place
+        ensures { result ≡ place_in self.now.flows flow }
     {
-        match self.place(flow) {
-            Some(place) => Some(&self.rows[place]),
+        Place {
+            flow,
+            at: seek(self.rows.as_slice(), flow),
+        }
+    }
+
+    /// The row in this place.
+    #[tactic(auto, using(crate::proofs::FlowLemmas::read))]
+    pub fn row(&self, place: Place) -> Option<&FlowRow>
+        requires place { IsPlace self.now.flows place }
+        ensures there { IfSome result (λ row. row.now.state ≡ flow_in self.now.flows place.flow) }
+        ensures none { IfNone result (flow_in self.now.flows place.flow ≡ no_flow place.flow) }
+    {
+        match place.at {
+            Some(at) => Some(&self.rows[at]),
             None => None,
         }
     }
 
-    /// Where a flow stands.
-    pub fn numbers(&self, flow: Flow) -> Numbers
-        ensures active { result.active ≡ (flow_in self.now.flows flow).active }
-        ensures base { result.base ≡ (flow_in self.now.flows flow).at.base }
-        ensures have { result.have ≡ (flow_in self.now.flows flow).at.have }
-        ensures waiting { result.waiting ≡ length (flow_in self.now.flows flow).inbox }
+    /// Where the flow of this place stands.
+    pub fn numbers(&self, place: Place) -> Numbers
+        requires place { IsPlace self.now.flows place }
+        ensures active { result.active ≡ (flow_in self.now.flows place.flow).active }
+        ensures base { result.base ≡ (flow_in self.now.flows place.flow).at.base }
+        ensures have { result.have ≡ (flow_in self.now.flows place.flow).at.have }
+        ensures waiting { result.waiting ≡ length (flow_in self.now.flows place.flow).inbox }
         ensures sound { result.base ≤ result.have }
         ensures small { result.have ≤ MAX_SEQ }
     {
         self.recall();
-        match self.row(flow) {
+        match self.row(place) {
             Some(row) => row.numbers(),
-            None => FlowRow::new(self.me, self.bound, flow).numbers(),
-        }
-    }
-
-    /// The flow that has its row in this place.
-    pub fn flow_at(&self, place: usize) -> Option<Flow>
-        ensures { result ≡ flow_at self.now.flows place }
-    {
-        match self.rows.get(place) {
-            Some(row) => Some(row.flow()),
-            None => None,
-        }
-    }
-
-    /// The place of the active flow whose turn it is.
-    pub fn next(&self, cursor: Cursor) -> Option<usize>
-        ensures { result ≡ next_after cursor (map (λ f. f.active) self.now.flows) }
-    {
-        cursor.next(self.active.as_slice())
-    }
-
-    /// The place of the flow whose acknowledgement is due, and whose turn it is.
-    pub fn next_due(&self, cursor: Cursor) -> Option<usize>
-        ensures { result ≡ next_after cursor (map (is_due self.now.me) self.now.flows) }
-    {
-        cursor.next(self.due.as_slice())
-    }
-
-    /// What happened to a flow. Where it wasn't active, it is from now on, with the memory of the seat.
-    pub fn change(&mut self, flow: Flow, change: Change, seat: Seat)
-        requires can { CanChange self.old.me self.old.bound (flow_in self.old.flows flow) change }
-        requires seat { IsSeated self.old.me self.old.bound (flow_in self.old.flows flow) seat }
-        ensures { self.new ≡ put_in self.old flow (changed change (flow_in self.old.flows flow)) }
-    {
-        if let Some(place) = self.place(flow) {
-            let row = &mut self.rows[place];
-            row.change(change, seat);
-            self.active[place] = row.is_active();
-            self.due[place] = row.is_due();
-        }
-    }
-
-    /// The oldest message of a flow's inbox, which leaves it.
-    pub fn take(&mut self, flow: Flow) -> Option<Bytes>
-        ensures taken { result ≡ slice_get (flow_in self.old.flows flow).inbox 0 }
-        ensures rest { self.new ≡ put_in self.old flow (after_take (flow_in self.old.flows flow)) }
-    {
-        match self.place(flow) {
-            Some(place) => {
-                let row = &mut self.rows[place];
-                row.take()
-            }
-            None => None,
+            None => FlowRow::new(self.me, self.bound, place.flow).numbers(),
         }
     }
 
@@ -153,16 +108,10 @@ impl Flows {
     {
         let _rows = &self.rows;
     }
-
-    fn place(&self, flow: Flow) -> Option<usize>
-        ensures { result ≡ position (is_flow flow) self.now.flows }
-    {
-        place_in(self.rows.as_slice(), flow)
-    }
 }
 
 /// The first row of a flow.
-fn place_in(rows: &[FlowRow], flow: Flow) -> Option<usize>
+fn seek(rows: &[FlowRow], flow: Flow) -> Option<usize>
     ensures { result ≡ position (λ row. is_flow flow row.state) rows.now }
 {
     rows.iter().position(|row| row.is_of(flow))

@@ -2,16 +2,22 @@
 //! to end by its destination.
 #![tactic(auto)]
 
+mod acks;
 mod change;
+mod changes;
+mod cycles;
 mod flows;
 mod held;
+mod messages;
 mod pairs;
 mod peers;
+mod place;
 mod row;
 mod seat;
 mod table;
 mod view;
 
+pub use place::Place;
 pub use row::ROW_BYTES;
 pub use seat::Seat;
 pub use sp_rules::{AckJudged, RelJudged, RelRefused};

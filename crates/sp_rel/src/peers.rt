@@ -1,6 +1,6 @@
 // What a node keeps of its neighbours: the flow that went to each last, and what each reported. Rows are only ever replaced.
-ghost use Rattle.std.specs.Prelude.{◌≡◌, IfOk, IfSome, IfNone, Some, [], map, position};
-ghost use Rattle.sp_rules.specs.Rel.{is_peer, is_view, new_peer, no_view, peer_in, put_peer, put_view, told, view_in};
+ghost use Rattle.std.specs.Prelude.{◌≡◌, IfOk, Some, map, position};
+ghost use Rattle.sp_rules.specs.Rel.{is_peer, is_view, new_peer, no_view, peer_in, put_peer, told, view_in};
 
 use crate::view::View;
 use sp_base::{Cursor, Flow, Memory, NodeId};

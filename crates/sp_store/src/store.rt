@@ -1,7 +1,7 @@
 // A store: its entries in order of arrival, and how many each source has. All memory is taken at the start.
 ghost use Rattle.std.specs.Prelude.{◌≡◌, ◌+◌, ◌<◌, ◌≤◌, ◌^◌, IfOk, filter, find, length, slice_get};
 ghost use Rattle.std.specs.Option.{option_copied};
-ghost use Rattle.sp_rules.specs.Store.{count_of, empty_store, entry_in, expired_entries, expired_entry, is_expired, less_expired_entry};
+ghost use Rattle.sp_rules.specs.Store.{empty_store, entry_in, expired_entries, expired_entry, is_expired, less_expired_entry};
 ghost use Rattle.sp_rules.specs.Store.{less_oldest, next_besides, oldest, put, put_answer, removed, victim, without};
 ghost use Rattle.sp_store.specs.Places.{live};
 ghost use Rattle.sp_store.specs.Sound.{IsCounted};
@@ -9,7 +9,7 @@ ghost use Rattle.sp_store.specs.Sound.{IsCounted};
 use crate::places::Places;
 use crate::said::expiry;
 use crate::{choice, counted};
-use sp_base::{Cursor, Four, Memory, NodeId};
+use sp_base::{Cursor, Four, Memory};
 use sp_msg::Kept;
 use sp_rules::{Entry, IDS, Put};
 use std::alloc::Global;
@@ -109,20 +109,6 @@ impl Store {
     {
         let _capacity = self.places.capacity();
         expired_count(self.places.slots(), now)
-    }
-
-    /// The entry in this place from the oldest on, counted from 0. None exactly where there are no more than so many.
-    pub fn at(&self, place: usize) -> Option<&Entry>
-        ensures { option_copied result ≡ slice_get self.now.entries place }
-    {
-        nth(self.places.slots(), place)
-    }
-
-    /// How many entries a source has.
-    pub fn count(&self, src: NodeId) -> usize
-        ensures { result ≡ count_of self.now.entries src.0 }
-    {
-        self.counts[src.0 as usize] as usize
     }
 
     /// How many entries there are.

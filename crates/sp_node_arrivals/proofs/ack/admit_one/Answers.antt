@@ -14,8 +14,8 @@ returns-clause-stays c =
     let o = as_object c.args.object.now in
     let p = c.args.parts.now in
     let keys = c.args.at.now.fixed.now.topology.nodes in
-    let is : ack_handled (ack_answer (is_some c.args.ready) (judge_ack_of p.rel c.args.flow o.body)) o p ≡ ack_handled c.take-answer.result o p =
+    let is : ack_handled (ack_answer (is_some c.args.ready) (judge_ack_of p.rel c.args.row.flow o.body)) o p ≡ ack_handled c.take-answer.result o p =
     ap (λ (a : AckAnswer). ack_handled a o p) (sym c.take-answer.ensures.answer) in
     let left = ap (λ h. h.parts.rel) is ∙ ap (λ (q : Parts). q.rel) (sym c.take-answer.ensures.parts) in
-    subst (λ (r : RelState). StaysReady (is_some c.args.ready) keys c.args.flow p.rel r) left
-    (stays_ready (is_some c.args.ready) keys c.args.flow (judge_ack_of p.rel c.args.flow o.body) o p)
+    subst (λ (r : RelState). StaysReady (is_some c.args.ready) keys c.args.row.flow p.rel r) left
+    (stays_ready (is_some c.args.ready) keys c.args.row.flow (judge_ack_of p.rel c.args.row.flow o.body) o p)

@@ -4,7 +4,7 @@ use Rattle.sp_rel.proofs.flows.Flows.numbers.Goals as goal
 
 pub returns-in-Some-clause-sound : goal.returns-in-Some-clause-sound
 returns-in-Some-clause-sound c =
-    let there = standing_in c.args.self.now.me c.args.self.now.bound c.args.self.now.flows c.args.flow c.recall.ensures in
+    let there = standing_in c.args.self.now.me c.args.self.now.bound c.args.self.now.flows c.args.place.flow c.recall.ensures in
     omega (
       arith,
       there.sound,
@@ -17,5 +17,5 @@ returns-in-Some-clause-sound c =
 
 pub returns-in-Some-clause-small : goal.returns-in-Some-clause-small
 returns-in-Some-clause-small c =
-    let there = standing_in c.args.self.now.me c.args.self.now.bound c.args.self.now.flows c.args.flow c.recall.ensures in
+    let there = standing_in c.args.self.now.me c.args.self.now.bound c.args.self.now.flows c.args.place.flow c.recall.ensures in
     omega (arith, there.numbers, c.numbers.ensures.have, ap (λ g. g.at.have) c.in-Some.ensures.there)

@@ -6,52 +6,54 @@ use Rattle.sp_rel.specs.Rows.{IsSeated}
 use Rattle.sp_rules.specs.Flow.{flow_said}
 use Rattle.sp_rules.specs.Rel.{RelState, flow_in, is_to}
 use Rattle.sp_rules.proofs.FlowJudged.{can_push, can_receive}
+use Rattle.sp_rel.proofs.OwnFlows.{rel_again, rel_flow}
 use Rattle.sp_rel.proofs.TableLemmas.{seat_fits}
 use Rattle.sp_rel.proofs.table.RelTable.admit_rel.Goals as goal
 
 pub change-requires-clause-can : goal.change-requires-clause-can
 change-requires-clause-can c =
-    let here : is_to c.args.self.now (flow_said c.args.message.body) ≡ true =
+    let r = c.args.self.now in
+    let flow = c.args.place.flow in
+    let body = c.args.message.body in
+    let own = rel_flow r flow body c.requires.new in
+    let here : is_to r (flow_said body) ≡ true =
     grind (
       arith,
       nat_tests,
-      c.if-me-flow.true,
+      c.if-me-place.true,
       ap (λ u. u.0) c.me.ensures,
-      ap (λ (flow : Flow). flow.dst.0) c.flow_said-flow.ensures,
-      ap (λ
-          (r : RelState). r.me.0) c.self.view_is,
+      ap (λ (f : Flow). f.dst.0) own,
+      ap (λ (s : RelState). s.me.0) c.self.view_is,
     ) in
-    subst (λ (flow : Flow). CanReceive c.self.inside.flows.me c.self.inside.flows.bound (flow_in c.self.inside.flows.flows flow)) (sym c.flow_said-flow.ensures)
-    (subst (λ (r : RelState). CanReceive r.me r.bound (flow_in r.flows (flow_said c.args.message.body))) (sym c.self.view_is)
-    (can_receive c.args.self.now c.args.message.body c.requires.new c.requires.fields here))
+    subst (λ (f : Flow). CanReceive c.self.inside.flows.me c.self.inside.flows.bound (flow_in c.self.inside.flows.flows f)) (sym own)
+    (subst (λ (s : RelState). CanReceive s.me s.bound (flow_in s.flows (flow_said body))) (sym c.self.view_is)
+    (can_receive r body (rel_again r flow body c.requires.new) c.requires.fields here))
 
 pub change-requires-clause-seat : goal.change-requires-clause-seat
 change-requires-clause-seat c =
-    subst (λ (flow : Flow). IsSeated c.self.inside.flows.me c.self.inside.flows.bound (flow_in c.self.inside.flows.flows flow) c.args.seat)
-    (sym c.flow_said-flow.ensures)
-    (subst (λ (r : RelState). IsSeated r.me r.bound (flow_in r.flows (flow_said c.args.message.body)) c.args.seat) (sym c.self.view_is)
-    (seat_fits c.args.self.now (flow_said c.args.message.body) c.args.seat c.requires.seat))
+    subst (λ (r : RelState). IsSeated r.me r.bound (flow_in r.flows c.args.place.flow) c.args.seat) (sym c.self.view_is)
+    (seat_fits c.args.self.now c.args.place.flow c.args.seat c.requires.seat)
 
-pub change-requires-else-me-flow-clause-can : goal.change-requires-else-me-flow-clause-can
-change-requires-else-me-flow-clause-can c =
-    let elsewhere : is_to c.args.self.now (flow_said c.args.message.body) ≡ false =
+pub change-requires-else-me-place-clause-can : goal.change-requires-else-me-place-clause-can
+change-requires-else-me-place-clause-can c =
+    let r = c.args.self.now in
+    let flow = c.args.place.flow in
+    let body = c.args.message.body in
+    let own = rel_flow r flow body c.requires.new in
+    let elsewhere : is_to r (flow_said body) ≡ false =
     grind (
       arith,
       nat_tests,
-      c.if-me-flow.false,
+      c.if-me-place.false,
       ap (λ u. u.0) c.me.ensures,
-      ap (λ (flow : Flow). flow.dst.0) c.flow_said-flow.ensures,
-      ap (λ
-          (r : RelState). r.me.0) c.self.view_is,
+      ap (λ (f : Flow). f.dst.0) own,
+      ap (λ (s : RelState). s.me.0) c.self.view_is,
     ) in
-    subst (λ (flow : Flow). CanPush c.self.inside.flows.me c.self.inside.flows.bound (flow_in c.self.inside.flows.flows flow) c.args.message)
-    (sym c.flow_said-flow.ensures)
-    (subst (λ (r : RelState). CanPush r.me r.bound (flow_in r.flows (flow_said c.args.message.body)) c.args.message) (sym c.self.view_is)
-    (can_push c.args.self.now c.args.message c.requires.new c.requires.fields elsewhere))
+    subst (λ (f : Flow). CanPush c.self.inside.flows.me c.self.inside.flows.bound (flow_in c.self.inside.flows.flows f) c.args.message) (sym own)
+    (subst (λ (s : RelState). CanPush s.me s.bound (flow_in s.flows (flow_said body)) c.args.message) (sym c.self.view_is)
+    (can_push r c.args.message (rel_again r flow body c.requires.new) c.requires.fields elsewhere))
 
-pub change-requires-else-me-flow-clause-seat : goal.change-requires-else-me-flow-clause-seat
-change-requires-else-me-flow-clause-seat c =
-    subst (λ (flow : Flow). IsSeated c.self.inside.flows.me c.self.inside.flows.bound (flow_in c.self.inside.flows.flows flow) c.args.seat)
-    (sym c.flow_said-flow.ensures)
-    (subst (λ (r : RelState). IsSeated r.me r.bound (flow_in r.flows (flow_said c.args.message.body)) c.args.seat) (sym c.self.view_is)
-    (seat_fits c.args.self.now (flow_said c.args.message.body) c.args.seat c.requires.seat))
+pub change-requires-else-me-place-clause-seat : goal.change-requires-else-me-place-clause-seat
+change-requires-else-me-place-clause-seat c =
+    subst (λ (r : RelState). IsSeated r.me r.bound (flow_in r.flows c.args.place.flow) c.args.seat) (sym c.self.view_is)
+    (seat_fits c.args.self.now c.args.place.flow c.args.seat c.requires.seat)
