@@ -1,5 +1,6 @@
 // The messages base + 1 to have of a flow, in order, whatever a message is. All memory is taken at the start.
-ghost use Rattle.std.specs.Prelude.{◌≡◌, ◌==◌, ◌+◌, ◌-◌, ◌^◌, ◌<◌, ◌≤◌, ◌↔◌, List, IfOk, OnOk, OnErr, IfErr, IsErr, drop, length, map, take};
+ghost use Rattle.std.specs.Prelude.{◌≡◌, ◌==◌, ◌+◌, ◌-◌, ◌^◌, ◌<◌, ◌≤◌};
+ghost use Rattle.std.specs.Prelude.{◌↔◌, List, IfOk, OnOk, OnErr, IfErr, IsErr, drop, length, map, take};
 ghost use Rattle.sp_base.specs.Position.{IsPosition, kept, acknowledged, empty_buffer};
 ghost use Rattle.sp_base.specs.declared.limits.TheConstants.{MAX_MESSAGES};
 

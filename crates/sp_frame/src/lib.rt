@@ -19,5 +19,5 @@ pub use kind::Kind;
 pub use laws::{a_frame_is_its_head_its_sections_and_its_tag, sections_have_one_spelling};
 pub use object::ObjectRef;
 pub use refused::{FrameRefused, SectionRefused};
-pub use sections::{Sections, Slot};
+pub use sections::{MOST_OBJECTS, Sections, Slot};
 pub use writing::{OutSlot, write};

@@ -15,6 +15,9 @@ use crate::kind::Kind;
 use crate::{ObjectRef, SectionRefused};
 use sp_base::{Flow, Four, MAX_MESSAGES, NodeId, Reader};
 
+/// How many signed objects a frame has at most: an update of a weight, its priority messages, and an acknowledgement with reliable messages.
+pub const MOST_OBJECTS: usize = 1 + MAX_MESSAGES + (1 + MAX_MESSAGES);
+
 /// The sections of a frame, borrowed from its datagram.
 #[derive(Debug, Drop)]
 pub struct Sections<'a> {

@@ -12,7 +12,7 @@ ghost use Rattle.sp_node.specs.Arrived.{pieces_with};
 ghost use Rattle.sp_node.specs.Calls.{Datagrams};
 ghost use Rattle.sp_node.specs.Life.{datagram_checks, datagram_tags};
 ghost use Rattle.sp_node_arrivals.specs.Work.{frame_checks};
-ghost use Rattle.sp_node_arrivals.specs.declared.answers.TheConstants.{MOST_OBJECTS};
+ghost use Rattle.sp_frame.specs.declared.sections.TheConstants.{MOST_OBJECTS};
 ghost use Rattle.sp_node_state.specs.ReadyStates.{IsAnswered};
 ghost use Rattle.sp_rules.specs.Arrivals.{arrival_at, link_after, no_frame, not_fresh, not_read, or_fresh, pieces_in, pieces_where, reply_at, sections_in};
 ghost use Rattle.sp_rules.specs.Handle.{handle_all};
@@ -77,7 +77,8 @@ fn passed<'a>(
     requires { IsAnswered state.now from place }
     ensures reply { result.reply ≡ reply_at format state.entry.now from bytes.now }
     ensures link { result.link ≡ link_after format state.entry.now from bytes.now }
-    ensures pieces { pieces_with result.sections ≡ pieces_where (reply_at format state.entry.now from bytes.now) (pieces_in (sections_in format state.entry.now.fixed bytes.now)) }
+    ensures pieces { pieces_with result.sections
+        ≡ pieces_where (reply_at format state.entry.now from bytes.now) (pieces_in (sections_in format state.entry.now.fixed bytes.now)) }
     ensures work { tags.new ≤ tags.old + datagram_tags state.entry.now from bytes.now }
 {
     let mut link = state.link_at(place, from);
@@ -121,7 +122,8 @@ fn admit_sections(
 ) -> Result<Arrived, Memory>
     requires kept { IsKept format state.old }
     requires keys { checker.old.nodes ≡ state.old.fixed.topology.nodes }
-    ensures taken { IfOk result (λ a. IsAdmitted (handle_all format (arrival_at state.old from) state.old.parts (pieces_with sections.now)) state.new.parts a.items a.effects.list) }
+    ensures taken { IfOk result (λ a. IsAdmitted (handle_all format (arrival_at state.old from) state.old.parts (pieces_with sections.now))
+        state.new.parts a.items a.effects.list) }
     ensures others { IfOk result (λ _. state.new ≡ record state.old { parts = state.new.parts }) }
     ensures as_before { OnErr result (state.new ≡ state.old) }
     ensures keys { checker.new.nodes ≡ checker.old.nodes }
@@ -184,7 +186,8 @@ fn after_link<'a>(
     answer: LinkAnswer,
     frame: &Frame<'a>,
 ) -> (LinkReply, Option<Sections<'a>>)
-    ensures reply { result.0 ≡ or_fresh (or_else (not_fresh answer) (not_read fixed.now.topology.version (head_of frame.now).topology (sections_in format fixed.now frame.now))) }
+    ensures reply { result.0 ≡ or_fresh (or_else (not_fresh answer)
+        (not_read fixed.now.topology.version (head_of frame.now).topology (sections_in format fixed.now frame.now))) }
     ensures pieces { pieces_with result.1 ≡ pieces_where result.0 (pieces_in (sections_in format fixed.now frame.now)) }
 {
     match answer {

@@ -11,7 +11,7 @@ ghost use Rattle.sp_rules.specs.Sends.{PrioSend, prio_refusal, rel_refusal, weig
 ghost use Rattle.sp_rules.specs.Steps.{SendPrio, SendRel, SetWeight};
 ghost use Rattle.sp_rules.specs.Ticks.{time_after};
 ghost use Rattle.sp_node_state.specs.Boots.{IsBootable, booted_of};
-ghost use Rattle.sp_node_arrivals.specs.declared.answers.TheConstants.{MOST_OBJECTS};
+ghost use Rattle.sp_frame.specs.declared.sections.TheConstants.{MOST_OBJECTS};
 ghost use Rattle.sp_node.specs.Calls.{Datagrams, Polls, TakesPrio, TakesRel, Ticks};
 ghost use Rattle.sp_node.specs.Life.{IsIdle, datagram_checks, datagram_tags};
 ghost use Rattle.sp_node_state.specs.Sends.{Sends};
@@ -174,7 +174,8 @@ impl Node {
         requires prio { (1 ≤ prio) × (prio ≤ MAX_PRIORITY) }
         requires few { paths ≤ MAX_PATHS }
         requires short { length payload.now ≤ MAX_PAYLOAD_BYTES }
-        ensures step { let m : PrioSend = record { dst = dst; prio = prio; expiry = expiry; paths = paths; payload = payload.now } in Sends (SendPrio m) (prio_refusal self.old.state m) self.old.state result self.new.state }
+        ensures step { let m : PrioSend = record { dst = dst; prio = prio; expiry = expiry; paths = paths; payload = payload.now } in
+            Sends (SendPrio m) (prio_refusal self.old.state m) self.old.state result self.new.state }
         ensures work { IsIdle self.old self.new }
     {
         self.state.recall();

@@ -32,8 +32,8 @@ use Rattle.sp_rules.specs.Window.{is_seen, with_mark}
 use Rattle.sp_rules.specs.declared.answers.PrioAnswer.{PrioAnswer}
 use Rattle.sp_rules.specs.declared.answers.PrioAnswer.TheVariants as answers
 use Rattle.sp_rules.specs.declared.prio.PrioJudged.TheVariants as prios
-use Rattle.sp_node_arrivals.specs.Ready.{ArePriosReady, IsPrioReady}
-use Rattle.sp_node_arrivals.specs.Rooms.{HasIds, HasRoom, prio_room}
+use Rattle.sp_node_arrivals.specs.Prio.{ArePriosReady, IsPrioReady}
+use Rattle.sp_node_arrivals.specs.Prio.{HasIds, HasRoom, prio_room}
 
 -- ---- a row is replaced by what becomes of it
 

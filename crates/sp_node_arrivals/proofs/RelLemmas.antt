@@ -28,7 +28,7 @@ use Rattle.sp_rules.specs.declared.rel.AckJudged.TheVariants as acks
 use Rattle.sp_rules.specs.declared.rel.RelJudged.{RelJudged}
 use Rattle.sp_rules.specs.declared.rel.RelJudged.TheVariants as rels
 use Rattle.sp_topology.specs.declared.topology.NodeKey.{NodeKey}
-use Rattle.sp_node_arrivals.specs.Ready.{AreRelsReady, IsAckReady, IsRelReady, StaysReady, may_be_new}
+use Rattle.sp_node_arrivals.specs.Rel.{AreRelsReady, IsRelReady, StaysReady, may_be_new}
 
 -- ---- a report
 
@@ -39,11 +39,6 @@ reported_either P r v flow base have moved same = go (flow_in r.flows flow).acti
     go : (t : Bool) → P (cond t (with_peer r v (told (peer_in r.peers v) flow base have)) r)
     go true = moved
     go false = same
-
-pub ack_reported : (keys : List NodeKey) (r : RelState) (v : NodeId) (of : Flow) (base have : ℕ) (flow : Flow) (o : Kept)
-    (ready : Option (Kept × SeatState)) → IsAckReady keys r flow o ready → IsAckReady keys (reported r v of base have) flow o ready
-ack_reported keys r v of base have flow o ready is =
-    reported_either (λ s. IsAckReady keys s flow o ready) r v of base have (record { copy = is.copy; seat = is.seat; right = is.right }) is
 
 pub rel_reported : (acked : Bool) (keys : List NodeKey) (r : RelState) (v : NodeId) (of : Flow) (base have : ℕ) (flow : Flow) (o : Kept)
     (ready : Option (Kept × List ℕ × SeatState)) → IsRelReady acked keys r flow o ready → IsRelReady acked keys (reported r v of base have) flow o ready

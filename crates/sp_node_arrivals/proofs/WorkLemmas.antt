@@ -15,7 +15,13 @@ use Rattle.sp_rules.specs.Pieces.{AckPiece, Piece, PrioAckPiece, RelPiece, Weigh
 use Rattle.sp_rules.specs.Prio.{PrioState}
 use Rattle.sp_rules.specs.Rel.{RelState}
 use Rattle.sp_topology.specs.declared.topology.NodeKey.{NodeKey}
-use Rattle.sp_node_arrivals.specs.Work.{ack_checks, acked_by, checks_for, frame_checks, is_followed, of_some, prio_checks, prios_checks, rel_checks, rels_checks, section_checks, slot_checks, weight_checks}
+use Rattle.sp_node_arrivals.specs.Ack.{ack_checks, acked_by}
+use Rattle.sp_node_arrivals.specs.Prio.{prio_checks, prios_checks}
+use Rattle.sp_node_arrivals.specs.Rel.{is_followed, rel_checks, rels_checks}
+use Rattle.sp_node_arrivals.specs.Signed.{of_some}
+use Rattle.sp_node_arrivals.specs.Slot.{slot_checks}
+use Rattle.sp_node_arrivals.specs.Weight.{weight_checks}
+use Rattle.sp_node_arrivals.specs.Work.{checks_for, frame_checks, section_checks}
 
 rels_are : (at : Arrival) (p : Parts) (flow : Flow) (moved : Bool) (os : List Kept)
     → rels_checks moved at.fixed.topology.nodes p.rel flow os ≡ checks_for at p moved (map (RelPiece flow) os)

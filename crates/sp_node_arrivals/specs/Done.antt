@@ -6,8 +6,8 @@ use Rattle.sp_rules.specs.Handle.{Handled}
 use Rattle.sp_rules.specs.Parts.{Parts}
 use Rattle.sp_rules.specs.Told.{told}
 use Rattle.sp_rules.specs.declared.answers.Item.{Item}
-use Rattle.sp_node_arrivals.specs.declared.answers.Answers.{Answers}
-use Rattle.sp_node_arrivals.specs.declared.answers.SlotAnswers.{SlotAnswers}
+use Rattle.sp_node_arrivals.specs.Slot.{slot_items}
+use Rattle.sp_node_arrivals.specs.declared.arriving.Answers.{Answers}
 
 -- it left these parts and gave these answers, and told what was caused after what was told before
 pub record IsDone (done : Handled) (left : Parts) (answers : List Item) (before after : Caused) : Type 0 where
@@ -16,8 +16,5 @@ pub record IsDone (done : Handled) (left : Parts) (answers : List Item) (before 
   pub effects : after ≡ told before done.effects
 
 -- the answers in their order
-abbrev pub slot_items : SlotAnswers → List Item
-slot_items a = as_list a.ack ++ a.rels
-
 abbrev pub items_of : Answers → List Item
 items_of a = as_list a.weight ++ (a.prios ++ slot_items a.slot)

@@ -1,25 +1,27 @@
-// A fresh frame arrives: all memory first, then its objects one after another.
+// A fresh frame arrives: all memory and all signatures first, then its objects one after another, kind after kind.
 ghost use Rattle.std.specs.Prelude.{◌≡◌, ◌≤◌, ◌<◌, ◌+◌, ◌-◌, [], ◌++◌, IfOk, OnErr, drop, length, vec_capacity};
 ghost use Rattle.sp_base.specs.declared.limits.TheConstants.{MAX_MESSAGES};
 ghost use Rattle.sp_frame.specs.Views.{as_contents, as_list};
+ghost use Rattle.sp_frame.specs.declared.sections.TheConstants.{MOST_OBJECTS};
 ghost use Rattle.sp_rules.specs.Handle.{handle_all};
 ghost use Rattle.sp_rules.specs.Pieces.{pieces_of};
-ghost use Rattle.sp_node_arrivals.specs.Done.{items_of};
-ghost use Rattle.sp_node_format.specs.Format.{format};
 ghost use Rattle.sp_node_arrivals.specs.Admitted.{IsAdmitted};
 ghost use Rattle.sp_node_arrivals.specs.Arrival.{as_arrival};
+ghost use Rattle.sp_node_arrivals.specs.Done.{IsDone, items_of};
+ghost use Rattle.sp_node_arrivals.specs.Prio.{HasIds};
 ghost use Rattle.sp_node_arrivals.specs.Ready.{IsReady};
-ghost use Rattle.sp_node_arrivals.specs.Rooms.{HasIds, frame_room};
-ghost use Rattle.sp_node_arrivals.specs.Work.{frame_checks};
-ghost use Rattle.sp_node_arrivals.specs.declared.answers.TheConstants.{MOST_OBJECTS};
+ghost use Rattle.sp_node_arrivals.specs.Rooms.{frame_room};
+ghost use Rattle.sp_node_arrivals.specs.Work.{frame_checks, section_checks};
+ghost use Rattle.sp_node_format.specs.Format.{format};
 
-use crate::admitting::admit;
-use crate::answers::{Answers, MOST_OBJECTS};
-use crate::{Arrival, Ready, make_ready};
+use crate::arrival::Arrival;
+use crate::slot::{SlotAnswers, SlotReady};
+use crate::{prio, slot, weight};
 use sp_base::{Four, Listed, MAX_MESSAGES, Memory, NodeId, push_in_room};
-use sp_frame::Sections;
-use sp_msg::Effects;
-use sp_node_parts::{Parts, Fixed};
+use sp_frame::{MOST_OBJECTS, Sections};
+use sp_msg::{Effects, Kept};
+use sp_node_parts::{Fixed, Parts};
+use sp_prio::Parcel;
 use sp_rules::Item;
 use sp_sign::Checker;
 use std::alloc::Global;
@@ -39,21 +41,21 @@ pub struct Arrived {
 pub fn arrive(
     alloc: Global,
     fixed: &Fixed,
-    core: &mut Parts,
+    parts: &mut Parts,
     checker: &mut Checker,
     now: u64,
     from: NodeId,
     sections: &Sections<'_>,
 ) -> Result<Arrived, Memory>
     requires keys { checker.old.nodes ≡ fixed.now.topology.nodes }
-    requires ids { HasIds MAX_MESSAGES core.old.prio }
+    requires ids { HasIds MAX_MESSAGES parts.old.prio }
     ensures taken { IfOk result (λ a. IsAdmitted
-        (handle_all format (record { fixed = fixed.now; now = now; from = from }) core.old (pieces_of (as_contents sections.now)))
-        core.new a.items a.effects.list) }
-    ensures as_before { OnErr result (core.new ≡ core.old) }
+        (handle_all format (record { fixed = fixed.now; now = now; from = from }) parts.old (pieces_of (as_contents sections.now)))
+        parts.new a.items a.effects.list) }
+    ensures as_before { OnErr result (parts.new ≡ parts.old) }
     ensures keys { checker.new.nodes ≡ checker.old.nodes }
     ensures work { checker.new.checks ≤ checker.old.checks
-        + frame_checks (record { fixed = fixed.now; now = now; from = from }) core.old (pieces_of (as_contents sections.now)) }
+        + frame_checks (record { fixed = fixed.now; now = now; from = from }) parts.old (pieces_of (as_contents sections.now)) }
     ensures few { checker.new.checks ≤ checker.old.checks + MOST_OBJECTS }
 {
     let at = Arrival {
@@ -61,9 +63,49 @@ pub fn arrive(
         time: now,
         from,
     };
-    let room = room_for(alloc, core)?;
-    let ready = make_ready(alloc, &at, core, checker, sections)?;
-    Ok(taken(&at, core, sections, ready, room))
+    let room = room_for(alloc, parts)?;
+    let ready = make_ready(alloc, &at, parts, checker, sections)?;
+    Ok(taken(&at, parts, sections, ready, room))
+}
+
+// ---- what is made ready before anything changes
+
+/// What is ready of the objects of a frame.
+#[derive(Drop)]
+pub(crate) struct Ready {
+    pub weight: Option<Kept>,
+    pub prios: Four<Option<Parcel>>,
+    pub slot: SlotReady,
+}
+
+/// Makes the objects of a frame ready, kind after kind. It is refused for want of memory alone. A signature is checked once for each object that
+/// may be new when its turn comes, and for no other.
+fn make_ready(
+    alloc: Global,
+    at: &Arrival<'_>,
+    parts: &Parts,
+    checker: &mut Checker,
+    sections: &Sections<'_>,
+) -> Result<Ready, Memory>
+    requires keys { checker.old.nodes ≡ at.now.fixed.now.topology.nodes }
+    ensures ready { IfOk result (IsReady (as_arrival at.now) parts.now sections.now) }
+    ensures keys { checker.new.nodes ≡ checker.old.nodes }
+    ensures work { checker.new.checks ≤ checker.old.checks + section_checks (as_arrival at.now) parts.now sections.now }
+    ensures few { checker.new.checks ≤ checker.old.checks + MOST_OBJECTS }
+{
+    let weight = weight::ready(alloc, at, parts, checker, &sections.weight)?;
+    let prios = prio::ready_from(alloc, at, parts, checker, &sections.prios, 0)?;
+    match slot::ready(alloc, at, parts, checker, &sections.slot) {
+        Ok(slot) => Ok(Ready {
+            weight,
+            prios,
+            slot,
+        }),
+        Err(memory) => {
+            prio::leave(prios);
+            Err(memory)
+        }
+    }
 }
 
 /// The memory for what a frame gives.
@@ -74,50 +116,91 @@ struct Room {
 }
 
 /// No effects and no answers yet, with room for all that a frame can give.
-fn room_for(alloc: Global, core: &Parts) -> Result<Room, Memory>
-    ensures effects { IfOk result (λ room. room.effects ≡ record { list = []; room = frame_room core.now.prio }) }
+fn room_for(alloc: Global, parts: &Parts) -> Result<Room, Memory>
+    ensures effects { IfOk result (λ room. room.effects ≡ record { list = []; room = frame_room parts.now.prio }) }
     ensures empty { IfOk result (λ room. room.items.items ≡ []) }
     ensures items { IfOk result (λ room. MOST_OBJECTS ≤ vec_capacity room.items) }
 {
-    let effects = with_room(alloc, core)?;
+    let effects = with_room(alloc, parts)?;
     let items = Vec::with_capacity(alloc, MOST_OBJECTS)?;
     Ok(Room { effects, items })
+}
+
+/// No effects yet, with room for all that a frame can cause.
+fn with_room(alloc: Global, parts: &Parts) -> Result<Effects, Memory>
+    ensures { IfOk result (λ effects. effects ≡ record { list = []; room = frame_room parts.now.prio }) }
+{
+    let of_a_message = 2 * parts.prio.neighbours() + 3;
+    let room = 1 + MAX_MESSAGES + MAX_MESSAGES * of_a_message + MAX_MESSAGES;
+    match Effects::with_room(alloc, room) {
+        Ok(effects) => Ok(effects),
+        Err(_) => Err(Memory),
+    }
+}
+
+// ---- what is taken. No call here can fail
+
+/// The answers to the objects of a frame.
+#[derive(Debug, Drop)]
+pub(crate) struct Answers {
+    pub weight: Option<Item>,
+    pub prios: Four<Item>,
+    pub slot: SlotAnswers,
 }
 
 /// Takes the objects that were made ready, in the order of the rules. It takes no memory.
 fn taken(
     at: &Arrival<'_>,
-    core: &mut Parts,
+    parts: &mut Parts,
     sections: &Sections<'_>,
     ready: Ready,
     room: Room,
 ) -> Arrived
-    requires ready { IsReady (as_arrival at.now) core.old sections.now ready }
-    requires ids { HasIds MAX_MESSAGES core.old.prio }
-    requires effects { room.effects ≡ record { list = []; room = frame_room core.old.prio } }
+    requires ready { IsReady (as_arrival at.now) parts.old sections.now ready }
+    requires ids { HasIds MAX_MESSAGES parts.old.prio }
+    requires effects { room.effects ≡ record { list = []; room = frame_room parts.old.prio } }
     requires empty { room.items.items ≡ [] }
     requires items { MOST_OBJECTS ≤ vec_capacity room.items }
     ensures { IsAdmitted
-        (handle_all format (as_arrival at.now) core.old (pieces_of (as_contents sections.now)))
-        core.new result.items result.effects.list }
+        (handle_all format (as_arrival at.now) parts.old (pieces_of (as_contents sections.now)))
+        parts.new result.items result.effects.list }
 {
     let Room { mut effects, items } = room;
-    let answers = admit(at, core, sections, ready, &mut effects);
+    let answers = admit(at, parts, sections, ready, &mut effects);
     Arrived {
         items: listed(items, answers),
         effects,
     }
 }
 
-/// No effects yet, with room for all that a frame can cause.
-fn with_room(alloc: Global, core: &Parts) -> Result<Effects, Memory>
-    ensures { IfOk result (λ effects. effects ≡ record { list = []; room = frame_room core.now.prio }) }
+/// Takes the objects of a frame, kind after kind.
+fn admit(
+    at: &Arrival<'_>,
+    parts: &mut Parts,
+    sections: &Sections<'_>,
+    ready: Ready,
+    out: &mut Effects,
+) -> Answers
+    requires ready { IsReady (as_arrival at.now) parts.old sections.now ready }
+    requires ids { HasIds MAX_MESSAGES parts.old.prio }
+    requires room { frame_room parts.old.prio ≤ out.old.room }
+    ensures { IsDone
+        (handle_all format (as_arrival at.now) parts.old (pieces_of (as_contents sections.now)))
+        parts.new (items_of result) out.old out.new }
 {
-    let of_a_message = 2 * core.prio.neighbours() + 3;
-    let room = 1 + MAX_MESSAGES + MAX_MESSAGES * of_a_message + MAX_MESSAGES;
-    match Effects::with_room(alloc, room) {
-        Ok(effects) => Ok(effects),
-        Err(_) => Err(Memory),
+    let Ready {
+        weight,
+        prios,
+        slot,
+    } = ready;
+    let weight = weight::admit(at, parts, &sections.weight, weight, out);
+    prio::acknowledge(parts, at.from, sections.prio_ack, out);
+    let prios = prio::admit_from(at, parts, &sections.prios, 0, prios, out);
+    let slot = slot::admit(at, parts, &sections.slot, slot, out);
+    Answers {
+        weight,
+        prios,
+        slot,
     }
 }
 

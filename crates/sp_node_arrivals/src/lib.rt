@@ -1,17 +1,16 @@
 //! The objects of a fresh frame at a node: each that may be new is judged, its signature looked at, and copied, before anything changes; then
 //! each is taken in the order of the rules.
+//!
+//! Each kind of object is a file: how it is judged, made ready, taken and answered. `arriving` goes through the kinds in their order.
 #![tactic(auto)]
 
-mod admitting;
-mod answers;
+mod ack;
 mod arrival;
 mod arriving;
-mod ready;
+mod prio;
+mod rel;
 mod signed;
 mod slot;
+mod weight;
 
-pub use answers::MOST_OBJECTS;
-pub use arrival::Arrival;
 pub use arriving::{Arrived, arrive};
-pub use ready::{Ready, SlotReady, make_ready};
-pub use signed::recall;

@@ -1,11 +1,11 @@
 // Whether an object bears its signer's signature, and what its bytes say of its fields.
 ghost use Rattle.std.specs.Prelude.{◌≡◌, ◌≤◌, ◌+◌, Ok, IfOk};
 ghost use Rattle.sp_frame.specs.Views.{as_object};
-ghost use Rattle.sp_msg.specs.Bodies.{HasGoodFields, payload_of, read_body};
+ghost use Rattle.sp_msg.specs.Bodies.{HasGoodFields, read_body};
 ghost use Rattle.sp_msg.specs.Views.{as_body};
-ghost use Rattle.sp_node_arrivals.specs.Ready.{is_right};
+ghost use Rattle.sp_node_arrivals.specs.Signed.{is_right};
 
-use sp_base::{Bytes, Memory};
+use sp_base::Memory;
 use sp_frame::ObjectRef;
 use sp_msg::{BodyRef, Kept, keep};
 use sp_sign::Checker;
@@ -34,7 +34,7 @@ fn bears(checker: &mut Checker, bytes: &[u8], body: &BodyRef<'_>, signature: &[u
 }
 
 /// For the prover alone, it does nothing when it runs: the fields of an object are in their ranges, since bytes spell them.
-pub fn recall(object: &ObjectRef<'_>)
+pub(crate) fn recall(object: &ObjectRef<'_>)
     ensures { HasGoodFields (as_object object.now).body }
 {
     recall_spelled(object.bytes, &object.body);
@@ -56,16 +56,4 @@ pub(crate) fn copy_of(alloc: Global, object: &ObjectRef<'_>) -> Result<Kept, Mem
         Ok(kept) => Ok(kept),
         Err(_) => Err(Memory),
     }
-}
-
-/// A copy of what the object carries.
-pub(crate) fn payload_of(alloc: Global, object: &ObjectRef<'_>) -> Result<Bytes, Memory>
-    ensures { IfOk result (λ payload. payload ≡ payload_of (as_object object.now).body) }
-{
-    let payload = match &object.body {
-        BodyRef::Prio(prio) => prio.payload,
-        BodyRef::Rel(rel) => rel.payload,
-        BodyRef::Ack(_) | BodyRef::Weight(_) => &[],
-    };
-    Bytes::copy(alloc, payload)
 }

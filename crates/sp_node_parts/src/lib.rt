@@ -2,7 +2,6 @@
 #![tactic(auto)]
 
 mod fixed;
-mod objects;
 mod parts;
 
 pub use fixed::Fixed;

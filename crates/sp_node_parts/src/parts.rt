@@ -38,7 +38,8 @@ impl Parts {
         limits: Limits,
     ) -> Result<Parts, Memory>
         requires { IsTopology topology.now }
-        ensures { IfOk result (λ core. core ≡ empty_parts (record { me = me; boot = 0; topology = topology.now; signature_len = 0 }) limits.buffer limits.store) }
+        ensures { IfOk result (λ parts. parts
+            ≡ empty_parts (record { me = me; boot = 0; topology = topology.now; signature_len = 0 }) limits.buffer limits.store) }
     {
         let Ok(joined) = topology.neighbours(alloc, me) else {
             return Err(Memory);

@@ -1,5 +1,6 @@
 // The rows of all neighbours: what is done with one, and what is done with each.
-ghost use Rattle.std.specs.Prelude.{◌≡◌, ◌<◌, ◌≤◌, ◌+◌, ◌*◌, ◌^◌, ◌↔◌, All, IfOk, IfSome, IsTrue, count_by, if◌then◌else◌, length, map, position, replicate, sum_by, vec_capacity};
+ghost use Rattle.std.specs.Prelude.{◌≡◌, ◌<◌, ◌≤◌, ◌+◌, ◌*◌, ◌^◌, ◌↔◌, All, IfOk, IfSome};
+ghost use Rattle.std.specs.Prelude.{IsTrue, count_by, if◌then◌else◌, length, map, position, replicate, sum_by, vec_capacity};
 ghost use Rattle.std.specs.List.{flat_map};
 ghost use Rattle.sp_rules.specs.Prio.{is_peer};
 ghost use Rattle.sp_rules.specs.PrioPeer.{expired, expired_effects, given, given_effects, goes_to, new_peer};

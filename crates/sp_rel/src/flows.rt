@@ -1,5 +1,6 @@
 // The flows at a node, a row for each. Beside the rows stand their flags, which the cycles go over.
-ghost use Rattle.std.specs.Prelude.{◌≡◌, ◌==◌, ◌≤◌, ◌<◌, ◌+◌, All, IfOk, IfSome, IfNone, false, true, length, map, position, replicate, slice_get};
+ghost use Rattle.std.specs.Prelude.{◌≡◌, ◌==◌, ◌≤◌, ◌<◌, ◌+◌, All, IfOk, IfSome};
+ghost use Rattle.std.specs.Prelude.{IfNone, false, true, length, map, position, replicate, slice_get};
 ghost use Rattle.sp_base.specs.Cursor.{next_after};
 ghost use Rattle.sp_base.specs.declared.limits.TheConstants.{MAX_SEQ};
 ghost use Rattle.sp_rel.specs.Changes.{CanChange, changed};

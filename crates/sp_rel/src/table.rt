@@ -5,7 +5,8 @@ ghost use Rattle.sp_msg.specs.Bodies.{HasGoodFields, payload_of};
 ghost use Rattle.sp_msg.specs.declared.body.Body.TheVariants.{Ack as Acked};
 ghost use Rattle.sp_rel.specs.Seated.{IsSeated, seat_for};
 ghost use Rattle.sp_rules.specs.Flow.{IsReliable, flow_said};
-ghost use Rattle.sp_rules.specs.Rel.{AreStanding, IsNextOwn, admit_ack, admit_rel, are_ends, delivery, due, is_node, judge_ack, judge_ack_of, judge_rel, judge_rel_of};
+ghost use Rattle.sp_rules.specs.Rel.{AreStanding, IsNextOwn, admit_ack, admit_rel, are_ends, delivery};
+ghost use Rattle.sp_rules.specs.Rel.{due, is_node, judge_ack, judge_ack_of, judge_rel, judge_rel_of};
 ghost use Rattle.sp_rules.specs.Rel.{oldest, position_in, pushed_in, rel_effects, reported, room, served, settled, slot_for, slot_of, start, took};
 
 use crate::change::Change;

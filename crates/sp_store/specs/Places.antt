@@ -24,7 +24,8 @@ Rises low (e ∷ es) = (low < e.id) × Rises e.id es
 
 -- what always holds of a map and its twin: at most one entry more than may stay is there; the twin has none; and each has as many places as are
 -- ever used (`most`), of `room` and `twin_room` that there are
-pub record IsPlaced (capacity last count most : ℕ) (places : List (ℕ × Option Entry)) (room : ℕ) (twin : List (ℕ × Option Entry)) (twin_room : ℕ) : Type 0 where
+pub record IsPlaced (capacity last count most : ℕ) (places : List (ℕ × Option Entry)) (room : ℕ) (twin : List (ℕ × Option Entry)) (twin_room : ℕ)
+    : Type 0 where
   pub enough : capacity + 1 < most
   pub counted : count ≡ length (live_of places)
   pub few : count ≤ capacity + 1

@@ -1,6 +1,7 @@
 // Entries by id, in order of arrival, each found by its id at once. An entry that goes leaves its place empty, so that this costs a look-up;
 // where all places are used up, the entries that are left move into a twin of as many. All memory is taken at the start, for both.
-ghost use Rattle.std.specs.Prelude.{◌≡◌, ℕ, ◌+◌, ◌<◌, ◌≤◌, ◌^◌, [], ◌∷◌, ◌++◌, All, IfOk, None, filter, find, is_some, length, nat_eq};
+ghost use Rattle.std.specs.Prelude.{◌≡◌, ℕ, ◌+◌, ◌<◌, ◌≤◌, ◌^◌, [], ◌∷◌};
+ghost use Rattle.std.specs.Prelude.{◌++◌, All, IfOk, None, filter, find, is_some, length, nat_eq};
 ghost use Rattle.std.specs.Map.{lookup, set_value};
 ghost use Rattle.std.specs.Option.{option_copied};
 ghost use Rattle.indexmap.specs.IndexMap.{index_map_len, spare};

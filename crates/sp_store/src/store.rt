@@ -1,7 +1,8 @@
 // A store: its entries in order of arrival, and how many each source has. All memory is taken at the start.
 ghost use Rattle.std.specs.Prelude.{◌≡◌, ◌+◌, ◌<◌, ◌≤◌, ◌^◌, IfOk, filter, find, length, slice_get};
 ghost use Rattle.std.specs.Option.{option_copied};
-ghost use Rattle.sp_rules.specs.Store.{count_of, empty_store, entry_in, expired_entries, expired_entry, is_expired, less_expired_entry, less_oldest, next_besides, oldest, put, put_answer, removed, victim, without};
+ghost use Rattle.sp_rules.specs.Store.{count_of, empty_store, entry_in, expired_entries, expired_entry, is_expired, less_expired_entry};
+ghost use Rattle.sp_rules.specs.Store.{less_oldest, next_besides, oldest, put, put_answer, removed, victim, without};
 ghost use Rattle.sp_store.specs.Places.{live};
 ghost use Rattle.sp_store.specs.Sound.{IsCounted};
 
@@ -144,7 +145,11 @@ impl Store {
 fn evict(places: &mut Places, counts: &mut [u32; 256]) -> Option<Entry>
     requires counted { IsCounted places.old.entries counts.old }
     ensures entry { result ≡ victim places.old.entries }
-    ensures store { places.new ≡ record { capacity = places.old.capacity; last = places.old.last; entries = without (victim places.old.entries) places.old.entries } }
+    ensures store { places.new ≡ record {
+      capacity = places.old.capacity;
+      last = places.old.last;
+      entries = without (victim places.old.entries) places.old.entries;
+    } }
     ensures counted { IsCounted places.new.entries counts.new }
     ensures fewer { 0 < length places.old.entries → length places.new.entries + 1 ≡ length places.old.entries }
 {

@@ -4,13 +4,14 @@ ghost use Rattle.sp_forgery.specs.declared.judging.TheConstants.{MAX_MESSAGE_BYT
 ghost use Rattle.sp_runs.specs.Scenarios.{setting_of};
 ghost use Rattle.sp_world.specs.Arrivals.{Arrives, CanHear};
 ghost use Rattle.sp_world_steps.specs.Polls.{world_of};
-ghost use Rattle.sp_world_steps.specs.declared.entries.TheConstants.{MOST_OBJECTS};
+ghost use Rattle.sp_frame.specs.declared.sections.TheConstants.{MOST_OBJECTS};
 
 use crate::acts::Done;
 use sp_base::{Memory, NodeId};
 use sp_forgery::{Known, MAX_MESSAGE_BYTES, judge};
+use sp_frame::MOST_OBJECTS;
 use sp_journal::ItemWord;
-use sp_world_steps::{Directions, MOST_OBJECTS, Member, arrived, forget, hear};
+use sp_world_steps::{Directions, Member, arrived, forget, hear};
 use std::alloc::Global;
 
 /// What the world needs of memory after a node took a datagram: for the words of its entry, and for what may be forged of it, to keep and to tell.

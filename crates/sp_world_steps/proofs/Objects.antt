@@ -29,7 +29,7 @@ use Rattle.sp_rules.specs.declared.node.LinkReply.TheVariants as replies
 use Rattle.sp_rules.specs.declared.node.Step.{Step}
 use Rattle.sp_rules.specs.declared.node.Taken.{Taken}
 use Rattle.sp_world_steps.specs.Gave.{GaveTaken}
-use Rattle.sp_world_steps.specs.declared.entries.TheConstants.{MOST_OBJECTS}
+use Rattle.sp_frame.specs.declared.sections.TheConstants.{MOST_OBJECTS}
 
 -- ---- the objects of contents, part by part
 

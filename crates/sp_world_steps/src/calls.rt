@@ -11,7 +11,7 @@ ghost use Rattle.sp_rules.specs.Node.{NodeState, call_refusal};
 ghost use Rattle.sp_rules.specs.Steps.{Frame, Input, NodeStep, Poll, SendPrio, SendRel, SetWeight, TakePrio, TakeRel, Tick, replied};
 ghost use Rattle.sp_node_words.specs.Words.{refused_word};
 ghost use Rattle.sp_runs.specs.Journals.{body_word};
-ghost use Rattle.sp_world_steps.specs.declared.entries.TheConstants.{MOST_OBJECTS};
+ghost use Rattle.sp_frame.specs.declared.sections.TheConstants.{MOST_OBJECTS};
 ghost use Rattle.sp_world_steps.specs.Gave.{Gave, GaveTaken, HasWords};
 
 use sp_base::{Bytes, Listed, Memory, NodeId, push_in_room};

@@ -12,10 +12,6 @@ use sp_node_words::{entry_in, quiet};
 use sp_rules::{Step, Taken};
 use std::alloc::Global;
 
-/// How many objects a frame has at most, so that its entry has as many words: an update, four priority messages, an acknowledgement and four reliable
-/// messages.
-pub const MOST_OBJECTS: usize = 10;
-
 /// The entry of a frame of this number. It takes no memory.
 pub fn frame(alloc: Global, number: u32, bytes: &[u8]) -> Entry
     requires { length bytes.now < 2 ^ 32 }

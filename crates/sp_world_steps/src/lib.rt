@@ -11,6 +11,6 @@ mod member;
 mod members;
 
 pub use directions::Directions;
-pub use entries::{MOST_OBJECTS, arrived};
+pub use entries::arrived;
 pub use member::Member;
 pub use members::{ask, forget, hear, member_of};

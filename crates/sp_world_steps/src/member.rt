@@ -5,7 +5,7 @@ ghost use Rattle.sp_node_format.specs.Format.{format};
 ghost use Rattle.sp_node_format.specs.PolledFrames.{most_signature};
 ghost use Rattle.sp_rules.specs.Node.{call_refusal};
 ghost use Rattle.sp_rules.specs.Steps.{Frame, NodeStep, Poll, replied};
-ghost use Rattle.sp_world_steps.specs.declared.entries.TheConstants.{MOST_OBJECTS};
+ghost use Rattle.sp_frame.specs.declared.sections.TheConstants.{MOST_OBJECTS};
 ghost use Rattle.sp_world_steps.specs.Asks.{GaveAnswer, MayAsk};
 ghost use Rattle.sp_world_steps.specs.Gave.{GaveTaken};
 

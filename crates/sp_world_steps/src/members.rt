@@ -3,7 +3,7 @@ ghost use Rattle.std.specs.Prelude.{◌≡◌, ◌≤◌, IfOk, OnErr, length, o
 ghost use Rattle.sp_frame.specs.declared.frame.TheConstants.{MAX_FRAME_BYTES};
 ghost use Rattle.sp_runs.specs.Inputs.{acting};
 ghost use Rattle.sp_runs.specs.Worlds.{is_me, node_in};
-ghost use Rattle.sp_world_steps.specs.declared.entries.TheConstants.{MOST_OBJECTS};
+ghost use Rattle.sp_frame.specs.declared.sections.TheConstants.{MOST_OBJECTS};
 ghost use Rattle.sp_world_steps.specs.Members.{AskedAmong, CanAsk, CanCall, HeardAmong, PolledAmong, without_node};
 
 use crate::Member;

@@ -1,0 +1,39 @@
+use Rattle.std.proofs.Common.{refl, ap, ◌∙◌, subst, map}
+use Rattle.std.specs.Prelude.{is_some, option_map}
+use Rattle.sp_frame.specs.Views.{as_list, as_object}
+use Rattle.sp_rules.specs.Handle.{handle_all}
+use Rattle.sp_rules.specs.Parts.{Parts}
+use Rattle.sp_rules.specs.Pieces.{AckPiece, RelPiece, ReportPiece}
+use Rattle.sp_rules.specs.Rel.{RelState, reported}
+use Rattle.sp_node_arrivals.proofs.DoneLemmas.{quiet_then}
+use Rattle.sp_node_arrivals.proofs.RelLemmas.{slot_stays}
+use Rattle.sp_node_arrivals.specs.Done.{IsDone}
+use Rattle.sp_node_arrivals.specs.Arrival.{as_arrival}
+use Rattle.sp_node_format.specs.Format.{format}
+use Rattle.sp_node_arrivals.proofs.slot.admit_slot.Goals as goal
+
+pub admit_from-rels-requires-clause-ready : goal.admit_from-rels-requires-clause-ready
+admit_from-rels-requires-clause-ready c =
+    let s = c.args.slot.now in
+    slot_stays (is_some c.args.ready.ack) c.args.at.now.fixed.now.topology.nodes c.args.parts.now.rel c.report.new.self c.admit-ack.new.parts.rel
+    c.args.at.now.from s.base s.have s.flow (map as_object s.rels) c.args.ready.rels
+    (c.report.ensures ∙ ap (λ (p : Parts). reported p.rel c.args.at.now.from s.flow s.base s.have) c.parts.view_is)
+    c.admit-ack.ensures.stays c.requires.ready.messages
+
+pub returns : goal.returns
+returns c =
+    let at = as_arrival c.args.at.now in
+    let s = c.args.slot.now in
+    let p = c.args.parts.now in
+    let acks = map (AckPiece s.flow) (as_list (option_map as_object s.ack)) in
+    let rels = map (RelPiece s.flow) (map as_object s.rels) in
+    let left : Parts = record p { rel = reported p.rel c.args.at.now.from s.flow s.base s.have } in
+    let inside = c.parts.inside in
+    let moved =
+    ap (λ (r : RelState). let q : Parts = record { weights = inside.weights; prio = inside.prio; rel = r } in q) c.report.ensures
+    ∙ ap (λ (q : Parts). let r : Parts = record q { rel = reported q.rel c.args.at.now.from s.flow s.base s.have } in r) c.parts.view_is in
+    let acked : IsDone (handle_all format at left acks) c.admit-ack.new.parts (as_list c.admit-ack.result) c.args.out.now c.args.out.now =
+    subst (λ (q : Parts). IsDone (handle_all format at q acks) c.admit-ack.new.parts (as_list c.admit-ack.result) c.args.out.now c.args.out.now)
+    moved (c.admit-ack.ensures.done c.args.out.now) in
+    quiet_then format at p left c.admit-ack.new.parts c.admit_from-rels.new.parts (ReportPiece s.flow s.base s.have) acks rels
+    (as_list c.admit-ack.result) c.admit_from-rels.result c.args.out.now c.admit_from-rels.new.out refl acked c.admit_from-rels.ensures.done

@@ -1,0 +1,56 @@
+-- The reliable messages of a slot: what is ready of each before anything is taken, and how many signatures may be checked for them.
+use Rattle.std.specs.Prelude.{ℕ, ◌≡◌, ◌+◌, ◌&&◌, ◌||◌, Bool, true, false, List, [], ◌∷◌, Option, IfSome, is_some}
+use Rattle.sp_base.specs.declared.id.Flow.{Flow}
+use Rattle.sp_msg.specs.Bodies.{payload_of}
+use Rattle.sp_msg.specs.declared.kept.Kept.{Kept}
+use Rattle.sp_rel.specs.Seated.{IsSeated}
+use Rattle.sp_rel.specs.Seats.{SeatState}
+use Rattle.sp_rules.specs.Rel.{RelState, judge_rel_of}
+use Rattle.sp_rules.specs.declared.rel.RelJudged.{RelJudged}
+use Rattle.sp_rules.specs.declared.rel.RelJudged.TheVariants as rels
+use Rattle.sp_topology.specs.declared.topology.NodeKey.{NodeKey}
+use Rattle.sp_node_arrivals.specs.Signed.{is_right, one_if}
+
+-- whether a message that is judged so may be new when its turn comes, by whether something new comes before it in its slot. A new acknowledgement
+-- makes room, and may be of messages that never came; a new message is the one that a later message waits for. Neither changes an end, and what is
+-- old or ahead stays so
+abbrev pub may_be_new : Bool → RelJudged → Bool
+may_be_new moved rels.BadEnd = false
+may_be_new moved rels.Old = false
+may_be_new moved rels.Ahead = false
+may_be_new moved rels.Gap = moved
+may_be_new moved rels.Full = moved
+may_be_new moved rels.InboxFull = moved
+may_be_new moved rels.New = true
+
+pub record IsRelReady (moved : Bool) (keys : List NodeKey) (r : RelState) (flow : Flow) (o : Kept) (ready : Option (Kept × List ℕ × SeatState))
+    : Type 0 where
+  pub copy : IfSome ready (λ m. m.0 ≡ o)
+  pub payload : IfSome ready (λ m. m.1 ≡ payload_of o.body)
+  pub seat : IfSome ready (λ m. IsSeated r flow m.2)
+  pub right : may_be_new moved (judge_rel_of r flow o.body) ≡ true → is_some ready ≡ is_right keys o
+
+-- of messages one after another: each may be new where something before it is ready
+abbrev pub AreRelsReady : Bool → List NodeKey → RelState → Flow → List Kept → List (Option (Kept × List ℕ × SeatState)) → Type 0
+AreRelsReady moved keys r flow [] readies = readies ≡ []
+AreRelsReady moved keys r flow (o ∷ os) [] = ⊥
+AreRelsReady moved keys r flow (o ∷ os) (ready ∷ readies) =
+    IsRelReady moved keys r flow o ready × AreRelsReady (moved || is_some ready) keys r flow os readies
+
+-- a message that was made ready before an object of its slot is ready after it, whether that object was new or not
+abbrev pub StaysReady : Bool → List NodeKey → Flow → RelState → RelState → Type 0
+StaysReady new keys flow old left =
+    (moved : Bool) (o : Kept) (ready : Option (Kept × List ℕ × SeatState)) → IsRelReady (new || moved) keys old flow o ready
+    → IsRelReady moved keys left flow o ready
+
+-- it is new now, or may be new after something new before it
+abbrev pub rel_checks : Bool → RelState → Flow → Kept → ℕ
+rel_checks moved r flow o = one_if (may_be_new moved (judge_rel_of r flow o.body))
+
+-- it may be new, by its judgement and by its signature, so what comes after it in its slot may be
+abbrev pub is_followed : Bool → List NodeKey → RelState → Flow → Kept → Bool
+is_followed moved keys r flow o = may_be_new moved (judge_rel_of r flow o.body) && is_right keys o
+
+abbrev pub rels_checks : Bool → List NodeKey → RelState → Flow → List Kept → ℕ
+rels_checks moved keys r flow [] = 0
+rels_checks moved keys r flow (o ∷ os) = rel_checks moved r flow o + rels_checks (moved || is_followed moved keys r flow o) keys r flow os

@@ -1,0 +1,130 @@
+// The acknowledgement of a slot: whether it may be new, its copy with the memory of its flow, and its taking.
+ghost use Rattle.std.specs.Prelude.{◌≡◌, ◌≤◌, ◌+◌, [], ◌∷◌, IfOk, IfSome, is_some, map, option_map};
+ghost use Rattle.sp_frame.specs.Views.{as_list, as_object};
+ghost use Rattle.sp_msg.specs.Bodies.{HasGoodFields};
+ghost use Rattle.sp_msg.specs.Caused.{Caused};
+ghost use Rattle.sp_msg.specs.Views.{as_body};
+ghost use Rattle.sp_rel.specs.Seated.{IsSeated};
+ghost use Rattle.sp_rules.specs.Answers.{ack_answer};
+ghost use Rattle.sp_rules.specs.Handle.{ack_handled, handle_all};
+ghost use Rattle.sp_rules.specs.Pieces.{AckPiece};
+ghost use Rattle.sp_rules.specs.Rel.{judge_ack_of};
+ghost use Rattle.sp_node_arrivals.specs.Ack.{IsAckReady, ack_checks, is_acked};
+ghost use Rattle.sp_node_arrivals.specs.Arrival.{as_arrival};
+ghost use Rattle.sp_node_arrivals.specs.Done.{IsDone};
+ghost use Rattle.sp_node_arrivals.specs.Rel.{StaysReady};
+ghost use Rattle.sp_node_format.specs.Format.{format};
+
+use crate::arrival::Arrival;
+use crate::signed::{copy_of, is_right, recall};
+use sp_base::{Flow, Memory};
+use sp_frame::ObjectRef;
+use sp_msg::{BodyRef, Kept};
+use sp_node_parts::Parts;
+use sp_rel::{AckJudged, Seat};
+use sp_rules::{AckAnswer, Item};
+use sp_sign::Checker;
+use std::alloc::Global;
+
+/// Makes an acknowledgement ready.
+pub(crate) fn ready(
+    alloc: Global,
+    parts: &Parts,
+    checker: &mut Checker,
+    flow: Flow,
+    object: &ObjectRef<'_>,
+) -> Result<Option<(Kept, Seat)>, Memory>
+    ensures ready { IfOk result (IsAckReady checker.old.nodes parts.now.rel flow (as_object object.now)) }
+    ensures keys { checker.new.nodes ≡ checker.old.nodes }
+    ensures work { checker.new.checks ≤ checker.old.checks + ack_checks parts.now.rel flow (as_object object.now) }
+    ensures new { IfOk result (λ ready. is_some ready ≡ is_acked checker.old.nodes parts.now.rel flow (as_object object.now)) }
+    ensures few { checker.new.checks ≤ checker.old.checks + 1 }
+{
+    let AckJudged::New = judge(parts, flow, &object.body) else {
+        return Ok(None);
+    };
+    if !is_right(checker, object) {
+        return Ok(None);
+    }
+    let kept = copy_of(alloc, object)?;
+    let Ok(seat) = parts.rel.seat(alloc, flow) else {
+        return Err(Memory);
+    };
+    Ok(Some((kept, seat)))
+}
+
+/// Takes the acknowledgement of a slot, where there is one, and answers to it.
+pub(crate) fn admit(
+    at: &Arrival<'_>,
+    parts: &mut Parts,
+    flow: Flow,
+    ack: &Option<ObjectRef<'_>>,
+    ready: Option<(Kept, Seat)>,
+) -> Option<Item>
+    requires ready { IfSome (option_map as_object ack.now) (λ o. IsAckReady at.now.fixed.now.topology.nodes parts.old.rel flow o ready) }
+    ensures done { (c : Caused) → IsDone
+        (handle_all format (as_arrival at.now) parts.old (map (AckPiece flow) (as_list (option_map as_object ack.now))))
+        parts.new (as_list result) c c }
+    ensures stays { StaysReady (is_some ready) at.now.fixed.now.topology.nodes flow parts.old.rel parts.new.rel }
+{
+    match ack {
+        Some(object) => Some(admit_one(at, parts, flow, object, ready)),
+        None => None,
+    }
+}
+
+fn admit_one(
+    at: &Arrival<'_>,
+    parts: &mut Parts,
+    flow: Flow,
+    object: &ObjectRef<'_>,
+    ready: Option<(Kept, Seat)>,
+) -> Item
+    requires ready { IsAckReady at.now.fixed.now.topology.nodes parts.old.rel flow (as_object object.now) ready }
+    ensures done { (c : Caused) → IsDone
+        (handle_all format (as_arrival at.now) parts.old (AckPiece flow (as_object object.now) ∷ []))
+        parts.new (result ∷ []) c c }
+    ensures stays { StaysReady (is_some ready) at.now.fixed.now.topology.nodes flow parts.old.rel parts.new.rel }
+{
+    recall(object);
+    let answer = take(parts, flow, object, ready);
+    Item::Ack(answer)
+}
+
+/// What is said of the acknowledgement of a slot, but for its signature.
+fn judge(parts: &Parts, flow: Flow, body: &BodyRef<'_>) -> AckJudged
+    ensures { result ≡ judge_ack_of parts.now.rel flow (as_body body.now) }
+{
+    match body {
+        BodyRef::Ack(ack) => parts.rel.judge_ack(flow, ack),
+        _ => AckJudged::BadEnd,
+    }
+}
+
+/// Keeps the acknowledgement where it is new. `ready` is a copy of it where its signature is right, with memory for its flow.
+#[tactic(auto, using(crate::proofs::FlowLemmas::ack_flow, crate::proofs::FlowLemmas::ack_again))]
+fn take(
+    parts: &mut Parts,
+    flow: Flow,
+    object: &ObjectRef<'_>,
+    ready: Option<(Kept, Seat)>,
+) -> AckAnswer
+    requires fields { HasGoodFields (as_object object.now).body }
+    requires copy { IfSome ready (λ r. r.0 ≡ as_object object.now) }
+    requires seat { IfSome ready (λ r. IsSeated parts.old.rel flow r.1) }
+    ensures answer { result ≡ ack_answer (is_some ready) (judge_ack_of parts.old.rel flow (as_object object.now).body) }
+    ensures parts { parts.new ≡ (ack_handled result (as_object object.now) parts.old).parts }
+{
+    match judge(parts, flow, &object.body) {
+        AckJudged::BadEnd => AckAnswer::BadEnd,
+        AckJudged::Old => AckAnswer::Old,
+        AckJudged::Ahead => AckAnswer::Ahead,
+        AckJudged::New => {
+            let Some((kept, seat)) = ready else {
+                return AckAnswer::BadSig;
+            };
+            parts.rel.admit_ack(kept, seat);
+            AckAnswer::New
+        }
+    }
+}

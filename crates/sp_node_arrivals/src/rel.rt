@@ -1,0 +1,207 @@
+// The reliable messages of a slot: whether each may be new, its copy with the memory of its flow, and its taking.
+ghost use Rattle.std.specs.Prelude.{◌≡◌, ◌≤◌, ◌+◌, ◌-◌, [], ◌∷◌, false, IfOk, IfSome, drop, is_some, length, map};
+ghost use Rattle.sp_base.specs.declared.limits.TheConstants.{MAX_MESSAGES};
+ghost use Rattle.sp_frame.specs.Views.{as_object};
+ghost use Rattle.sp_msg.specs.Bodies.{HasGoodFields, payload_of};
+ghost use Rattle.sp_msg.specs.Views.{as_body};
+ghost use Rattle.sp_rel.specs.Seated.{IsSeated};
+ghost use Rattle.sp_rules.specs.Answers.{rel_answer};
+ghost use Rattle.sp_rules.specs.Handle.{handle_all, rel_handled};
+ghost use Rattle.sp_rules.specs.Pieces.{RelPiece};
+ghost use Rattle.sp_rules.specs.Rel.{judge_rel_of};
+ghost use Rattle.sp_rules.specs.Told.{told};
+ghost use Rattle.sp_node_arrivals.specs.Arrival.{as_arrival};
+ghost use Rattle.sp_node_arrivals.specs.Done.{IsDone};
+ghost use Rattle.sp_node_arrivals.specs.Rel.{AreRelsReady, IsRelReady, StaysReady, is_followed, may_be_new, rel_checks, rels_checks};
+ghost use Rattle.sp_node_format.specs.Format.{format};
+
+use crate::arrival::Arrival;
+use crate::signed::{copy_of, is_right, recall};
+use sp_base::{Bytes, Flow, Four, Memory};
+use sp_frame::ObjectRef;
+use sp_msg::{BodyRef, Effects, Kept};
+use sp_node_parts::Parts;
+use sp_rel::{RelJudged, Seat};
+use sp_rules::{Item, RelAnswer};
+use sp_sign::Checker;
+use std::alloc::Global;
+
+/// Makes the messages from this place on ready. `moved` is whether something that is ready comes before them in the slot.
+pub(crate) fn ready_from(
+    alloc: Global,
+    parts: &Parts,
+    checker: &mut Checker,
+    flow: Flow,
+    rels: &Four<ObjectRef<'_>>,
+    place: usize,
+    moved: bool,
+) -> Result<Four<Option<(Kept, Bytes, Seat)>>, Memory>
+    ensures ready { IfOk result (AreRelsReady moved checker.old.nodes parts.now.rel flow (map as_object (drop place rels.now))) }
+    ensures many { IfOk result (λ ready. length ready ≡ length rels.now - place) }
+    ensures keys { checker.new.nodes ≡ checker.old.nodes }
+    ensures work { checker.new.checks ≤ checker.old.checks
+        + rels_checks moved checker.old.nodes parts.now.rel flow (map as_object (drop place rels.now)) }
+    ensures few { checker.new.checks ≤ checker.old.checks + (MAX_MESSAGES - place) }
+{
+    let Some(object) = rels.get(place) else {
+        return Ok(Four::new());
+    };
+    let first = ready_one(alloc, parts, checker, flow, object, moved)?;
+    let moved = moved || first.is_some();
+    let others = ready_from(alloc, parts, checker, flow, rels, place + 1, moved)?;
+    Ok(others.led_by(first))
+}
+
+fn ready_one(
+    alloc: Global,
+    parts: &Parts,
+    checker: &mut Checker,
+    flow: Flow,
+    object: &ObjectRef<'_>,
+    moved: bool,
+) -> Result<Option<(Kept, Bytes, Seat)>, Memory>
+    ensures ready { IfOk result (IsRelReady moved checker.old.nodes parts.now.rel flow (as_object object.now)) }
+    ensures keys { checker.new.nodes ≡ checker.old.nodes }
+    ensures work { checker.new.checks ≤ checker.old.checks + rel_checks moved parts.now.rel flow (as_object object.now) }
+    ensures new { IfOk result (λ ready. is_some ready ≡ is_followed moved checker.old.nodes parts.now.rel flow (as_object object.now)) }
+    ensures few { checker.new.checks ≤ checker.old.checks + 1 }
+{
+    if !may_be_new(moved, judge(parts, flow, &object.body)) {
+        return Ok(None);
+    }
+    if !is_right(checker, object) {
+        return Ok(None);
+    }
+    let kept = copy_of(alloc, object)?;
+    let payload = payload_of(alloc, &object.body)?;
+    let Ok(seat) = parts.rel.seat(alloc, flow) else {
+        return Err(Memory);
+    };
+    Ok(Some((kept, payload, seat)))
+}
+
+/// Lets go what was made ready, one after another.
+pub(crate) fn leave(ready: Four<Option<(Kept, Bytes, Seat)>>) {
+    if let Some((_, others)) = ready.split() {
+        leave(others);
+    }
+}
+
+/// Takes the messages from this place on, and answers to each.
+pub(crate) fn admit_from(
+    at: &Arrival<'_>,
+    parts: &mut Parts,
+    flow: Flow,
+    rels: &Four<ObjectRef<'_>>,
+    place: usize,
+    ready: Four<Option<(Kept, Bytes, Seat)>>,
+    out: &mut Effects,
+) -> Four<Item>
+    requires ready { AreRelsReady false at.now.fixed.now.topology.nodes parts.old.rel flow (map as_object (drop place rels.now)) ready }
+    requires room { MAX_MESSAGES - place ≤ out.old.room }
+    ensures done { IsDone
+        (handle_all format (as_arrival at.now) parts.old (map (RelPiece flow) (map as_object (drop place rels.now))))
+        parts.new result out.old out.new }
+    ensures many { length result ≡ length rels.now - place }
+{
+    let Some((first, others)) = ready.split() else {
+        return Four::new();
+    };
+    let Some(object) = rels.get(place) else {
+        unreachable!()
+    };
+    let item = admit_one(at, parts, flow, object, first, out);
+    let items = admit_from(at, parts, flow, rels, place + 1, others, out);
+    items.led_by(item)
+}
+
+fn admit_one(
+    at: &Arrival<'_>,
+    parts: &mut Parts,
+    flow: Flow,
+    object: &ObjectRef<'_>,
+    ready: Option<(Kept, Bytes, Seat)>,
+    out: &mut Effects,
+) -> Item
+    requires ready { IsRelReady false at.now.fixed.now.topology.nodes parts.old.rel flow (as_object object.now) ready }
+    requires room { 1 ≤ out.old.room }
+    ensures done { IsDone
+        (handle_all format (as_arrival at.now) parts.old (RelPiece flow (as_object object.now) ∷ []))
+        parts.new (result ∷ []) out.old out.new }
+    ensures stays { StaysReady (is_some ready) at.now.fixed.now.topology.nodes flow parts.old.rel parts.new.rel }
+    ensures room { out.old.room ≤ out.new.room + 1 }
+{
+    recall(object);
+    let answer = take(parts, flow, object, ready, out);
+    Item::Rel(answer)
+}
+
+/// What is said of a message of a slot, but for its signature.
+fn judge(parts: &Parts, flow: Flow, body: &BodyRef<'_>) -> RelJudged
+    ensures { result ≡ judge_rel_of parts.now.rel flow (as_body body.now) }
+{
+    match body {
+        BodyRef::Rel(rel) => parts.rel.judge_rel(flow, rel.src, rel.dst, rel.seq),
+        _ => RelJudged::BadEnd,
+    }
+}
+
+/// Whether a message that is judged so may be new when its turn comes, by whether something new comes before it in its slot. A new acknowledgement
+/// makes room, and may be of messages that never came; a new message is the one that a later message waits for. Neither changes an end, and what is
+/// old or ahead stays so.
+fn may_be_new(moved: bool, judged: RelJudged) -> bool
+    ensures { result ≡ may_be_new moved judged }
+{
+    match judged {
+        RelJudged::BadEnd | RelJudged::Old | RelJudged::Ahead => false,
+        RelJudged::Gap | RelJudged::Full | RelJudged::InboxFull => moved,
+        RelJudged::New => true,
+    }
+}
+
+/// A copy of what a message carries.
+fn payload_of(alloc: Global, body: &BodyRef<'_>) -> Result<Bytes, Memory>
+    ensures { IfOk result (λ payload. payload ≡ payload_of (as_body body.now)) }
+{
+    let payload = match body {
+        BodyRef::Prio(prio) => prio.payload,
+        BodyRef::Rel(rel) => rel.payload,
+        BodyRef::Ack(_) | BodyRef::Weight(_) => &[],
+    };
+    Bytes::copy(alloc, payload)
+}
+
+/// Keeps or delivers the message where it is new. `ready` is a copy of it where its signature is right, with memory for its delivery and for its flow.
+#[tactic(auto, using(crate::proofs::FlowLemmas::rel_flow, crate::proofs::FlowLemmas::rel_again))]
+fn take(
+    parts: &mut Parts,
+    flow: Flow,
+    object: &ObjectRef<'_>,
+    ready: Option<(Kept, Bytes, Seat)>,
+    out: &mut Effects,
+) -> RelAnswer
+    requires fields { HasGoodFields (as_object object.now).body }
+    requires copy { IfSome ready (λ r. r.0 ≡ as_object object.now) }
+    requires payload { IfSome ready (λ r. r.1 ≡ payload_of (as_object object.now).body) }
+    requires seat { IfSome ready (λ r. IsSeated parts.old.rel flow r.2) }
+    requires room { 1 ≤ out.old.room }
+    ensures answer { result ≡ rel_answer (is_some ready) (judge_rel_of parts.old.rel flow (as_object object.now).body) }
+    ensures parts { parts.new ≡ (rel_handled result (as_object object.now) parts.old).parts }
+    ensures told { out.new ≡ told out.old (rel_handled result (as_object object.now) parts.old).effects }
+{
+    match judge(parts, flow, &object.body) {
+        RelJudged::BadEnd => RelAnswer::BadEnd,
+        RelJudged::Old => RelAnswer::Old,
+        RelJudged::Ahead => RelAnswer::Ahead,
+        RelJudged::Gap => RelAnswer::Gap,
+        RelJudged::Full => RelAnswer::Full,
+        RelJudged::InboxFull => RelAnswer::InboxFull,
+        RelJudged::New => {
+            let Some((kept, payload, seat)) = ready else {
+                return RelAnswer::BadSig;
+            };
+            parts.rel.admit_rel(kept, payload, seat, out);
+            RelAnswer::New
+        }
+    }
+}
