@@ -16,5 +16,5 @@ not_not_le m n both = go (cases_lt n m)
 pub known_ends : (g : Graph) (s t : NodeId) → ¬ (¬ (IsNode g s × IsNode g t)) → IsNode g s × IsNode g t
 known_ends g s t both = (
   (not_not_le 1 s.0 (λ no. both (λ is. no is.0.0)), not_not_le s.0 g.nodes (λ no. both (λ is. no is.0.1))),
-  (not_not_le 1 t.0 (λ no. both (λ is. no is.1.0)), not_not_le t.0 g.nodes (λ no. both (λ is. no is.1.1)))
+  (not_not_le 1 t.0 (λ no. both (λ is. no is.1.0)), not_not_le t.0 g.nodes (λ no. both (λ is. no is.1.1))),
 )

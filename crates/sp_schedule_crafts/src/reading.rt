@@ -7,7 +7,9 @@ ghost use Rattle.sp_lines.specs.Cells.{number_at, same};
 ghost use Rattle.sp_schedule_crafts.specs.Objects.{form_named, line_for, name};
 
 use crate::ObjectForm;
-use sp_base::{EdgeId, MAX_EDGES, MAX_NODES, MAX_PAYLOAD_BYTES, MAX_PRIORITY, MAX_SEQ, MAX_WEIGHT, NodeId};
+use sp_base::{
+    EdgeId, MAX_EDGES, MAX_NODES, MAX_PAYLOAD_BYTES, MAX_PRIORITY, MAX_SEQ, MAX_WEIGHT, NodeId,
+};
 use sp_lines::{Fault, LineRefused, bytes, mask, named, ranged};
 use sp_msg::{Ack, Body, Prio, Rel, WeightBody};
 use std::alloc::Global;
@@ -41,11 +43,7 @@ fn form_in(rows: &[(&[u8], usize, ObjectForm)], name: &[u8], count: usize) -> Op
 }
 
 /// The object of this form with these words behind its name, or the first fault.
-pub fn read_object(
-    alloc: Global,
-    form: ObjectForm,
-    fields: &[&[u8]],
-) -> Result<Body, LineRefused>
+pub fn read_object(alloc: Global, form: ObjectForm, fields: &[&[u8]]) -> Result<Body, LineRefused>
     ensures { Reads result (line_for form (name form ∷ map (λ w. w.now) fields.now)) }
 {
     match form {
