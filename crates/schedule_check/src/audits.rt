@@ -5,7 +5,8 @@ ghost use Rattle.sp_base.specs.declared.limits.TheConstants.{MAX_INPUT_BYTES};
 use crate::journals::{TOO_MANY, numbered};
 use sp_audit::{AuditRefused, audit};
 use sp_base::{Listed, MAX_EVENTS, MAX_INPUT_BYTES, Memory};
-use sp_journal::{Entry, JournalRefused};
+use sp_journal::Entry;
+use sp_journal_reading::JournalRefused;
 use sp_schedule::{Ending, Stage};
 use sp_schedule_events::{Event, Scenario};
 use std::alloc::Global;
@@ -49,7 +50,7 @@ fn journal_of(alloc: Global, text: &[u8]) -> Result<Option<Listed<Entry>>, Memor
     if text.len() >= TOO_MANY {
         return Ok(None);
     }
-    match sp_journal::read(alloc, text) {
+    match sp_journal_reading::read(alloc, text) {
         Ok(journal) => Ok(Some(journal)),
         Err(JournalRefused::Form { .. }) => Ok(None),
         Err(JournalRefused::Memory) => Err(Memory),

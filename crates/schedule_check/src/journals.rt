@@ -1,6 +1,7 @@
 // Journals that are read and written again.
 use sp_base::Memory;
-use sp_journal::{JournalRefused, journal_text, read};
+use sp_journal::journal_text;
+use sp_journal_reading::{JournalRefused, read};
 use sp_text::push_number;
 use std::alloc::Global;
 

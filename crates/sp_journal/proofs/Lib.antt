@@ -1,9 +1,1 @@
 pub mod JournalLemmas
-pub mod EffectLemmas
-pub mod WordLists
-pub mod ReplyLemmas
-pub mod ReadingLemmas
-pub mod StageLemmas
-pub mod TextLemmas
-pub mod WalkLemmas
-pub mod LawLemmas

@@ -1,7 +1,2 @@
 pub mod Words
 pub mod JournalText
-pub mod EffectTable
-pub mod ReplyTable
-pub mod Reading
-pub mod Laws
-pub mod TextLaws

@@ -2,9 +2,6 @@
 use sp_base::{Bytes, Listed, NodeId};
 use sp_msg::Effect;
 
-/// The most items of one arrival that a text tells. A frame of today has four objects at most.
-pub const MAX_ITEMS: usize = 1_024;
-
 /// The reply to an event, and the effects of the event in their order.
 #[derive(Debug, Drop)]
 pub struct Entry {

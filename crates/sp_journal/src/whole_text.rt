@@ -3,7 +3,8 @@ ghost use Rattle.std.specs.Prelude.{◌≡◌, ◌<◌, ◌^◌, ◌++◌, ◌�
 ghost use Rattle.std.specs.Fmt.{decimal};
 ghost use Rattle.std.specs.String.{string_bytes};
 ghost use Rattle.sp_lines.specs.Rows.{after_spaces, line_text};
-ghost use Rattle.sp_journal.specs.JournalText.{delivered_count, entries_from, frame_count, is_delivered, is_delivered_prio, is_frame, is_rel_body, is_sent, priority_count, sent_count, starts_rel, summary_of, summary_words};
+ghost use Rattle.sp_journal.specs.JournalText.{delivered_count, entries_from, frame_count, is_delivered, is_delivered_prio, is_frame};
+ghost use Rattle.sp_journal.specs.JournalText.{is_rel_body, is_sent, priority_count, sent_count, starts_rel, summary_of, summary_words};
 ghost use Rattle.sp_journal.specs.JournalText as text;
 
 use crate::replies::push_entry;
@@ -164,6 +165,7 @@ fn delivered(journal: &[Entry]) -> u64
     count
 }
 
+/// How many of these effects deliver a reliable message.
 pub fn delivered_in(effects: &[Effect]) -> u64
     ensures { result ≡ length (filter is_delivered effects.now) }
 {
@@ -185,6 +187,7 @@ fn priority(journal: &[Entry]) -> u64
     count
 }
 
+/// How many of these effects deliver a priority message.
 pub fn priority_in(effects: &[Effect]) -> u64
     ensures { result ≡ length (filter is_delivered_prio effects.now) }
 {

@@ -104,7 +104,7 @@ pub(crate) fn journal_of(alloc: Global, text: &str) -> Result<Listed<Entry>, Fai
     if text.len() >= 0xffff_ffff {
         return Err("the text is too long".into());
     }
-    match sp_journal::read(alloc, text.as_bytes()) {
+    match sp_journal_reading::read(alloc, text.as_bytes()) {
         Ok(journal) => Ok(journal),
         Err(_) => Err("the text is no journal".into()),
     }

@@ -1,5 +1,0 @@
-use Rattle.sp_journal.proofs.TextLemmas.{journals_are_of_their_text}
-use Rattle.sp_journal.proofs.text_laws.a_journal_is_of_its_text.Goals as goal
-
-pub returns : goal.returns
-returns c = journals_are_of_their_text

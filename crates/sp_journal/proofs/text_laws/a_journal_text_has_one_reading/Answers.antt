@@ -1,5 +1,0 @@
-use Rattle.sp_journal.proofs.LawLemmas.{one_reading}
-use Rattle.sp_journal.proofs.text_laws.a_journal_text_has_one_reading.Goals as goal
-
-pub returns : goal.returns
-returns c = one_reading

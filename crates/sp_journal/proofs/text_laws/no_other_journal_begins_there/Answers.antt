@@ -1,5 +1,0 @@
-use Rattle.sp_journal.proofs.LawLemmas.{no_other_begins_there}
-use Rattle.sp_journal.proofs.text_laws.no_other_journal_begins_there.Goals as goal
-
-pub returns : goal.returns
-returns c = no_other_begins_there

@@ -1,0 +1,9 @@
+pub mod EffectLemmas
+pub mod WordLists
+pub mod ItemLemmas
+pub mod ReplyLemmas
+pub mod ReadingLemmas
+pub mod StageLemmas
+pub mod TextLemmas
+pub mod WalkLemmas
+pub mod LawLemmas

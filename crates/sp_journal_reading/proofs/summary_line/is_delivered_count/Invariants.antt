@@ -1,0 +1,8 @@
+use Rattle.std.proofs.Common.{◌≡◌, ◌+◌, length, take}
+use Rattle.std.specs.List.{flat_map}
+use Rattle.sp_journal.specs.JournalText.{delivered_in}
+use Rattle.sp_journal_reading.proofs.summary_line.is_delivered_count.Given as goal
+
+-- what is left, and what was taken off
+abbrev pub invariant-entries : goal.invariant-entries
+invariant-entries l = l.left + length (flat_map delivered_in (take l.entry-index l.journal)) ≡ l.fn.n

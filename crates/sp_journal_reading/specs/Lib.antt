@@ -1,0 +1,5 @@
+pub mod EffectTable
+pub mod ReplyTable
+pub mod Reading
+pub mod Laws
+pub mod TextLaws
