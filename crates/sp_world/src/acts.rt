@@ -9,7 +9,7 @@ use crate::arrivals::arrive;
 use crate::bytes::{Came, bring, sender};
 use sp_adversary::Crafters;
 use sp_base::Memory;
-use sp_forgery::{Known, acting};
+use sp_forgery::Known;
 use sp_journal::Entry;
 use sp_runs::What;
 use sp_schedule_events::Event;
@@ -49,7 +49,7 @@ pub fn act(
         | Event::Inject { .. }
         | Event::Craft { .. }
         | Event::CraftStatus { .. } => arrival(alloc, known, nodes, directions, crafters, event),
-        _ => Ok(Done::Told(ask(alloc, nodes, acting(event), event)?)),
+        _ => Ok(Done::Told(ask(alloc, nodes, event.acting(), event)?)),
     }
 }
 
@@ -73,7 +73,7 @@ fn arrival(
 {
     match bring(alloc, known, nodes, directions, crafters, event)? {
         Came::Datagram(bytes) => {
-            let (u, v) = (sender(event), acting(event));
+            let (u, v) = (sender(event), event.acting());
             arrive(alloc, known, nodes, directions, u, v, bytes.as_slice())
         }
         Came::Spent { total } => Ok(Done::Told(spent(alloc, total))),

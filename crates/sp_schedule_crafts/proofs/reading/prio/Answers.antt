@@ -1,0 +1,21 @@
+use Rattle.std.proofs.Common.{◌≡◌, [], ◌∷◌, List, ℕ, Ok, codes, refl}
+use Rattle.sp_msg.specs.declared.body.Body.TheVariants as bodies
+use Rattle.sp_schedule_crafts.specs.Reading.{line_for, read_form}
+use Rattle.sp_schedule_crafts.specs.declared.form.ObjectForm.TheVariants as forms
+use Rattle.sp_schedule_crafts.proofs.WordLists.{seven}
+use Rattle.sp_schedule_crafts.proofs.reading.prio.Goals as goal
+
+pub returns : goal.returns
+unfolding read_form
+returns c =
+    seven (λ (ws : List (List ℕ)). line_for forms.Prio (codes "prio" ∷ ws) ≡ Ok (bodies.Prio (record {
+      src = c.in_ok-src.src;
+      dst = c.in_ok-dst.dst;
+      seq = c.in_ok-seq.seq;
+      prio = c.in_ok-prio.field-0;
+      expiry = c.in_ok-expiry.expiry;
+      mask = c.in_ok-mask.mask;
+      payload = c.in_ok-payload.payload;
+    })))
+    c.args.fields.now (record { ref_ptr = (0, 0); now = [] }) c.in-len7.len_at_least c.in-len7.len_below
+    (rw (c.in_ok-src.ensures, c.in_ok-dst.ensures, c.in_ok-seq.ensures.read, rw c.from.ensures at c.in_ok-prio.ensures.read, c.in_ok-expiry.ensures.read, c.in_ok-mask.ensures, c.in_ok-payload.ensures.read) refl)

@@ -1,0 +1,80 @@
+-- Crafted objects, a row for each, as they stand in a line behind the key that signs.
+--
+--     rel S D SEQ HEX
+--     ack S D SEQ
+--     prio S D SEQ P EXPIRY MASK HEX
+--     weight O E SEQ W
+--
+-- What an object says is in the ranges of its format alone: the graph needn't have its nodes and edges.
+use Rattle.std.specs.Prelude.{ℕ, ◌-◌, ◌^◌, List, [], ◌∷◌, codes}
+use Rattle.sp_base.specs.declared.id.NodeId.{NodeId}
+use Rattle.sp_base.specs.declared.limits.TheConstants.{MAX_EDGES, MAX_NODES, MAX_PAYLOAD_BYTES, MAX_PRIORITY, MAX_SEQ, MAX_WEIGHT}
+use Rattle.sp_msg.specs.declared.body.Body.{Body}
+use Rattle.sp_msg.specs.declared.body.Body.TheVariants as bodies
+use Rattle.sp_lines.specs.Cells.{Bytes, Cell, Mask, Name, Number}
+use Rattle.sp_lines.specs.Rows.{Values}
+use Rattle.sp_schedule_crafts.specs.declared.form.ObjectForm.{ObjectForm}
+use Rattle.sp_schedule_crafts.specs.declared.form.ObjectForm.TheVariants.{Rel, Ack, Prio, Weight}
+
+-- ---- places
+
+abbrev pub any_number : Cell
+any_number = Number 0 (2 ^ 64 - 1)
+
+abbrev pub payload : Cell
+payload = Bytes 0 MAX_PAYLOAD_BYTES
+
+abbrev pub any_id : Cell
+any_id = Number 1 MAX_NODES
+
+abbrev pub seq : Cell
+seq = Number 1 MAX_SEQ
+
+-- ---- rows
+
+-- the row of a form
+abbrev pub cells : ObjectForm → List Cell
+cells Rel = Name (codes "rel") ∷ any_id ∷ any_id ∷ seq ∷ payload ∷ []
+cells Ack = Name (codes "ack") ∷ any_id ∷ any_id ∷ seq ∷ []
+cells Prio = Name (codes "prio") ∷ any_id ∷ any_id ∷ seq ∷ Number 1 MAX_PRIORITY ∷ any_number ∷ Mask ∷ payload ∷ []
+cells Weight = Name (codes "weight") ∷ any_id ∷ Number 0 (MAX_EDGES - 1) ∷ seq ∷ Number 1 MAX_WEIGHT ∷ []
+
+-- all forms
+abbrev pub forms : List ObjectForm
+forms = Rel ∷ Ack ∷ Prio ∷ Weight ∷ []
+
+-- ---- objects
+
+-- the node of this number
+abbrev pub id : ℕ → NodeId
+id n = record { 0 = n }
+
+-- the object of a row with these values
+abbrev pub body_of : (form : ObjectForm) → Values (cells form) → Body
+body_of Rel x = bodies.Rel (record { src = id x.0; dst = id x.1.0; seq = x.1.1.0; payload = x.1.1.1.0 })
+body_of Ack x = bodies.Ack (record { src = id x.0; dst = id x.1.0; seq = x.1.1.0 })
+body_of Prio x =
+    bodies.Prio (record {
+      src = id x.0;
+      dst = id x.1.0;
+      seq = x.1.1.0;
+      prio = x.1.1.1.0;
+      expiry = x.1.1.1.1.0;
+      mask = x.1.1.1.1.1.0;
+      payload = x.1.1.1.1.1.1.0;
+    })
+body_of Weight x = bodies.Weight (record { origin = id x.0; edge = record { 0 = x.1.0 }; seq = x.1.1.0; weight = x.1.1.1.0 })
+
+-- the row of an object
+abbrev pub form_of : Body → ObjectForm
+form_of (bodies.Rel r) = Rel
+form_of (bodies.Ack a) = Ack
+form_of (bodies.Prio p) = Prio
+form_of (bodies.Weight w) = Weight
+
+-- its values in that row
+abbrev pub values_of : (b : Body) → Values (cells (form_of b))
+values_of (bodies.Rel r) = (r.src.0, (r.dst.0, (r.seq, (r.payload, tt))))
+values_of (bodies.Ack a) = (a.src.0, (a.dst.0, (a.seq, tt)))
+values_of (bodies.Prio p) = (p.src.0, (p.dst.0, (p.seq, (p.prio, (p.expiry, (p.mask, (p.payload, tt)))))))
+values_of (bodies.Weight w) = (w.origin.0, (w.edge.0, (w.seq, (w.weight, tt))))

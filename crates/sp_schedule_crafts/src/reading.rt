@@ -1,0 +1,143 @@
+// Crafted objects, read: first the row of the table, then its values.
+ghost use Rattle.std.specs.Prelude.{◌≡◌, ◌∷◌, ◌&&◌, ◌==◌, Some, codes, find, map, option_map};
+ghost use Rattle.sp_base.specs.Refusals.{Gives};
+ghost use Rattle.sp_base.specs.declared.limits.TheConstants.{MAX_NODES};
+ghost use Rattle.sp_lines.specs.Answers.{Reads};
+ghost use Rattle.sp_lines.specs.Cells.{number_at, same};
+ghost use Rattle.sp_schedule_crafts.specs.Reading.{form_named, line_for, name};
+
+use crate::ObjectForm;
+use sp_base::{
+    EdgeId, MAX_EDGES, MAX_NODES, MAX_PAYLOAD_BYTES, MAX_PRIORITY, MAX_SEQ, MAX_WEIGHT, NodeId,
+};
+use sp_lines::{Fault, LineRefused, bytes, mask, named, ranged};
+use sp_msg::{Ack, Body, Prio, Rel, WeightBody};
+use std::alloc::Global;
+
+/// The greatest number of an edge.
+const LAST_EDGE: u64 = MAX_EDGES as u64 - 1;
+
+/// The name of each form, and how many words stand behind it.
+const OBJECTS: [(&[u8], usize, ObjectForm); 4] = [
+    (b"rel", 4, ObjectForm::Rel),
+    (b"ack", 3, ObjectForm::Ack),
+    (b"prio", 7, ObjectForm::Prio),
+    (b"weight", 4, ObjectForm::Weight),
+];
+
+/// The form with this name and so many words behind it.
+pub fn object_form(name: &[u8], count: usize) -> Option<ObjectForm>
+    ensures { result ≡ form_named name.now count }
+{
+    form_in(&OBJECTS, name, count)
+}
+
+/// The form of the first of these rows with this name and count.
+fn form_in(rows: &[(&[u8], usize, ObjectForm)], name: &[u8], count: usize) -> Option<ObjectForm>
+    ensures { result ≡ option_map (λ row. row.2) (find (λ row. same name.now row.0.now && (count == row.1)) rows.now) }
+{
+    let row = rows
+        .iter()
+        .find(|row| named(name, row.0) && count == row.1)?;
+    Some(row.2)
+}
+
+/// The object of this form with these words behind its name, or the first fault.
+pub fn read_object(alloc: Global, form: ObjectForm, fields: &[&[u8]]) -> Result<Body, LineRefused>
+    ensures { Reads result (line_for form (name form ∷ map (λ w. w.now) fields.now)) }
+{
+    match form {
+        ObjectForm::Rel => rel(alloc, fields),
+        ObjectForm::Ack => ack(fields),
+        ObjectForm::Prio => prio(alloc, fields),
+        ObjectForm::Weight => weight(fields),
+    }
+}
+
+/// `rel S D SEQ HEX`.
+#[tactic(auto, unfolding(crate::specs::Reading::read_form))]
+fn rel(alloc: Global, fields: &[&[u8]]) -> Result<Body, LineRefused>
+    ensures { Reads result (line_for ObjectForm.Rel (codes "rel" ∷ map (λ w. w.now) fields.now)) }
+{
+    let [src, dst, seq, payload] = fields else {
+        return Err(LineRefused::Bad(Fault::Form));
+    };
+    let src = any_id(src)?;
+    let dst = any_id(dst)?;
+    let seq = ranged(seq, 1, MAX_SEQ)?;
+    let payload = bytes(alloc, payload, 0, MAX_PAYLOAD_BYTES)?;
+    Ok(Body::Rel(Rel {
+        src,
+        dst,
+        seq,
+        payload,
+    }))
+}
+
+/// `ack S D SEQ`.
+#[tactic(auto, unfolding(crate::specs::Reading::read_form))]
+fn ack(fields: &[&[u8]]) -> Result<Body, LineRefused>
+    ensures { Reads result (line_for ObjectForm.Ack (codes "ack" ∷ map (λ w. w.now) fields.now)) }
+{
+    let [src, dst, seq] = fields else {
+        return Err(LineRefused::Bad(Fault::Form));
+    };
+    let src = any_id(src)?;
+    let dst = any_id(dst)?;
+    let seq = ranged(seq, 1, MAX_SEQ)?;
+    Ok(Body::Ack(Ack { src, dst, seq }))
+}
+
+/// `prio S D SEQ P EXPIRY MASK HEX`.
+#[tactic(auto, unfolding(crate::specs::Reading::read_form))]
+fn prio(alloc: Global, fields: &[&[u8]]) -> Result<Body, LineRefused>
+    ensures { Reads result (line_for ObjectForm.Prio (codes "prio" ∷ map (λ w. w.now) fields.now)) }
+{
+    let [src, dst, seq, prio, expiry, mask_word, payload] = fields else {
+        return Err(LineRefused::Bad(Fault::Form));
+    };
+    let src = any_id(src)?;
+    let dst = any_id(dst)?;
+    let seq = ranged(seq, 1, MAX_SEQ)?;
+    let prio = ranged(prio, 1, u64::from(MAX_PRIORITY))? as u8;
+    let expiry = ranged(expiry, 0, u64::MAX)?;
+    let mask = mask(alloc, mask_word)?;
+    let payload = bytes(alloc, payload, 0, MAX_PAYLOAD_BYTES)?;
+    Ok(Body::Prio(Prio {
+        src,
+        dst,
+        seq,
+        prio,
+        expiry,
+        mask,
+        payload,
+    }))
+}
+
+/// `weight O E SEQ W`.
+#[tactic(auto, unfolding(crate::specs::Reading::read_form))]
+fn weight(fields: &[&[u8]]) -> Result<Body, LineRefused>
+    ensures { Reads result (line_for ObjectForm.Weight (codes "weight" ∷ map (λ w. w.now) fields.now)) }
+{
+    let [origin, edge, seq, weight] = fields else {
+        return Err(LineRefused::Bad(Fault::Form));
+    };
+    let origin = any_id(origin)?;
+    let edge = ranged(edge, 0, LAST_EDGE)? as u16;
+    let seq = ranged(seq, 1, MAX_SEQ)?;
+    let weight = ranged(weight, 1, u64::from(MAX_WEIGHT))? as u32;
+    Ok(Body::Weight(WeightBody {
+        origin,
+        edge: EdgeId(edge),
+        seq,
+        weight,
+    }))
+}
+
+/// The id of a node, which the graph needn't have.
+fn any_id(word: &[u8]) -> Result<NodeId, Fault>
+    ensures { Gives (λ id. id.0) result (number_at 1 MAX_NODES word.now) }
+{
+    let n = ranged(word, 1, u64::from(MAX_NODES))?;
+    Ok(NodeId(n as u8))
+}
