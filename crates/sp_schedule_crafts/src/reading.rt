@@ -4,7 +4,7 @@ ghost use Rattle.sp_base.specs.Refusals.{Gives};
 ghost use Rattle.sp_base.specs.declared.limits.TheConstants.{MAX_NODES};
 ghost use Rattle.sp_lines.specs.Answers.{Reads};
 ghost use Rattle.sp_lines.specs.Cells.{number_at, same};
-ghost use Rattle.sp_schedule_crafts.specs.Objects.{form_named, line_for, name};
+ghost use Rattle.sp_schedule_crafts.specs.Reading.{form_named, line_for, name};
 
 use crate::ObjectForm;
 use sp_base::{
@@ -55,7 +55,7 @@ pub fn read_object(alloc: Global, form: ObjectForm, fields: &[&[u8]]) -> Result<
 }
 
 /// `rel S D SEQ HEX`.
-#[tactic(auto, unfolding(crate::specs::Objects::read_form))]
+#[tactic(auto, unfolding(crate::specs::Reading::read_form))]
 fn rel(alloc: Global, fields: &[&[u8]]) -> Result<Body, LineRefused>
     ensures { Reads result (line_for ObjectForm.Rel (codes "rel" ∷ map (λ w. w.now) fields.now)) }
 {
@@ -75,7 +75,7 @@ fn rel(alloc: Global, fields: &[&[u8]]) -> Result<Body, LineRefused>
 }
 
 /// `ack S D SEQ`.
-#[tactic(auto, unfolding(crate::specs::Objects::read_form))]
+#[tactic(auto, unfolding(crate::specs::Reading::read_form))]
 fn ack(fields: &[&[u8]]) -> Result<Body, LineRefused>
     ensures { Reads result (line_for ObjectForm.Ack (codes "ack" ∷ map (λ w. w.now) fields.now)) }
 {
@@ -89,7 +89,7 @@ fn ack(fields: &[&[u8]]) -> Result<Body, LineRefused>
 }
 
 /// `prio S D SEQ P EXPIRY MASK HEX`.
-#[tactic(auto, unfolding(crate::specs::Objects::read_form))]
+#[tactic(auto, unfolding(crate::specs::Reading::read_form))]
 fn prio(alloc: Global, fields: &[&[u8]]) -> Result<Body, LineRefused>
     ensures { Reads result (line_for ObjectForm.Prio (codes "prio" ∷ map (λ w. w.now) fields.now)) }
 {
@@ -115,7 +115,7 @@ fn prio(alloc: Global, fields: &[&[u8]]) -> Result<Body, LineRefused>
 }
 
 /// `weight O E SEQ W`.
-#[tactic(auto, unfolding(crate::specs::Objects::read_form))]
+#[tactic(auto, unfolding(crate::specs::Reading::read_form))]
 fn weight(fields: &[&[u8]]) -> Result<Body, LineRefused>
     ensures { Reads result (line_for ObjectForm.Weight (codes "weight" ∷ map (λ w. w.now) fields.now)) }
 {
