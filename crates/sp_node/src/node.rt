@@ -1,5 +1,5 @@
 // One node, and all that may be asked of it.
-ghost use Rattle.std.specs.Prelude.{◌≡◌, ◌≤◌, ◌+◌, IfErr, IfOk, IsOk, None as Nothing, length};
+ghost use Rattle.std.specs.Prelude.{◌≡◌, ◌≤◌, ◌<◌, ◌+◌, ◌^◌, IfErr, IfOk, IsOk, None as Nothing, length};
 ghost use Rattle.laws_node.specs.Nodes.{IsKept};
 ghost use Rattle.sp_base.specs.declared.limits.TheConstants.{MAX_PAYLOAD_BYTES, MAX_PRIORITY, MAX_WEIGHT};
 ghost use Rattle.sp_node_format.specs.Format.{format};
@@ -175,6 +175,7 @@ impl Node {
         ensures work { IsIdle self.old self.new }
     {
         self.state.recall();
+        recall_expiry(message);
         send_prio(&mut self.state, &mut self.book, alloc, message)
     }
 
@@ -295,4 +296,11 @@ fn checker_for(alloc: Global, state: &State) -> Result<Checker, NodeRefused>
         Ok(checker) => Ok(checker),
         Err(Memory) => Err(NodeRefused::Memory),
     }
+}
+
+/// For the prover alone, it does nothing when it runs: the expiry of a message is a number of 64 bits.
+fn recall_expiry(message: &PrioSend<'_>)
+    ensures { message.now.expiry < 2 ^ 64 }
+{
+    let _expiry = message.expiry;
 }

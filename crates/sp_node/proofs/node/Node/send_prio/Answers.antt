@@ -6,4 +6,4 @@ pub invariant_of-self : goal.invariant_of-self
 invariant_of-self c =
     life_by_prio c.self.inside.checker.nodes c.self.inside.state c.send_prio.new.state
     (as_send c.args.message.now)
-    c.send_prio.result (c.requires.prio.0, c.requires.prio.1, c.ranges.expiry.fits, c.requires.short) c.recall.ensures c.self.invariant c.send_prio.ensures
+    c.send_prio.result (c.requires.prio.0, c.requires.prio.1, c.recall_expiry.ensures, c.requires.short) c.recall.ensures c.self.invariant c.send_prio.ensures
