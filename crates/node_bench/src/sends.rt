@@ -5,6 +5,7 @@ use crate::writing::length_of;
 use sp_base::NodeId;
 use sp_msg::Effects;
 use sp_node::Node;
+use sp_rules::PrioSend;
 use std::alloc::Global;
 
 /// How many paths a message takes.
@@ -65,7 +66,14 @@ pub fn send_prios(alloc: Global, node: &mut Node, count: u32, sent: &mut Vec<Eff
 }
 
 fn send_prio(alloc: Global, node: &mut Node, to: NodeId, sent: &mut Vec<Effects>) -> bool {
-    match node.send_prio(alloc, to, 5, 100, PATHS, &PAYLOAD) {
+    let message = PrioSend {
+        dst: to,
+        prio: 5,
+        expiry: 100,
+        paths: PATHS,
+        payload: &PAYLOAD,
+    };
+    match node.send_prio(alloc, &message) {
         Ok(step) => sent.push(step.effects).is_ok(),
         Err(_) => false,
     }

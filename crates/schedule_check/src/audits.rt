@@ -8,7 +8,7 @@ use sp_base::{Listed, MAX_EVENTS, MAX_INPUT_BYTES, Memory};
 use sp_journal::Entry;
 use sp_journal_reading::JournalRefused;
 use sp_schedule::{Ending, Stage};
-use sp_schedule_events::{Event, Scenario};
+use sp_schedule_events::{Event, Scenario, Timeline};
 use std::alloc::Global;
 
 /// The last line of a schedule, with the end of the line before it.
@@ -35,13 +35,13 @@ fn parts(text: &[u8]) -> (&[u8], &[u8]) {
     }
 }
 
-fn schedule_of(alloc: Global, text: &[u8]) -> Result<Option<(Scenario, Vec<Event>)>, Memory> {
+fn schedule_of(alloc: Global, text: &[u8]) -> Result<Option<(Scenario, Timeline)>, Memory> {
     if text.len() > MAX_INPUT_BYTES {
         return Ok(None);
     }
     let reading = sp_schedule::read(alloc, text, false)?;
     match (reading.ending, reading.stage) {
-        (Ending::Whole, Stage::End(scenario, events)) => Ok(Some((scenario, events.into_events()))),
+        (Ending::Whole, Stage::End(scenario, events)) => Ok(Some((scenario, events))),
         _ => Ok(None),
     }
 }

@@ -12,10 +12,7 @@ pub fn checked(alloc: Global, text: &[u8]) -> Result<String, Memory> {
     let reading = read(alloc, kept, kept.len() < text.len())?;
     let mut line = String::new(alloc);
     match (reading.ending, reading.stage) {
-        (Ending::Whole, Stage::End(scenario, events)) => {
-            let events = events.into_events();
-            print(alloc, &scenario, events.as_slice())
-        }
+        (Ending::Whole, Stage::End(scenario, events)) => print(alloc, &scenario, events.as_slice()),
         (Ending::Refused { line: number, kind }, _) => {
             push_refused(&mut line, number, kind)?;
             Ok(line)

@@ -13,7 +13,7 @@ ghost use Rattle.sp_runs.specs.Settings.{is_correct};
 ghost use Rattle.sp_runs.specs.Told.{delivered_by, sent};
 
 use crate::correct::is_correct;
-use crate::lists::{acting, effects_of, numbers_of};
+use crate::lists::{effects_of, numbers_of};
 use crate::messages::{delivered_of, is_prefix, sent_of};
 use crate::once::are_once;
 use crate::share::is_share;
@@ -37,7 +37,7 @@ pub fn event_holds(
     ensures { IfOk result (λ holds. IsGood (setting_of scenario.now) (take place events.now) (take place journal.now)
         → (IsTrue holds ↔ IsGood (setting_of scenario.now) (take (place + 1) events.now) (take (place + 1) journal.now))) }
 {
-    let u = acting(&events[place]);
+    let u = events[place].acting();
     let caused = journal[place].effects.as_slice();
     if !any_asks(caused) {
         return Ok(true);

@@ -10,19 +10,6 @@ use sp_msg::Effect;
 use sp_schedule_events::Event;
 use std::alloc::Global;
 
-/// The node that acts.
-pub fn acting(event: &Event) -> NodeId
-    ensures { result ≡ acting event.now }
-{
-    match event {
-        Event::Rel { s, .. } | Event::Prio { s, .. } => *s,
-        Event::Take { d, .. } | Event::TakePrio { d } => *d,
-        Event::Tick { u, .. } | Event::Weight { u, .. } | Event::Poll { u, .. } => *u,
-        Event::Pass { v, .. } | Event::Flip { v, .. } | Event::Inject { v, .. } => *v,
-        Event::Craft { v, .. } | Event::CraftStatus { v, .. } => *v,
-    }
-}
-
 /// The effects at events of `u`, in their order.
 pub fn effects_of<'a>(
     alloc: Global,
@@ -50,7 +37,7 @@ fn push_at<'a>(
     ensures { OnOk result (map (λ e. e.now) effects.new.items
         ≡ map (λ e. e.now) effects.old.items ++ (if (acting event.now).0 == u.0 then entry.now.effects else [])) }
 {
-    if acting(event) == u {
+    if event.acting() == u {
         push_all(effects, entry.effects.as_slice())?;
     }
     Ok(())

@@ -5,12 +5,18 @@ use Rattle.sp_msg.specs.declared.body.Body.TheVariants as bodies
 use Rattle.sp_msg.specs.Bodies.{HasGoodFields}
 use Rattle.sp_rules.specs.declared.store.Entry.{Entry}
 use Rattle.sp_client.specs.declared.request.Command.{Command}
+use Rattle.sp_client.specs.declared.request.Command.TheVariants as commands
+use Rattle.sp_rules.specs.declared.sends.PrioSend as lent
 use Rattle.sp_client.specs.declared.answer.Answer.{Answer}
 use Rattle.sp_client.specs.declared.answer.Answer.TheVariants as answers
 use Rattle.sp_client.specs.Sessions.{Steps}
 use Rattle.sp_client.specs.declared.local.BadEnd.{BadEnd}
 use Rattle.sp_msg.specs.declared.refused.SendRefused.{SendRefused}
 use Rattle.sp_msg.specs.declared.refused.SendRefused.TheVariants as refusals
+
+-- the command that sends a priority message
+abbrev pub command_of : lent.PrioSend → Command
+command_of m = commands.SendPrio m.dst m.prio m.expiry m.paths m.payload.now
 
 -- ---- answers
 

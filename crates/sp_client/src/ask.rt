@@ -9,7 +9,7 @@ ghost use Rattle.sp_client.specs.Sessions.{is_local, sends};
 use crate::{Answer, BadEnd, Command, Local, SendRefused};
 use sp_base::{Bytes, Memory};
 use sp_msg::Body;
-use sp_rules::Entry;
+use sp_rules::{Entry, PrioSend};
 use std::alloc::Global;
 
 /// Has the local do a command, by one call. After `Memory` it is as before.
@@ -43,7 +43,16 @@ fn send<L: Local>(local: &mut L, alloc: Global, command: &Command) -> Result<Ans
             expiry,
             paths,
             payload,
-        } => sent(local.send_prio(alloc, *to, *prio, *expiry, *paths, payload.as_slice())),
+        } => {
+            let message = PrioSend {
+                dst: *to,
+                prio: *prio,
+                expiry: *expiry,
+                paths: *paths,
+                payload: payload.as_slice(),
+            };
+            sent(local.send_prio(alloc, &message))
+        }
         Command::Weight { peer, weight } => sent(local.set_weight(alloc, *peer, *weight)),
         _ => unreachable!(),
     }

@@ -5,11 +5,11 @@ ghost use Rattle.sp_client.specs.Requests.{IsCommand};
 ghost use Rattle.sp_client.specs.declared.request.Command.{Command};
 ghost use Rattle.sp_client.specs.declared.request.Command.TheVariants as commands;
 ghost use Rattle.sp_client.specs.declared.answer.Answer.{Answer};
-ghost use Rattle.sp_client.specs.Locals.{IsPrioEntry, StepsBy, may_refuse_prio, may_refuse_rel, may_refuse_weight, sent, took, took_prio};
+ghost use Rattle.sp_client.specs.Locals.{IsPrioEntry, StepsBy, command_of, may_refuse_prio, may_refuse_rel, may_refuse_weight, sent, took, took_prio};
 
 use sp_base::{Bytes, NodeId};
 use sp_msg::SendRefused;
-use sp_rules::Entry;
+use sp_rules::{Entry, PrioSend};
 use std::alloc::Global;
 use thiserror::Error;
 
@@ -30,17 +30,9 @@ pub trait Local {
         ensures own { IfErr result (λ e. may_refuse_rel e ≡ true) };
 
     /// Sends a priority message on so many paths, on all edges for 0, and gives its number.
-    fn send_prio(
-        &mut self,
-        alloc: Global,
-        dst: NodeId,
-        prio: u8,
-        expiry: u64,
-        paths: u8,
-        payload: &[u8],
-    ) -> Result<u64, SendRefused>
-        requires { IsCommand (commands.SendPrio dst prio expiry paths payload.now) }
-        ensures step { StepsBy steps self.old (commands.SendPrio dst prio expiry paths payload.now) (sent result) self.new }
+    fn send_prio(&mut self, alloc: Global, message: &PrioSend<'_>) -> Result<u64, SendRefused>
+        requires { IsCommand (command_of message.now) }
+        ensures step { StepsBy steps self.old (command_of message.now) (sent result) self.new }
         ensures own { IfErr result (λ e. may_refuse_prio e ≡ true) };
 
     /// Takes the oldest reliable message from a node. None exactly where none waits.

@@ -6,7 +6,7 @@ use sp_base::{Bytes, NodeId};
 use sp_client::{BadEnd, Local, SendRefused};
 use sp_msg::Effects;
 use sp_node::Node;
-use sp_rules::{Entry, Step};
+use sp_rules::{Entry, PrioSend, Step};
 use std::alloc::Global;
 
 /// A node, and what the last send of a client caused there: none where it was refused.
@@ -44,18 +44,8 @@ impl Local for LocalNode {
         keep(&mut self.effects, call)
     }
 
-    fn send_prio(
-        &mut self,
-        alloc: Global,
-        dst: NodeId,
-        prio: u8,
-        expiry: u64,
-        paths: u8,
-        payload: &[u8],
-    ) -> Result<u64, SendRefused> {
-        let call = self
-            .node
-            .send_prio(alloc, dst, prio, expiry, paths, payload);
+    fn send_prio(&mut self, alloc: Global, message: &PrioSend<'_>) -> Result<u64, SendRefused> {
+        let call = self.node.send_prio(alloc, message);
         keep(&mut self.effects, call)
     }
 

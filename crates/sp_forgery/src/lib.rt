@@ -15,5 +15,5 @@ mod tags;
 
 pub use hints::Hints;
 pub use judging::{Forgery, MAX_MESSAGE_BYTES, judge};
-pub use nodes::{acting, is_correct};
+pub use nodes::is_correct;
 pub use objects::Known;

@@ -1,27 +1,10 @@
-// Who acts, and who is correct.
+// Who is correct.
 ghost use Rattle.std.specs.Prelude.{◌≡◌};
-ghost use Rattle.sp_runs.specs.Inputs.{acting};
 ghost use Rattle.sp_runs.specs.Scenarios.{setting_of};
 ghost use Rattle.sp_runs.specs.Settings.{is_correct, is_node};
 
 use sp_base::NodeId;
-use sp_schedule_events::{Event, Scenario, is_bad};
-
-/// The node that acts at an event.
-pub fn acting(event: &Event) -> NodeId
-    ensures { result ≡ acting event.now }
-{
-    match event {
-        Event::Rel { s, .. } | Event::Prio { s, .. } => *s,
-        Event::Take { d, .. } | Event::TakePrio { d } => *d,
-        Event::Tick { u, .. } | Event::Weight { u, .. } | Event::Poll { u, .. } => *u,
-        Event::Pass { v, .. }
-        | Event::Flip { v, .. }
-        | Event::Inject { v, .. }
-        | Event::Craft { v, .. }
-        | Event::CraftStatus { v, .. } => *v,
-    }
-}
+use sp_schedule_events::{Scenario, is_bad};
 
 /// Whether the node is there and follows the rules.
 pub fn is_correct(scenario: &Scenario, u: NodeId) -> bool

@@ -5,7 +5,6 @@ ghost use Rattle.sp_runs.specs.Forgery.{is_among};
 ghost use Rattle.sp_runs.specs.Told.{signed, signed_by, told_at};
 
 use crate::hints::Hints;
-use crate::nodes::acting;
 use sp_base::NodeId;
 use sp_journal::Entry;
 use sp_msg::Effect;
@@ -69,7 +68,7 @@ fn signed_at(
 fn signs_in(event: &Event, entry: &Entry, node: NodeId, message: &[u8]) -> bool
     ensures { result ≡ is_among message.now (told_at node signed_by (event.now, entry.now)) }
 {
-    acting(event).0 == node.0 && signs_one(entry.effects.as_slice(), message)
+    event.acting().0 == node.0 && signs_one(entry.effects.as_slice(), message)
 }
 
 /// Whether one of these effects is that this message was signed.

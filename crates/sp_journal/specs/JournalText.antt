@@ -105,7 +105,8 @@ frame_count journal = length (filter is_frame journal)
 -- the words of a summary with these counts
 abbrev pub summary_of : ℕ → ℕ → ℕ → ℕ → ℕ → List Word
 summary_of events sent delivered priority frames =
-    codes "summary" ∷ codes "events" ∷ decimal events ∷ codes "sent" ∷ decimal sent ∷ codes "delivered" ∷ decimal delivered ∷ codes "priority" ∷ decimal priority ∷ codes "frames" ∷ decimal frames ∷ []
+    codes "summary" ∷ codes "events" ∷ decimal events ∷ codes "sent" ∷ decimal sent ∷ codes "delivered" ∷ decimal delivered
+    ∷ codes "priority" ∷ decimal priority ∷ codes "frames" ∷ decimal frames ∷ []
 
 abbrev pub summary_words : List Entry → List Word
 summary_words journal = summary_of (length journal) (sent_count journal) (delivered_count journal) (priority_count journal) (frame_count journal)

@@ -19,4 +19,5 @@ RepliesHaveOneLine = (words : List Word) (reply : Reply) → (read_reply words �
 -- words are read as the number and the reply of an entry exactly where they are these, and both are good
 abbrev pub EntriesHaveOneLine : Type 0
 EntriesHaveOneLine =
-    (words : List Word) (number : ℕ) (reply : Reply) → (read_entry words ≡ Ok (number, reply)) ↔ (((1 ≤ number) × (number ≤ MAX_ENTRIES) × IsGoodReply reply) × (words ≡ decimal number ∷ reply_words reply))
+    (words : List Word) (number : ℕ) (reply : Reply) → (read_entry words ≡ Ok (number, reply))
+    ↔ (((1 ≤ number) × (number ≤ MAX_ENTRIES) × IsGoodReply reply) × (words ≡ decimal number ∷ reply_words reply))

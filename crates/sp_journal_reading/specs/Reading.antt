@@ -6,7 +6,8 @@
 --               + and an effect         Entries, with one effect more of the last
 --               summary and counts      End
 --     End       none
-use Rattle.std.specs.Prelude.{ℕ, ◌≡◌, ◌<◌, ◌≤◌, ◌+◌, ◌^◌, ◌&&◌, ◌==◌, Bool, true, false, List, [], ◌∷◌, ◌++◌, All, length, Option, Some, None, Result, Ok, Err, codes, if◌then◌else◌}
+use Rattle.std.specs.Prelude.{ℕ, ◌≡◌, ◌<◌, ◌≤◌, ◌+◌, ◌^◌, ◌&&◌, ◌==◌, Bool, true, false, List, []}
+use Rattle.std.specs.Prelude.{◌∷◌, ◌++◌, All, length, Option, Some, None, Result, Ok, Err, codes, if◌then◌else◌}
 use Rattle.sp_base.specs.Refusals.{◌>>=◌}
 use Rattle.sp_text.specs.Spelling.{Word}
 use Rattle.sp_text.specs.declared.place.TextRefused.{TextRefused}
@@ -48,8 +49,8 @@ version_cells = Name (codes "journal") ∷ Name (codes "1") ∷ []
 
 abbrev pub summary_cells : List Cell
 summary_cells =
-    Name (codes "summary") ∷ Name (codes "events") ∷ any_number ∷ Name (codes "sent") ∷ any_number ∷ Name (codes "delivered") ∷ any_number ∷ Name (codes "priority") ∷ any_number
-    ∷ Name (codes "frames") ∷ any_number ∷ []
+    Name (codes "summary") ∷ Name (codes "events") ∷ any_number ∷ Name (codes "sent") ∷ any_number ∷ Name (codes "delivered") ∷ any_number
+    ∷ Name (codes "priority") ∷ any_number ∷ Name (codes "frames") ∷ any_number ∷ []
 
 -- the entries before the last, and the last one, where there is one
 abbrev pub closed : List Entry → Option Entry → List Entry
@@ -72,7 +73,8 @@ entry_more done pair = if pair.0 == length done + 1 then Ok (stages.Entries done
 -- the five counts of a summary are those of the journal
 abbrev pub are_counts : List Entry → Values summary_cells → Bool
 are_counts journal x =
-    (x.0 == length journal) && ((x.1.0 == sent_count journal) && ((x.1.1.0 == delivered_count journal) && ((x.1.1.1.0 == priority_count journal) && (x.1.1.1.1.0 == frame_count journal))))
+    (x.0 == length journal) && ((x.1.0 == sent_count journal) && ((x.1.1.0 == delivered_count journal)
+    && ((x.1.1.1.0 == priority_count journal) && (x.1.1.1.1.0 == frame_count journal))))
 
 -- the summary ends the journal
 unfoldable pub summary_more : List Entry → List Word → Result Stage Fault
@@ -80,7 +82,8 @@ summary_more journal words = line_of summary_cells words >>= λ x. if are_counts
 
 -- a line that isn't an effect, after these entries
 abbrev pub after_all : List Entry → Word → List Word → Result Stage Fault
-after_all journal name words = if same name (codes "summary") then summary_more journal (codes "summary" ∷ words) else (read_entry (name ∷ words) >>= entry_more journal)
+after_all journal name words =
+    if same name (codes "summary") then summary_more journal (codes "summary" ∷ words) else (read_entry (name ∷ words) >>= entry_more journal)
 
 -- what the words of a line say at a stage: where they lead, or what is wrong with them
 abbrev pub says : Stage → List Word → Result Stage Fault

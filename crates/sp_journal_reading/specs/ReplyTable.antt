@@ -10,7 +10,8 @@
 --
 --     weight:  new foreign low old badsig                  ack:  new badend old ahead badsig
 --     prio:    new badend expired seen badsig              rel:  new badend old ahead gap full inboxfull badsig
-use Rattle.std.specs.Prelude.{ℕ, ◌≡◌, ◌≤◌, ◌-◌, ◌^◌, nat_le, List, [], ◌∷◌, ◌++◌, All, find, length, map, Option, Some, None, Result, Ok, Err, codes, if◌then◌else◌}
+use Rattle.std.specs.Prelude.{ℕ, ◌≡◌, ◌≤◌, ◌-◌, ◌^◌, nat_le, List, [], ◌∷◌, ◌++◌, All}
+use Rattle.std.specs.Prelude.{find, length, map, Option, Some, None, Result, Ok, Err, codes, if◌then◌else◌}
 use Rattle.sp_base.specs.Refusals.{◌>>=◌}
 use Rattle.sp_text.specs.Spelling.{Word}
 use Rattle.sp_lines.specs.Cells.{Bytes, Cell, Name, Number, number_at, same}
@@ -95,7 +96,8 @@ cells (Section sections.Tail) = Name (codes "section") ∷ Name (codes "tail") �
 -- all forms
 abbrev pub forms : List Form
 forms =
-    Accepted ∷ Full ∷ Spent ∷ Expired ∷ NoPaths ∷ Payload ∷ PayloadPrio ∷ Empty ∷ Ticked ∷ TickSpent ∷ TickNotReserved ∷ Low ∷ Frame ∷ TooLong ∷ Short ∷ Magic ∷ Version ∷ NotForMe ∷ BadTag
+    Accepted ∷ Full ∷ Spent ∷ Expired ∷ NoPaths ∷ Payload ∷ PayloadPrio ∷ Empty ∷ Ticked ∷ TickSpent ∷ TickNotReserved
+    ∷ Low ∷ Frame ∷ TooLong ∷ Short ∷ Magic ∷ Version ∷ NotForMe ∷ BadTag
     ∷ Learned ∷ Stale ∷ Topology ∷ Section sections.Cut ∷ Section sections.Count ∷ Section sections.Object ∷ Section sections.Tail ∷ []
 
 -- ---- replies

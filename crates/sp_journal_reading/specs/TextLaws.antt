@@ -17,9 +17,11 @@ GoodJournalsAreRead = (journal : List Entry) → IsJournal journal → IsWhole (
 -- a text is read in one way: one journal, or one first bad line
 abbrev pub OneReading : Type 0
 OneReading =
-    (text : List ℕ) (a b : Result (List Entry) JournalRefused) → a ≢ Err refusals.Memory → b ≢ Err refusals.Memory → IsRead text a → IsRead text b → a ≡ b
+    (text : List ℕ) (a b : Result (List Entry) JournalRefused) → a ≢ Err refusals.Memory → b ≢ Err refusals.Memory → IsRead text a → IsRead text b
+    → a ≡ b
 
 -- where a text begins with that of a good journal, it begins with that of no other, whatever follows
 abbrev pub NoOtherBeginsThere : Type 0
 NoOtherBeginsThere =
-    (journal other : List Entry) (rest others : List ℕ) → IsJournal journal → IsJournal other → journal_text journal ++ rest ≡ journal_text other ++ others → journal ≡ other
+    (journal other : List Entry) (rest others : List ℕ) → IsJournal journal → IsJournal other
+    → journal_text journal ++ rest ≡ journal_text other ++ others → journal ≡ other

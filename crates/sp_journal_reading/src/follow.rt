@@ -3,10 +3,10 @@ ghost use Rattle.std.specs.Prelude.{◌≡◌, ◌++◌, ◌∷◌, [], IfOk, ma
 ghost use Rattle.sp_lines.specs.Answers.{Reads};
 ghost use Rattle.sp_journal_reading.specs.Reading.{closed, effect_more, entry_more, says};
 
+use crate::Stage;
 use crate::effect_line::read_effect;
 use crate::reply_line::read_entry;
 use crate::summary_line::summary;
-use crate::Stage;
 use sp_base::{Listed, Memory};
 use sp_journal::{Entry, Reply};
 use sp_lines::{Fault, LineRefused, named};

@@ -30,7 +30,8 @@ fn after_sent(
     sent: &[u8],
     fields: &[&[u8]],
 ) -> Result<Stage, LineRefused>
-    ensures { Reads result (summary_more journal (codes "summary" ∷ codes "events" ∷ events.now ∷ codes "sent" ∷ sent.now ∷ map (λ w. w.now) fields.now)) }
+    ensures { Reads result (summary_more journal (codes "summary" ∷ codes "events" ∷ events.now ∷ codes "sent" ∷ sent.now
+        ∷ map (λ w. w.now) fields.now)) }
 {
     let [a, delivered, b, priority, more @ ..] = fields else {
         return Err(LineRefused::Bad(Fault::Form));

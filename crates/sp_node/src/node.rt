@@ -1,5 +1,5 @@
 // One node, and all that may be asked of it.
-ghost use Rattle.std.specs.Prelude.{◌≡◌, ◌≤◌, ◌+◌, IfErr, IfOk, IsOk, None as Nothing, length};
+ghost use Rattle.std.specs.Prelude.{◌≡◌, ◌≤◌, ◌<◌, ◌+◌, ◌^◌, IfErr, IfOk, IsOk, None as Nothing, length};
 ghost use Rattle.laws_node.specs.Nodes.{IsKept};
 ghost use Rattle.sp_base.specs.declared.limits.TheConstants.{MAX_PAYLOAD_BYTES, MAX_PRIORITY, MAX_WEIGHT};
 ghost use Rattle.sp_node_format.specs.Format.{format};
@@ -7,7 +7,8 @@ ghost use Rattle.sp_paths.specs.declared.limits.TheConstants.{MAX_PATHS};
 ghost use Rattle.sp_rules.specs.Node.{extended, link_in};
 ghost use Rattle.sp_rules.specs.Prio.{expiring};
 ghost use Rattle.sp_rules.specs.Rel.{due, position_in};
-ghost use Rattle.sp_rules.specs.Sends.{PrioSend, prio_refusal, rel_refusal, weight_refusal};
+ghost use Rattle.sp_rules.specs.Messages.{as_send};
+ghost use Rattle.sp_rules.specs.Sends.{prio_refusal, rel_refusal, weight_refusal};
 ghost use Rattle.sp_rules.specs.Steps.{SendPrio, SendRel, SetWeight};
 ghost use Rattle.sp_rules.specs.Ticks.{time_after};
 ghost use Rattle.sp_node_state.specs.Boots.{IsBootable, booted_of};
@@ -25,7 +26,7 @@ use sp_base::{Bytes, Flow, Memory, NodeId};
 use sp_msg::SendRefused;
 use sp_node_state::{NodeConfig, State, send_prio, send_rel, set_weight};
 use sp_routes::PathBook;
-use sp_rules::{Entry, NodeRefused, Step, Taken, TickReply};
+use sp_rules::{Entry, NodeRefused, PrioSend, Step, Taken, TickReply};
 use sp_sign::{Checker, NodeSigner};
 use std::alloc::Global;
 use std::marker::Model;
@@ -165,29 +166,17 @@ impl Node {
     pub fn send_prio(
         &mut self,
         alloc: Global,
-        dst: NodeId,
-        prio: u8,
-        expiry: u64,
-        paths: u8,
-        payload: &[u8],
+        message: &PrioSend<'_>,
     ) -> Result<Step<u64>, SendRefused>
-        requires prio { (1 ≤ prio) × (prio ≤ MAX_PRIORITY) }
-        requires few { paths ≤ MAX_PATHS }
-        requires short { length payload.now ≤ MAX_PAYLOAD_BYTES }
-        ensures step {
-            let m : PrioSend = record { dst = dst; prio = prio; expiry = expiry; paths = paths; payload = payload.now } in
-            Sends (SendPrio m) (prio_refusal self.old.state m) self.old.state result self.new.state }
+        requires prio { (1 ≤ message.now.prio) × (message.now.prio ≤ MAX_PRIORITY) }
+        requires few { message.now.paths ≤ MAX_PATHS }
+        requires short { length message.now.payload.now ≤ MAX_PAYLOAD_BYTES }
+        ensures step { Sends (SendPrio (as_send message.now)) (prio_refusal self.old.state (as_send message.now)) self.old.state result self.new.state }
         ensures work { IsIdle self.old self.new }
     {
         self.state.recall();
-        let message = sp_node_state::PrioSend {
-            dst,
-            prio,
-            expiry,
-            paths,
-            payload,
-        };
-        send_prio(&mut self.state, &mut self.book, alloc, &message)
+        recall_expiry(message);
+        send_prio(&mut self.state, &mut self.book, alloc, message)
     }
 
     /// Signs what this node says of the weight of its link to a neighbour. Gives the number of the update.
@@ -307,4 +296,11 @@ fn checker_for(alloc: Global, state: &State) -> Result<Checker, NodeRefused>
         Ok(checker) => Ok(checker),
         Err(Memory) => Err(NodeRefused::Memory),
     }
+}
+
+/// For the prover alone, it does nothing when it runs: the expiry of a message is a number of 64 bits.
+fn recall_expiry(message: &PrioSend<'_>)
+    ensures { message.now.expiry < 2 ^ 64 }
+{
+    let _expiry = message.expiry;
 }

@@ -1,7 +1,6 @@
 pub mod Boots
 pub mod States
 -- ---- what a client sends
-pub mod Messages
 pub mod Sends
 -- ---- what the calls of a node use of each other's proofs
 pub mod ReadyStates

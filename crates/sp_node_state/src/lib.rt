@@ -10,7 +10,7 @@ mod state;
 mod weight;
 
 pub use boot::{NodeConfig, can_boot};
-pub use priority::{PrioSend, send_prio};
+pub use priority::send_prio;
 pub use reliable::send_rel;
 pub use state::State;
 pub use weight::set_weight;

@@ -7,7 +7,7 @@ ghost use Rattle.sp_node_format.specs.Format.{format};
 ghost use Rattle.sp_routes.specs.Fewer.{SaysFewer};
 ghost use Rattle.sp_msg.specs.Bodies.{HasGoodFields};
 ghost use Rattle.sp_node_state.specs.Sends.{Sends};
-ghost use Rattle.sp_node_state.specs.Messages.{as_send};
+ghost use Rattle.sp_rules.specs.Messages.{as_send};
 ghost use Rattle.sp_node_state.specs.ReadySends.{IsMaskFor, IsReadyPrio};
 ghost use Rattle.sp_paths.specs.declared.limits.TheConstants.{MAX_PATHS};
 ghost use Rattle.sp_prio.specs.Spare.{IsSpareFor};
@@ -22,24 +22,14 @@ ghost use Rattle.sp_rules.specs.Weights.{effective};
 ghost use Rattle.sp_topology.specs.Ranges.{IsTopology};
 
 use crate::State;
-use sp_base::{Bytes, Memory, NodeId};
+use sp_base::{Bytes, Memory};
 use sp_msg::{Body, Effect, Effects, Kept, Mask, Prio, SendRefused};
 use sp_node_parts::{Fixed, Parts};
 use sp_prio::Spare;
 use sp_routes::{NoMask, PathBook, mask_to};
-use sp_rules::Step;
+use sp_rules::{PrioSend, Step};
 use sp_sign::Blank;
 use std::alloc::Global;
-
-/// A priority message of a client: to whom, how urgent, until when, and over how many paths that share no node, where 0 means all edges.
-#[derive(Clone, Copy, Debug)]
-pub struct PrioSend<'a> {
-    pub dst: NodeId,
-    pub prio: u8,
-    pub expiry: u64,
-    pub paths: u8,
-    pub payload: &'a [u8],
-}
 
 /// All that a priority message needs: itself, a copy for each further place that it goes into, and room for what it causes.
 #[derive(Drop)]

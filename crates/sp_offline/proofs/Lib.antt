@@ -1,2 +1,3 @@
 pub mod GoodDrafts
 pub mod DraftKeys
+pub mod KnownEnds

@@ -32,6 +32,7 @@ pub record IsFound (q : Query) (text out : List ℕ) : Type 0 where
 pub record IsFewer (q : Query) (text out : List ℕ) : Type 0 where
   pub graph : Graph
   pub says : SaysGraph text graph
+  pub ends : IsNode graph q.from × IsNode graph q.to
   pub found : ℕ
   pub cut : List Part
   pub few : AreFewer graph q.from q.to q.paths found cut

@@ -48,6 +48,7 @@ pub fn cheapest_paths(
 }
 
 /// The answer to a query over a graph, of which this is the text.
+#[tactic(auto, using(crate::proofs::KnownEnds::known_ends))]
 fn of_graph(
     alloc: Global,
     query: &Query,

@@ -16,6 +16,7 @@ pub mod Arrivals
 pub mod Arts
 pub mod Handle
 pub mod Masks
+pub mod Messages
 pub mod Node
 pub mod Parts
 pub mod Pieces

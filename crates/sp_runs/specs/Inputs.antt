@@ -14,23 +14,9 @@ use Rattle.sp_rules.specs.Node.{NodeState, link_in}
 use Rattle.sp_rules.specs.Steps.{Input, Poll, Datagram, Tick, SendRel, SendPrio, SetWeight, TakeRel, TakePrio}
 use Rattle.sp_runs.specs.Settings.{Setting}
 use Rattle.sp_runs.specs.Worlds.{World, frame_in}
+pub use Rattle.sp_schedule_events.specs.Acting.{acting}
 use Rattle.sp_schedule_events.specs.declared.event.Event.{Event}
 use Rattle.sp_schedule_events.specs.declared.event.Event.TheVariants as events
-
--- the node that acts
-abbrev pub acting : Event → NodeId
-acting (events.Rel s d payload) = s
-acting (events.Prio s d prio expiry paths payload) = s
-acting (events.Take d s) = d
-acting (events.TakePrio d) = d
-acting (events.Tick u now) = u
-acting (events.Weight u v weight) = u
-acting (events.Poll u v) = u
-acting (events.Pass u v number) = v
-acting (events.Flip u v number back bit) = v
-acting (events.Inject u v bytes) = v
-acting (events.Craft c v key body) = v
-acting (events.CraftStatus c v s d base have) = v
 
 -- ---- a frame on its way is changed in one bit
 

@@ -16,7 +16,7 @@ four P (x0 ∷ x1 ∷ x2 ∷ x3 ∷ y ∷ more) d low high p = absurd (omega ari
 -- what seven words say stands at the seven places
 pub seven : (P : List (List ℕ) → Type 0) (words : List (Bor (List ℕ))) (d : Bor (List ℕ)) → 7 ≤ length words → length words < 8
     → P ((slice_index_or words 0 d).now ∷ (slice_index_or words 1 d).now ∷ (slice_index_or words 2 d).now ∷ (slice_index_or words 3 d).now
-      ∷ (slice_index_or words 4 d).now ∷ (slice_index_or words 5 d).now ∷ (slice_index_or words 6 d).now ∷ [])
+    ∷ (slice_index_or words 4 d).now ∷ (slice_index_or words 5 d).now ∷ (slice_index_or words 6 d).now ∷ [])
     → P (map (λ w. w.now) words)
 seven P (x0 ∷ x1 ∷ x2 ∷ x3 ∷ x4 ∷ x5 ∷ x6 ∷ []) d low high p = p
 seven P [] d low high p = absurd (omega arith)

@@ -6,17 +6,13 @@
 --     weight O E SEQ W
 --
 -- What an object says is in the ranges of its format alone: the graph needn't have its nodes and edges.
-use Rattle.std.specs.Prelude.{ℕ, ◌-◌, ◌^◌, ◌==◌, ◌&&◌, Bool, List, [], ◌∷◌, find, length, Option, Result, Ok, Err, codes, if◌then◌else◌}
-use Rattle.sp_base.specs.Refusals.{◌>>=◌}
+use Rattle.std.specs.Prelude.{ℕ, ◌-◌, ◌^◌, List, [], ◌∷◌, codes}
 use Rattle.sp_base.specs.declared.id.NodeId.{NodeId}
 use Rattle.sp_base.specs.declared.limits.TheConstants.{MAX_EDGES, MAX_NODES, MAX_PAYLOAD_BYTES, MAX_PRIORITY, MAX_SEQ, MAX_WEIGHT}
 use Rattle.sp_msg.specs.declared.body.Body.{Body}
 use Rattle.sp_msg.specs.declared.body.Body.TheVariants as bodies
-use Rattle.sp_text.specs.Spelling.{Word}
-use Rattle.sp_lines.specs.Cells.{Bytes, Cell, Mask, Name, Number, same}
-use Rattle.sp_lines.specs.Rows.{Values, fits, row_at}
-use Rattle.sp_lines.specs.declared.fault.Fault.{Fault}
-use Rattle.sp_lines.specs.declared.fault.Fault.TheVariants as faults
+use Rattle.sp_lines.specs.Cells.{Bytes, Cell, Mask, Name, Number}
+use Rattle.sp_lines.specs.Rows.{Values}
 use Rattle.sp_schedule_crafts.specs.declared.form.ObjectForm.{ObjectForm}
 use Rattle.sp_schedule_crafts.specs.declared.form.ObjectForm.TheVariants.{Rel, Ack, Prio, Weight}
 
@@ -82,27 +78,3 @@ values_of (bodies.Rel r) = (r.src.0, (r.dst.0, (r.seq, (r.payload, tt))))
 values_of (bodies.Ack a) = (a.src.0, (a.dst.0, (a.seq, tt)))
 values_of (bodies.Prio p) = (p.src.0, (p.dst.0, (p.seq, (p.prio, (p.expiry, (p.mask, (p.payload, tt)))))))
 values_of (bodies.Weight w) = (w.origin.0, (w.edge.0, (w.seq, (w.weight, tt))))
-
--- ---- reading
-
--- the name of a form, and how many words stand behind it
-abbrev pub name : ObjectForm → Word
-name Rel = codes "rel"
-name Ack = codes "ack"
-name Prio = codes "prio"
-name Weight = codes "weight"
-
-abbrev pub count : ObjectForm → ℕ
-count form = length (cells form) - 1
-
--- the form with this name and so many words behind it
-abbrev pub form_named : Word → ℕ → Option ObjectForm
-form_named word words = find (λ form. same word (name form) && (words == count form)) forms
-
--- the object of words that fit the row of a form
-unfoldable pub read_form : ObjectForm → List Word → Result Body Fault
-read_form form words = row_at (cells form) words >>= λ xs. Ok (body_of form xs)
-
--- the same of any words, which are refused where they don't fit
-abbrev pub line_for : ObjectForm → List Word → Result Body Fault
-line_for form words = if fits (cells form) words then read_form form words else Err faults.Form

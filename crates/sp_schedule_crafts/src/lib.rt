@@ -3,7 +3,6 @@
 
 mod copying;
 mod form;
-
 mod reading;
 mod writing;
 

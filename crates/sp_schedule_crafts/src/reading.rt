@@ -4,10 +4,12 @@ ghost use Rattle.sp_base.specs.Refusals.{Gives};
 ghost use Rattle.sp_base.specs.declared.limits.TheConstants.{MAX_NODES};
 ghost use Rattle.sp_lines.specs.Answers.{Reads};
 ghost use Rattle.sp_lines.specs.Cells.{number_at, same};
-ghost use Rattle.sp_schedule_crafts.specs.Objects.{form_named, line_for, name};
+ghost use Rattle.sp_schedule_crafts.specs.Reading.{form_named, line_for, name};
 
 use crate::ObjectForm;
-use sp_base::{EdgeId, MAX_EDGES, MAX_NODES, MAX_PAYLOAD_BYTES, MAX_PRIORITY, MAX_SEQ, MAX_WEIGHT, NodeId};
+use sp_base::{
+    EdgeId, MAX_EDGES, MAX_NODES, MAX_PAYLOAD_BYTES, MAX_PRIORITY, MAX_SEQ, MAX_WEIGHT, NodeId,
+};
 use sp_lines::{Fault, LineRefused, bytes, mask, named, ranged};
 use sp_msg::{Ack, Body, Prio, Rel, WeightBody};
 use std::alloc::Global;
@@ -41,11 +43,7 @@ fn form_in(rows: &[(&[u8], usize, ObjectForm)], name: &[u8], count: usize) -> Op
 }
 
 /// The object of this form with these words behind its name, or the first fault.
-pub fn read_object(
-    alloc: Global,
-    form: ObjectForm,
-    fields: &[&[u8]],
-) -> Result<Body, LineRefused>
+pub fn read_object(alloc: Global, form: ObjectForm, fields: &[&[u8]]) -> Result<Body, LineRefused>
     ensures { Reads result (line_for form (name form ∷ map (λ w. w.now) fields.now)) }
 {
     match form {
@@ -57,7 +55,7 @@ pub fn read_object(
 }
 
 /// `rel S D SEQ HEX`.
-#[tactic(auto, unfolding(crate::specs::Objects::read_form))]
+#[tactic(auto, unfolding(crate::specs::Reading::read_form))]
 fn rel(alloc: Global, fields: &[&[u8]]) -> Result<Body, LineRefused>
     ensures { Reads result (line_for ObjectForm.Rel (codes "rel" ∷ map (λ w. w.now) fields.now)) }
 {
@@ -77,7 +75,7 @@ fn rel(alloc: Global, fields: &[&[u8]]) -> Result<Body, LineRefused>
 }
 
 /// `ack S D SEQ`.
-#[tactic(auto, unfolding(crate::specs::Objects::read_form))]
+#[tactic(auto, unfolding(crate::specs::Reading::read_form))]
 fn ack(fields: &[&[u8]]) -> Result<Body, LineRefused>
     ensures { Reads result (line_for ObjectForm.Ack (codes "ack" ∷ map (λ w. w.now) fields.now)) }
 {
@@ -91,7 +89,7 @@ fn ack(fields: &[&[u8]]) -> Result<Body, LineRefused>
 }
 
 /// `prio S D SEQ P EXPIRY MASK HEX`.
-#[tactic(auto, unfolding(crate::specs::Objects::read_form))]
+#[tactic(auto, unfolding(crate::specs::Reading::read_form))]
 fn prio(alloc: Global, fields: &[&[u8]]) -> Result<Body, LineRefused>
     ensures { Reads result (line_for ObjectForm.Prio (codes "prio" ∷ map (λ w. w.now) fields.now)) }
 {
@@ -117,7 +115,7 @@ fn prio(alloc: Global, fields: &[&[u8]]) -> Result<Body, LineRefused>
 }
 
 /// `weight O E SEQ W`.
-#[tactic(auto, unfolding(crate::specs::Objects::read_form))]
+#[tactic(auto, unfolding(crate::specs::Reading::read_form))]
 fn weight(fields: &[&[u8]]) -> Result<Body, LineRefused>
     ensures { Reads result (line_for ObjectForm.Weight (codes "weight" ∷ map (λ w. w.now) fields.now)) }
 {

@@ -19,6 +19,7 @@ use Rattle.sp_lines.proofs.RowLemmas.{fit_parts, row_back, row_read}
 use Rattle.sp_lines.proofs.TextLemmas.{IsGoodLine}
 use Rattle.sp_lines.proofs.WidthLemmas.{good_row_line, good_row_room}
 use Rattle.sp_lines.proofs.Words.{same_words}
+use Rattle.sp_schedule_crafts.specs.declared.form.ObjectForm.TheVariants as objects
 use Rattle.sp_schedule_events.specs.Events.{event_of, event_words, form_of, is_joined, values_of}
 use Rattle.sp_schedule_events.specs.EventLines.{InRange, form_for, if_joined, read_event, read_for, read_form}
 use Rattle.sp_schedule_events.specs.Laws.{EventsHaveOneLine}
@@ -65,10 +66,10 @@ of_form s forms.Pass xs = record { words = refl; ranges = λ are. are }
 of_form s forms.Flip xs = record { words = refl; ranges = λ are. are }
 of_form s forms.Inject xs = record { words = refl; ranges = λ are. are }
 of_form s forms.CraftStatus xs = record { words = refl; ranges = λ are. are }
-of_form s forms.CraftRel xs = record { words = refl; ranges = λ are. are }
-of_form s forms.CraftAck xs = record { words = refl; ranges = λ are. are }
-of_form s forms.CraftPrio xs = record { words = refl; ranges = λ are. are }
-of_form s forms.CraftWeight xs = record { words = refl; ranges = λ are. are }
+of_form s (forms.Craft objects.Rel) xs = record { words = refl; ranges = λ are. are }
+of_form s (forms.Craft objects.Ack) xs = record { words = refl; ranges = λ are. are }
+of_form s (forms.Craft objects.Prio) xs = record { words = refl; ranges = λ are. are }
+of_form s (forms.Craft objects.Weight) xs = record { words = refl; ranges = λ are. are }
 
 -- ---- the row that an event's words fit
 
@@ -134,10 +135,10 @@ good_form s form few = go form
     go forms.Flip = rw room refl
     go forms.Inject = rw room refl
     go forms.CraftStatus = rw room refl
-    go forms.CraftRel = rw room refl
-    go forms.CraftAck = rw room refl
-    go forms.CraftPrio = rw room refl
-    go forms.CraftWeight = rw room refl
+    go (forms.Craft objects.Rel) = rw room refl
+    go (forms.Craft objects.Ack) = rw room refl
+    go (forms.Craft objects.Prio) = rw room refl
+    go (forms.Craft objects.Weight) = rw room refl
 
 -- the line of an event in its ranges can be read
 pub good_event_line : (s : Scenario) (es : List Event) (e : Event) → s.graph.nodes ≤ MAX_NODES → InRange s es e → IsGoodLine (event_words s e)

@@ -1,4 +1,5 @@
 pub mod CountLemmas
+pub mod NameLemmas
+pub mod CraftLemmas
 pub mod EventLemmas
-pub mod WordLists
 pub mod WrittenLemmas

@@ -1,19 +1,15 @@
 -- The event of a row's values, and the values of an event.
 use Rattle.std.specs.Prelude.{ℕ, ◌==◌, ◌&&◌, nat_le, Bool, true, false, List, length, filter}
-use Rattle.sp_base.specs.declared.id.NodeId.{NodeId}
-use Rattle.sp_msg.specs.declared.body.Body.TheVariants as bodies
 use Rattle.sp_text.specs.Spelling.{Word}
 use Rattle.sp_lines.specs.Rows.{Values, spelled}
+use Rattle.sp_schedule_crafts.specs.Objects as objects
+use Rattle.sp_schedule_crafts.specs.Objects.{id}
 use Rattle.sp_schedule_events.specs.Scenarios.{are_joined, differ}
 use Rattle.sp_schedule_events.specs.Table as forms
 use Rattle.sp_schedule_events.specs.Table.{Form, cells}
 use Rattle.sp_schedule_events.specs.declared.scenario.Scenario.{Scenario}
 use Rattle.sp_schedule_events.specs.declared.event.Event.{Event}
 use Rattle.sp_schedule_events.specs.declared.event.Event.TheVariants as events
-
--- the node of this number
-abbrev pub id : ℕ → NodeId
-id n = record { 0 = n }
 
 -- the event of a row with these values
 abbrev pub event_of : (s : Scenario) (form : Form) → Values (cells s form) → Event
@@ -28,22 +24,7 @@ event_of s forms.Pass x = events.Pass (id x.0) (id x.1.0) x.1.1.0
 event_of s forms.Flip x = events.Flip (id x.0) (id x.1.0) x.1.1.0 x.1.1.1.0 x.1.1.1.1.0
 event_of s forms.Inject x = events.Inject (id x.0) (id x.1.0) x.1.1.0
 event_of s forms.CraftStatus x = events.CraftStatus (id x.0) (id x.1.0) (id x.1.1.0) (id x.1.1.1.0) x.1.1.1.1.0 x.1.1.1.1.1.0
-event_of s forms.CraftRel x =
-    events.Craft (id x.0) (id x.1.0) (id x.1.1.0) (bodies.Rel (record { src = id x.1.1.1.0; dst = id x.1.1.1.1.0; seq = x.1.1.1.1.1.0; payload = x.1.1.1.1.1.1.0 }))
-event_of s forms.CraftAck x = events.Craft (id x.0) (id x.1.0) (id x.1.1.0) (bodies.Ack (record { src = id x.1.1.1.0; dst = id x.1.1.1.1.0; seq = x.1.1.1.1.1.0 }))
-event_of s forms.CraftPrio x =
-    events.Craft (id x.0) (id x.1.0) (id x.1.1.0) (bodies.Prio (record {
-      src = id x.1.1.1.0;
-      dst = id x.1.1.1.1.0;
-      seq = x.1.1.1.1.1.0;
-      prio = x.1.1.1.1.1.1.0;
-      expiry = x.1.1.1.1.1.1.1.0;
-      mask = x.1.1.1.1.1.1.1.1.0;
-      payload = x.1.1.1.1.1.1.1.1.1.0;
-    }))
-event_of s forms.CraftWeight x =
-    events.Craft (id x.0) (id x.1.0) (id x.1.1.0)
-    (bodies.Weight (record { origin = id x.1.1.1.0; edge = record { 0 = x.1.1.1.1.0 }; seq = x.1.1.1.1.1.0; weight = x.1.1.1.1.1.1.0 }))
+event_of s (forms.Craft object) x = events.Craft (id x.0) (id x.1.0) (id x.1.1.0) (objects.body_of object x.1.1.1)
 
 -- the row of an event
 abbrev pub form_of : Event → Form
@@ -58,10 +39,7 @@ form_of (events.Pass u v n) = forms.Pass
 form_of (events.Flip u v n back bit) = forms.Flip
 form_of (events.Inject u v bytes) = forms.Inject
 form_of (events.CraftStatus c v s d base have) = forms.CraftStatus
-form_of (events.Craft c v key (bodies.Rel r)) = forms.CraftRel
-form_of (events.Craft c v key (bodies.Ack a)) = forms.CraftAck
-form_of (events.Craft c v key (bodies.Prio p)) = forms.CraftPrio
-form_of (events.Craft c v key (bodies.Weight w)) = forms.CraftWeight
+form_of (events.Craft c v key body) = forms.Craft (objects.form_of body)
 
 -- its values in that row
 abbrev pub values_of : (s : Scenario) (e : Event) → Values (cells s (form_of e))
@@ -76,11 +54,7 @@ values_of z (events.Pass u v n) = (u.0, (v.0, (n, tt)))
 values_of z (events.Flip u v n back bit) = (u.0, (v.0, (n, (back, (bit, tt)))))
 values_of z (events.Inject u v bytes) = (u.0, (v.0, (bytes, tt)))
 values_of z (events.CraftStatus c v s d base have) = (c.0, (v.0, (s.0, (d.0, (base, (have, tt))))))
-values_of z (events.Craft c v key (bodies.Rel r)) = (c.0, (v.0, (key.0, (r.src.0, (r.dst.0, (r.seq, (r.payload, tt)))))))
-values_of z (events.Craft c v key (bodies.Ack a)) = (c.0, (v.0, (key.0, (a.src.0, (a.dst.0, (a.seq, tt))))))
-values_of z (events.Craft c v key (bodies.Prio p)) =
-    (c.0, (v.0, (key.0, (p.src.0, (p.dst.0, (p.seq, (p.prio, (p.expiry, (p.mask, (p.payload, tt))))))))))
-values_of z (events.Craft c v key (bodies.Weight w)) = (c.0, (v.0, (key.0, (w.origin.0, (w.edge.0, (w.seq, (w.weight, tt)))))))
+values_of z (events.Craft c v key body) = (c.0, (v.0, (key.0, objects.values_of body)))
 
 -- the words of an event. They are the same in each scenario
 abbrev pub event_words : Scenario → Event → List Word

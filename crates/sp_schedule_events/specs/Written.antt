@@ -2,20 +2,10 @@
 use Rattle.std.specs.Prelude.{ℕ, List, [], ◌∷◌, ◌++◌, codes}
 use Rattle.std.specs.Fmt.{decimal}
 use Rattle.sp_base.specs.declared.id.NodeId.{NodeId}
-use Rattle.sp_msg.specs.declared.body.Body.{Body}
-use Rattle.sp_msg.specs.declared.body.Body.TheVariants as bodies
 use Rattle.sp_text.specs.Spelling.{Word, hex_word}
-use Rattle.sp_lines.specs.Cells.{mask_word}
+use Rattle.sp_schedule_crafts.specs.Written.{object_words}
 use Rattle.sp_schedule_events.specs.declared.event.Event.{Event}
 use Rattle.sp_schedule_events.specs.declared.event.Event.TheVariants as events
-
--- the words of a crafted message
-abbrev pub body_words : Body → List Word
-body_words (bodies.Rel r) = codes "rel" ∷ decimal r.src.0 ∷ decimal r.dst.0 ∷ decimal r.seq ∷ hex_word r.payload ∷ []
-body_words (bodies.Ack a) = codes "ack" ∷ decimal a.src.0 ∷ decimal a.dst.0 ∷ decimal a.seq ∷ []
-body_words (bodies.Prio p) =
-    codes "prio" ∷ decimal p.src.0 ∷ decimal p.dst.0 ∷ decimal p.seq ∷ decimal p.prio ∷ decimal p.expiry ∷ mask_word p.mask ∷ hex_word p.payload ∷ []
-body_words (bodies.Weight w) = codes "weight" ∷ decimal w.origin.0 ∷ decimal w.edge.0 ∷ decimal w.seq ∷ decimal w.weight ∷ []
 
 -- two nodes
 abbrev pub pair_words : NodeId → NodeId → List Word
@@ -64,7 +54,7 @@ back_words (events.Pass u v n) = decimal n ∷ []
 back_words (events.Flip u v n back bit) = decimal n ∷ decimal back ∷ decimal bit ∷ []
 back_words (events.Inject u v bytes) = hex_word bytes ∷ []
 back_words (events.CraftStatus c v s d base have) = codes "status" ∷ decimal s.0 ∷ decimal d.0 ∷ decimal base ∷ decimal have ∷ []
-back_words (events.Craft c v key body) = decimal key.0 ∷ body_words body
+back_words (events.Craft c v key body) = decimal key.0 ∷ object_words body
 
 -- all words of an event
 abbrev pub words_of : Event → List Word

@@ -1,6 +1,4 @@
 // What happens in a run, one event after the other.
-ghost use Rattle.std.specs.Prelude.{◌≡◌, IfOk};
-
 use sp_base::{Bytes, NodeId};
 use sp_msg::Body;
 

@@ -1,9 +1,10 @@
-// A copy of an event.
+// A copy of an event, by the kinds of events.
 ghost use Rattle.std.specs.Prelude.{◌≡◌, IfOk};
+ghost use Rattle.sp_schedule_events.specs.Kinds.{IsAsked, IsCraft, IsOfFrame};
 
 use crate::Event;
 use sp_base::{Bytes, Memory};
-use sp_msg::{Body, Prio, Rel};
+use sp_schedule_crafts::copy_body;
 use std::alloc::Global;
 
 impl Event {
@@ -12,104 +13,119 @@ impl Event {
         ensures { IfOk result (λ copied. copied ≡ self.now) }
     {
         match self {
-            Event::Rel { s, d, payload } => Ok(Event::Rel {
-                s: *s,
-                d: *d,
-                payload: Bytes::copy(alloc, payload.as_slice())?,
-            }),
-            Event::Prio {
-                s,
-                d,
-                prio,
-                expiry,
-                paths,
-                payload,
-            } => Ok(Event::Prio {
-                s: *s,
-                d: *d,
-                prio: *prio,
-                expiry: *expiry,
-                paths: *paths,
-                payload: Bytes::copy(alloc, payload.as_slice())?,
-            }),
-            Event::Inject { u, v, bytes } => Ok(Event::Inject {
-                u: *u,
-                v: *v,
-                bytes: Bytes::copy(alloc, bytes.as_slice())?,
-            }),
-            Event::Craft { c, v, key, body } => Ok(Event::Craft {
-                c: *c,
-                v: *v,
-                key: *key,
-                body: copy_body(alloc, body)?,
-            }),
-            Event::Take { d, s } => Ok(Event::Take { d: *d, s: *s }),
-            Event::TakePrio { d } => Ok(Event::TakePrio { d: *d }),
-            Event::Tick { u, now } => Ok(Event::Tick { u: *u, now: *now }),
-            Event::Weight { u, v, weight } => Ok(Event::Weight {
-                u: *u,
-                v: *v,
-                weight: *weight,
-            }),
-            Event::Poll { u, v } => Ok(Event::Poll { u: *u, v: *v }),
-            Event::Pass { u, v, number } => Ok(Event::Pass {
-                u: *u,
-                v: *v,
-                number: *number,
-            }),
-            Event::Flip {
-                u,
-                v,
-                number,
-                back,
-                bit,
-            } => Ok(Event::Flip {
-                u: *u,
-                v: *v,
-                number: *number,
-                back: *back,
-                bit: *bit,
-            }),
-            Event::CraftStatus {
-                c,
-                v,
-                s,
-                d,
-                base,
-                have,
-            } => Ok(Event::CraftStatus {
-                c: *c,
-                v: *v,
-                s: *s,
-                d: *d,
-                base: *base,
-                have: *have,
-            }),
+            Event::Rel { .. }
+            | Event::Prio { .. }
+            | Event::Take { .. }
+            | Event::TakePrio { .. }
+            | Event::Tick { .. }
+            | Event::Weight { .. } => copy_asked(alloc, self),
+            Event::Poll { .. } | Event::Pass { .. } | Event::Flip { .. } | Event::Inject { .. } => {
+                copy_of_frame(alloc, self)
+            }
+            Event::Craft { .. } | Event::CraftStatus { .. } => copy_craft(alloc, self),
         }
     }
 }
 
-/// The same message in memory of its own.
-fn copy_body(alloc: Global, body: &Body) -> Result<Body, Memory>
-    ensures { IfOk result (λ copied. copied ≡ body.now) }
+/// The same of what a client or the clock asks.
+fn copy_asked(alloc: Global, event: &Event) -> Result<Event, Memory>
+    requires { IsAsked event.now }
+    ensures { IfOk result (λ copied. copied ≡ event.now) }
 {
-    match body {
-        Body::Prio(prio) => Ok(Body::Prio(Prio {
-            src: prio.src,
-            dst: prio.dst,
-            seq: prio.seq,
-            prio: prio.prio,
-            expiry: prio.expiry,
-            mask: prio.mask,
-            payload: Bytes::copy(alloc, prio.payload.as_slice())?,
-        })),
-        Body::Rel(rel) => Ok(Body::Rel(Rel {
-            src: rel.src,
-            dst: rel.dst,
-            seq: rel.seq,
-            payload: Bytes::copy(alloc, rel.payload.as_slice())?,
-        })),
-        Body::Ack(ack) => Ok(Body::Ack(*ack)),
-        Body::Weight(weight) => Ok(Body::Weight(*weight)),
+    match event {
+        Event::Rel { s, d, payload } => Ok(Event::Rel {
+            s: *s,
+            d: *d,
+            payload: Bytes::copy(alloc, payload.as_slice())?,
+        }),
+        Event::Prio {
+            s,
+            d,
+            prio,
+            expiry,
+            paths,
+            payload,
+        } => Ok(Event::Prio {
+            s: *s,
+            d: *d,
+            prio: *prio,
+            expiry: *expiry,
+            paths: *paths,
+            payload: Bytes::copy(alloc, payload.as_slice())?,
+        }),
+        Event::Take { d, s } => Ok(Event::Take { d: *d, s: *s }),
+        Event::TakePrio { d } => Ok(Event::TakePrio { d: *d }),
+        Event::Tick { u, now } => Ok(Event::Tick { u: *u, now: *now }),
+        Event::Weight { u, v, weight } => Ok(Event::Weight {
+            u: *u,
+            v: *v,
+            weight: *weight,
+        }),
+        _ => unreachable!(),
+    }
+}
+
+/// The same of a frame that is made, arrives, is changed on its way, or is made up.
+fn copy_of_frame(alloc: Global, event: &Event) -> Result<Event, Memory>
+    requires { IsOfFrame event.now }
+    ensures { IfOk result (λ copied. copied ≡ event.now) }
+{
+    match event {
+        Event::Poll { u, v } => Ok(Event::Poll { u: *u, v: *v }),
+        Event::Pass { u, v, number } => Ok(Event::Pass {
+            u: *u,
+            v: *v,
+            number: *number,
+        }),
+        Event::Flip {
+            u,
+            v,
+            number,
+            back,
+            bit,
+        } => Ok(Event::Flip {
+            u: *u,
+            v: *v,
+            number: *number,
+            back: *back,
+            bit: *bit,
+        }),
+        Event::Inject { u, v, bytes } => Ok(Event::Inject {
+            u: *u,
+            v: *v,
+            bytes: Bytes::copy(alloc, bytes.as_slice())?,
+        }),
+        _ => unreachable!(),
+    }
+}
+
+/// The same of a frame that a compromised node crafts.
+fn copy_craft(alloc: Global, event: &Event) -> Result<Event, Memory>
+    requires { IsCraft event.now }
+    ensures { IfOk result (λ copied. copied ≡ event.now) }
+{
+    match event {
+        Event::Craft { c, v, key, body } => Ok(Event::Craft {
+            c: *c,
+            v: *v,
+            key: *key,
+            body: copy_body(alloc, body)?,
+        }),
+        Event::CraftStatus {
+            c,
+            v,
+            s,
+            d,
+            base,
+            have,
+        } => Ok(Event::CraftStatus {
+            c: *c,
+            v: *v,
+            s: *s,
+            d: *d,
+            base: *base,
+            have: *have,
+        }),
+        _ => unreachable!(),
     }
 }

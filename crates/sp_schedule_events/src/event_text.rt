@@ -1,18 +1,17 @@
 // The line of an event, written.
-ghost use Rattle.std.specs.Prelude.{◌≡◌, ◌++◌, ◌∷◌, [], OnOk};
+ghost use Rattle.std.specs.Prelude.{◌≡◌, ◌++◌, ◌∷◌, [], OnOk, codes};
 ghost use Rattle.std.specs.Fmt.{decimal};
 ghost use Rattle.std.specs.String.{string_bytes};
 ghost use Rattle.sp_text.specs.Spelling.{hex_word};
-ghost use Rattle.sp_lines.specs.Cells.{mask_word};
 ghost use Rattle.sp_lines.specs.Rows.{after_spaces, line_text};
 ghost use Rattle.sp_schedule_events.specs.Events.{event_words};
-ghost use Rattle.sp_schedule_events.specs.Written.{back_words, body_words, event_name, front_words, pair_words};
+ghost use Rattle.sp_schedule_events.specs.Written.{back_words, event_name, front_words, pair_words};
 ghost use Rattle.sp_schedule_events.specs.declared.scenario.Scenario.{Scenario};
 
 use crate::Event;
 use sp_base::{Memory, NodeId};
-use sp_lines::{push_field, push_hex_field, push_mask_field, push_name_field};
-use sp_msg::{Ack, Body, Prio, Rel, WeightBody};
+use sp_lines::{push_field, push_hex_field, push_name_field};
+use sp_schedule_crafts::push_object;
 
 /// Appends the line of an event. After an error the text is unspecified.
 pub fn push_event(out: &mut String, event: &Event) -> Result<(), Memory>
@@ -74,12 +73,7 @@ fn push_back(out: &mut String, event: &Event) -> Result<(), Memory>
             paths,
             payload,
             ..
-        } => {
-            push_field(out, u64::from(*prio))?;
-            push_field(out, *expiry)?;
-            push_field(out, u64::from(*paths))?;
-            push_hex_field(out, payload.as_slice())
-        }
+        } => push_prio(out, *prio, *expiry, *paths, payload.as_slice()),
         Event::Take { .. } | Event::TakePrio { .. } | Event::Tick { .. } | Event::Poll { .. } => {
             Ok(())
         }
@@ -90,15 +84,11 @@ fn push_back(out: &mut String, event: &Event) -> Result<(), Memory>
             back,
             bit,
             ..
-        } => {
-            push_field(out, u64::from(*number))?;
-            push_field(out, u64::from(*back))?;
-            push_field(out, u64::from(*bit))
-        }
+        } => push_flip(out, *number, *back, *bit),
         Event::Inject { bytes, .. } => push_hex_field(out, bytes.as_slice()),
         Event::Craft { key, body, .. } => {
             push_field(out, u64::from(key.0))?;
-            push_body(out, body)
+            push_object(out, body)
         }
         Event::CraftStatus {
             s,
@@ -106,12 +96,7 @@ fn push_back(out: &mut String, event: &Event) -> Result<(), Memory>
             base,
             have,
             ..
-        } => {
-            push_name_field(out, "status")?;
-            push_pair(out, *s, *d)?;
-            push_field(out, *base)?;
-            push_field(out, *have)
-        }
+        } => push_status(out, *s, *d, *base, *have),
     }
 }
 
@@ -131,62 +116,39 @@ fn push_moment(out: &mut String, u: NodeId, now: u64) -> Result<(), Memory>
     push_field(out, now)
 }
 
-/// Appends a crafted message, with a space before each word.
-fn push_body(out: &mut String, body: &Body) -> Result<(), Memory>
-    ensures { OnOk result (string_bytes out.new ≡ string_bytes out.old ++ after_spaces (body_words body.now)) }
-{
-    match body {
-        Body::Rel(rel) => push_rel(out, rel),
-        Body::Ack(ack) => push_ack(out, ack),
-        Body::Prio(prio) => push_prio(out, prio),
-        Body::Weight(weight) => push_weight(out, weight),
-    }
-}
-
-fn push_rel(out: &mut String, rel: &Rel) -> Result<(), Memory>
-    ensures { OnOk result (string_bytes out.new ≡ string_bytes out.old ++ after_spaces (body_words (Body.Rel rel.now))) }
-{
-    push_name_field(out, "rel")?;
-    push_field(out, u64::from(rel.src.0))?;
-    push_field(out, u64::from(rel.dst.0))?;
-    push_field(out, rel.seq)?;
-    push_hex_field(out, rel.payload.as_slice())
-}
-
-fn push_ack(out: &mut String, ack: &Ack) -> Result<(), Memory>
-    ensures { OnOk result (string_bytes out.new ≡ string_bytes out.old ++ after_spaces (body_words (Body.Ack ack.now))) }
-{
-    push_name_field(out, "ack")?;
-    push_field(out, u64::from(ack.src.0))?;
-    push_field(out, u64::from(ack.dst.0))?;
-    push_field(out, ack.seq)
-}
-
-fn push_prio(out: &mut String, prio: &Prio) -> Result<(), Memory>
-    ensures { OnOk result (string_bytes out.new ≡ string_bytes out.old ++ after_spaces (body_words (Body.Prio prio.now))) }
-{
-    push_name_field(out, "prio")?;
-    push_pair(out, prio.src, prio.dst)?;
-    push_field(out, prio.seq)?;
-    push_prio_fields(out, prio)
-}
-
-fn push_prio_fields(out: &mut String, prio: &Prio) -> Result<(), Memory>
+/// Appends what comes after the nodes of a priority message.
+fn push_prio(
+    out: &mut String,
+    prio: u8,
+    expiry: u64,
+    paths: u8,
+    payload: &[u8],
+) -> Result<(), Memory>
     ensures { OnOk result (string_bytes out.new ≡ string_bytes out.old
-        ++ after_spaces (decimal prio.now.prio ∷ decimal prio.now.expiry ∷ mask_word prio.now.mask ∷ hex_word prio.now.payload ∷ [])) }
+        ++ after_spaces (decimal prio ∷ decimal expiry ∷ decimal paths ∷ hex_word payload.now ∷ [])) }
 {
-    push_field(out, u64::from(prio.prio))?;
-    push_field(out, prio.expiry)?;
-    push_mask_field(out, prio.mask)?;
-    push_hex_field(out, prio.payload.as_slice())
+    push_field(out, u64::from(prio))?;
+    push_field(out, expiry)?;
+    push_field(out, u64::from(paths))?;
+    push_hex_field(out, payload)
 }
 
-fn push_weight(out: &mut String, weight: &WeightBody) -> Result<(), Memory>
-    ensures { OnOk result (string_bytes out.new ≡ string_bytes out.old ++ after_spaces (body_words (Body.Weight weight.now))) }
+/// Appends which frame is changed, and where.
+fn push_flip(out: &mut String, number: u32, back: u8, bit: u8) -> Result<(), Memory>
+    ensures { OnOk result (string_bytes out.new ≡ string_bytes out.old ++ after_spaces (decimal number ∷ decimal back ∷ decimal bit ∷ [])) }
 {
-    push_name_field(out, "weight")?;
-    push_field(out, u64::from(weight.origin.0))?;
-    push_field(out, u64::from(weight.edge.0))?;
-    push_field(out, weight.seq)?;
-    push_field(out, u64::from(weight.weight))
+    push_field(out, u64::from(number))?;
+    push_field(out, u64::from(back))?;
+    push_field(out, u64::from(bit))
+}
+
+/// Appends a report.
+fn push_status(out: &mut String, s: NodeId, d: NodeId, base: u64, have: u64) -> Result<(), Memory>
+    ensures { OnOk result (string_bytes out.new ≡ string_bytes out.old
+        ++ after_spaces (codes "status" ∷ decimal s.0 ∷ decimal d.0 ∷ decimal base ∷ decimal have ∷ [])) }
+{
+    push_name_field(out, "status")?;
+    push_pair(out, s, d)?;
+    push_field(out, base)?;
+    push_field(out, have)
 }

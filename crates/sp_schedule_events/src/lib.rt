@@ -2,23 +2,25 @@
 #![tactic(auto)]
 
 mod craft_line;
-mod dispatch;
 mod event;
+mod event_acting;
 mod event_copy;
 mod event_line;
 mod event_text;
 mod frame_line;
 mod joined;
 mod laws;
+mod line_of;
+mod lines;
 mod nodes;
 mod poll_counts;
 mod scenario;
 mod timeline;
 
-pub use dispatch::read_event;
 pub use event::Event;
 pub use event_text::push_event;
 pub use laws::events_have_one_line;
+pub use lines::read_event;
 pub use nodes::is_bad;
 pub use scenario::Scenario;
 pub use sp_graph::Graph;

@@ -1,12 +1,11 @@
-// The nodes of a line: any node of the scenario, a correct one, and an id that any topology might have.
+// The nodes of a line: any node of the scenario, and a correct one.
 ghost use Rattle.std.specs.Prelude.{◌≡◌};
 ghost use Rattle.sp_base.specs.Refusals.{Gives};
-ghost use Rattle.sp_base.specs.declared.limits.TheConstants.{MAX_NODES};
 ghost use Rattle.sp_lines.specs.Cells.{number_at, tested_at};
 ghost use Rattle.sp_schedule_events.specs.Scenarios.{is_bad, is_correct};
 
 use crate::Scenario;
-use sp_base::{MAX_NODES, NodeId};
+use sp_base::NodeId;
 use sp_lines::{Fault, ranged};
 
 /// Whether the scenario names the node as compromised.
@@ -34,12 +33,4 @@ pub fn correct(scenario: &Scenario, word: &[u8]) -> Result<NodeId, Fault>
         return Err(Fault::Range);
     }
     Ok(id)
-}
-
-/// The id of a node in a crafted message, which the scenario needn't have.
-pub fn any_id(word: &[u8]) -> Result<NodeId, Fault>
-    ensures { Gives (λ id. id.0) result (number_at 1 MAX_NODES word.now) }
-{
-    let n = ranged(word, 1, u64::from(MAX_NODES))?;
-    Ok(NodeId(n as u8))
 }

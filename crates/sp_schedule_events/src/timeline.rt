@@ -39,13 +39,10 @@ impl Timeline {
         }
     }
 
-    /// The events. It takes no memory.
-    pub fn into_events(self) -> Vec<Event>
-        ensures { result.items ≡ self }
+    pub fn as_slice(&self) -> &[Event]
+        ensures { result.now ≡ self.now }
     {
-        let Timeline { events, counts } = self;
-        drop(counts);
-        events
+        self.events.as_slice()
     }
 
     pub fn len(&self) -> usize

@@ -7,7 +7,7 @@ use sp_world::World;
 /// How a run ended. Each status has the number with which the program ends.
 #[derive(Clone, Copy, Debug, PartialEq, Eq)]
 pub enum Status {
-    /// 0: the command was done, and its input was read to its end.
+    /// 0: the command was done.
     Done,
     /// 2: the words are no command. The last line written is `usage`.
     Usage,

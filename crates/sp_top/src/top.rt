@@ -83,9 +83,7 @@ pub fn run<S: Source, K: Sink, W: Wire, C: Clock, P: Keeper>(
 }
 
 /// Does what the words say.
-#[tactic(auto, using(crate::proofs::SaidRuns::replayed, crate::proofs::SaidRuns::generated, crate::proofs::SaidRuns::answered,
-    crate::proofs::SaidRuns::verified, crate::proofs::SaidRuns::served, crate::proofs::SaidRuns::asked, crate::proofs::SaidRuns::formatted,
-    crate::proofs::SaidRuns::no_command, crate::proofs::Daemons::runs))]
+#[tactic(auto, using(crate::proofs::SaidRuns::replayed, crate::proofs::SaidRuns::generated, crate::proofs::SaidRuns::answered, crate::proofs::SaidRuns::verified, crate::proofs::SaidRuns::served, crate::proofs::SaidRuns::asked, crate::proofs::SaidRuns::formatted, crate::proofs::SaidRuns::no_command, crate::proofs::Daemons::runs))]
 fn run_said<S: Source, K: Sink, W: Wire, C: Clock, P: Keeper>(
     alloc: Global,
     said: Option<Command<'_>>,

@@ -42,8 +42,12 @@ abbrev pub daemon_texts : Text → Texts
 daemon_texts turns = record (alone (codes "daemon")) { turns = Some turns }
 
 abbrev pub ask_texts : Ask → Texts
-ask_texts a = record (alone (codes "ask")) { port = Some (decimal a.port); local = Some (decimal a.local); turns = Some (decimal a.turns);
-    request = Some a.request.now }
+ask_texts a = record (alone (codes "ask")) {
+  port = Some (decimal a.port);
+  local = Some (decimal a.local);
+  turns = Some (decimal a.turns);
+  request = Some a.request.now;
+}
 
 -- what a command line gives to the command and to each option
 abbrev pub texts_for : CommandLine → Texts

@@ -9,7 +9,7 @@ use crate::arrivals::arrive;
 use crate::bytes::{Came, bring, sender};
 use sp_adversary::Crafters;
 use sp_base::Memory;
-use sp_forgery::{Known, acting};
+use sp_forgery::Known;
 use sp_journal::Entry;
 use sp_node_words::spent;
 use sp_runs::What;
@@ -51,7 +51,7 @@ pub fn act(
         | Event::Inject { .. }
         | Event::Craft { .. }
         | Event::CraftStatus { .. } => arrival(alloc, known, nodes, directions, crafters, event),
-        _ => Ok(Done::Told(ask(alloc, nodes, acting(event), event)?)),
+        _ => Ok(Done::Told(ask(alloc, nodes, event.acting(), event)?)),
     }
 }
 
@@ -76,7 +76,7 @@ fn arrival(
 {
     match bring(alloc, known, nodes, directions, crafters, event)? {
         Came::Datagram(bytes) => {
-            let (u, v) = (sender(event), acting(event));
+            let (u, v) = (sender(event), event.acting());
             arrive(alloc, known, nodes, directions, u, v, bytes.as_slice())
         }
         Came::Spent { total } => Ok(Done::Told(spent(alloc, total))),

@@ -7,6 +7,7 @@ ghost use Rattle.sp_node_format.specs.Format.{format};
 ghost use Rattle.sp_node_format.specs.PolledFrames.{most_signature};
 ghost use Rattle.sp_node_state.specs.Sends.{Sends};
 ghost use Rattle.sp_paths.specs.declared.limits.TheConstants.{MAX_PATHS};
+ghost use Rattle.sp_rules.specs.Messages.{as_send};
 ghost use Rattle.sp_rules.specs.Node.{NodeState, call_refusal};
 ghost use Rattle.sp_rules.specs.Steps.{Frame, Input, NodeStep, Poll, SendPrio, SendRel, SetWeight, TakePrio, TakeRel, Tick, replied};
 ghost use Rattle.sp_node_words.specs.Words.{refused_word};
@@ -19,7 +20,7 @@ use sp_journal::{Entry, Reply};
 use sp_msg::{Body, Effect, Kept, Prio, SendRefused, Why};
 use sp_node::Node;
 use sp_node_words::{quiet, refused_word, tick_word, told};
-use sp_rules::{Step, Taken};
+use sp_rules::{PrioSend, Step, Taken};
 use std::alloc::Global;
 
 /// The entry of a send.
@@ -52,25 +53,16 @@ pub fn rel(alloc: Global, node: &mut Node, d: NodeId, payload: &[u8]) -> Result<
 
 /// A client sends a priority message.
 #[tactic(auto, using(sp_node::proofs::FixedStays::fixed_by_send, crate::proofs::Stepping::memory_by_send, crate::proofs::Stepping::words_by_send))]
-pub fn prio(
-    alloc: Global,
-    node: &mut Node,
-    d: NodeId,
-    prio: u8,
-    expiry: u64,
-    paths: u8,
-    payload: &[u8],
-) -> Result<Entry, Memory>
-    requires prio { (1 ≤ prio) × (prio ≤ MAX_PRIORITY) }
-    requires few { paths ≤ MAX_PATHS }
-    requires short { length payload.now ≤ MAX_PAYLOAD_BYTES }
-    requires words { HasWords node.old.state (SendPrio (record { dst = d; prio = prio; expiry = expiry; paths = paths; payload = payload.now })) }
-    ensures gave { IfOk result (λ entry. Gave node.old.state
-        (SendPrio (record { dst = d; prio = prio; expiry = expiry; paths = paths; payload = payload.now })) entry node.new.state) }
+pub fn prio(alloc: Global, node: &mut Node, message: &PrioSend<'_>) -> Result<Entry, Memory>
+    requires prio { (1 ≤ message.now.prio) × (message.now.prio ≤ MAX_PRIORITY) }
+    requires few { message.now.paths ≤ MAX_PATHS }
+    requires short { length message.now.payload.now ≤ MAX_PAYLOAD_BYTES }
+    requires words { HasWords node.old.state (SendPrio (as_send message.now)) }
+    ensures gave { IfOk result (λ entry. Gave node.old.state (SendPrio (as_send message.now)) entry node.new.state) }
     ensures as_before { OnErr result (node.new.state ≡ node.old.state) }
     ensures fixed { node.new.state.fixed ≡ node.old.state.fixed }
 {
-    let done = node.send_prio(alloc, d, prio, expiry, paths, payload);
+    let done = node.send_prio(alloc, message);
     sent(alloc, done)
 }
 

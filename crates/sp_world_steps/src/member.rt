@@ -13,7 +13,7 @@ use crate::calls::{datagram, poll, prio, rel, take, take_prio, tick, weight};
 use sp_base::{Bytes, Memory, NodeId};
 use sp_journal::Entry;
 use sp_node::Node;
-use sp_rules::{Step, Taken};
+use sp_rules::{PrioSend, Step, Taken};
 use sp_schedule_events::Event;
 use std::alloc::Global;
 use std::marker::Model;
@@ -112,15 +112,16 @@ fn call_for(alloc: Global, node: &mut Node, event: &Event) -> Result<Entry, Memo
             paths,
             payload,
             ..
-        } => prio(
-            alloc,
-            node,
-            *d,
-            *priority,
-            *expiry,
-            *paths,
-            payload.as_slice(),
-        ),
+        } => {
+            let message = PrioSend {
+                dst: *d,
+                prio: *priority,
+                expiry: *expiry,
+                paths: *paths,
+                payload: payload.as_slice(),
+            };
+            prio(alloc, node, &message)
+        }
         Event::Take { s, .. } => Ok(take(alloc, node, *s)),
         Event::TakePrio { .. } => take_prio(alloc, node),
         Event::Tick { now, .. } => tick(alloc, node, *now),

@@ -5,7 +5,7 @@ ghost use Rattle.sp_base.specs.declared.limits.TheConstants.{MAX_EVENTS};
 use sp_base::{Listed, MAX_EVENTS, MAX_INPUT_BYTES};
 use sp_journal::Entry;
 use sp_schedule::{Ending, Stage};
-use sp_schedule_events::{Event, Scenario};
+use sp_schedule_events::{Scenario, Timeline};
 use std::alloc::Global;
 use std::test::Fail;
 
@@ -79,8 +79,8 @@ fn push_frames(alloc: Global, whole: &mut String, frames: &str) -> Result<(), Fa
 }
 
 /// The header and the events of a schedule.
-pub(crate) fn schedule_of(alloc: Global, text: &str) -> Result<(Scenario, Vec<Event>), Fail>
-    ensures { IfOk result (λ read. length read.1.items ≤ MAX_EVENTS) }
+pub(crate) fn schedule_of(alloc: Global, text: &str) -> Result<(Scenario, Timeline), Fail>
+    ensures { IfOk result (λ read. length read.1 ≤ MAX_EVENTS) }
 {
     let text = written_out(alloc, text)?;
     if text.len() > MAX_INPUT_BYTES {
@@ -89,7 +89,6 @@ pub(crate) fn schedule_of(alloc: Global, text: &str) -> Result<(Scenario, Vec<Ev
     let reading = sp_schedule::read(alloc, text.as_bytes(), false)?;
     match (reading.ending, reading.stage) {
         (Ending::Whole, Stage::End(scenario, events)) => {
-            let events = events.into_events();
             if events.len() > MAX_EVENTS {
                 return Err("there are too many events".into());
             }

@@ -4,7 +4,7 @@ ghost use Rattle.std.specs.Prelude.{⊤};
 use sp_base::{Bytes, MAX_PAYLOAD_BYTES, MAX_SEQ, NodeId};
 use sp_client::{BadEnd, Local, SendRefused};
 use sp_msg::{Body, Kept, Prio};
-use sp_rules::Entry;
+use sp_rules::{Entry, PrioSend};
 use std::alloc::Global;
 
 /// A node in memory that counts the calls of its clients.
@@ -64,15 +64,14 @@ impl Local for MemoryNode {
         Ok(seq)
     }
 
-    fn send_prio(
-        &mut self,
-        alloc: Global,
-        dst: NodeId,
-        _prio: u8,
-        expiry: u64,
-        paths: u8,
-        payload: &[u8],
-    ) -> Result<u64, SendRefused> {
+    fn send_prio(&mut self, alloc: Global, message: &PrioSend<'_>) -> Result<u64, SendRefused> {
+        let PrioSend {
+            dst,
+            expiry,
+            paths,
+            payload,
+            ..
+        } = *message;
         if Bytes::copy(alloc, payload).is_err() {
             return Err(SendRefused::Memory);
         }

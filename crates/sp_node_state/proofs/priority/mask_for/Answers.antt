@@ -3,7 +3,7 @@ use Rattle.sp_base.specs.declared.limits.TheConstants.{MAX_WEIGHT}
 use Rattle.sp_node_state.proofs.Ends.{ends_of}
 use Rattle.sp_node_state.proofs.InEffect.{effective_small}
 use Rattle.sp_node_state.proofs.Sizes.{sizes}
-use Rattle.sp_node_state.specs.Messages.{as_send}
+use Rattle.sp_rules.specs.Messages.{as_send}
 use Rattle.sp_rules.specs.Node.{NodeState}
 use Rattle.sp_rules.specs.Parts.{nodes_of}
 use Rattle.sp_rules.specs.Prio.{is_node}

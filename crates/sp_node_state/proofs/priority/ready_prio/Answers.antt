@@ -1,7 +1,7 @@
 use Rattle.std.proofs.Common.{sym, subst}
 use Rattle.sp_msg.specs.Bodies.{HasGoodFields}
 use Rattle.sp_node_state.proofs.Sent.{prio_sent}
-use Rattle.sp_node_state.specs.Messages.{as_send}
+use Rattle.sp_rules.specs.Messages.{as_send}
 use Rattle.sp_node_state.proofs.priority.ready_prio.Goals as goal
 
 pub blank-requires-clause-fields : goal.blank-requires-clause-fields

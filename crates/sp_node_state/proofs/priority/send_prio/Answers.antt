@@ -1,4 +1,4 @@
-use Rattle.sp_node_state.specs.Messages.{as_send}
+use Rattle.sp_rules.specs.Messages.{as_send}
 use Rattle.sp_node_state.proofs.Urgent.{accepted_prio, refused_so}
 use Rattle.sp_node_state.proofs.priority.send_prio.Goals as goal
 

@@ -1,6 +1,6 @@
 use Rattle.std.proofs.Common.{◌≡◌, [], ◌∷◌, List, ℕ, Ok, codes, refl}
 use Rattle.sp_msg.specs.declared.body.Body.TheVariants as bodies
-use Rattle.sp_schedule_crafts.specs.Objects.{line_for, read_form}
+use Rattle.sp_schedule_crafts.specs.Reading.{line_for, read_form}
 use Rattle.sp_schedule_crafts.specs.declared.form.ObjectForm.TheVariants as forms
 use Rattle.sp_schedule_crafts.proofs.WordLists.{four}
 use Rattle.sp_schedule_crafts.proofs.reading.weight.Goals as goal

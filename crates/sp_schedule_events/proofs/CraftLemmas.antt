@@ -1,0 +1,209 @@
+-- The line of a crafted frame: a report, or an object behind the key that signs it.
+use Rattle.std.proofs.Common.{◌≡◌, ◌<◌, ℕ, suc, ◌==◌, ◌&&◌, Bool, true, false, cond, List, [], ◌∷◌, Option, Some, None, Result, Ok, Err, Bor, refl, sym, ◌∙◌, ap, arith, inl, inr, drop, length, map, if◌then◌else◌}
+use Rattle.std.specs.Prelude.{codes, find, option_map}
+use Rattle.std.proofs.lemmas.Bool.{cases_Bool, and_parts}
+use Rattle.std.proofs.lemmas.Bool.Decides.{nat_tests}
+use Rattle.sp_base.specs.Refusals.{◌>>=◌}
+use Rattle.sp_msg.specs.declared.body.Body.{Body}
+use Rattle.sp_text.specs.Spelling.{Word}
+use Rattle.sp_lines.specs.Cells.{Bytes, Cell, Mask, Name, Number, Tested, number_at, same, tested_at}
+use Rattle.sp_lines.specs.Rows.{agrees, fits, row_at}
+use Rattle.sp_lines.specs.declared.fault.Fault.{Fault}
+use Rattle.sp_lines.specs.declared.fault.Fault.TheVariants as faults
+use Rattle.sp_lines.proofs.Words.{same_self}
+use Rattle.sp_schedule_crafts.specs.Objects as objects
+use Rattle.sp_schedule_crafts.specs.Objects.{id}
+use Rattle.sp_schedule_crafts.specs.Reading as reading
+use Rattle.sp_schedule_crafts.specs.declared.form.ObjectForm.{ObjectForm}
+use Rattle.sp_schedule_crafts.specs.declared.form.ObjectForm.TheVariants as objs
+use Rattle.sp_schedule_events.specs.Events.{event_of}
+use Rattle.sp_schedule_events.specs.EventLines.{form_for, if_joined, read_event, read_form}
+use Rattle.sp_schedule_events.specs.Names.{crafted_event, line_for}
+use Rattle.sp_schedule_events.specs.Scenarios.{are_joined, is_correct}
+use Rattle.sp_schedule_events.specs.Table as forms
+use Rattle.sp_schedule_events.specs.Table.{Form, cells}
+use Rattle.sp_schedule_events.specs.declared.event.Event.{Event}
+use Rattle.sp_schedule_events.specs.declared.event.Event.TheVariants as events
+use Rattle.sp_schedule_events.specs.declared.scenario.Scenario.{Scenario}
+use Rattle.sp_schedule_events.proofs.NameLemmas.{by_name, one_less, same_search, starts, starts_so}
+
+-- ---- which row
+
+-- a row without names agrees with any words
+abbrev HasNoName : List Cell → Type 0
+HasNoName [] = Unit {0}
+HasNoName (Name w ∷ cs) = ⊥
+HasNoName (c ∷ cs) = HasNoName cs
+
+agrees_all : (cs : List Cell) → HasNoName cs → (xs : List Word) → agrees cs xs ≡ true
+agrees_all [] free xs = refl
+agrees_all (Name w ∷ cs) free xs = absurd free
+agrees_all (Number low high ∷ cs) free [] = refl
+agrees_all (Number low high ∷ cs) free (x ∷ xs) = agrees_all cs free xs
+agrees_all (Tested low high test ∷ cs) free [] = refl
+agrees_all (Tested low high test ∷ cs) free (x ∷ xs) = agrees_all cs free xs
+agrees_all (Bytes low high ∷ cs) free [] = refl
+agrees_all (Bytes low high ∷ cs) free (x ∷ xs) = agrees_all cs free xs
+agrees_all (Mask ∷ cs) free [] = refl
+agrees_all (Mask ∷ cs) free (x ∷ xs) = agrees_all cs free xs
+
+turned : (a b : Bool) → (a && b) ≡ (b && a)
+turned true true = refl
+turned true false = refl
+turned false true = refl
+turned false false = refl
+
+turned_count : (a b : ℕ) → (a == b) ≡ (b == a)
+turned_count a b = grind (arith, nat_tests)
+
+-- four words more on both sides
+four_less : (a b : ℕ) → (suc (suc (suc (suc a))) == suc (suc (suc (suc b)))) ≡ (b == a)
+four_less a b = one_less (suc (suc (suc a))) (suc (suc (suc b))) ∙ one_less (suc (suc a)) (suc (suc b)) ∙ one_less (suc a) (suc b) ∙ one_less a b ∙ turned_count a b
+
+row_of : (a b : Cell) (c : Cell) (w : Word) (cs : List Cell) → HasNoName cs → (x y z name : Word) (fields : List Word)
+    → agrees (a ∷ b ∷ c ∷ Name w ∷ cs) (x ∷ y ∷ z ∷ name ∷ fields) ≡ (same name w && agrees cs fields)
+    → fits (a ∷ b ∷ c ∷ Name w ∷ cs) (x ∷ y ∷ z ∷ name ∷ fields) ≡ (same name w && (length fields == length cs))
+row_of a b c w cs free x y z name fields is =
+    ap (λ (t : Bool). (length (a ∷ b ∷ c ∷ Name w ∷ cs) == length (x ∷ y ∷ z ∷ name ∷ fields)) && t) is
+    ∙ ap (λ (t : Bool). (length (a ∷ b ∷ c ∷ Name w ∷ cs) == length (x ∷ y ∷ z ∷ name ∷ fields)) && (same name w && t)) (agrees_all cs free fields)
+    ∙ ap (λ (t : Bool). t && (same name w && true)) (four_less (length cs) (length fields))
+    ∙ turned (length fields == length cs) (same name w && true)
+    ∙ ap (λ (t : Bool). t && (length fields == length cs)) (always (same name w))
+  where
+    always : (t : Bool) → (t && true) ≡ t
+    always true = refl
+    always false = refl
+
+-- the places behind an object's name
+abbrev rest : ObjectForm → List Cell
+rest o = drop 1 (objects.cells o)
+
+object_row : (s : Scenario) (o : ObjectForm) (c v key name : Word) (fields : List Word)
+    → starts (cells s (forms.Craft o)) (codes "craft" ∷ c ∷ v ∷ key ∷ name ∷ fields) ≡ (same name (reading.name o) && (length fields == reading.count o))
+object_row s objs.Rel c v key name fields = row_of (forms.node s) (forms.correct s) (forms.node s) (codes "rel") (rest objs.Rel) tt c v key name fields refl
+object_row s objs.Ack c v key name fields = row_of (forms.node s) (forms.correct s) (forms.node s) (codes "ack") (rest objs.Ack) tt c v key name fields refl
+object_row s objs.Prio c v key name fields = row_of (forms.node s) (forms.correct s) (forms.node s) (codes "prio") (rest objs.Prio) tt c v key name fields refl
+object_row s objs.Weight c v key name fields = row_of (forms.node s) (forms.correct s) (forms.node s) (codes "weight") (rest objs.Weight) tt c v key name fields refl
+
+status_row : (s : Scenario) (c v key name : Word) (fields : List Word)
+    → starts (cells s forms.CraftStatus) (codes "craft" ∷ c ∷ v ∷ key ∷ name ∷ fields) ≡ (same key (codes "status") && (length fields == 3))
+status_row s c v key name fields =
+    ap (λ (t : Bool). (7 == length (c ∷ v ∷ key ∷ name ∷ fields)) && (same key (codes "status") && t)) (agrees_all (forms.node s ∷ objects.any_number ∷ objects.any_number ∷ []) tt fields)
+    ∙ ap (λ (t : Bool). t && (same key (codes "status") && true)) (four_less 3 (length fields))
+    ∙ turned (length fields == 3) (same key (codes "status") && true)
+    ∙ ap (λ (t : Bool). t && (length fields == 3)) (always (same key (codes "status")))
+  where
+    always : (t : Bool) → (t && true) ≡ t
+    always true = refl
+    always false = refl
+
+find_mapped : {F G : Type 0} (test : G → Bool) (g : F → G) (all : List F) → find test (map g all) ≡ option_map g (find (λ f. test (g f)) all)
+find_mapped test g [] = refl
+find_mapped test g (f ∷ all) = elim (cases_Bool (test (g f))) [
+  | inl t ↦ rw t refl
+  | inr t ↦ rw t (find_mapped test g all)
+]
+
+-- the row of a crafted line
+pub craft_form : (s : Scenario) (c v key name : Word) (fields : List Word)
+    → form_for s (codes "craft" ∷ c ∷ v ∷ key ∷ name ∷ fields)
+    ≡ cond (same key (codes "status") && (length fields == 3)) (Some forms.CraftStatus) (option_map forms.Craft (reading.form_named name (length fields)))
+craft_form s c v key name fields =
+    by_name s (codes "craft") (c ∷ v ∷ key ∷ name ∷ fields)
+    ∙ ap (λ (t : Bool). cond t (Some forms.CraftStatus) (find test (map forms.Craft objects.forms))) (status_row s c v key name fields)
+    ∙ ap (λ (o : Option Form). cond (same key (codes "status") && (length fields == 3)) (Some forms.CraftStatus) o)
+    (find_mapped test forms.Craft objects.forms
+    ∙ ap (option_map forms.Craft)
+    (same_search (λ o. test (forms.Craft o)) (λ o. same name (reading.name o) && (length fields == reading.count o)) (λ o. object_row s o c v key name fields) objects.forms))
+  where
+    test : Form → Bool
+    test form = starts (cells s form) (codes "craft" ∷ c ∷ v ∷ key ∷ name ∷ fields)
+
+-- ---- what the row says
+
+abbrev with_first : {A B : Type 0} → A → Result B Fault → Result (A × B) Fault
+with_first {A} {B} a rb = ◌>>=◌ {A = B} {B = A × B} rb (λ b. Ok (a, b))
+
+steps : {A B K N X Y : Type 0} (ra : Result A Fault) (rb : Result B Fault) (rk : Result K Fault) (rn : Result N Fault) (f : A × (B × (K × N)) → Result X Fault) (y : N → Y)
+    (g : A → B → K → Y → Result X Fault) → ((a : A) (b : B) (k : K) (n : N) → f (a, (b, (k, n))) ≡ g a b k (y n))
+    → ((ra >>= λ a. with_first a (rb >>= λ b. with_first b (rk >>= λ k. with_first k rn))) >>= f)
+    ≡ (ra >>= λ a. (rb >>= λ b. (rk >>= λ k. ((rn >>= λ n. Ok (y n)) >>= λ o. g a b k o))))
+steps (Err e) rb rk rn f y g same = refl
+steps (Ok a) (Err e) rk rn f y g same = refl
+steps (Ok a) (Ok b) (Err e) rn f y g same = refl
+steps (Ok a) (Ok b) (Ok k) (Err e) f y g same = refl
+steps (Ok a) (Ok b) (Ok k) (Ok n) f y g same = same a b k n
+
+fits_named : (fields : List Word) (w : Word) (cs : List Cell) → HasNoName cs → (length fields == length cs) ≡ true → fits (Name w ∷ cs) (w ∷ fields) ≡ true
+fits_named fields w cs free is = rw (one_less (length cs) (length fields), turned_count (length cs) (length fields), is, same_self w) (agrees_all cs free fields)
+
+-- an object's row reads what stands behind its name
+object_read : (o : ObjectForm) (name : Word) (fields : List Word) → (length fields == reading.count o) ≡ true
+    → reading.line_for o (reading.name o ∷ fields) ≡ reading.read_form o (name ∷ fields)
+unfolding reading.read_form
+object_read objs.Rel name fields is = rw (fits_named fields (codes "rel") (rest objs.Rel) tt is) refl
+object_read objs.Ack name fields is = rw (fits_named fields (codes "ack") (rest objs.Ack) tt is) refl
+object_read objs.Prio name fields is = rw (fits_named fields (codes "prio") (rest objs.Prio) tt is) refl
+object_read objs.Weight name fields is = rw (fits_named fields (codes "weight") (rest objs.Weight) tt is) refl
+
+craft_read : (s : Scenario) (es : List Event) (o : ObjectForm) (c v key name : Word) (fields : List Word) → (length fields == reading.count o) ≡ true
+    → read_form s es (forms.Craft o) (codes "craft" ∷ c ∷ v ∷ key ∷ name ∷ fields) ≡ crafted_event s c v key o fields
+unfolding read_form reading.read_form
+craft_read s es o c v key name fields count =
+    steps (number_at 1 s.graph.nodes c) (tested_at 1 s.graph.nodes (is_correct s) v) (number_at 1 s.graph.nodes key) (row_at (objects.cells o) (name ∷ fields)) (λ xs. if_joined s es (event_of s (forms.Craft o) xs)) (objects.body_of o)
+    (λ from to signer body. if are_joined s from to then Ok (events.Craft (id from) (id to) (id signer) body) else Err faults.Range) (λ a b k n. refl)
+    ∙ ap
+    (λ (r : Result Body Fault).
+    number_at 1 s.graph.nodes c >>= λ from. tested_at 1 s.graph.nodes (is_correct s) v >>= λ to. number_at 1 s.graph.nodes key >>= λ signer.
+    r >>= λ body. if are_joined s from to then Ok (events.Craft (id from) (id to) (id signer) body) else Err faults.Range)
+    (sym (object_read o name fields count))
+
+-- the form that was found has so many words
+found_count : (name : Word) (count : ℕ) (o : ObjectForm) → reading.form_named name count ≡ Some o → (count == reading.count o) ≡ true
+found_count name count o is = go objects.forms is
+  where
+    go : (all : List ObjectForm) → find (λ f. same name (reading.name f) && (count == reading.count f)) all ≡ Some o → (count == reading.count o) ≡ true
+    go [] none = absurd cc
+    go (f ∷ all) some = elim (cases_Bool (same name (reading.name f) && (count == reading.count f))) [
+      | inl t ↦
+          let here : Some f ≡ Some o = rw t at some in
+          let same_form : f ≡ o = cc in
+          let parts = and_parts (same name (reading.name f)) (count == reading.count f) t in
+          rw same_form at parts.1
+      | inr t ↦ go all (rw t at some)
+    ]
+
+-- a line with a report
+pub reported : (s : Scenario) (es : List Event) (c v key name : Word) (fields : List Word) → (same key (codes "status") && (length fields == 3)) ≡ true
+    → read_event s es (codes "craft" ∷ c ∷ v ∷ key ∷ name ∷ fields) ≡ line_for s es forms.CraftStatus (codes "craft" ∷ c ∷ v ∷ codes "status" ∷ name ∷ fields)
+unfolding read_form
+reported s es c v key name fields is =
+    let found : form_for s (codes "craft" ∷ c ∷ v ∷ key ∷ name ∷ fields) ≡ Some forms.CraftStatus = craft_form s c v key name fields ∙ rw is refl in
+    let parts = and_parts (same key (codes "status")) (length fields == 3) is in
+    let fit : fits (cells s forms.CraftStatus) (codes "craft" ∷ c ∷ v ∷ codes "status" ∷ name ∷ fields) ≡ true =
+    starts_so (cells s forms.CraftStatus) (codes "craft") (c ∷ v ∷ codes "status" ∷ name ∷ fields) ∙ status_row s c v (codes "status") name fields ∙ parts.1 in
+    rw (found, fit) refl
+
+-- a line with an object
+pub crafted : (s : Scenario) (es : List Event) (c v key name : Word) (fields : List Word) (o : ObjectForm)
+    → (same key (codes "status") && (length fields == 3)) ≡ false → reading.form_named name (length fields) ≡ Some o
+    → read_event s es (codes "craft" ∷ c ∷ v ∷ key ∷ name ∷ fields) ≡ crafted_event s c v key o fields
+crafted s es c v key name fields o other is =
+    let found : form_for s (codes "craft" ∷ c ∷ v ∷ key ∷ name ∷ fields) ≡ Some (forms.Craft o) = craft_form s c v key name fields ∙ rw (other, is) refl in
+    rw found (craft_read s es o c v key name fields (found_count name (length fields) o is))
+
+-- neither a report nor an object
+pub uncrafted : (s : Scenario) (es : List Event) (c v key name : Word) (fields : List Word)
+    → (same key (codes "status") && (length fields == 3)) ≡ false → reading.form_named name (length fields) ≡ None
+    → read_event s es (codes "craft" ∷ c ∷ v ∷ key ∷ name ∷ fields) ≡ Err faults.Form
+uncrafted s es c v key name fields other is =
+    let found : form_for s (codes "craft" ∷ c ∷ v ∷ key ∷ name ∷ fields) ≡ None = craft_form s c v key name fields ∙ rw (other, is) refl in
+    rw found refl
+
+-- too few words
+pub crafted_few : (s : Scenario) (es : List Event) (words : List (Bor Word)) → length words < 4 → read_event s es (codes "craft" ∷ map (λ w. w.now) words) ≡ Err faults.Form
+crafted_few s es [] few = refl
+crafted_few s es (a ∷ []) few = refl
+crafted_few s es (a ∷ b ∷ []) few = refl
+crafted_few s es (a ∷ b ∷ c ∷ []) few = refl
+crafted_few s es (a ∷ b ∷ c ∷ d ∷ more) few = absurd (omega (arith, few))
