@@ -50,9 +50,11 @@ admit_from-items-requires t c =
       search rules,
       (
         c.admit_one-item.ensures.place,
-        first_stays (is_some c.in-Some.first) keys c.args.row.flow c.args.parts.now.rel c.admit_one-item.new.parts.rel
-            (map as_object (drop (c.args.place + 1) c.args.rels.now)) c.in-Some.others c.admit_one-item.ensures.stays both.1,
-        omega (arith, c.requires.room, c.admit_one-item.ensures.room, c.in-Some-get.ensures.within, c.in-Some-get.ensures.few),
+        (
+          first_stays (is_some c.in-Some.first) keys c.args.row.flow c.args.parts.now.rel c.admit_one-item.new.parts.rel
+              (map as_object (drop (c.args.place + 1) c.args.rels.now)) c.in-Some.others c.admit_one-item.ensures.stays both.1,
+          omega (arith, c.requires.room, c.admit_one-item.ensures.room, c.in-Some-get.ensures.within, c.in-Some-get.ensures.few),
+        ),
       ),
     )
 

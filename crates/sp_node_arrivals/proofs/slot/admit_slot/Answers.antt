@@ -51,5 +51,5 @@ returns c =
     quiet_then format at p left c.admit-ack.new.parts c.admit_from-rels.new.parts (ReportPiece row.flow s.base s.have) acks rels
     (as_list c.admit-ack.result) c.admit_from-rels.result c.args.out.now c.admit_from-rels.new.out refl acked c.admit_from-rels.ensures.done in
     subst (λ (f : Flow). IsDone
-        (handle_all format at p (ReportPiece f s.base s.have ∷ (map (AckPiece f) (as_list (option_map as_object s.ack)) ++ map (RelPiece f) (map as_object s.rels))))
-        c.admit_from-rels.new.parts (as_list c.admit-ack.result ++ c.admit_from-rels.result) c.args.out.now c.admit_from-rels.new.out) own all
+    (handle_all format at p (ReportPiece f s.base s.have ∷ (map (AckPiece f) (as_list (option_map as_object s.ack)) ++ map (RelPiece f) (map as_object s.rels))))
+    c.admit_from-rels.new.parts (as_list c.admit-ack.result ++ c.admit_from-rels.result) c.args.out.now c.admit_from-rels.new.out) own all
