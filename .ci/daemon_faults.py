@@ -199,7 +199,7 @@ def floods(faults):
     faults.holds("the memory of the hub", more <= MORE_MEMORY, f"{more} KB more after the flood")
     lines = overlay.recording(2).split(b"\n")
     strays, impostors = (sum(line.startswith(front) for line in lines) for front in (b"stray ", b"overlay 4 "))
-    faults.holds("the flood was heard", strays > 100 and impostors > 100, f"{strays} strays, {impostors} from the impostor")
+    faults.holds("the flood was heard, a stranger once in a cycle", strays > 10 and impostors > 10, f"{strays} strays, {impostors} from the impostor")
     faults.equal("the recording of the hub", overlay.verify(2)[0], 0)
     print(f"the hub heard {strays} datagrams of a stranger and {impostors} of an impostor, and holds {more} KB more")
 
