@@ -1,8 +1,8 @@
 """Runs daemons of the built program where something outside fails: python3 .ci/daemon_faults.py PATH/TO/spinesd
 
-A port in use, a full disk, a signal in the middle of a turn, a neighbour that is down, a configuration that doesn't fit its topology, and a flood
-of garbage from a stranger and from a neighbour's port. Ports are the system's, and nothing is left running. Each difference is told, and the
-status is then 1.
+A port in use, a full disk, a signal in the middle of a turn, a neighbour that is down, a configuration that doesn't fit its topology, and floods:
+of garbage from a stranger and from a neighbour's port, of the longest datagrams at both sockets, of requests, and one that is there before the daemon
+is. Ports are the system's, and nothing is left running. Each difference is told, and the status is then 1.
 """
 
 import os
@@ -25,6 +25,8 @@ MANY_TURNS = 100_000
 LONE_TURNS = 60
 FULL_AT = 20_000
 FLOOD_SECONDS, FLOOD_RATE = 5, 10_000
+# the longest datagram, which goes so often, and the longest request
+LONGEST, LONG_RATE, FEW_RATE, REQUEST_BYTES = 65_507, 500, 20, 4_096
 GARBAGE = [b"", b"\x53\x49\x01" + bytes(73), bytes(64), os.urandom(200), os.urandom(1_400)]
 # a hub with three neighbours, the last of which is an impostor
 STAR = 4, [(1, 2, 10), (2, 3, 10), (2, 4, 10)]
@@ -163,12 +165,12 @@ def memory_of(child):
         return next(int(line.split()[1]) for line in lines if line.startswith("VmRSS"))
 
 
-def flood(senders, port, until):
+def flood(senders, port, until, garbage=None, rate=FLOOD_RATE):
     """Garbage from each sender in turn, at the rate of the flood."""
-    sent, begun = 0, time.monotonic()
+    sent, begun, garbage = 0, time.monotonic(), garbage or GARBAGE
     while time.monotonic() < until:
-        while sent < FLOOD_RATE * (time.monotonic() - begun):
-            senders[sent % len(senders)].sendto(GARBAGE[sent % len(GARBAGE)], ("127.0.0.1", port))
+        while sent < rate * (time.monotonic() - begun):
+            senders[sent % len(senders)].sendto(garbage[sent % len(garbage)], ("127.0.0.1", port))
             sent += 1
         time.sleep(0.001)
 
@@ -197,9 +199,52 @@ def floods(faults):
     faults.holds("the memory of the hub", more <= MORE_MEMORY, f"{more} KB more after the flood")
     lines = overlay.recording(2).split(b"\n")
     strays, impostors = (sum(line.startswith(front) for line in lines) for front in (b"stray ", b"overlay 4 "))
-    faults.holds("the flood was heard", strays > 100 and impostors > 100, f"{strays} strays, {impostors} from the impostor")
+    faults.holds("the flood was heard, a stranger once in a cycle", strays > 10 and impostors > 10, f"{strays} strays, {impostors} from the impostor")
     faults.equal("the recording of the hub", overlay.verify(2)[0], 0)
     print(f"the hub heard {strays} datagrams of a stranger and {impostors} of an impostor, and holds {more} KB more")
+
+
+def hears_in_turn(faults):
+    """The hub is flooded at both sockets before it starts: by the longest datagrams, by strays, from a neighbour's port, and by requests without a session.
+    Messages cross it all the same, its own client is answered, and what no request can be is recorded seldom, and not whole."""
+    overlay = faults.overlay("turns", STAR)
+    port, client_port = overlay.ports[2]
+    strangers = [socket.socket(socket.AF_INET, socket.SOCK_DGRAM) for _ in range(4)]
+    impostor = held(overlay.ports[4][0])
+    until = time.monotonic() + 2 * FLOOD_SECONDS
+    rows = [(strangers[:1], port, [bytes(LONGEST)], LONG_RATE), ([impostor], port, [bytes(LONGEST)], FEW_RATE),
+            (strangers[1:2], client_port, [b"x" * LONGEST], LONG_RATE),
+            (strangers[2:3], port, [bytes(100)], FLOOD_RATE), (strangers[3:], client_port, [b"1 take 1", b"5 open"], FLOOD_RATE // 10)]
+    threads = [threading.Thread(target=flood, args=(senders, to, until, garbage, rate)) for senders, to, garbage, rate in rows]
+    try:
+        for thread in threads:
+            thread.start()
+        for node in (1, 2, 3):
+            overlay.start(node, MANY_TURNS)
+        overlay.ask(3, "listen")
+        sent = [overlay.ask(1, f"send 3 {payload.hex()}") for payload in MESSAGES]
+        own = overlay.ask(2, "send 3 6f776e")
+        arrived = [overlay.take(3, 1, 10.0) for _ in MESSAGES] + [overlay.take(3, 2, 10.0)]
+        is_flooded = time.monotonic() < until
+    finally:
+        for thread in threads:
+            thread.join()
+        overlay.end_all()
+        for each in (*strangers, impostor):
+            each.close()
+    faults.equal("messages that are sent over a hub that is flooded from its start", sent, [f"accepted {number}" for number in range(1, len(MESSAGES) + 1)])
+    faults.equal("its own client is answered", own, "accepted 1")
+    faults.equal("messages that arrive over it", arrived, [*MESSAGES, b"own"])
+    faults.holds("the flood went on", is_flooded, "it ended before the messages came")
+    lines = overlay.recording(2).split(b"\n")
+    requests = [len(line.split(b" ")[2]) // 2 for line in lines if line.startswith(b"client ")]
+    long = [length for length in requests if length > REQUEST_BYTES]
+    turns = sum(line.startswith(b"tick ") for line in lines)
+    is_seldom = long and max(long) == REQUEST_BYTES + 1 and 3 * len(long) <= turns + 3
+    faults.holds("what no request can be is recorded", is_seldom, f"{len(long)} in {turns} turns, {max(long, default=0)} bytes")
+    strays = sum(line.startswith(b"stray ") for line in lines)
+    faults.holds("strays are recorded once in a cycle", 0 < strays and 3 * strays <= turns + 3, f"{strays} in {turns} turns")
+    faults.equal("its recording", overlay.verify(2)[0], 0)
 
 
 def main():
@@ -207,7 +252,7 @@ def main():
         sys.exit("usage: python3 .ci/daemon_faults.py PATH/TO/spinesd")
     with tempfile.TemporaryDirectory() as folder:
         faults = Faults(os.path.abspath(sys.argv[1]), folder)
-        for look in (ports_in_use, full_disks, signals, lone, configurations, floods):
+        for look in (ports_in_use, full_disks, signals, lone, configurations, floods, hears_in_turn):
             look(faults)
     print(f"{faults.looks - faults.wrong} looks at daemons among faults as wanted, {faults.wrong} not")
     sys.exit(1 if faults.wrong else 0)

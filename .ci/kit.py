@@ -1,7 +1,7 @@
 """Tries each script of the operator's kit: python3 .ci/kit.py PATH/TO/spinesd
 
-What a script must say stands here and in kit_recording.py, kit_house.py and kit_daemons.py, by hand. Keys, a status and a page are also made of three daemons
-that run. What needs chromium, mandoc, shellcheck or systemd-analyze is tried where that is installed, and left out with a word where not. Each difference is
+What a script must say stands here and in kit_recording.py, kit_house.py, kit_next.py, kit_daemons.py and kit_busy.py, by hand. Keys, a status and a page
+are also made of three daemons that run. What needs chromium, mandoc, shellcheck or systemd-analyze is tried where that is installed, and left out with a word where not. Each difference is
 told, and the status is then 1.
 """
 
@@ -22,8 +22,10 @@ ROOT = os.path.dirname(os.path.dirname(os.path.abspath(__file__)))
 KIT = os.path.join(ROOT, "kit")
 sys.path[:0] = [os.path.join(ROOT, "examples", "overlay"), os.path.dirname(os.path.abspath(__file__))]
 
+import kit_busy  # noqa: E402
 import kit_daemons  # noqa: E402
 import kit_house  # noqa: E402
+import kit_next  # noqa: E402
 import kit_recording  # noqa: E402
 from overlay import free_ports  # noqa: E402
 
@@ -67,11 +69,11 @@ class Kit:
             file.write(data)
         return self.path(name)
 
-    def run(self, script, *words, given=b"", **more):
-        """The status, the output and what was said of a script's run."""
+    def run(self, script, *words, given=b"", env=(), **more):
+        """The status, the output and what was said of a script's run, with more in its environment."""
         path = script if os.path.isabs(script) else os.path.join(KIT, script)
         ended = subprocess.run([path, *words], input=given, stdout=subprocess.PIPE, stderr=subprocess.PIPE, check=False, timeout=60,
-                               env={**os.environ, "SPINESD": self.program}, **more)
+                               env={**os.environ, "SPINESD": self.program, **dict(env)}, **more)
         return ended.returncode, ended.stdout.decode(), ended.stderr.decode()
 
     def missing(self, tool):
@@ -163,6 +165,34 @@ def statuses(kit):
     kit.equal("status: answers that aren't those of the rules", told["checked"], {"right": 0, "different": 5})
 
 
+def several_messages(kit):
+    """Frames with several messages of a kind are read, and their answers are found."""
+    configuration = kit.write("several.conf", kit_recording.CONFIGURATION)
+    recording = kit.write("several.recording", kit_recording.RECORDING_OF_SEVERAL.encode())
+    told = json.loads(kit.run("spinesd-status", "--json", configuration, recording)[1])
+    kit.equal("status: several messages in a frame", (told["checked"], [n["untold"] for n in told["neighbours"]]), ({"right": 5, "different": 0}, [0, 0]))
+    kit.equal("status: what became of them", [(n["answers"]["fresh"], n["answers"]["section"], n["bad_signatures"]) for n in told["neighbours"]],
+              [(3, 1, 1), (1, 0, 0)])
+
+
+def many_folders(kit):
+    """Several folders are told by one call, each metric with its node, and none twice. Nobody holds their key files."""
+    places = []
+    for node in (2, 3):
+        places.append(kit.path(f"many{node}"))
+        os.mkdir(places[-1])
+        kit.write(f"many{node}/spinesd.conf", kit_recording.CONFIGURATION.replace(b"node = 2", b"node = %d" % node))
+        kit.write(f"many{node}/1.recording", kit_recording.RECORDING[:kit_recording.RECORDING.index(b"overlay")])
+    lines = [line for line in kit.run("spinesd-status", "--prometheus", *places)[1].split("\n") if line]
+    names = [line.split(" ")[0] for line in lines if line[0] != "#"]
+    kit.equal("status: no metric stands twice", len(names), len({*names}))
+    kit.holds("status: each metric has its node", all('{node="2"' in name or '{node="3"' in name for name in names), names)
+    kit.equal("status: a help for each name", len([line for line in lines if line.startswith("# HELP")]), len({name.split("{")[0] for name in names}))
+    told = json.loads(kit.run("spinesd-status", "--json", *places)[1])
+    kit.equal("status: a list of them", [each["node"] for each in told], [2, 3])
+    kit.holds("status: killed", all(each["state"].startswith("not running: killed") for each in told), told[0]["state"])
+
+
 def cut_recordings(kit):
     configuration, text = kit.path("by_hand.conf"), kit_recording.RECORDING
     whole = text[:text.rindex(b"\nend") + 1]
@@ -176,6 +206,18 @@ def cut_recordings(kit):
     kit.equal("status: no configuration", kit.run("spinesd-status", kit.write("no.conf", b"node = 2\n"), "-", given=text)[0], 1)
 
 
+def broken_off(kit):
+    """A recording that breaks off anywhere is explained, and what has a last line of its own isn't taken for one."""
+    text = kit_recording.RECORDING.encode() if isinstance(kit_recording.RECORDING, str) else kit_recording.RECORDING
+    places = sorted({0, 5, 19, *(text.index(b"\n" + name) + more for name in (b"tick", b"overlay", b"client", b"poll", b"reserve", b"end") for more in (2, 8))})
+    for place in places:
+        wanted = "Nothing was written" if place == 0 else "A recording breaks off here"
+        status, said, _ = kit.run("spinesd-explain", given=text[:place])
+        kit.holds(f"explain a recording cut at {place}", status == 0 and said.startswith(wanted), said)
+    kit.holds("explain an end line", kit.run("spinesd-explain", given=text)[1].startswith("daemon, status 0, `end turns T lost N`"), "")
+    kit.equal("explain no line of a recording", kit.run("spinesd-explain", given=b"tickle 5")[0], 1)
+
+
 def follows(kit):
     """A status that is told again and again reads on, and goes over to the recording of the next start."""
     folder, out, text = kit.path("follow"), kit.path("follow.prom"), kit_recording.RECORDING
@@ -184,9 +226,9 @@ def follows(kit):
         kit.write("follow/" + name, data)
     child = subprocess.Popen([os.path.join(KIT, "spinesd-status"), "--prometheus", "--every", "0.05", "--out", out, folder])
     try:
-        kit.holds("status: told at first", wait_for_line(out, b"spinesd_turns_total 1\n"), "one turn isn't told")
+        kit.holds("status: told at first", wait_for_line(out, b'spinesd_turns_total{node="2"} 1\n'), "one turn isn't told")
         kit.write("follow/1.recording", text)
-        kit.holds("status: told as it grows", wait_for_line(out, b"spinesd_turns_total 5\n"), "five turns aren't told")
+        kit.holds("status: told as it grows", wait_for_line(out, b'spinesd_turns_total{node="2"} 5\n'), "five turns aren't told")
         time.sleep(0.05)
         kit.write("follow/2.recording", text[:text.index(b"stray")].replace(b"recording 1 4 32 64", b"recording 1 5 96 128"))
         kit.holds("status: told of the next start", wait_for_line(out, b'boot="5"'), "the next start isn't told")
@@ -322,7 +364,8 @@ def main():
         sys.exit("usage: python3 .ci/kit.py PATH/TO/spinesd")
     with tempfile.TemporaryDirectory() as folder:
         kit = Kit(os.path.abspath(sys.argv[1]), folder)
-        for look in (explains, endings_of_conformance, statuses, cut_recordings, follows, views, keys, kit_house.look, kit_daemons.daemons):
+        for look in (explains, endings_of_conformance, statuses, several_messages, many_folders, cut_recordings, follows, broken_off, views, keys,
+                     kit_next.look, kit_house.look, kit_daemons.daemons, kit_busy.look):
             look(kit)
     print(f"{kit.looks - kit.wrong} looks at the operator's kit as wanted, {kit.wrong} not")
     sys.exit(1 if kit.wrong else 0)

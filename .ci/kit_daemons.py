@@ -3,6 +3,7 @@
 import json
 import os
 import re
+import socket
 import subprocess
 import time
 
@@ -54,6 +55,8 @@ def daemons(kit):
         for place in places:
             with open(place + "/spinesd.conf", "rb") as given, open(place + "/first.recording", "wb") as recording:
                 children.append(subprocess.Popen([kit.program, "daemon", "--turns", "100000"], stdin=given, stdout=recording, cwd=place))
+        for place in places:
+            kit.equal("daemons: one that is waited for answers", kit.run("spinesd-node", "wait", place)[:2], (0, ""))
         locals_ = free_ports(2)
         replies = [ask(kit, ports[2], locals_[1], "1 open"), ask(kit, ports[2], locals_[1], "2 listen")]
         replies += [ask(kit, ports[0], locals_[0], "1 open"), ask(kit, ports[0], locals_[0], "2 send 3 6869")]
@@ -65,12 +68,37 @@ def daemons(kit):
             urgent.append(awaited(kit, ports[2], locals_[1], "takeprio"))
         kit.equal("daemons: priority messages arrive", urgent, ["3 accepted 1", "payload 1 1 6a", "4 accepted 2", "payload 1 2 6b"])
         seconds(kit, places[0])
+        while_they_run(kit, places, ports, locals_)
         time.sleep(0.3)  # for the last acknowledgement
     finally:
         for child in children:
             child.terminate()
             child.wait()
     told_of_daemons(kit, places)
+    told = [json.loads(kit.run("spinesd-status", "--json", place)[1])["state"] for place in places]
+    kit.holds("daemons: that they were ended", all(state.startswith("not running: killed") for state in told), told)
+
+
+def while_they_run(kit, places, ports, locals_):
+    """What status says of daemons that run, and how sessions are listed and closed."""
+    told = json.loads(kit.run("spinesd-status", "--json", *places)[1])
+    kit.equal("daemons: they run", [each["state"] for each in told], ["running"] * 3)
+    kit.holds("daemons: the turns that are left", all(each["turns"] + each["turns_left"] == 100_000 for each in told), told)
+    kit.holds("daemons: the hour of their end", "\nturns left " in kit.run("spinesd-status", places[0])[1], "")
+    kit.equal("daemons: sessions", [[s["port"] for s in each["sessions"]] for each in told], [[locals_[0]], [], [locals_[1]]])
+    kit.equal("daemons: who listens", [[s["listens"] for s in each["sessions"]] for each in told], [[False], [], [True]])
+    status, said, _ = kit.run("spinesd-sessions", places[0])
+    kit.holds("sessions: they are listed", status == 0 and said.startswith(f"port {locals_[0]}, last number 4\n1 of 8"), said)
+    kit.equal("sessions: one is closed", kit.run("spinesd-sessions", places[0], "close", str(locals_[0])),
+              (0, f"the session of port {locals_[0]} is closed\n", ""))
+    kit.equal("sessions: it is gone", ask(kit, ports[0], locals_[0], "5 take 3"), "5 nosession")
+    status, said, why = kit.run("spinesd-sessions", places[0], "close", str(locals_[0]))
+    kit.holds("sessions: one that isn't there", (status, said) == (1, "") and "has no session" in why, why)
+    kept = socket.socket(socket.AF_INET, socket.SOCK_DGRAM)
+    with kept:
+        kept.bind(("127.0.0.1", locals_[1]))
+        status, said, why = kit.run("spinesd-sessions", places[2], "close", str(locals_[1]))
+    kit.holds("sessions: one whose client runs", (status, said) == (1, "") and "a process has port" in why, why)
 
 
 def is_in_order(steps):

@@ -5,10 +5,11 @@ import os
 import re
 import shutil
 import subprocess
+import time
 
 ROOT = os.path.dirname(os.path.dirname(os.path.abspath(__file__)))
 KIT = os.path.join(ROOT, "kit")
-SCRIPTS = ("spinesd-keys", "spinesd-status", "spinesd-explain", "spinesd-view", "spinesd-node")
+SCRIPTS = ("spinesd-keys", "spinesd-status", "spinesd-sessions", "spinesd-explain", "spinesd-view", "spinesd-node")
 EXPOSURE = 2.0
 COMPLETED = [
     ("_spinesd", ["spinesd", "v"], ["verify"]), ("_spinesd", ["spinesd", "ask", "--p"], ["--port"]), ("_spinesd", ["spinesd", "daemon", "--turns", ""], []),
@@ -17,7 +18,8 @@ COMPLETED = [
 INSTALLED = sorted([
     "bin/spinesd", *("bin/" + name for name in SCRIPTS), *("lib/spinesd/kit/" + name for name in SCRIPTS), "lib/spinesd/kit/endings.md",
     "lib/spinesd/kit/page.html", *(f"lib/spinesd/kit/lib/{name}.py" for name in (
-        "clients", "configurations", "endings", "films", "frames", "journals", "metrics", "overlays", "recordings", "scripts", "tellings", "watching")),
+        "clients", "configurations", "endings", "films", "frames", "holders", "journals", "metrics", "overlays", "paths", "pruning", "readings", "recordings",
+        "renewals", "scripts", "stores", "tables", "tellings", "watching")),
     "share/man/man1/spinesd.1", "share/man/man5/spinesd-recording.5", "share/man/man5/spinesd-schedule.5", "share/man/man5/spinesd.conf.5",
     "share/bash-completion/completions/spinesd", "share/spinesd/spinesd.default", "lib/systemd/system/spinesd@.service",
 ])
@@ -125,8 +127,57 @@ def nodes(kit):
     kit.equal("node: nobody else reads it", os.stat(recording).st_mode & 0o777, 0o600)
     kit.holds("node: its end", open(recording, encoding="ascii").read().endswith("end turns 2 lost 0\n"), "")
     kit.equal("node: no folder", kit.run(node, "run", kit.path("none"))[0], 3)
+    status, said, why = kit.run(node, "judge", place, env={"SPINESD_LEAST_ROOM": "999999999999"})
+    kit.holds("node: a full disk", (status, said) == (6, "") and "make room" in why, why)
+    status, said, why = kit.run(node, "wait", place, "1")
+    kit.holds("node: nobody answers", (status, said) == (1, "") and "no daemon of" in why, why)
+
+
+def prunes(kit):
+    """Recordings go by age and size, the others are compressed, and the newest stays."""
+    folder = kit.path("prune")
+    os.mkdir(folder)
+    for name, days, size in (("new", 0, 10), ("newer", 1, 3 << 20), ("old", 2, 3 << 20), ("older", 40, 10)):
+        path = kit.write(f"prune/{name}.recording", os.urandom(size))
+        os.utime(path, (time.time() - days * 86_400 - 100,) * 2)
+    kit.equal("prune by age", kit.run("spinesd-node", "prune", folder, "30")[::2], (0, ""))
+    end = ".recording.zst" if shutil.which("zstd") else ".recording"
+    kit.equal("prune: what stays", sorted(os.listdir(folder)), sorted(["new.recording", "newer" + end, "old" + end]))
+    status, said, _ = kit.run("spinesd-node", "prune", folder, "30", "4")
+    kit.holds("prune by size", status == 0 and "old.recording" in said and "more than 4 megabytes" in said, said)
+    kit.equal("prune: what stays then", sorted(os.listdir(folder)), sorted(["new.recording", "newer" + end]))
+    kit.equal("prune without days", kit.run("spinesd-node", "prune", folder)[0], 2)
+
+
+def asks(kit):
+    """A question that can't be asked is answered by one line."""
+    ask, none = os.path.join(ROOT, "examples", "overlay", "ask"), kit.path("no overlay")
+    rows = [(["1", "status"], none, "ask: no overlay is in"), (["9", "open"], kit.path("asked"), "ask: the overlay has no node 9"),
+            (["x", "open"], kit.path("asked"), "ask: the overlay has no node x"), (["1", "open"], kit.path("asked"), "ask: the daemon of node 1 doesn't run")]
+    os.mkdir(kit.path("asked"))
+    kit.write("asked/overlay.json", b'{"1": [7001, 7101], "2": [7002, 7102]}')
+    for words, folder, wanted in rows:
+        status, said, why = kit.run(ask, *words, env={"OVERLAY": folder})
+        kit.holds(f"ask {words}", (status, said, why.count("\n")) == (1, "", 1) and why.startswith(wanted), why)
+
+
+def builds(kit):
+    """A first build tells each crate that is done, and keeps all that is said; a stand-in says it here, and ends with a fault."""
+    tools, checkout = kit.path("build tools"), kit.path("checkout")
+    os.makedirs(checkout + "/crates/app")
+    os.mkdir(tools)
+    kit.write("checkout/crates.txt", b"low: std\napp: low # the program\nother: low\n")
+    kit.write("build tools/rt", b"#!/bin/sh\necho 'fn low::a: proved'\necho 'logic=proved functions=3 sum=0'\necho 'error: app is wrong'\nexit 1\n")
+    os.chmod(tools + "/rt", 0o755)
+    front = "import sys; sys.path.insert(0, sys.argv[1]); from building import build; build(sys.argv[2], 'app')"
+    words = ["python3", "-c", front, os.path.join(ROOT, "examples", "overlay"), checkout]
+    status, said = tool(*words, env={**os.environ, "PATH": tools + ":" + os.environ["PATH"]})
+    kit.holds("build: the crates that are done", re.search(r"(?m)^crate 1 of 2: low, 3 functions proved, 0:0\d so far$", said), said)
+    kit.holds("build: what was wrong", status == 1 and "error: app is wrong\nThe program wasn't built: `rt run` ended with status 1" in said, said)
+    log = open(checkout + "/crates/app/out/build.log", encoding="utf-8").read()
+    kit.equal("build: what was said", log, "fn low::a: proved\nlogic=proved functions=3 sum=0\nerror: app is wrong\n")
 
 
 def look(kit):
-    for each in (man_pages, shells, installs, wide, nodes):
+    for each in (man_pages, shells, installs, wide, nodes, prunes, asks, builds):
         each(kit)

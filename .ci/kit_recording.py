@@ -25,9 +25,9 @@ def slot(source, destination, base, have, acknowledgements=b"\0", messages=b"\0"
     return b"\1" + struct.pack(">BBQQ", source, destination, base, have) + acknowledgements + messages
 
 
-def frame(echo, counter, reliable=b"\0", key=KEY_1):
-    """A frame of node 1, whose boot is 9, to node 2."""
-    text = b"SI\x01\x01\x02" + struct.pack(">QQQI", 9, echo, counter, 7) + b"\0" + bytes(8) + b"\0" + reliable
+def frame(echo, counter, reliable=b"\0", key=KEY_1, sender=1, heard=0, urgent=b"\0"):
+    """A frame of a neighbour, whose boot is 9, to node 2."""
+    text = b"SI\x01" + bytes([sender, 2]) + struct.pack(">QQQI", 9, echo, counter, 7) + b"\0" + struct.pack(">Q", heard) + urgent + reliable
     return (text + hmac.new(key, text, hashlib.sha256).digest()).hex()
 
 
@@ -54,32 +54,59 @@ RECORDING = ("recording 1 4 32 64\n"
              + turn(5_000, LIES, b"fresh ack:badsig\n", b"4 send 3 00", b"4 accepted 1", 1)
              + "end turns 5 lost 1\n").encode()
 
-# what is told of it, by hand
+
+def messages_of(kind):
+    """Three messages of node 1 to node 3: reliable ones, or urgent ones over both edges."""
+    for number in (1, 2, 3):
+        head = bytes([kind, 1, 3]) + struct.pack(">Q", number)
+        body = head + (b"\5" + b"\xff" * 8 + struct.pack(">QQ", 0, 3) if kind == 1 else b"") + struct.pack(">H", 1) + b"x"
+        yield (struct.pack(">Q", number) if kind == 1 else b"") + signed(body)
+
+
+# frames with several messages of a kind: of each the datagram's neighbour, its bytes and what node 2 answers
+SEVERAL = [
+    (1, frame(4, 1, slot(1, 3, 0, 3, messages=b"\3" + b"".join(messages_of(2)))), "fresh rel:new rel:new rel:new\n"),
+    (1, frame(4, 2, slot(1, 3, 0, 3, messages=b"\3" + b"".join(messages_of(2)))), "fresh rel:old rel:old rel:old\n"),
+    (1, frame(4, 3, urgent=b"\3" + b"".join(messages_of(1))), "fresh prio:new prio:new prio:badsig\n+ stored 3 1 1 1 5\n+ stored 3 2 1 2 5\n"),
+    (3, frame(4, 1, key=KEY_3, sender=3, heard=2), "fresh\n+ gone 3 1 acked\n+ gone 3 2 acked\n"),
+    (1, frame(4, 4, slot(1, 3, 0, 3, messages=b"\5")), "section count\n"),
+]
+RECORDING_OF_SEVERAL = "recording 1 4 32 64\n" + "".join(
+    f"tick {1_000 * turn} {digest(b'ticked' + NEWLINE)}\noverlay {node} {datagram} {digest(answer.encode())}\npoll {3 if turn % 2 else 1} {digest(b'')}\n"
+    for turn, (node, datagram, answer) in enumerate(SEVERAL, 1))
+
+# what is told of the first one, by hand
 NEIGHBOUR_1 = {
     "node": 1, "port": 7001, "frames_sent": 3, "lost": 3, "bad_signatures": 1, "untold": 0, "last_fresh_ms": 5_000, "boot": 9,
     "answers": {"fresh": 2, "learned": 1, "stale": 1, "badtag": 1, "notforme": 0, "malformed": 0, "topology": 0, "section": 0},
 }
 FLOWS = [
-    {"source": 1, "destination": 2, "sent": None, "delivered": 1, "taken": 1, "acknowledged": 0, "reported": {"1": {"base": 0, "have": 1}}},
-    {"source": 2, "destination": 3, "sent": 1, "delivered": None, "taken": None, "acknowledged": 0, "reported": {"1": {"base": 1, "have": 1}}},
+    {"source": 1, "destination": 2, "sent": None, "delivered": 1, "taken": 1, "acknowledged": 0, "standing_ms": 2_000,
+     "reported": {"1": {"base": 0, "have": 1}}},
+    {"source": 2, "destination": 3, "sent": 1, "delivered": None, "taken": None, "acknowledged": 0, "standing_ms": 0,
+     "reported": {"1": {"base": 1, "have": 1}}},
 ]
 TOLD = {
     "node": 2, "boot": 4, "topology_version": 7, "turns": 5, "first_turn_ms": 1_000, "last_turn_ms": 5_000, "ended": {"turns": 5, "lost": 1},
     "indexes": {"first": 32, "reserved": 96, "limit": 1_024, "left": 928}, "strays": {"5000": 1}, "checked": {"right": 5, "different": 0},
+    "sessions": [{"port": 9000, "last": 4, "listens": True}], "untold_ticks": 0,
     "requests": {"accepted": 1, "listening": 1, "opened": 1, "payload": 1, "repeated": 1}, "flows": FLOWS,
 }
 METRICS = [
-    'spinesd_info{node="2",boot="4",topology_version="7",height="5"} 1', "spinesd_turns_total 5", "spinesd_last_turn_timestamp_seconds 5.0",
-    "spinesd_ended 1", "spinesd_failed_calls 1", "spinesd_indexes_reserved 96", "spinesd_stray_datagrams_total 1", "spinesd_answers_different_total 0",
-    'spinesd_neighbour_datagrams_total{neighbour="1",answer="badtag"} 1', 'spinesd_neighbour_frames_lost_total{neighbour="1"} 3',
-    'spinesd_neighbour_bad_signatures_total{neighbour="1"} 1', 'spinesd_neighbour_last_fresh_timestamp_seconds{neighbour="1"} 5.0',
-    'spinesd_flow_delivered_total{source="1",destination="2"} 1', 'spinesd_flow_sent_total{source="2",destination="3"} 1',
-    'spinesd_flow_reported_have{source="1",destination="2",neighbour="1"} 1', "# TYPE spinesd_turns_total counter", "# TYPE spinesd_ended gauge",
+    'spinesd_info{node="2",boot="4",topology_version="7",height="5"} 1', 'spinesd_turns_total{node="2"} 5',
+    'spinesd_last_turn_timestamp_seconds{node="2"} 5.0', 'spinesd_ended{node="2"} 1', 'spinesd_failed_calls{node="2"} 1',
+    'spinesd_indexes_reserved{node="2"} 96', 'spinesd_stray_datagrams_total{node="2"} 1', 'spinesd_answers_different_total{node="2"} 0',
+    'spinesd_client_sessions{node="2"} 1', 'spinesd_neighbour_datagrams_total{node="2",neighbour="1",answer="badtag"} 1',
+    'spinesd_neighbour_frames_lost_total{node="2",neighbour="1"} 3', 'spinesd_neighbour_bad_signatures_total{node="2",neighbour="1"} 1',
+    'spinesd_neighbour_last_fresh_timestamp_seconds{node="2",neighbour="1"} 5.0',
+    'spinesd_flow_delivered_total{node="2",source="1",destination="2"} 1', 'spinesd_flow_sent_total{node="2",source="2",destination="3"} 1',
+    'spinesd_flow_reported_have{node="2",source="1",destination="2",neighbour="1"} 1', "# TYPE spinesd_turns_total counter", "# TYPE spinesd_ended gauge",
 ]
 TABLE = """\
 node 2, start 4, topology version 7: ended after 5 turns, 1 receives and sends failed
 turns 5, 1 a second, the first 1970-01-01 00:00:01, the last 1970-01-01 00:00:05 UTC
 indexes 928 of 1024 left to reserve; this start began at 32
 strays 1; requests 1 accepted, 1 listening, 1 opened, 1 payload, 1 repeated
+sessions 9000 at 4 listens
 """
 FLOW_ROW = "\n   1-2     -          1      1             -              1: 0/1\n"

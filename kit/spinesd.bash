@@ -25,15 +25,16 @@ _spinesd() {
 _spinesd_kit() {
     local now=${COMP_WORDS[COMP_CWORD]} options
     case $1 in
-        *-keys) options="seed make --height --version --port --buffer --store --seeds --ledger --program --help" ;;
+        *-keys) options="seed make renew add --height --version --port --buffer --store --seeds --ledger --dry-run --program --help" ;;
         *-status) options="--json --prometheus --whole --every --out --help" ;;
         *-explain) options="--command --help" ;;
         *-view) options="--title --idle --most --program --help" ;;
-        *-node) options="judge run --help" ;;
+        *-sessions) options="close --program --help" ;;
+        *-node) options="judge run wait prune --help" ;;
     esac
     mapfile -t COMPREPLY < <(compgen -W "$options" -- "$now")
     [ ${#COMPREPLY[@]} -gt 0 ] || mapfile -t COMPREPLY < <(compgen -f -- "$now")
 }
 
 complete -F _spinesd spinesd
-complete -F _spinesd_kit -o filenames spinesd-keys spinesd-status spinesd-explain spinesd-view spinesd-node
+complete -F _spinesd_kit -o filenames spinesd-keys spinesd-status spinesd-sessions spinesd-explain spinesd-view spinesd-node

@@ -17,7 +17,7 @@ ROOT = os.path.dirname(os.path.dirname(os.path.dirname(os.path.abspath(__file__)
 # where this checkout's program is, once it is built
 BUILT = os.path.join(ROOT, "crates", "spinesd", "out", "spinesd")
 PROGRAM = os.environ.get("SPINESD", BUILT)
-# a client listens for this many receives before it sends the same request again; one takes 5 to 15 ms
+# a client listens for this many receives before it sends the same request again; one takes 5 ms at most
 ASK_TURNS = 20
 # what a request is answered that didn't run
 NOT_RUN = ("badrequest", "badnumber", "nosession", "sessionsfull")
@@ -142,6 +142,10 @@ class Overlay:
         except OSError:
             return False
 
+    def runs(self, node):
+        """Whether the daemon of a node runs."""
+        return os.path.exists(self.path(f"{node}.pid")) and self.is_ours(int(self.read(f"{node}.pid")))
+
     def end(self, node, by=signal.SIGTERM):
         """Ends the daemon of a node, and waits until it has gone."""
         if not os.path.exists(self.path(f"{node}.pid")):
@@ -188,6 +192,8 @@ class Overlay:
                 if answer.split(" ")[0] not in NOT_RUN:
                     self.write(f"{node}.session", json.dumps({"local": session["local"], "last": number}))
                 return answer
+            if status == 2:
+                raise RuntimeError(f"no client asks {command!r}; docs/FORMATS.md, \"Requests of clients\", has all requests, as `send 3 6869` and `take 1`")
             if status != 11:
                 raise RuntimeError(f"ask ended with status {status}: {reply}")
         raise TimeoutError(f"node {node} doesn't answer: {number} {command}")

@@ -10,19 +10,12 @@ import signal
 import subprocess
 import sys
 
-from overlay import BUILT, Overlay, PROGRAM, line_of, read_graph
+from building import build
+from overlay import BUILT, Overlay, PROGRAM, ROOT, line_of, read_graph
 
 FOLDER = os.environ.get("OVERLAY", os.path.join(os.path.dirname(os.path.abspath(__file__)), "run"))
-# a daemon ends by itself after so many turns: some twenty minutes where nothing happens
+# a daemon ends by itself after so many turns: hours where nothing happens, some minutes where much does
 TURNS = 150_000
-
-
-def build():
-    """Builds the program of this checkout where it is missing, by the kit's `rt`."""
-    if PROGRAM == BUILT and not os.path.exists(BUILT) and shutil.which("rt"):
-        print("The program isn't built yet. `rt run` proves and builds it, once: some twenty minutes on four cores.", flush=True)
-        folder = os.path.dirname(os.path.dirname(BUILT))
-        subprocess.run(["rt", "run", "--", "generate", "--seed", "7"], cwd=folder, stdin=subprocess.DEVNULL, stdout=subprocess.DEVNULL, check=False)
 
 
 def graph_of(words):
@@ -88,11 +81,23 @@ def start(words):
         send(overlay, last, "are you there?")
         arrives(overlay, last, 3.0)
         print(f"The recording of node {middle}, up to where it was killed: {overlay.verify(middle)[1]}")
-    print("The others go on for some twenty minutes. Ask them by examples/overlay/ask, and end them by examples/overlay/stop.")
+    print("The others go on until they made their turns. Ask them by examples/overlay/ask NODE REQUEST, as `ask 3 take 1` and `ask 1 send 3 6869` (all")
+    print("requests: docs/FORMATS.md, \"Requests of clients\"; no number before them), and end them by examples/overlay/stop.")
 
 
 def ask(words):
-    print(Overlay(FOLDER).ask(int(words[0]), " ".join(words[1:])))
+    """The answer to a request, or one line that says why there is none."""
+    overlay, node, command = Overlay(FOLDER), int(words[0]) if words[0].isdecimal() else None, " ".join(words[1:])
+    if not overlay.ports:
+        sys.exit(f"ask: no overlay is in {FOLDER}; examples/overlay/start makes one")
+    if node not in overlay.ports:
+        sys.exit(f"ask: the overlay has no node {words[0]}; it has the nodes 1 to {len(overlay.ports)}")
+    if not overlay.runs(node):
+        sys.exit(f"ask: the daemon of node {node} doesn't run: it was ended, or made all its turns; examples/overlay/start begins anew")
+    try:
+        print(overlay.ask(node, command))
+    except (RuntimeError, TimeoutError) as fault:
+        sys.exit(f"ask: {fault}")
 
 
 def stop():
@@ -103,8 +108,8 @@ def stop():
 
 def main():
     words = sys.argv[1:]
-    if words[:1] == ["start"]:
-        build()
+    if words[:1] == ["start"] and PROGRAM == BUILT and not os.path.exists(BUILT) and shutil.which("rt"):
+        build(ROOT, "spinesd")
     if not os.access(PROGRAM, os.X_OK):
         sys.exit(f"There is no program {PROGRAM}. `cd crates/spinesd && rt run -- generate --seed 7` builds it; another one is named by SPINESD.")
     if words[:1] == ["start"] and len(words) <= 2:

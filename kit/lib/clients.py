@@ -7,8 +7,15 @@ is the reply. A payload is found only where the recording has the message that b
 import collections
 import hashlib
 
+import stores
+from frames import Item
+
 # how many bytes a request has at most
 MOST = 4_096
+# how many ports may have a session
+MOST_SESSIONS = 8
+# what is answered where nothing ran
+NOT_RUN = ("badnumber", "nosession", "sessionsfull")
 
 Reply = collections.namedtuple("Reply", "words is_repeat")
 
@@ -17,12 +24,20 @@ def digest_of(text):
     return hashlib.sha256(text.encode()).hexdigest().encode()
 
 
+class Session:
+    """A port that has a session: its last number, with the digest and the words of the reply, and whether it listens."""
+
+    def __init__(self):
+        self.number, self.digest, self.words, self.listens = "0", b"", None, False
+
+
 class Clients:
     """The sessions of a daemon's clients as a recording shows them, the numbers that were accepted, and the messages that arrived for them."""
 
-    def __init__(self, minimum_of):
+    def __init__(self, minimum_of, rules):
         self.minimum_of = minimum_of                    # the administrator's least weight of the link to a neighbour, or None
-        self.last = {}                                  # of a port, the number, the digest and the words of its last reply
+        self.rules = rules                              # what the node keeps, which requests change
+        self.sessions = {}                              # by their ports
         self.sent = collections.Counter()               # reliable messages accepted, by destination
         self.taken = collections.Counter()              # reliable messages taken, by source
         self.own = collections.Counter()                # own numbers of priority messages and weights
@@ -36,26 +51,52 @@ class Clients:
     def reply(self, port, request, digest):
         """The words of a reply without its number, and whether it was given before; None where no reply that fits was found."""
         number, *command = request[:MOST + 1].decode("ascii", "replace").split(" ")
-        before = self.last.get(port)
-        if before and before[:2] == (number, digest):
-            return Reply(before[2], True)
+        session = self.sessions.get(port)
+        if session and (session.number, session.digest) == (number, digest):
+            return Reply(session.words, True)
         for words in self.candidates(port, command) if len(request) <= MOST else ():
             if digest_of(f"{number} {words}") == digest:
                 self.answered(port, number, digest, words, command)
                 return Reply(words, False)
-        return Reply("badrequest", False) if digest == digest_of("0 badrequest") else Reply(None, False)
+        if digest == digest_of("0 badrequest"):
+            return Reply("badrequest", False)
+        if session and number.isdecimal() and int(number) == int(session.number) + 1:
+            session.number, session.digest, session.words = number, digest, None
+        return Reply(None, False)
 
     def answered(self, port, number, digest, words, command):
-        if not words.startswith(("badnumber", "nosession", "sessionsfull")):
-            self.last[port] = (number, digest, words)
-        if command == ["close"]:
-            self.last.pop(port, None)
-        if words.startswith("accepted ") and command[0] == "send":
+        """What a reply that was found did."""
+        name, first = words.split(" ")[0], command[0] if command else ""
+        if name not in NOT_RUN:
+            session = self.sessions.setdefault(port, Session())
+            session.number, session.digest, session.words = number, digest, words
+            session.listens |= name == "listening"
+        if name == "closed":
+            self.sessions.pop(port, None)
+        elif name == "accepted":
+            self.accepted(command)
+        elif name == "payload" and first == "take":
+            source = int(command[1])
+            self.taken[source] += 1
+            self.arrived["rel", source].pop(self.taken[source], None)
+            self.rules.took(source)
+        elif name == "payload":
+            self.arrived["prio", int(words.split(" ")[1])].pop(int(words.split(" ")[2]), None)
+            self.rules.took_prio()
+
+    def accepted(self, command):
+        """A message or a weight was taken."""
+        if command[0] == "send":
             self.sent[int(command[1])] += 1
-        elif words.startswith("accepted "):
-            self.own[self.numbered(command)] += 1
-        elif words.startswith("payload ") and command[0] == "take":
-            self.taken[int(command[1])] += 1
+            self.rules.sent(int(command[1]), self.sent[int(command[1])])
+            return
+        self.own[self.numbered(command)] += 1
+        number = self.own[self.numbered(command)]
+        if command[0] == "weight":
+            self.rules.weighed(int(command[1]), number, int(command[2]))
+        else:
+            item = Item("prio", self.rules.me, int(command[1]), number, b"", int(command[2]), int(command[3]))
+            self.rules.sent_prio(item, int(command[4]))
 
     def numbered(self, command):
         """What an own number counts: all priority messages together, and the updates of each link."""
@@ -72,12 +113,13 @@ class Clients:
         yield "badend"
         yield "nosession"
         yield "sessionsfull"
-        yield f"badnumber {self.last[port][0] if port in self.last else 0}"
-        yield from (f"busy {other}" for other in self.last)
+        yield f"badnumber {self.sessions[port].number if port in self.sessions else 0}"
+        yield from (f"busy {other}" for other in self.sessions)
 
     def of_sending(self, name, command):
         sent = self.sent[int(command[1])] if name == "send" and command[1].isdecimal() else self.own[self.numbered(command)]
         yield f"accepted {sent + 1}"
+        yield f"spent {self.rules.total}"
         if name == "send":
             yield from (f"full {base} {sent}" for base in range(max(0, sent - 64), sent + 1))
         elif name == "sendprio":
@@ -91,7 +133,9 @@ class Clients:
         yield "notlistening"
         if name == "take" and len(command) == 2 and command[1].isdecimal():
             source = int(command[1])
-            yield from (f"payload {payload}" for payload in self.arrived["rel", source].values())
+            if payload := self.arrived["rel", source].get(self.taken[source] + 1):
+                yield f"payload {payload}"
         elif name == "takeprio":
-            for (kind, source), messages in list(self.arrived.items()):
-                yield from (f"payload {source} {number} {payload}" for number, payload in messages.items() if kind == "prio")
+            for entry in self.rules.guesses[0][stores.INBOX].entries[:1]:
+                if payload := self.arrived["prio", entry.source].get(entry.number):
+                    yield f"payload {entry.source} {entry.number} {payload}"

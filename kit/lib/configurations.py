@@ -14,7 +14,7 @@ SIGNATURES = {5: 4_756, 10: 5_076}
 NODE_BYTES, EDGE_BYTES = 61, 6
 
 Topology = collections.namedtuple("Topology", "version height nodes edges")
-Configuration = collections.namedtuple("Configuration", "node port client_port peers topology")
+Configuration = collections.namedtuple("Configuration", "node port client_port peers topology buffer store", defaults=(16, 64))
 Peer = collections.namedtuple("Peer", "node port key")
 
 
@@ -44,6 +44,7 @@ def configuration_of(text):
         table = tomllib.loads(text.decode())
         peers = [Peer(peer["id"], peer["port"], bytes.fromhex(peer["key"])) for peer in table.get("peer", [])]
         topology = topology_of(bytes.fromhex(table["topology"]))
-        return Configuration(table["node"], table["port"], table["client_port"], peers, topology)
+        bounds = {name: table[name] for name in ("buffer", "store") if name in table}
+        return Configuration(table["node"], table["port"], table["client_port"], peers, topology, **bounds)
     except (ValueError, KeyError, TypeError, IndexError) as fault:
         raise Unreadable(f"no configuration ({fault}); `spinesd verify` says which key is at fault") from fault

@@ -6,12 +6,14 @@ import hmac
 
 HEAD, TAG, LEAST, MOST = 33, 32, 65, 65_507
 KINDS = {1: "prio", 2: "rel", 3: "ack", 4: "weight"}
+# how many messages of a kind a frame has at most
+MOST_MESSAGES = 4
 # how many bytes a body has before its payload
 FIXED = {"prio": 38, "rel": 13, "ack": 11, "weight": 16}
 
 Head = collections.namedtuple("Head", "sender to boot echo counter topology")
-# of a weight the source is the origin and the destination the edge's number; rank and mask are of a priority message
-Item = collections.namedtuple("Item", "kind source destination number payload rank mask", defaults=(0, 0))
+# of a weight the source is the origin and the destination the edge's number; rank, expiry and mask are of a priority message
+Item = collections.namedtuple("Item", "kind source destination number payload rank expiry mask", defaults=(0, 0, 0))
 Slot = collections.namedtuple("Slot", "source destination base have")
 # the objects in their order, the link number that the neighbour acknowledges, and what it reports of a flow
 Sections = collections.namedtuple("Sections", "items heard slot")
@@ -57,11 +59,12 @@ class Pieces:
         self.at += count
         return self.data[self.at - count:self.at]
 
-    def flag(self):
+    def count(self, most=1):
+        """How many come next; of a flag 0 or 1."""
         value = self.take(1)[0]
-        if value > 1:
+        if value > most:
             raise Bad("count")
-        return value == 1
+        return value
 
     def item(self, section, signature):
         """One signed message of a section; its ranges aren't judged."""
@@ -74,24 +77,24 @@ class Pieces:
         self.take(signature)
         if kind == "weight":
             return Item(kind, body[1], number(body[2:4]), number(body[4:12]), body[12:])
-        more = (body[11], number(body[20:36])) if kind == "prio" else ()
+        more = (body[11], number(body[12:20]), number(body[20:36])) if kind == "prio" else ()
         return Item(kind, body[1], body[2], number(body[3:11]), body[FIXED[kind]:], *more)
 
 
 def sections_of(frame, signature):
     """The objects of a frame in their order, and its slot; `signature` is how many bytes one has."""
     pieces, items, slot = Pieces(frame[HEAD:-TAG]), [], None
-    if pieces.flag():
+    for _ in range(pieces.count()):
         items.append(pieces.item("weight", signature))
     heard = number(pieces.take(8))
-    if pieces.flag():
+    for _ in range(pieces.count(MOST_MESSAGES)):
         pieces.take(8)
         items.append(pieces.item("prio", signature))
-    if pieces.flag():
+    if pieces.count():
         ends = pieces.take(2)
         slot = Slot(ends[0], ends[1], number(pieces.take(8)), number(pieces.take(8)))
-        for section in ("ack", "rel"):
-            if pieces.flag():
+        for section, most in (("ack", 1), ("rel", MOST_MESSAGES)):
+            for _ in range(pieces.count(most)):
                 items.append(pieces.item(section, signature))
     if pieces.at < len(pieces.data):
         raise Bad("tail")

@@ -1,20 +1,25 @@
-"""The numbers of a watch as Prometheus reads them: each with its help and its type, in the text format 0.0.4."""
+"""The numbers of daemons as Prometheus reads them: each with its node, its help and its type, in the text format 0.0.4."""
 
+from tables import turns_left
 from watching import ANSWERS
 
 
-def of_daemon(watch, size):
+def of_daemon(look):
     """Rows of one daemon: a name, a type, a help, and the samples, each labels and a value."""
-    configuration, seconds = watch.configuration, lambda milliseconds: (milliseconds or 0) / 1000
-    labels = {"node": configuration.node, "boot": watch.boot, "topology_version": configuration.topology.version, "height": configuration.topology.height}
+    watch, configuration, seconds = look.watch, look.watch.configuration, lambda milliseconds: (milliseconds or 0) / 1000
+    labels = {"boot": watch.boot, "topology_version": configuration.topology.version, "height": configuration.topology.height}
+    left = turns_left(look)
     return [
         ("info", "gauge", "What the daemon is; the value is 1.", [(labels, 1)]),
         ("turns_total", "counter", "Turns that the daemon made.", [({}, watch.turns)]),
         ("start_timestamp_seconds", "gauge", "Clock of the first turn.", [({}, seconds(watch.first_tick))]),
         ("last_turn_timestamp_seconds", "gauge", "Clock of the last turn.", [({}, seconds(watch.now))]),
         ("ended", "gauge", "Whether the recording has its end line.", [({}, int(watch.ended is not None))]),
+        ("running", "gauge", "Whether somebody holds the key file of the daemon's folder.", [({}, int(bool(look.holder)))] if look.holder is not False else []),
+        ("turns_left", "gauge", "Turns that are left of those that the daemon was told to make.", [({}, left[0])] if left and look.holder else []),
+        ("client_sessions", "gauge", "Ports of clients that have a session, of eight.", [({}, len(watch.clients.sessions))]),
         ("failed_calls", "gauge", "Receives and sends that failed, which only the end line tells.", [({}, watch.ended[1])] if watch.ended else []),
-        ("recording_bytes", "gauge", "Bytes of the recording that were read.", [({}, size)]),
+        ("recording_bytes", "gauge", "Bytes of the recording that were read.", [({}, look.reading.size)]),
         ("indexes_limit", "gauge", "One-time indexes that the seed has.", [({}, watch.total)]),
         ("indexes_reserved", "gauge", "One-time indexes that are reserved, and never given again.", [({}, watch.bound)]),
         ("stray_datagrams_total", "counter", "Datagrams from a port that is no neighbour's.", [({}, watch.strays.total())]),
@@ -44,9 +49,9 @@ def of_neighbours(watch):
     ]
 
 
-def of_flows(watch):
+def of_flows(look):
     """Rows of the flows."""
-    me, clients = watch.configuration.node, watch.clients
+    watch, me, clients = look.watch, look.watch.configuration.node, look.watch.clients
     flow = lambda source, destination: {"source": source, "destination": destination}
     reports = [({**flow(*ends), "neighbour": node}, report)
                for node, n in sorted(watch.neighbours.items()) for ends, report in sorted(n.reports.items())]
@@ -58,6 +63,8 @@ def of_flows(watch):
         ("flow_taken_total", "counter", "Reliable messages that a client took here.", [(flow(source, me), n) for source, n in sorted(clients.taken.items())]),
         ("flow_acknowledged", "gauge", "Number up to which a flow is acknowledged, by the last acknowledgement that was new here.",
          [(flow(*ends), n) for ends, n in sorted(watch.acknowledged.items())]),
+        ("flow_standing_seconds", "gauge", "For how long a flow didn't move although messages of it wait here; 0 where none waits.",
+         [(flow(*ends), watch.standing(ends, look.now) / 1000) for ends in watch.flows()]),
         ("flow_reported_base", "gauge", "Number up to which a flow is acknowledged at a neighbour, as it reported last.",
          [(labels, report[0]) for labels, report in reports]),
         ("flow_reported_have", "gauge", "Number up to which a neighbour has a flow's messages, as it reported last.",
@@ -65,13 +72,18 @@ def of_flows(watch):
     ]
 
 
-def text_of(watch, size):
-    """All rows that have a sample."""
+def text_of(looks):
+    """All rows that have a sample, each with the node that it is of."""
+    rows = {}
+    for look in looks:
+        node = {"node": look.watch.configuration.node}
+        for name, kind, told, samples in of_daemon(look) + of_neighbours(look.watch) + of_flows(look):
+            if samples:
+                rows.setdefault((name, kind, told), []).extend(({**node, **labels}, value) for labels, value in samples)
     text = ""
-    for name, kind, told, samples in of_daemon(watch, size) + of_neighbours(watch) + of_flows(watch):
-        if samples:
-            text += f"# HELP spinesd_{name} {told}\n# TYPE spinesd_{name} {kind}\n"
+    for (name, kind, told), samples in rows.items():
+        text += f"# HELP spinesd_{name} {told}\n# TYPE spinesd_{name} {kind}\n"
         for labels, value in samples:
             inner = ",".join(f'{label}="{word}"' for label, word in labels.items())
-            text += f"spinesd_{name}" + (f"{{{inner}}}" if inner else "") + f" {value}\n"
+            text += f"spinesd_{name}{{{inner}}} {value}\n"
     return text

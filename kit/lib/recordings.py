@@ -49,6 +49,13 @@ def lines_of(text, first=1):
     return lines, len(text) - whole
 
 
+def breaks_off(text):
+    """Whether this is a line of a recording, or the beginning of one, at which it breaks off."""
+    name, space, _ = text.partition(b" ")
+    names = [each.encode() for each in FORMS]
+    return name in names if space else any(each.startswith(text) for each in names)
+
+
 def begins(path):
     """Whether a file begins as a recording. One of a daemon that couldn't start has its last line alone, as `keeper`."""
     with open(path, "rb") as file:

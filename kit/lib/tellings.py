@@ -1,90 +1,228 @@
-"""The answers that a fresh frame can have, by what it carries and what the node's stores held: of these the one with the recorded digest is the answer.
+"""What a node answers a fresh frame and a tick, by the rules of docs/RULES.md: computed from all that came before, and found by the recorded digest.
 
-After the words of its objects come the effects, in the order of handling: the weight, the priority message that the neighbour acknowledged by its link
-number, the priority message, the flow's acknowledgement, its message. Numbers of stored entries rise by one for each place; where an entry was stored
-that no line told, the numbers may be some higher, which is tried too.
+Two things aren't told by what came before, and each possible answer is tried until one has the digest: which signatures are wrong, and over which of its
+links an own message goes that was sent over some paths.
 """
 
+import collections
+import hashlib
 import itertools
 
-# what a signed message may be answered, by its kind
-WORDS = {
-    "weight": ("new", "old", "badsig", "foreign", "low"),
-    "prio": ("new", "seen", "badsig", "expired", "badend"),
-    "ack": ("new", "old", "badsig", "ahead", "badend"),
-    "rel": ("new", "old", "badsig", "gap", "full", "inboxfull", "ahead", "badend"),
-}
-INBOX = 0
-# how many answers are tried, how many entries before the last stored one may be acknowledged, and how many may have been stored untold
-MOST, OLDEST, SKEW = 20_000, 300, 4
+import paths
+import stores
+from configurations import TOTALS
+
+# how many numbers below the greatest a window knows one by one; own updates above it are none; how many guesses are kept of what the stores hold
+WINDOW, MOST_OWN, MOST_GUESSES = 1_024, 2 ** 62, 32
+
+Flow = collections.namedtuple("Flow", "base have inbox", defaults=(0, 0, 0))
 
 
-class Stores:
-    """The numbers of the entries that a node's stores gave last, as far as they are told."""
+def is_digest(text, digest):
+    return hashlib.sha256(text.encode()).hexdigest().encode() == digest
+
+
+class Rules:
+    """What a node keeps, as far as its answers depend on it."""
 
     def __init__(self, configuration):
-        self.me = configuration.node
-        self.last = {place: 0 for place in (INBOX, *(peer.node for peer in configuration.peers))}
-        edges = [edge[:2] for edge in configuration.topology.edges]
-        self.edge_to = {peer.node: edges.index(tuple(sorted((self.me, peer.node)))) for peer in configuration.peers
-                        if tuple(sorted((self.me, peer.node))) in edges}
-        self.skew = 0
+        self.me, self.bound, self.now, self.total = configuration.node, configuration.buffer, 0, TOTALS[configuration.topology.height]
+        self.nodes, self.edges = set(configuration.topology.nodes), configuration.topology.edges
+        ends = [edge[:2] for edge in self.edges]
+        self.edge_to = {peer.node: ends.index(pair) for peer in configuration.peers
+                        if (pair := tuple(sorted((self.me, peer.node)))) in ends}
+        self.flows, self.weights, self.marks = {}, {}, {}
+        self.guesses = [stores.empty_places(configuration)]
 
-    def untold(self):
-        """A priority message may have been stored, and nobody tells where."""
-        self.skew = min(SKEW, self.skew + 1)
+    # ---- what clients do
 
-    def sent(self, paths):
-        """An own priority message: over all edges it is stored for each neighbour, and else nobody tells for which."""
-        if paths:
-            self.untold()
-        for place in () if paths else self.edge_to:
-            self.last[place] += 1
+    def sent(self, destination, number):
+        self.flows[self.me, destination] = self.flow((self.me, destination))._replace(have=number)
 
-    def places_of(self, item, sender):
-        """Where a message that is new is stored."""
-        if item.destination == self.me:
-            return [INBOX]
-        return [place for place, edge in sorted(self.edge_to.items()) if item.mask >> edge & 1 and place != sender]
+    def took(self, source):
+        flow = self.flow((source, self.me))
+        self.flows[source, self.me] = flow._replace(inbox=flow.inbox - 1)
 
-    def stored(self, item, sender):
-        """The effects of a priority message that is new, each with what it makes of the numbers."""
-        places = self.places_of(item, sender)
-        front = f"+ delivered prio {item.source} {item.number} {item.payload.hex() or '-'}\n" if places == [INBOX] else ""
-        for ids in itertools.product(*(range(self.last[place] + 1, self.last[place] + 2 + self.skew) for place in places)):
-            lines = [f"+ stored {place} {number} {item.source} {item.number} {item.rank}\n" for place, number in zip(places, ids)]
-            yield front + "".join(lines), dict(zip(places, ids))
+    def took_prio(self):
+        self.guesses = [{**guess, stores.INBOX: guess[stores.INBOX].taken()} for guess in self.guesses]
 
-    def acknowledged(self, place):
-        """The effects of a link number that a neighbour acknowledged: none, or that an entry left its store."""
-        yield ""
-        last = self.last.get(place, 0) + self.skew
-        yield from (f"+ gone {place} {number} acked\n" for number in range(max(1, last - OLDEST), last + 1))
+    def weighed(self, peer, number, weight):
+        self.weights[self.me, self.edge_to.get(peer)] = number, weight
+
+    def in_effect(self):
+        """The weights of all edges, by their ends: the administrator's or that of an end, whichever is the greatest."""
+        return {(low, high): max(least, *(self.weights.get((end, place), (0, 0))[1] for end in (low, high)))
+                for place, (low, high, least) in enumerate(self.edges)}
+
+    def sent_prio(self, item, count):
+        """An own message over all edges, or over so many paths, each of which leaves by another link."""
+        ways = paths.leaving(self.me, item.destination, count, self.in_effect()) if count else [tuple(sorted(self.edge_to))]
+        after = [{**guess, **{node: guess[node].put(item)[0] for node in way}} for way in ways for guess in self.guesses]
+        self.guesses = after[:MOST_GUESSES]
+
+    # ---- turns
+
+    def polled(self, node):
+        self.guesses = [{**guess, node: guess[node].polled()} if node in guess else guess for guess in self.guesses]
+
+    def tick(self, now, digest):
+        """The answer to a tick and its effects; None where none has this digest, and then nothing was signed."""
+        self.now = max(self.now, now)
+        due = [flow for flow, row in self.flows.items() if flow[1] == self.me and row.base < row.have]
+        signed = [(None, "ticked", ""), *((flow, "ticked", self.acknowledgement(flow)) for flow in due), (None, f"tickspent {self.total}", "")]
+        after = [self.expired(guess) for guess in self.guesses]
+        for flow, reply, line in signed:
+            kept = [(guess, text) for guess, text in after if is_digest(f"{reply}\n{text}{line}", digest)]
+            if kept:
+                if flow:
+                    self.flows[flow] = self.flows[flow]._replace(base=self.flows[flow].have)
+                self.guesses = [guess for guess, _ in kept]
+                return f"{reply}\n{kept[0][1]}{line}".split("\n")[:-1]
+        self.guesses = [guess for guess, _ in after]
+        return None
+
+    def acknowledgement(self, flow):
+        """The line that tells the acknowledgement of all that came of a flow."""
+        return f"+ signed 03{flow[0]:02x}{flow[1]:02x}{self.flows[flow].have:016x}\n"
+
+    def expired(self, guess):
+        """A guess without what expired, and the lines that tell it."""
+        rows = {node: place.expired(self.now) for node, place in guess.items()}
+        return {node: place for node, (place, _) in rows.items()}, "".join(text for _, text in rows.values())
+
+    # ---- a frame
+
+    def flow(self, ends):
+        return self.flows.get(ends, Flow())
+
+    def is_seen(self, item):
+        marks = self.marks.get(item.source)
+        return item.source == self.me or (marks is not None and (item.number in marks or item.number + WINDOW <= max(marks, default=0)))
+
+    def fresh(self, sender, sections, digest):
+        """The words of the objects and the lines of the answer to a fresh frame; None for the lines where none has this digest."""
+        most = len(sections.items)
+        for bad in itertools.chain.from_iterable(itertools.combinations(range(most), count) for count in range(most + 1)):
+            trial = Trial(self, sender, sections, bad)
+            if len(trial.bad) < len(bad):
+                continue
+            after = [trial.of_places(guess) for guess in self.guesses]
+            kept = [(guess, text) for guess, text in after if is_digest(trial.reply + trial.front + text + trial.back, digest)]
+            if kept:
+                self.keep(trial, [guess for guess, _ in kept])
+                return trial.words, (trial.reply + trial.front + kept[0][1] + trial.back).split("\n")[:-1]
+        trial = Trial(self, sender, sections, ())
+        self.keep(trial, [trial.of_places(guess)[0] for guess in self.guesses])
+        return trial.words, None
+
+    def keep(self, trial, guesses):
+        """What a frame did stands from now on."""
+        self.guesses = guesses
+        self.flows.update(trial.flows)
+        self.weights.update(trial.weights)
+        for source, number in trial.marks:
+            marks = self.marks.setdefault(source, set())
+            marks.add(number)
+            if len(marks) > 2 * WINDOW:
+                self.marks[source] = {each for each in marks if each + WINDOW > max(marks)}
 
 
-def effects_of(stores, sender, item, word):
-    """The effects that an object with this word can have, each with what it makes of the stores' numbers."""
-    if word != "new" or item.kind == "ack":
-        return [("", {})]
-    if item.kind == "prio":
-        return stores.stored(item, sender)
-    if item.kind == "weight":
-        return [(f"+ weight {item.source} {item.destination} {item.number} {int.from_bytes(item.payload, 'big')}\n", {})]
-    is_here = item.destination == stores.me
-    return [(f"+ delivered rel {item.source} {item.number} {item.payload.hex() or '-'}\n" if is_here else "", {})]
+class Trial:
+    """A frame that is handled object by object, where the signatures at some places are wrong."""
 
+    def __init__(self, rules, sender, sections, bad):
+        self.rules, self.sender, self.sections, self.bad = rules, sender, sections, set()
+        self.flows, self.weights, self.marks, self.stored = {}, {}, [], []
+        self.front = self.back = ""
+        self.words = [self.word_of(item, place in bad, place) for place, item in enumerate(sections.items)]
+        self.reply = "fresh" + "".join(f" {item.kind}:{word}" for item, word in zip(sections.items, self.words)) + "\n"
 
-def parts_of(stores, sender, sections, is_acknowledged):
-    """What stands one after another in an answer: of each part a word or none, effects, and numbers."""
-    items = [[(word, *effect) for word in WORDS[item.kind] for effect in effects_of(stores, sender, item, word)] for item in sections.items]
-    weights = sum(item.kind == "weight" for item in sections.items)
-    gone = [(None, effect, {}) for effect in (stores.acknowledged(sender) if is_acknowledged else [""])]
-    return items[:weights] + [gone] + items[weights:]
+    def word_of(self, item, is_bad, place):
+        word = getattr(self, "of_" + item.kind)(item)
+        if word != "new":
+            return word
+        if is_bad:
+            self.bad.add(place)
+            return "badsig"
+        getattr(self, "keep_" + item.kind)(item)
+        return word
 
+    def of_weight(self, item):
+        edges, origin, weight = self.rules.edges, item.source, int.from_bytes(item.payload, "big")
+        if item.destination >= len(edges) or origin not in edges[item.destination][:2] or (origin == self.rules.me and item.number > MOST_OWN):
+            return "foreign"
+        if weight < edges[item.destination][2]:
+            return "low"
+        end = origin, item.destination
+        held = self.weights.get(end) or self.rules.weights.get(end) or (0, 0)
+        return "old" if item.number <= held[0] else "new"
 
-def answers(stores, sender, sections, is_acknowledged):
-    """The answers that are tried: the words of the objects, the text, and the stores' numbers after it."""
-    for parts in itertools.islice(itertools.product(*parts_of(stores, sender, sections, is_acknowledged)), MOST):
-        words = [word for word, _, _ in parts if word is not None]
-        text = "fresh" + "".join(f" {item.kind}:{word}" for item, word in zip(sections.items, words)) + "\n" + "".join(effect for _, effect, _ in parts)
-        yield words, text, {place: number for _, _, numbers in parts for place, number in numbers.items()}
+    def keep_weight(self, item):
+        self.weights[item.source, item.destination] = item.number, int.from_bytes(item.payload, "big")
+        self.front += f"+ weight {item.source} {item.destination} {item.number} {int.from_bytes(item.payload, 'big')}\n"
+
+    def of_prio(self, item):
+        if item.source == item.destination or not {item.source, item.destination} <= self.rules.nodes:
+            return "badend"
+        if item.expiry < self.rules.now:
+            return "expired"
+        return "seen" if self.rules.is_seen(item) or (item.source, item.number) in self.marks else "new"
+
+    def keep_prio(self, item):
+        self.marks.append((item.source, item.number))
+        self.stored.append(item)
+
+    def flow(self, ends):
+        return self.flows.get(ends) or self.rules.flow(ends)
+
+    def is_of_slot(self, item):
+        ends = item.source, item.destination
+        return ends == self.sections.slot[:2] and ends[0] != ends[1] and {*ends} <= self.rules.nodes
+
+    def of_ack(self, item):
+        flow = self.flow((item.source, item.destination))
+        if not self.is_of_slot(item):
+            return "badend"
+        if item.number <= flow.base:
+            return "old"
+        return "ahead" if item.destination == self.rules.me or (item.source == self.rules.me and item.number > flow.have) else "new"
+
+    def keep_ack(self, item):
+        ends = item.source, item.destination
+        self.flows[ends] = self.flow(ends)._replace(base=item.number, have=max(item.number, self.flow(ends).have))
+
+    def of_rel(self, item):
+        flow = self.flow((item.source, item.destination))
+        if not self.is_of_slot(item):
+            return "badend"
+        if item.number <= flow.have:
+            return "old"
+        if item.source == self.rules.me:
+            return "ahead"
+        if item.number > flow.have + 1:
+            return "gap"
+        if flow.have - flow.base >= self.rules.bound:
+            return "full"
+        return "inboxfull" if item.destination == self.rules.me and flow.inbox >= self.rules.bound else "new"
+
+    def keep_rel(self, item):
+        ends = item.source, item.destination
+        flow, is_here = self.flow(ends), item.destination == self.rules.me
+        self.flows[ends] = flow._replace(have=item.number, inbox=flow.inbox + is_here)
+        self.back += f"+ delivered rel {item.source} {item.number} {item.payload.hex() or '-'}\n" if is_here else ""
+
+    def of_places(self, guess):
+        """What a guess of the stores becomes, and the lines that tell it: what the neighbour acknowledged leaves, and then the new messages come."""
+        after = dict(guess)
+        after[self.sender], text = after[self.sender].acknowledged(self.sections.heard)
+        for item in self.stored:
+            is_here = item.destination == self.rules.me
+            text += f"+ delivered prio {item.source} {item.number} {item.payload.hex() or '-'}\n" if is_here else ""
+            for node in [stores.INBOX] if is_here else self.places_of(item):
+                after[node], lines = after[node].put(item)
+                text += lines
+        return after, text
+
+    def places_of(self, item):
+        """Where a message for another node is stored."""
+        return [node for node, edge in sorted(self.rules.edge_to.items()) if item.mask >> edge & 1 and node != self.sender]

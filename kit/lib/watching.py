@@ -1,8 +1,8 @@
 """What a recording tells of its daemon, line by line: neighbours, flows, clients, indexes.
 
 The answers to datagrams are computed from the recording's inputs and the configuration's link keys, by the rules of docs/RULES.md, and each is compared
-with its digest: so the counts of fresh, stale and wrongly tagged frames are exact. Signatures aren't checked here: what became of a signed message is
-found by its digest (tellings.py). It stays untold where more was evicted or expired than can be guessed.
+with its digest: so the counts of fresh, stale and wrongly tagged frames are exact. Signatures aren't checked here: whether one was right is found by the
+digest (tellings.py). An answer stays untold where own messages went over so many sets of paths that not all can be tried.
 """
 
 import collections
@@ -16,6 +16,8 @@ from configurations import SIGNATURES, TOTALS
 ANSWERS = ("fresh", "learned", "stale", "badtag", "notforme", "malformed", "topology", "section")
 NO_FRAME = ("toolong", "short", "magic", "version")
 TICKED = hashlib.sha256(b"ticked\n").hexdigest().encode()
+# what is told of a tick of which no answer has the digest
+SOMETHING = ["ticked", "and something was signed or expired, which only the digest tells"]
 
 
 class Neighbour:
@@ -25,7 +27,6 @@ class Neighbour:
         self.link, self.port = link, port
         self.polls, self.lost, self.bad_signatures, self.untold = 0, 0, 0, 0
         self.answers = collections.Counter()
-        self.heard = 0                                  # the greatest link number that it acknowledged
         self.last_fresh = None
         self.reports = {}
 
@@ -44,15 +45,15 @@ class Watch:
         self.signature = SIGNATURES[configuration.topology.height]
         self.total = TOTALS[configuration.topology.height]
         self.boot = self.index = self.bound = self.first_tick = self.now = self.ended = None
-        self.turns, self.quiet_ticks, self.lines, self.strays = 0, 0, 0, collections.Counter()
+        self.turns, self.quiet_ticks, self.untold_ticks, self.lines, self.strays = 0, 0, 0, 0, collections.Counter()
         self.right, self.wrong = 0, 0
         self.requests = collections.Counter()
-        self.clients = Clients(self.minimum_of)
-        self.stores = tellings.Stores(configuration)
-        self.latest = {}                                # the number of the message that was delivered last, by flow
+        self.rules = tellings.Rules(configuration)
+        self.clients = Clients(self.minimum_of, self.rules)
         self.told = []                                  # of the last line, its answer and effects as far as they are found
         self.acknowledged, self.delivered = collections.Counter(), collections.Counter()
         self.neighbours = {}
+        self.moved = {}                                 # of a flow, its numbers and the clock at which one of them rose last
 
     def minimum_of(self, peer):
         """The least weight of the link to this neighbour, as the administrator says."""
@@ -77,18 +78,10 @@ class Watch:
         self.now = self.clients.now = line.numbers[0] if self.now is None else max(self.now, line.numbers[0])
         self.first_tick = self.now if self.first_tick is None else self.first_tick
         self.turns += 1
-        self.told = self.of_tick(line.digest)
+        self.told = self.rules.tick(line.numbers[0], line.digest) or SOMETHING
+        self.untold_ticks += self.told == SOMETHING
         self.quiet_ticks += line.digest == TICKED
-
-    def of_tick(self, digest):
-        """The answer to a tick: nothing, or the acknowledgement that was signed; what expired can't be known."""
-        if digest == TICKED:
-            return ["ticked"]
-        for (source, me), number in self.latest.items():
-            signed = f"+ signed 03{source:02x}{me:02x}{number:016x}"
-            if hashlib.sha256(f"ticked\n{signed}\n".encode()).hexdigest().encode() == digest:
-                return ["ticked", signed]
-        return ["ticked", "and something was signed or expired, which only the digest tells"]
+        self.note_moves()
 
     def feed_stray(self, line):
         self.strays[line.numbers[0]] += 1
@@ -96,6 +89,7 @@ class Watch:
     def feed_poll(self, line):
         if line.numbers[0] in self.neighbours:
             self.neighbours[line.numbers[0]].polls += 1
+            self.rules.polled(line.numbers[0])
 
     def feed_end(self, line):
         self.ended = tuple(line.numbers)
@@ -103,9 +97,6 @@ class Watch:
     def feed_client(self, line):
         reply = self.clients.reply(line.numbers[0], line.data, line.digest)
         self.told = [reply.words or "an answer that only its digest tells"]
-        words = line.data.split(b" ")
-        if words[1:2] == [b"sendprio"] and (reply.words or "").startswith("accepted ") and not reply.is_repeat:
-            self.stores.sent(int(words[5]))
         self.requests["untold" if reply.words is None else "repeated" if reply.is_repeat else reply.words.split(" ")[0]] += 1
 
     # ---- datagrams of neighbours
@@ -151,40 +142,27 @@ class Watch:
 
     def of_sections(self, neighbour, sections, digest):
         """Finds what became of a fresh frame by the digest of the answer."""
-        is_acknowledged = sections.heard > neighbour.heard
-        neighbour.heard = max(neighbour.heard, sections.heard)
-        sender = neighbour.link.peer
-        for words, text, numbers in tellings.answers(self.stores, sender, sections, is_acknowledged):
-            if hashlib.sha256(text.encode()).hexdigest().encode() == digest:
-                self.right += 1
-                self.told = text.split("\n")[:-1]
-                self.stores.last.update(numbers)
-                for item, word in zip(sections.items, words):
-                    self.of_item(neighbour, item, word)
-                return
-        if not sections.items and not is_acknowledged:
+        words, told = self.rules.fresh(neighbour.link.peer, sections, digest)
+        self.right += told is not None
+        if told is None and sections.items:
+            neighbour.untold += 1
+        elif told is None:
             self.wrong += 1
-            return
-        neighbour.untold += 1
-        self.told = ["fresh" + "".join(f" {item.kind}:?" for item in sections.items)]
-        for item in sections.items:
-            self.of_item(neighbour, item, None)
+        self.told = told or ["fresh" + "".join(f" {item.kind}:?" for item in sections.items)]
+        for item, word in zip(sections.items, words):
+            self.of_item(neighbour, item, word)
 
     def of_item(self, neighbour, item, word):
-        """Counts one object by its word; None is one that isn't told, which may be new."""
+        """Counts one object by its word."""
         neighbour.bad_signatures += word == "badsig"
-        if item.kind == "prio" and word is None:
-            self.stores.untold()
-        if word not in ("new", None):
+        if word != "new":
             return
         flow = (item.source, item.destination)
-        if item.kind == "ack" and word == "new":
+        if item.kind == "ack":
             self.acknowledged[flow] = item.number
         elif item.kind in ("rel", "prio") and item.destination == self.configuration.node:
             self.clients.arrives(item)
-            if (item.kind, word) == ("rel", "new"):
-                self.delivered[flow] += 1
-                self.latest[flow] = item.number
+            self.delivered[flow] += item.kind == "rel"
 
     # ---- what is asked of all lines together
 
@@ -194,3 +172,17 @@ class Watch:
         found |= {(self.configuration.node, destination) for destination in self.clients.sent}
         found |= set(self.delivered)
         return sorted(found)
+
+    def note_moves(self):
+        """Keeps when a flow moved last: what this node keeps of it, or what its neighbours report."""
+        for flow, row in self.rules.flows.items():
+            now = (row.base, row.have, *(n.reports.get(flow) for n in self.neighbours.values()))
+            if self.moved.get(flow, (None,))[0] != now:
+                self.moved[flow] = now, self.now
+
+    def standing(self, flow, now):
+        """For how many milliseconds a flow of this node hasn't moved although messages of it wait here for an acknowledgement; 0 where none waits."""
+        row = self.rules.flows.get(flow)
+        if row is None or row.base >= row.have or flow not in self.moved:
+            return 0
+        return max(0, now - self.moved[flow][1])

@@ -2,12 +2,19 @@
 //! call that does it all.
 #![tactic(auto)]
 
+mod ears;
+mod hearing;
 mod key_file;
+mod news;
 mod pace;
+mod place;
 mod program;
+mod receive_buffer;
+mod sockets;
 mod standard;
 mod system_clock;
 mod udp_wire;
+mod waiter;
 
 use key_file::KeyFile;
 use program::program;
@@ -26,7 +33,7 @@ fn main(rt: HostRuntime) -> ExitCode {
         words(&rt, alloc),
         rt.stdin(),
         rt.stdout(),
-        UdpWire::new(&rt),
+        UdpWire::new(&rt, alloc),
         SystemClock::new(&rt),
         KeyFile::new(&rt),
     );

@@ -1,20 +1,17 @@
-// How fast a daemon turns: it naps while nothing happens, and goes with its neighbours while messages come. A neighbour that has a frame to
+// How fast a daemon turns: it rests while nothing happens, and goes with its neighbours while messages come. A neighbour that has a frame to
 // answer is sent no other, so none is sent more frames than it takes.
 //
 //     made for a neighbour     1 sent      2 not sent                3 sent
 //     heard of it                                        its answer
 
-/// A longer datagram carries a signed message. A frame that carries none is far shorter.
-const MESSAGE_BYTES: usize = 1_000;
+use crate::news::{News, carries_message};
+use sp_base::MAX_NODES_2;
 
-/// More neighbours than any topology has.
-const MOST_NEIGHBOURS: usize = 16;
+/// More neighbours than any topology of any format has.
+const MOST_NEIGHBOURS: usize = MAX_NODES_2 as usize;
 
-/// After so many cycles of its neighbours without a message or a request a daemon is idle.
+/// After so many cycles of its neighbours without news a daemon rests.
 const QUIET: u8 = 8;
-
-/// An idle daemon naps so long for itself and for each neighbour, once in a cycle, so that idle ones don't wake each other with each frame.
-const NAP_MS: u64 = 4;
 
 /// So many frames that aren't sent are made while a client asks, before a daemon holds.
 const MOST_AHEAD: u8 = 3;
@@ -30,34 +27,50 @@ const SILENT: u8 = 3;
 pub enum Pause {
     /// It takes what is there, if anything is.
     No,
-    /// It waits for a datagram.
-    Wait,
-    /// It waits longer, since each neighbour has a frame to answer.
-    Hold,
-    /// It naps, and then waits.
-    Nap,
+    /// It waits for a neighbour, since each has a frame to answer. A client ends the wait where this says so.
+    Hold { for_clients: bool },
+    /// It waits until news, a client or the time of the next frame comes.
+    Rest,
+}
+
+/// What a neighbour has to answer: a frame without a message, or one with a message.
+#[derive(Clone, Copy, Debug, PartialEq, Eq)]
+enum Owed {
+    Nothing,
+    Word,
+    Message,
 }
 
 /// A neighbour by its port, once a frame went there.
 #[derive(Clone, Copy, Debug)]
 struct Neighbour {
     port: Option<u16>,
-    /// Whether a frame went to it, and none has come from it since.
-    owes: bool,
+    /// What was sent to it since a frame came from it last.
+    owed: Owed,
     /// How many frames for it weren't sent since then.
     unsent: u8,
     /// How many long waits for it ended with nothing since it was heard, at most `SILENT`.
     missed: u8,
+    /// The frames that were made for it last.
+    made: News,
 }
 
 impl Neighbour {
     const fn at(port: Option<u16>) -> Self {
         Neighbour {
             port,
-            owes: false,
+            owed: Owed::Nothing,
             unsent: 0,
             missed: 0,
+            made: News::new(),
         }
+    }
+
+    /// A frame came from it.
+    fn hear(&mut self) {
+        self.owed = Owed::Nothing;
+        self.unsent = 0;
+        self.missed = 0;
     }
 
     fn is_silent(&self) -> bool {
@@ -66,7 +79,31 @@ impl Neighbour {
 
     /// Whether it has nothing to answer, and answers.
     fn is_free(&self) -> bool {
-        self.port.is_some() && !self.owes && !self.is_silent()
+        self.port.is_some() && self.owed == Owed::Nothing && !self.is_silent()
+    }
+
+    /// Whether this frame is sent: a message doesn't wait for the answer to a frame without one.
+    fn is_ready(&self, is_message: bool) -> bool {
+        let waits = match self.owed {
+            Owed::Nothing => false,
+            Owed::Word => !is_message,
+            Owed::Message => true,
+        };
+        !waits || self.is_silent() || MOST_UNSENT <= self.unsent
+    }
+
+    /// A frame was made for it, and sent or not.
+    fn note(&mut self, is_message: bool, goes: bool) {
+        self.unsent = if goes {
+            0
+        } else {
+            self.unsent.saturating_add(1)
+        };
+        if is_message {
+            self.owed = Owed::Message;
+        } else if self.owed == Owed::Nothing {
+            self.owed = Owed::Word;
+        }
     }
 }
 
@@ -77,10 +114,14 @@ pub struct Pace {
     neighbours: [Neighbour; MOST_NEIGHBOURS],
     /// The place of the neighbour whose turn it is. A cycle begins with the first.
     next: usize,
-    /// How many cycles ago the last message or request came, at most `QUIET`.
+    /// Whether a cycle ended, so that all neighbours are known.
+    knows_all: bool,
+    /// How many cycles ago the last news came or was made, at most `QUIET`.
     quiet: u8,
     /// Whether a request came in the last turn.
     was_asked: bool,
+    /// So many turns are made without a rest, since a client asked for something that may go to any neighbour.
+    hurry: usize,
     /// Whether the daemon holds.
     holds: bool,
 }
@@ -91,36 +132,43 @@ impl Pace {
         Pace {
             neighbours: [Neighbour::at(None); MOST_NEIGHBOURS],
             next: 0,
-            quiet: QUIET,
+            knows_all: false,
+            quiet: 0,
             was_asked: false,
+            hurry: 0,
             holds: false,
         }
     }
 
-    /// What to do before the next receive from neighbours.
-    pub fn pause(&mut self) -> Pause {
-        let begins = self.next == 0;
-        if begins {
-            self.quiet = self.quiet.saturating_add(1).min(QUIET);
-        }
-        let is_idle = self.is_idle();
-        let may_go = self.was_asked && self.unsent_to_next() < MOST_AHEAD;
-        self.was_asked = false;
-        self.holds = !is_idle && !may_go && !self.neighbours.iter().any(Neighbour::is_free);
-        match self.holds {
-            _ if is_idle && begins => Pause::Nap,
-            _ if is_idle => Pause::Wait,
-            true => Pause::Hold,
-            false => Pause::No,
-        }
+    /// Whether a cycle begins.
+    pub fn begins(&self) -> bool {
+        self.next == 0
     }
 
-    /// How long a nap takes, in milliseconds. Whoever has more neighbours, and so more turns in a cycle, naps longer.
-    pub fn nap_ms(&self) -> u64 {
-        self.neighbours
-            .iter()
-            .filter(|neighbour| neighbour.port.is_some())
-            .fold(NAP_MS, |nap, _| nap.saturating_add(NAP_MS))
+    /// What to do before the next receive from neighbours.
+    pub fn pause(&mut self) -> Pause {
+        if self.begins() {
+            self.quiet = self.quiet.saturating_add(1).min(QUIET);
+        }
+        let may_go = self.unsent_to_next() < MOST_AHEAD;
+        let was_asked = self.was_asked;
+        let hurries = 0 < self.hurry;
+        self.was_asked = false;
+        self.hurry = self.hurry.saturating_sub(1);
+        self.holds = false;
+        if self.rests() {
+            return if hurries { Pause::No } else { Pause::Rest };
+        }
+        if !self.knows_all
+            || (was_asked && may_go)
+            || self.neighbours.iter().any(Neighbour::is_free)
+        {
+            return Pause::No;
+        }
+        self.holds = true;
+        Pause::Hold {
+            for_clients: may_go,
+        }
     }
 
     fn unsent_to_next(&self) -> u8 {
@@ -130,22 +178,23 @@ impl Pace {
         }
     }
 
-    /// Whether nothing came for a while, or no neighbour answers.
-    fn is_idle(&self) -> bool {
+    /// Whether there was no news for a while, or no neighbour answers.
+    fn rests(&self) -> bool {
         self.quiet == QUIET
-            || self.neighbours.iter().all(|neighbour| neighbour.port.is_none()
-                || neighbour.is_silent())
+            || (self.knows_all
+                && self.neighbours.iter().all(|neighbour| neighbour.port.is_none()
+                    || neighbour.is_silent()))
     }
 
-    /// A datagram of so many bytes came from this port of a neighbour. Those of others are nothing.
-    pub fn heard(&mut self, port: u16, count: usize) {
+    /// A datagram came from this port of a neighbour. Those of others are nothing.
+    pub fn heard(&mut self, port: u16, is_news: bool) {
         let Some(place) = self.place_of(Some(port)) else {
             return;
         };
         if let Some(neighbour) = self.neighbours.get_mut(place) {
-            *neighbour = Neighbour::at(Some(port));
+            neighbour.hear();
         }
-        if MESSAGE_BYTES < count {
+        if is_news {
             self.quiet = 0;
         }
     }
@@ -156,38 +205,49 @@ impl Pace {
             return;
         }
         if let Some(neighbour) = self.neighbours.get_mut(self.next) {
-            neighbour.owes = false;
+            neighbour.owed = Owed::Nothing;
             neighbour.missed = neighbour.missed.saturating_add(1).min(SILENT);
         }
     }
 
-    /// A client asked for something.
+    /// A client asked for something. What comes of it goes to each neighbour once without a rest.
     pub fn asked(&mut self) {
-        self.quiet = 0;
         self.was_asked = true;
+        self.hurry = self
+            .neighbours
+            .iter()
+            .filter(|neighbour| neighbour.port.is_some())
+            .count();
     }
 
-    /// There is a frame for the neighbour of this port. Gives whether it is sent.
-    pub fn goes_to(&mut self, port: u16) -> bool {
-        let Some(place) = self.place_of(Some(port)).or_else(|| self.place_of(None)) else {
+    /// There is a frame for the neighbour of this port. Gives whether it is sent. A daemon that rests sends each.
+    pub fn goes_to(&mut self, port: u16, frame: &[u8]) -> bool {
+        let known = self.place_of(Some(port));
+        self.knows_all = self.knows_all || known.is_some();
+        let Some(place) = known.or_else(|| self.place_of(None)) else {
             return true;
         };
-        self.next = match self.neighbours.get(place.saturating_add(1)) {
-            Some(Neighbour { port: Some(_), .. }) => place.saturating_add(1),
-            _ => 0,
-        };
+        self.next = self.place_after(place);
+        let rests = self.rests();
         let Some(neighbour) = self.neighbours.get_mut(place) else {
             return true;
         };
         neighbour.port = Some(port);
-        let goes = !neighbour.owes || neighbour.is_silent() || MOST_UNSENT <= neighbour.unsent;
-        neighbour.unsent = if goes {
-            0
-        } else {
-            neighbour.unsent.saturating_add(1)
-        };
-        neighbour.owes = true;
+        let is_message = carries_message(frame);
+        let goes = rests || neighbour.is_ready(is_message);
+        neighbour.note(is_message, goes);
+        if neighbour.made.hears(frame) {
+            self.quiet = 0;
+        }
         goes
+    }
+
+    /// The place after this one in the cycle.
+    fn place_after(&self, place: usize) -> usize {
+        match self.neighbours.get(place.saturating_add(1)) {
+            Some(Neighbour { port: Some(_), .. }) => place.saturating_add(1),
+            _ => 0,
+        }
     }
 
     fn place_of(&self, port: Option<u16>) -> Option<usize> {

@@ -1,0 +1,278 @@
+// What a daemon hears: all that came to its two sockets is taken at once, and heard in turn. A daemon that has nothing to do waits for both.
+ghost use Rattle.std.specs.Prelude.{◌≡◌, ◌≤◌, IfOk, IfSome, length};
+ghost use Rattle.sp_outside.specs.declared.wire.TheConstants.{DATAGRAM_BYTES};
+
+use crate::hearing::Hearing;
+use crate::pace::{Pace, Pause};
+use crate::place::Waiting;
+use crate::sockets::{Given, received, sent};
+use crate::waiter::Waiter;
+use sp_outside::{DATAGRAM_BYTES, Failed, Side};
+use std::alloc::Global;
+use std::net::UdpSocket;
+use std::rt::Clock;
+use std::time::Duration;
+
+/// How long a daemon rests, at most.
+const REST_MS: u64 = 100;
+
+/// How long it waits where each neighbour has a frame to answer.
+const HOLD_MS: u64 = 40;
+
+/// How long one that asks waits for an answer, at most.
+const ASK_MS: u64 = 5;
+
+/// A client without a session is heard by a daemon that rests after so long: so what is no request wakes it seldom.
+const STRANGER_MS: u64 = 10;
+
+/// So much is taken of a socket at once.
+const MOST_TAKEN: usize = 4_096;
+
+/// So often something that isn't heard wakes a daemon before it goes on.
+const MOST_WAKES: usize = 10_000;
+
+/// So many strays of the overlay side wait, and so many datagrams of clients without a session.
+const STRAYS: usize = 1;
+
+const STRANGERS: usize = 8;
+
+/// A longer datagram is no request of a client. Of it one byte more is taken than a request has.
+const REQUEST_BYTES: usize = 4_096;
+
+/// Both sockets, and what waits at each.
+#[derive(Drop)]
+pub struct Ears {
+    sockets: Sockets,
+    neighbours: Hearing,
+    clients: Hearing,
+    /// Whether a datagram longer than any request may be heard in this cycle.
+    hears_long: bool,
+    pace: Pace,
+}
+
+/// The sockets that are open.
+#[derive(Drop)]
+pub struct Sockets {
+    pub overlay: Option<UdpSocket>,
+    pub client: Option<UdpSocket>,
+    pub waiter: Waiter,
+}
+
+impl Ears {
+    /// Nothing came yet.
+    pub fn new(alloc: Global, sockets: Sockets) -> Self {
+        Ears {
+            sockets,
+            neighbours: Hearing::new(alloc, STRAYS),
+            clients: Hearing::new(alloc, STRANGERS),
+            hears_long: true,
+            pace: Pace::new(),
+        }
+    }
+
+    /// The next datagram of this side in turn.
+    pub fn hear<R: Clock>(
+        &mut self,
+        rt: &R,
+        side: Side,
+        buf: &mut [u8],
+    ) -> Result<Option<(u16, usize)>, Failed>
+        ensures { IfOk result (λ got. IfSome got (λ datagram. datagram.1 ≤ DATAGRAM_BYTES)) }
+    {
+        match side {
+            Side::Overlay => self.hear_neighbour(rt, buf),
+            Side::Client => self.hear_client(rt, buf),
+        }
+    }
+
+    /// Waits as the pace wants it, and hears the next neighbour in turn.
+    fn hear_neighbour<R: Clock>(
+        &mut self,
+        rt: &R,
+        buf: &mut [u8],
+    ) -> Result<Option<(u16, usize)>, Failed>
+        ensures { IfOk result (λ got. IfSome got (λ datagram. datagram.1 ≤ DATAGRAM_BYTES)) }
+    {
+        if self.sockets.overlay.is_none() {
+            return Ok(None);
+        }
+        if self.pace.begins() {
+            self.neighbours.begin_cycle();
+            self.hears_long = true;
+        }
+        self.clients.begin_cycle();
+        let pause = self.pace.pause();
+        self.wait(rt, pause, buf)?;
+        match self.neighbours.take() {
+            Some(waiting) => {
+                self.pace.heard(waiting.port, waiting.is_news);
+                Ok(given(&waiting, buf))
+            }
+            None => {
+                self.pace.unheard();
+                Ok(None)
+            }
+        }
+    }
+
+    /// Hears the next client in turn. Who has no overlay side asks, and waits for the answer.
+    fn hear_client<R: Clock>(
+        &mut self,
+        rt: &R,
+        buf: &mut [u8],
+    ) -> Result<Option<(u16, usize)>, Failed>
+        ensures { IfOk result (λ got. IfSome got (λ datagram. datagram.1 ≤ DATAGRAM_BYTES)) }
+    {
+        if self.sockets.overlay.is_none() {
+            self.clients.begin_cycle();
+            self.wait(rt, Pause::Rest, buf)?;
+        }
+        let Some(waiting) = self.clients.take() else {
+            return Ok(None);
+        };
+        self.pace.asked();
+        Ok(given(&waiting, buf))
+    }
+
+    /// Sends a datagram, if the pace has it go. Its port is known from then on, at the client side as long as it has a session.
+    pub fn send(&mut self, side: Side, port: u16, bytes: &[u8]) -> Result<(), Failed> {
+        if side == Side::Client {
+            self.know_client(port, bytes);
+            return sent(&self.sockets.client, port, bytes);
+        }
+        self.neighbours.know(port);
+        if self.pace.goes_to(port, bytes) {
+            sent(&self.sockets.overlay, port, bytes)
+        } else {
+            Ok(())
+        }
+    }
+
+    fn know_client(&mut self, port: u16, reply: &[u8]) {
+        if has_session(reply) {
+            self.clients.know(port);
+        } else if self.clients.knows(port) {
+            self.clients.forget(port);
+        }
+    }
+
+    /// Takes all that came, and waits until there is a reason to go on.
+    fn wait<R: Clock>(&mut self, rt: &R, pause: Pause, buf: &mut [u8]) -> Result<(), Failed> {
+        let begin = rt.monotonic();
+        for _ in 0..MOST_WAKES {
+            let is_dry = self.take_neighbours(buf)? & self.take_clients(buf)?;
+            let passed = match (&begin, rt.monotonic()) {
+                (Ok(begin), Ok(now)) => passed_ms(*begin, now),
+                _ => REST_MS,
+            };
+            let left = self.left_ms(pause, passed);
+            if left == 0 {
+                return Ok(());
+            }
+            if is_dry {
+                self.sockets.waiter.wait(left).map_err(|_| Failed)?;
+            }
+        }
+        Ok(())
+    }
+
+    /// How long to wait yet after so long, in milliseconds. For 0 there is a reason to go on.
+    fn left_ms(&self, pause: Pause, passed: u64) -> u64 {
+        let asks = self.sockets.overlay.is_none();
+        match pause {
+            Pause::No => 0,
+            Pause::Hold { for_clients }
+                if self.neighbours.has_known() || (for_clients && self.clients.has_known()) => 0,
+            Pause::Hold { .. } => HOLD_MS.saturating_sub(passed),
+            Pause::Rest if self.neighbours.has_news() || self.clients.has_known() => 0,
+            Pause::Rest if asks && self.clients.has_others() => 0,
+            Pause::Rest if asks => ASK_MS.saturating_sub(passed),
+            Pause::Rest if self.clients.has_others() => STRANGER_MS.saturating_sub(passed),
+            Pause::Rest => REST_MS.saturating_sub(passed),
+        }
+    }
+
+    /// Takes what came to the overlay side. Gives whether that was all.
+    fn take_neighbours(&mut self, buf: &mut [u8]) -> Result<bool, Failed> {
+        for _ in 0..MOST_TAKEN {
+            match received(&self.sockets.overlay, buf)? {
+                Given::Nothing => return Ok(true),
+                Given::Unheard => {}
+                Given::Datagram { port, count } => {
+                    if let Some(bytes) = buf.get(..count) {
+                        self.put_neighbour(port, bytes)?;
+                    }
+                }
+            }
+        }
+        Ok(false)
+    }
+
+    fn put_neighbour(&mut self, port: u16, bytes: &[u8]) -> Result<(), Failed> {
+        if self.neighbours.put(port, bytes).map_err(|_| Failed)? {
+            return Ok(());
+        }
+        self.neighbours.put_first(port, bytes).map_err(|_| Failed)
+    }
+
+    /// Takes what came to the client side. Gives whether that was all.
+    fn take_clients(&mut self, buf: &mut [u8]) -> Result<bool, Failed> {
+        let most = buf.len().min(REQUEST_BYTES + 1);
+        for _ in 0..MOST_TAKEN {
+            match received(&self.sockets.client, &mut buf[..most])? {
+                Given::Nothing => return Ok(true),
+                Given::Unheard => {}
+                Given::Datagram { port, count } => {
+                    if let Some(bytes) = buf.get(..count) {
+                        self.put_client(port, bytes)?;
+                    }
+                }
+            }
+        }
+        Ok(false)
+    }
+
+    /// Of datagrams longer than any request one is heard in a cycle of the neighbours, and all others are lost.
+    fn put_client(&mut self, port: u16, bytes: &[u8]) -> Result<(), Failed> {
+        let is_long = REQUEST_BYTES < bytes.len();
+        if is_long && !self.hears_long {
+            return Ok(());
+        }
+        if is_long {
+            self.hears_long = false;
+        } else if self.clients.put(port, bytes).map_err(|_| Failed)? {
+            return Ok(());
+        }
+        self.clients.put_newest(port, bytes).map_err(|_| Failed)
+    }
+}
+
+/// Milliseconds from one reading of the clock to another, rounded up.
+fn passed_ms(begin: Duration, now: Duration) -> u64 {
+    match now.checked_sub(begin) {
+        Some(passed) => u64::try_from(passed.as_millis()).unwrap_or(u64::MAX),
+        None => 0,
+    }
+}
+
+/// Whether the reply to a request says that its port has a session.
+fn has_session(reply: &[u8]) -> bool {
+    const WITHOUT: [&[u8]; 5] = [
+        b" badrequest",
+        b" nosession",
+        b" sessionsfull",
+        b" badnumber 0",
+        b" closed",
+    ];
+    !WITHOUT.iter().any(|word| reply.ends_with(word))
+}
+
+/// The datagram at the front of the buffer, with its port and its length.
+fn given(waiting: &Waiting, buf: &mut [u8]) -> Option<(u16, usize)>
+    ensures { IfSome result (λ datagram. datagram.1 ≤ DATAGRAM_BYTES) }
+{
+    let bytes = waiting.bytes.as_slice();
+    let count = bytes.len().min(buf.len()).min(DATAGRAM_BYTES);
+    buf[..count].copy_from_slice(&bytes[..count]);
+    Some((waiting.port, count))
+}
