@@ -1,12 +1,12 @@
 #!/usr/bin/env python3
 """Judges the reading lists of docs/AUDIT.md: that each file stands there which the clauses of `run` cite, and that each count is right.
 
-    .ci/reading_list.py            fails where a cited file is missing, a listed one is gone, or a count or a total differs
-    .ci/reading_list.py --write    writes the counts and totals anew, and a list of the files that the others lack
-    .ci/reading_list.py --skips    tells the listed definitions that no clause of `run` cites: a reader may skip them
+    .ci/reading_list.py            fails where a cited file is missing, a listed one is gone, or a row, a count or a total differs
+    .ci/reading_list.py --write    writes the rows, counts and totals anew, and a list of the files that the others lack
 
-A count is of the lines that are neither blank nor a comment nor an import. What is cited is found from the clauses of `run` in crates/sp_top/src/top.rt:
-their words, then the words of the definitions that these name, and so on.
+A row of a file of definitions tells those that the clauses of `run` cite, or those that they don't, where these are fewer: a reader may skip them. A count
+is of the lines of what is cited that are neither blank nor a comment nor an import. What is cited is found from the clauses of `run` in
+crates/sp_top/src/top.rt: their words, then the words of the definitions that these name, and so on.
 """
 
 import collections
@@ -136,17 +136,34 @@ def listed(text):
     return [match[3] for match in map(ROW.match, text.split("\n")) if match]
 
 
-def recounted(text):
-    """The text with all counts and totals as they are."""
-    total, out, partial = 0, [], re.compile(r"alone of $")
+def names_of(names):
+    """Names as a row tells them."""
+    told = [f"`{it}`" for it in names]
+    return told[0] if len(told) == 1 else f"{', '.join(told[:-1])} and {told[-1]}"
+
+
+def row_of(path, definitions, seen):
+    """Which definitions of a file a row tells, and how many lines they are."""
+    own = definitions.own.get(path, set())
+    cited = [it for it in sorted(own) if (path, it) in seen]
+    others = sorted(own - set(cited))
+    if not cited or not others:
+        return "", lines_of(path)
+    count = sum(bool(line.strip()) for it in cited for line in definitions.texts[path, it].split("\n"))
+    return f"{names_of(cited)} alone of " if len(cited) <= len(others) else f"all but {names_of(others)} of ", count
+
+
+def recounted(text, definitions, seen):
+    """The text with all rows, counts and totals as they are."""
+    total, out = 0, []
     for line in text.split("\n"):
         row = ROW.match(line)
         if line.startswith("| What | File | Lines |"):
             total = 0
-        if row:
-            count = int(row[4].replace(",", "")) if partial.search(row[2]) else lines_of(row[3])
+        if row and os.path.exists(os.path.join(CRATES, row[3])):
+            told, count = row_of(row[3], definitions, seen)
             total += count
-            line = f"| {row[1]} | {row[2]}`crates/{row[3]}` | {count:,} |"
+            line = f"| {row[1]} | {told}`crates/{row[3]}` | {count:,} |"
         elif TOTAL.match(line):
             line = f"| together | | {total:,} |"
         out.append(line)
@@ -176,24 +193,19 @@ def with_lacking(text, lacking):
 def main(words):
     with open(AUDIT, encoding="utf-8") as it:
         text = it.read()
-    seen, _ = closure(Definitions())
+    definitions = Definitions()
+    seen, _ = closure(definitions)
     wanted = sorted({path for path, _ in seen} | {f"sp_outside/src/{it}.rt" for it in TRAITS} | {TOP})
     if "--write" in words:
         bare = with_lacking(text, [])
-        text = recounted(with_lacking(bare, [it for it in wanted if it not in listed(bare)]))
+        text = recounted(with_lacking(bare, [it for it in wanted if it not in listed(bare)]), definitions, seen)
         with open(AUDIT, "w", encoding="utf-8") as it:
             it.write(text)
     faults = [f"{it} is cited by the clauses of `run`, and no list has it" for it in wanted if it not in listed(text)]
     faults += [f"{it} is listed, and isn't there" for it in listed(text) if not os.path.exists(os.path.join(CRATES, it))]
     if not faults:
-        pairs = zip(text.split("\n"), recounted(text).split("\n"))
-        faults = [f"a count differs: {said} is {right}" for said, right in pairs if said != right]
-    if "--skips" in words:
-        files = {path for path, _ in seen}
-        for path in sorted(set(listed(text)) & files):
-            unread = sorted(own for own in Definitions().own[path] if (path, own) not in seen)
-            if unread:
-                print(f"{path}: {' '.join(unread)}")
+        pairs = zip(text.split("\n"), recounted(text, definitions, seen).split("\n"))
+        faults = [f"a row differs: {said} is {right}" for said, right in pairs if said != right]
     for fault in faults:
         print(fault)
     print(f"reading list: {len(seen)} definitions in {len({path for path, _ in seen})} files, {len(listed(text))} files listed, {len(faults)} faults")
