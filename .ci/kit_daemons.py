@@ -99,6 +99,15 @@ def while_they_run(kit, places, ports, locals_):
         kept.bind(("127.0.0.1", locals_[1]))
         status, said, why = kit.run("spinesd-sessions", places[2], "close", str(locals_[1]))
     kit.holds("sessions: one whose client runs", (status, said) == (1, "") and "a process has port" in why, why)
+    hidden = kit.path("hidden")
+    os.mkdir(hidden)
+    for name in os.listdir(places[1]):
+        if name.endswith(".recording"):
+            os.rename(os.path.join(places[1], name), os.path.join(hidden, name))
+    why = kit.run("spinesd-status", places[1])[2]
+    kit.holds("daemons: one whose recording was moved", "runs there, and its recording was moved" in why, why)
+    for name in os.listdir(hidden):
+        os.rename(os.path.join(hidden, name), os.path.join(places[1], name))
 
 
 def is_in_order(steps):

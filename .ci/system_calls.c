@@ -15,6 +15,7 @@
 #include <stdio.h>
 #include <stdlib.h>
 #include <string.h>
+#include <sys/epoll.h>
 #include <sys/file.h>
 #include <sys/socket.h>
 #include <sys/syscall.h>
@@ -114,6 +115,13 @@ int bind(int fd, const struct sockaddr *address, socklen_t length) {
     return result;
 }
 
+int connect(int fd, const struct sockaddr *address, socklen_t length) {
+    const struct sockaddr_in *in = (const struct sockaddr_in *)address;
+    int result = (int)syscall(SYS_connect, fd, address, length);
+    tell("connect %d %s:%d %ld\n", fd, inet_ntoa(in->sin_addr), ntohs(in->sin_port), gave(result));
+    return result;
+}
+
 ssize_t sendto(int fd, const void *from, size_t size, int flags, const struct sockaddr *address, socklen_t length) {
     const struct sockaddr_in *in = (const struct sockaddr_in *)address;
     long number = next_of("sendto");
@@ -129,6 +137,14 @@ ssize_t recvfrom(int fd, void *into, size_t size, int flags, struct sockaddr *ad
     if (is_planned("CALLS_FAIL", "recvfrom", next_of("recvfrom"))) errno = EIO;
     else result = syscall(SYS_recvfrom, fd, into, size, flags, address, length);
     tell("recvfrom %d - %ld\n", fd, gave(result));
+    return result;
+}
+
+int epoll_wait(int fd, struct epoll_event *events, int most, int timeout) {
+    int result = -1;
+    if (is_planned("CALLS_FAIL", "epoll_wait", next_of("epoll_wait"))) errno = EIO;
+    else result = (int)syscall(SYS_epoll_pwait, fd, events, most, timeout, NULL, 0);
+    tell("epoll_wait %d %d %ld\n", fd, timeout, gave(result));
     return result;
 }
 

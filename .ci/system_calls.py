@@ -35,15 +35,15 @@ Call = collections.namedtuple("Call", "name fd said result")
 
 
 class Calls:
-    """The program under the library, a folder of its own, and how many looks differed."""
+    """The program under the library, an overlay in a folder of its own, and how many looks differed."""
 
-    def __init__(self, program, folder):
+    def __init__(self, program, folder, graph=line_of(3)):
         self.program, self.folder, self.looks, self.wrong = program, folder, 0, 0
         self.library = os.path.join(folder, "system_calls.so")
         source = os.path.join(ROOT, ".ci", "system_calls.c")
         subprocess.run(["cc", "-O1", "-shared", "-fPIC", "-o", self.library, source], check=True)
         self.overlay = Overlay(os.path.join(folder, "overlay"), program)
-        self.overlay.make(line_of(3), HEIGHT)
+        self.overlay.make(graph, HEIGHT)
         with open(self.keys(2), "rb") as file:
             self.formatted = file.read()
 
@@ -55,6 +55,13 @@ class Calls:
         if not is_so:
             self.wrong += 1
             print(f"{name}: {str(told)[:600]}")
+
+    def guarded(self, look, *words):
+        """A look that comes to no end differs."""
+        try:
+            look(self, *words)
+        except (StopIteration, TimeoutError, subprocess.SubprocessError) as error:
+            self.holds(look.__name__, False, repr(error))
 
     def keys(self, node):
         return os.path.join(self.overlay.home(node), KEY_FILE)
@@ -111,8 +118,10 @@ def starts(looks):
     looks.equal("a start", (status, output.split(b"\n")[-2]), (0, b"end turns 2 lost 0"))
     calls = looks.calls()
     orders(looks, "a start", calls, START)
-    bound = sorted(call.said.split(":")[0] for call in calls if call.name == "bind")
-    looks.equal("the addresses of its sockets", bound, ["127.0.0.1"] * 2)
+    bound = {call.said for call in calls if call.name == "bind"}
+    looks.equal("the addresses of its sockets", bound, {f"127.0.0.1:{port}" for port in looks.overlay.ports[2]})
+    own = [call.said for call in calls if call.name == "connect"]
+    looks.equal("whose sockets of their own it opens", own, [f"127.0.0.1:{looks.overlay.ports[node][0]}" for node in (1, 3)])
     sent = [call for call in calls if call.name == "sendto"]
     looks.equal("a frame for each turn, to 127.0.0.1", [call.said.split(":")[0] for call in sent], ["127.0.0.1"] * 2)
     home = os.path.join(looks.folder, "format")
@@ -163,7 +172,9 @@ def clocks(looks):
 
 
 class Running:
-    """Three daemons, of which the second runs under the library."""
+    """Daemons, of which the second runs under the library."""
+
+    nodes = 1, 3
 
     def __init__(self, looks):
         self.looks, self.overlay = looks, looks.overlay
@@ -172,12 +183,16 @@ class Running:
         for node in self.overlay.ports:
             with open(self.looks.keys(node), "wb") as file:
                 file.write(self.looks.formatted)
-        for node in (1, 3):
+        for node in self.nodes:
             self.overlay.start(node, 1_000_000)
         with open(self.overlay.path("2.toml"), "rb") as given, open(self.overlay.path("2.recording"), "wb") as recording:
             self.child = subprocess.Popen([self.looks.program, "daemon", "--turns", "1000000"], cwd=self.overlay.home(2), stdin=given, stdout=recording,
                                           env=self.looks.environment())
-        Client(self.overlay.ports[2][1]).ask("close")
+        try:
+            Client(self.overlay.ports[2][1]).ask("close")
+        except TimeoutError:
+            self.__exit__()
+            raise
         return self
 
     def __exit__(self, *_):
@@ -195,11 +210,12 @@ def reserves(looks):
     with Running(looks) as running:
         client, taker = Client(running.overlay.ports[2][1]), Client(running.overlay.ports[3][1])
         taker.ask("listen")
-        for number in range(70):
-            while client.ask(f"send 3 {number:02x}")[0] == "full":
-                taker.ask("take 2")
+        accepted, until = 0, time.monotonic() + 60
+        while accepted < 70 and time.monotonic() < until:
+            accepted += client.ask(f"send 3 {accepted:02x}")[0] == "accepted"
             taker.ask("take 2")
     calls, lines = looks.calls(), running.lines()
+    looks.equal("messages that were accepted", accepted, 70)
     count = sum(line.startswith(b"reserve ") for line in lines)
     looks.holds("reserves: there are some", count >= 2, count)
     orders(looks, "reserves", calls, START + count)
@@ -210,11 +226,23 @@ def reserves(looks):
     looks.equal("all go to 127.0.0.1", {call.said.split(":")[0] for call in calls if call.name == "sendto"}, {"127.0.0.1"})
 
 
+def fault_of(other, port):
+    """Why a socket can't have this port; None where it has it."""
+    try:
+        return other.bind(("127.0.0.1", port))
+    except OSError as fault:
+        return fault.errno
+
+
 def strangers(looks):
-    """Who isn't at 127.0.0.1 isn't heard, at neither port, whatever his port is."""
+    """Nobody else opens a socket on a daemon's port, and who isn't at 127.0.0.1 isn't heard, at neither port, whatever his port is."""
     with Running(looks) as running:
         overlay, client = running.overlay.ports[2]
         time.sleep(0.5)
+        for port in (overlay, client):
+            with socket.socket(socket.AF_INET, socket.SOCK_DGRAM) as other:
+                other.setsockopt(socket.SOL_SOCKET, socket.SO_REUSEADDR, 1)
+                looks.equal("another socket on a daemon's port", fault_of(other, port), errno.EADDRINUSE)
         for port in (running.overlay.ports[1][0], 0):
             with socket.socket(socket.AF_INET, socket.SOCK_DGRAM) as other:
                 other.bind(("127.0.0.2", port))
@@ -250,7 +278,7 @@ def main():
     with tempfile.TemporaryDirectory() as folder:
         looks = Calls(os.path.abspath(sys.argv[1]), folder)
         for look in (starts, failing, lost, clocks, reserves, strangers, rests):
-            look(looks)
+            looks.guarded(look)
     print(f"{looks.looks - looks.wrong} looks at the calls of the system as wanted, {looks.wrong} not")
     sys.exit(1 if looks.wrong else 0)
 

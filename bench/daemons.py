@@ -80,12 +80,14 @@ class Client:
                 self.last += 1
                 yield reply.split(" ")
 
-    def ask(self, command):
-        """The answer to one request."""
-        answer = None
-        while answer is None:
+    def ask(self, command, seconds=30):
+        """The answer to one request, which is waited for so long."""
+        until = time.monotonic() + seconds
+        while time.monotonic() < until:
             answer = next(self.answers(command, time.monotonic() + 0.001, 1), None)
-        return answer
+            if answer is not None:
+                return answer
+        raise TimeoutError(f"nobody answers: {command}")
 
 
 def seconds_of(pid):

@@ -3,9 +3,9 @@
 Nodes 1, 2 and 3 stand in a line, and a client sends messages of 64 bytes from 1 to 3 as fast as they are accepted. Node 2 has a fourth neighbour, which is
 down. Each row floods node 2 for SECONDS, 4 if not said: with 300, 3,000, 30,000 and as many datagrams a second as one process can send, of 100 and of 20,000
 bytes, from one port and from 200: strays to its overlay port, frames with a wrong tag from the port of the neighbour that is down, and what is no request to
-its client port. Told are the messages a second before and during it, how much of the first the second is, and of node 2 the share of a core, turns a second,
-the growth of its recording, what the system dropped at its ports, and the growth of its memory. With a WORD only the rows that have it are run. All
-datagrams stay on 127.0.0.1. It needs a C compiler, `cc`. Figures depend on the machine, and nothing is judged.
+its client port, also 1,000 a second. Told are the messages a second before and during it, how much of the first the second is, and of node 2 the share of a
+core, turns a second, the growth of its recording, what the system dropped at its ports, and the growth of its memory. With a WORD only the rows that have it
+are run. All datagrams stay on 127.0.0.1. It needs a C compiler, `cc`. Figures depend on the machine, and nothing is judged.
 """
 
 import os
@@ -25,7 +25,7 @@ MANY_TURNS = 10_000_000
 BOUNDS = 64, 256
 # the fourth neighbour of node 2 is never started
 STAR = 4, [(1, 2, 10), (2, 3, 10), (2, 4, 10)]
-RATES = (300, 3_000, 30_000, 0)
+RATES, CLIENT_RATES = (300, 3_000, 30_000, 0), (300, 1_000, 3_000, 30_000, 0)
 SIZES = (100, 20_000)
 # the head of a frame from node 4 to node 2, of boot 1
 HEAD = (b"SI\x01\x04\x02" + (1).to_bytes(8, "big") + bytes(20)).hex()
@@ -91,7 +91,8 @@ def main():
         sys.exit("usage: python3 bench/flood.py PATH/TO/spinesd [SECONDS [WORD]]")
     program, seconds = os.path.abspath(sys.argv[1]), float(sys.argv[2] if len(sys.argv) > 2 else 4)
     rows = [("stray", rate, size, ports) for rate in RATES for size in SIZES for ports in (1, 200)]
-    rows += [(kind, rate, size, 1) for kind in ("wrong tag", "client port") for rate in RATES for size in SIZES]
+    rows += [("wrong tag", rate, size, 1) for rate in RATES for size in SIZES]
+    rows += [("client port", rate, size, 1) for rate in CLIENT_RATES for size in SIZES]
     with tempfile.TemporaryDirectory() as folder:
         flood = os.path.join(folder, "flood")
         subprocess.run(["cc", "-O2", "-o", flood, os.path.join(ROOT, "bench", "flood.c")], check=True)

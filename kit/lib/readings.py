@@ -5,6 +5,7 @@ import sys
 
 import configurations
 import recordings
+from holders import holder_of
 from scripts import Refused, read
 from watching import Watch
 
@@ -48,7 +49,9 @@ def files_of(folder):
     """The configuration and the newest recording of a node's folder."""
     found = recordings.newest_in(folder)
     if found is None:
-        raise Refused(f"{folder} is no folder with a recording, a file that ends with .recording and begins with `recording 1`")
+        holder = holder_of(folder)
+        runs = f"; process {holder.pid} runs there, and its recording was moved or removed while it grew" if holder else ""
+        raise Refused(f"{folder} is no folder with a recording, a file that ends with .recording and begins with `recording 1`{runs}")
     return os.path.join(folder, "spinesd.conf"), found
 
 

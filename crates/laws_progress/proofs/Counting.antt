@@ -15,9 +15,10 @@ use Rattle.sp_rules.specs.Rel.{flows_from, pairs_of}
 use Rattle.laws_node.specs.Flows.{FlowHolds}
 use Rattle.laws_node.proofs.Reliable.{found}
 use Rattle.laws_node.proofs.Tables.{all_get}
+use Rattle.sp_runs.specs.Runs.{Clean}
 use Rattle.sp_runs.specs.Settings.{Setting, SettingFits}
 use Rattle.sp_runs.specs.Told.{accepted_in, sent}
-use Rattle.sp_runs.specs.Worlds.{node_in}
+use Rattle.sp_runs.specs.Worlds.{World, node_in}
 use Rattle.sp_journal.specs.declared.entry.Entry.{Entry}
 use Rattle.sp_journal.specs.declared.entry.Reply.{Reply}
 use Rattle.sp_journal.specs.declared.entry.Reply.TheVariants as replies
@@ -123,23 +124,32 @@ apart_at (g ∷ fs) (suc i) f apart at = apart_at fs i f apart.1 at
 
 -- ---- the bound
 
-few_at : (arts : Arts) (x : Setting) (all : List Event) → SettingFits arts x → Carries arts → (w : State arts x all) (u : NodeId) (n : NodeState) → node_in w.world.nodes u ≡ Some n
-    → number_on (map (λ f. f.active) n.parts.rel.flows) ≤ flow_count x all
-few_at arts x all fits reads w u n at =
-    let is = (signs arts x w.events w.journal w.world fits reads w.run).nodes u n at in
+-- a client sent to each active flow between correct nodes
+pub asked_at : (arts : Arts) (x : Setting) (es : List Event) (js : List Entry) (w : World) → SettingFits arts x → Carries arts → Clean arts x es js w → (u : NodeId) (n : NodeState)
+    → node_in w.nodes u ≡ Some n → (i : ℕ) (f : FlowState) → slice_get n.parts.rel.flows i ≡ Some f → f.active ≡ true → has_correct_ends x (ends f) ≡ true
+    → list_any (is_send (ends f)) es ≡ true
+asked_at arts x es js w fits reads run u n at i f there on correct =
+    let is = (signs arts x es js w fits reads run).nodes u n at in
     let rel = is.holds.parts.rel in
     let flows = n.parts.rel.flows in
     let apart = subst AreApart (sym rel.keys) (apart_all (nodes_of x.topology) (nodes_of x.topology)) in
+    let c = both _ _ correct in
+    let claims = flows_are_kept arts x es js w fits reads run f.src f.dst (both _ _ c.0).0 c.1 (apart_at flows i f apart there) in
+    let busy = (all_get (FlowHolds (sizes_at x (Good arts x es js) u) n.signer.index) flows i f rel.flows there).busy on in
+    let have = claims.have c.0 u n at in
+    let same = ap (λ (g : FlowState). g.at.have) (found flows i f rel.once there) in
+    asked_in (ends f) es js (omega (arith, busy, have, same))
+
+pub few_at : (arts : Arts) (x : Setting) (all : List Event) → SettingFits arts x → Carries arts → (w : State arts x all) (u : NodeId) (n : NodeState) → node_in w.world.nodes u ≡ Some n
+    → number_on (map (λ f. f.active) n.parts.rel.flows) ≤ flow_count x all
+few_at arts x all fits reads w u n at =
+    let rel = ((signs arts x w.events w.journal w.world fits reads w.run).nodes u n at).holds.parts.rel in
+    let flows = n.parts.rel.flows in
     let p : Flow → Bool = λ flow. has_correct_ends x flow && list_any (is_send flow) all in
     let q : Flow → Bool = λ flow. not (has_correct_ends x flow) in
     let count = count_rows p q flows (λ i f there on. elim (cases_Bool (has_correct_ends x (ends f))) [
       | inl t ↦
-          let c = both _ _ t in
-          let claims = flows_are_kept arts x w.events w.journal w.world fits reads w.run f.src f.dst (both _ _ c.0).0 c.1 (apart_at flows i f apart there) in
-          let busy = (all_get (FlowHolds (sizes_at x (Good arts x w.events w.journal) u) n.signer.index) flows i f rel.flows there).busy on in
-          let have = claims.have c.0 u n at in
-          let same = ap (λ (g : FlowState). g.at.have) (found flows i f rel.once there) in
-          let asked : list_any (is_send (ends f)) w.events ≡ true = asked_in (ends f) w.events w.journal (omega (arith, busy, have, same)) in
+          let asked = asked_at arts x w.events w.journal w.world fits reads w.run u n at i f there on t in
           let asked_all : list_any (is_send (ends f)) all ≡ true = ap (λ es. list_any (is_send (ends f)) es) w.whole ∙ list_any-append (is_send (ends f)) w.events w.rest ∙ rw asked refl in
           inl (rw (t, asked_all) refl)
       | inr t ↦ inr (rw t refl)

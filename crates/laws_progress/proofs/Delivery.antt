@@ -37,7 +37,7 @@ use Rattle.laws_progress.proofs.Paths as paths
 use Rattle.laws_progress.proofs.Places.{get_front, get_last, hop_at, nobody}
 use Rattle.laws_progress.proofs.Polls.{both_ways, events_are}
 use Rattle.laws_progress.proofs.Standing.{place_at}
-use Rattle.laws_progress.proofs.States.{Follow, Follows, IsHop, State, sight}
+use Rattle.laws_progress.proofs.States.{Follow, Follows, IsHop, State, last_state, sight}
 use Rattle.laws_progress.proofs.Sweeps.{apart}
 use Rattle.laws_progress.proofs.Upper.{IsRight, seen_there}
 use Rattle.laws_progress.proofs.Whole.{steady}
@@ -72,9 +72,6 @@ record Split (arts : Arts) (x : Setting) (all : List Event) (es : List Event) (j
   events : mid.events ≡ es
   world : mid.world ≡ w
   goes : Goes (State arts x all) (Follows arts x all) mid after y
-
-abbrev last_state : (arts : Arts) (x : Setting) (es : List Event) (js : List Entry) (v : World) → Clean arts x es js v → State arts x es
-last_state arts x es js v run = record { events = es; journal = js; world = v; run = run; rest = []; whole = sym (append-nil es) }
 
 split : (arts : Arts) (x : Setting) (flow : Flow) → SettingFits arts x → ComesThrough arts x.signature_len → (es after : List Event) (js more : List Entry) (w v : World)
     → Clean arts x es js w → (run : Clean arts x (es ++ after) (js ++ more) v)

@@ -47,6 +47,8 @@ pub mod Hears
 pub mod Heeds
 pub mod Whole
 -- ---- the laws
+pub mod Positions
 pub mod Delivery
 pub mod Counts
 pub mod Worked
+pub mod WorkedPositions

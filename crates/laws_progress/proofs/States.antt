@@ -1,4 +1,6 @@
 -- The states of a run, and what is seen of a flow there.
+use Rattle.std.proofs.Common.{sym}
+use Rattle.std.proofs.lemmas.List.{append-nil}
 use Rattle.std.specs.Prelude.{◌≡◌, ◌-◌, ◌==◌, false, IsTrue, List, [], ◌∷◌, ◌++◌, length, map, Option, Some, None}
 use Rattle.sp_base.specs.declared.id.Flow.{Flow}
 use Rattle.sp_base.specs.declared.id.NodeId.{NodeId}
@@ -23,6 +25,10 @@ pub record State (arts : Arts) (x : Setting) (all : List Event) : Type 0 where
   pub run : Clean arts x events journal world
   pub rest : List Event
   pub whole : all ≡ events ++ rest
+
+-- the state at the end of a run
+abbrev pub last_state : (arts : Arts) (x : Setting) (es : List Event) (js : List Entry) (w : World) → Clean arts x es js w → State arts x es
+last_state arts x es js w run = record { events = es; journal = js; world = w; run = run; rest = []; whole = sym (append-nil es) }
 
 -- one more event leads from one to the next
 pub data Follows (arts : Arts) (x : Setting) (all : List Event) (w : State arts x all) (e : Event) (y : State arts x all) : Type 0 where

@@ -12,7 +12,7 @@ use Rattle.sp_runs.specs.Rounds.{CompleteRounds, IsCompleteRound, IsHopServed, I
 use Rattle.sp_runs.specs.Runs.{is_hop, polls}
 use Rattle.sp_runs.specs.Settings.{Setting, is_correct}
 use Rattle.sp_schedule_events.specs.declared.event.Event.{Event}
-use Rattle.laws_progress.specs.Worked.{FirstMessage, RoundsAreCounted, four_rounds, frames, line, line_path, line_round, node, send, square, square_path, square_round, take_it}
+use Rattle.laws_progress.specs.Worked.{FirstMessage, RoundsAreCounted, first_rounds, four_rounds, frames, later_rounds, line, line_path, line_round, node, send, square, square_path, square_round, take_it, tick}
 
 -- ---- paths of three nodes
 
@@ -57,38 +57,67 @@ two_hops least s d a b c before during one two =
     let Served = λ (hop : NodeId × NodeId). IsHopServed least s d hop.0 hop.1 before during in
     All-cons Served (a, b) ((b, c) ∷ []) one (All-cons Served (b, c) [] two (All-nil Served))
 
-line_is : IsCompleteRound 1 (node 1) (node 3) line_path send line_round
-line_is = two_hops 1 (node 1) (node 3) (node 1) (node 2) (node 3) send line_round
+-- a round after so many, where the counts before it are these
+line_is : (before : List Event) (k : ℕ)
+    → are_passed (node 2) (node 1) (polls (before ++ []) (node 2) (node 1)) (frames 2 1 k 1) ≡ true
+    → are_passed (node 1) (node 2) (polls (before ++ frames 2 1 k 1) (node 1) (node 2)) (frames 1 2 k 1) ≡ true
+    → are_passed (node 3) (node 2) (polls (before ++ (frames 2 1 k 1 ++ frames 1 2 k 1)) (node 3) (node 2)) (frames 3 2 k 1) ≡ true
+    → are_passed (node 2) (node 3) (polls (before ++ ((frames 2 1 k 1 ++ frames 1 2 k 1) ++ (frames 3 2 k 1 ++ take_it))) (node 2) (node 3)) (frames 2 3 k 1) ≡ true
+    → IsCompleteRound 1 (node 1) (node 3) line_path before (line_round k)
+line_is before k one two three four = two_hops 1 (node 1) (node 3) (node 1) (node 2) (node 3) before (line_round k)
     (record {
       early = [];
-      back = frames 2 1 0 1;
+      back = frames 2 1 k 1;
       between = [];
-      forth = frames 1 2 0 1;
-      late = frames 3 2 0 1 ++ (take_it ++ frames 2 3 0 1);
+      forth = frames 1 2 k 1;
+      late = frames 3 2 k 1 ++ (take_it ++ frames 2 3 k 1);
       parts = refl;
-      is_back = sweep 1 (node 2) (node 1) send (frames 2 1 0 1) refl refl;
-      is_forth = sweep 1 (node 1) (node 2) (send ++ frames 2 1 0 1) (frames 1 2 0 1) refl refl;
+      is_back = sweep 1 (node 2) (node 1) (before ++ []) (frames 2 1 k 1) refl one;
+      is_forth = sweep 1 (node 1) (node 2) (before ++ frames 2 1 k 1) (frames 1 2 k 1) refl two;
       take = λ same. absurd (differ 2 3 (λ e. omega (arith, e)) same);
     })
     (record {
-      early = frames 2 1 0 1 ++ frames 1 2 0 1;
-      back = frames 3 2 0 1;
+      early = frames 2 1 k 1 ++ frames 1 2 k 1;
+      back = frames 3 2 k 1;
       between = take_it;
-      forth = frames 2 3 0 1;
+      forth = frames 2 3 k 1;
       late = [];
       parts = refl;
-      is_back = sweep 1 (node 3) (node 2) (send ++ (frames 2 1 0 1 ++ frames 1 2 0 1)) (frames 3 2 0 1) refl refl;
-      is_forth = sweep 1 (node 2) (node 3) (send ++ (frames 2 1 0 1 ++ (frames 1 2 0 1 ++ (frames 3 2 0 1 ++ take_it)))) (frames 2 3 0 1) refl refl;
+      is_back = sweep 1 (node 3) (node 2) (before ++ (frames 2 1 k 1 ++ frames 1 2 k 1)) (frames 3 2 k 1) refl three;
+      is_forth = sweep 1 (node 2) (node 3) (before ++ ((frames 2 1 k 1 ++ frames 1 2 k 1) ++ (frames 3 2 k 1 ++ take_it))) (frames 2 3 k 1) refl four;
       take = λ same. refl;
     })
 
+first_are : CompleteRounds 1 (node 1) (node 3) line_path 4 send first_rounds
+first_are =
+    Round [] (line_round 0) (line_is (send ++ []) 0 refl refl refl refl)
+    (Round [] (line_round 1) (line_is _ 1 refl refl refl refl)
+    (Round [] (line_round 2) (line_is _ 2 refl refl refl refl)
+    (Round [] (line_round 3) (line_is _ 3 refl refl refl refl) None_left)))
+
+later_are : CompleteRounds 1 (node 1) (node 3) line_path 3 (send ++ (first_rounds ++ tick)) later_rounds
+later_are =
+    Round [] (line_round 4) (line_is ((send ++ (first_rounds ++ tick)) ++ []) 4 refl refl refl refl)
+    (Round [] (line_round 5) (line_is _ 5 refl refl refl refl)
+    (Round [] (line_round 6) (line_is _ 6 refl refl refl refl) None_left))
+
+line_is_path : IsCorrectPath line (node 1) (node 3) line_path
+line_is_path = three_path line 1 2 3 (λ e. omega (arith, e)) (λ e. omega (arith, e)) (λ e. omega (arith, e)) refl refl refl refl refl
+
 first_message : FirstMessage
 first_message = record {
-  path = three_path line 1 2 3 (λ e. omega (arith, e)) (λ e. omega (arith, e)) (λ e. omega (arith, e)) refl refl refl refl refl;
+  path = line_is_path;
   two_hops = refl;
   one_flow = refl;
-  rounds = Round [] line_round line_is None_left;
-  enough = refl;
+  there = first_are;
+  is_delivered = λ arts js more w v n promise early run at has.
+      let it = promise send js w first_rounds more v early run (node 1) (node 3) line_path line_is_path n at 1 1 (omega arith) has (omega arith) 1 (omega arith) first_are in
+      (it.payload, it.sent.there, it.delivered.there);
+  back = later_are;
+  has_returned = λ arts js more w v n promise early run at is.
+      let before = send ++ (first_rounds ++ tick) in
+      let it = promise before js w later_rounds more v early run (node 1) (node 3) line_path line_is_path n at 1 (omega arith) later_are in
+      (omega (arith, it.base, is), λ low. it.room (omega (arith, low, is)));
 }
 
 -- a round after so many, where the counts before it are these
@@ -129,15 +158,20 @@ four_are =
     (Round [] (square_round 2) (square_is _ 2 refl refl refl refl)
     (Round [] (square_round 3) (square_is _ 3 refl refl refl refl) None_left)))
 
+square_is_path : IsCorrectPath square (node 1) (node 3) square_path
+square_is_path = three_path square 1 4 3 (λ e. omega (arith, e)) (λ e. omega (arith, e)) (λ e. omega (arith, e)) refl refl refl refl refl
+
 pub rounds_are_counted : RoundsAreCounted
 rounds_are_counted = record {
   first_message = first_message;
   compromised = record {
-    path = three_path square 1 4 3 (λ e. omega (arith, e)) (λ e. omega (arith, e)) (λ e. omega (arith, e)) refl refl refl refl refl;
+    path = square_is_path;
     two_hops = refl;
     seven_flows = refl;
     rounds = four_are;
-    enough = refl;
+    is_delivered = λ arts js more w v n promise early run at has.
+        let it = promise send js w four_rounds more v early run (node 1) (node 3) square_path square_is_path n at 1 1 (omega arith) has (omega arith) 7 (omega arith) four_are in
+        (it.payload, it.sent.there, it.delivered.there);
     events = refl;
     frames = refl;
   };

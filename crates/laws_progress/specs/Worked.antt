@@ -1,15 +1,25 @@
--- Two worked examples of complete rounds: the first message along three nodes in a row, and four rounds of a path round a compromised node.
-use Rattle.std.specs.Prelude.{ℕ, zero, suc, ◌≡◌, ◌+◌, ◌*◌, List, [], ◌∷◌, ◌++◌, length, map}
+-- Two worked examples of complete rounds, along three nodes in a row, and along a path round a compromised node: the first message is delivered by the end
+-- of four, and its acknowledgement is back by the end of three more.
+use Rattle.std.specs.Prelude.{ℕ, zero, suc, ◌≡◌, ◌+◌, ◌*◌, ◌<◌, ◌≤◌, false, List, [], ◌∷◌, ◌++◌, length, map, slice_get, Some}
 use Rattle.sp_base.specs.declared.id.NodeId.{NodeId}
 use Rattle.sp_topology.specs.declared.topology.Edge.{Edge}
 use Rattle.sp_topology.specs.declared.topology.LmsHeight.TheVariants.{Five}
 use Rattle.sp_topology.specs.declared.topology.NodeKey.{NodeKey}
+use Rattle.sp_rules.specs.Arts.{Arts}
+use Rattle.sp_rules.specs.Flow.{is_full}
+use Rattle.sp_rules.specs.Node.{NodeState}
 use Rattle.sp_runs.specs.Paths.{IsCorrectPath, hops}
 use Rattle.sp_runs.specs.Rounds.{CompleteRounds, flow_count}
-use Rattle.sp_runs.specs.Runs.{polls}
+use Rattle.sp_runs.specs.Runs.{Clean, polls}
 use Rattle.sp_runs.specs.Settings.{Setting}
+use Rattle.sp_runs.specs.Told.{delivered, sent}
+use Rattle.sp_runs.specs.Worlds.{World, node_in}
+use Rattle.sp_journal.specs.declared.entry.Entry.{Entry}
 use Rattle.sp_schedule_events.specs.declared.event.Event.{Event}
 use Rattle.sp_schedule_events.specs.declared.event.Event.TheVariants as events
+use Rattle.laws_runs.specs.Acknowledged.{acknowledged}
+use Rattle.laws_runs.specs.Flows.{flow_at}
+use Rattle.laws_progress.specs.Delivery.{DeliversInRounds, ReturnsInRounds}
 
 abbrev pub node : ℕ → NodeId
 node u = record { 0 = u }
@@ -47,6 +57,27 @@ send = events.Rel (node 1) (node 3) (104 ∷ 105 ∷ []) ∷ []
 abbrev pub take_it : List Event
 take_it = events.Take (node 3) (node 1) ∷ []
 
+-- 3 signs its acknowledgement
+abbrev pub tick : List Event
+tick = events.Tick (node 3) 5 ∷ []
+
+-- ---- what the two promises say of such a run, over whatever arts they hold
+
+-- where 1 accepted the message, it is the first that 3 delivered by the end of these events, with its payload
+abbrev pub IsDeliveredBy : Setting → List Event → Type 0
+IsDeliveredBy x after = (arts : Arts) (js more : List Entry) (w v : World) (n : NodeState)
+    → DeliversInRounds arts x → Clean arts x send js w → Clean arts x (send ++ after) (js ++ more) v → node_in w.nodes (node 1) ≡ Some n
+    → 1 ≤ length (sent send js (node 1) (node 3))
+    → (payload : List ℕ) × (slice_get (sent send js (node 1) (node 3)) 0 ≡ Some (1, payload))
+    × (slice_get (delivered (send ++ after) (js ++ more) (node 1) (node 3)) 0 ≡ Some (1, payload))
+
+-- where 3 acknowledged it before, that is back at 1 by the end of these events, and 1 has room for messages 2 and 3
+abbrev pub HasReturnedBy : Setting → (before after : List Event) → Type 0
+HasReturnedBy x before after = (arts : Arts) (js more : List Entry) (w v : World) (n : NodeState)
+    → ReturnsInRounds arts x → Clean arts x before js w → Clean arts x (before ++ after) (js ++ more) v → node_in v.nodes (node 1) ≡ Some n
+    → acknowledged arts before js (node 1) (node 3) ≡ 1
+    → (1 ≤ (flow_at n (node 1) (node 3)).at.base) × ((flow_at n (node 1) (node 3)).at.have < 3 → is_full 2 (flow_at n (node 1) (node 3)) ≡ false)
+
 -- ---- three nodes in a row
 
 abbrev pub line : Setting
@@ -55,18 +86,27 @@ line = setting (1 ∷ 2 ∷ 3 ∷ []) (edge 1 2 ∷ edge 2 3 ∷ []) []
 abbrev pub line_path : List NodeId
 line_path = map node (1 ∷ 2 ∷ 3 ∷ [])
 
--- one frame over each hop in each direction, and a take before the last
-abbrev pub line_round : List Event
-line_round = frames 2 1 0 1 ++ (frames 1 2 0 1 ++ (frames 3 2 0 1 ++ (take_it ++ frames 2 3 0 1)))
+-- one frame over each hop in each direction, and a take before the last, after so many such rounds
+abbrev pub line_round : ℕ → List Event
+line_round before = frames 2 1 before 1 ++ (frames 1 2 before 1 ++ (frames 3 2 before 1 ++ (take_it ++ frames 2 3 before 1)))
+
+abbrev pub first_rounds : List Event
+first_rounds = line_round 0 ++ (line_round 1 ++ (line_round 2 ++ (line_round 3 ++ [])))
+
+abbrev pub later_rounds : List Event
+later_rounds = line_round 4 ++ (line_round 5 ++ (line_round 6 ++ []))
 
 pub record FirstMessage : Type 0 where
   pub path : IsCorrectPath line (node 1) (node 3) line_path
   pub two_hops : hops line_path ≡ 2
   -- the one flow that a client sends to
-  pub one_flow : flow_count line (send ++ (line_round ++ take_it)) ≡ 1
-  -- one round. By the law four are enough for the first message: two hops, one above the base, and one
-  pub rounds : CompleteRounds 1 (node 1) (node 3) line_path 1 send (line_round ++ take_it)
-  pub enough : hops line_path + 1 + 1 ≡ 4
+  pub one_flow : flow_count line (send ++ (first_rounds ++ (tick ++ later_rounds))) ≡ 1
+  -- four rounds are enough for the first message: two hops, one above the base, and one
+  pub there : CompleteRounds 1 (node 1) (node 3) line_path 4 send first_rounds
+  pub is_delivered : IsDeliveredBy line first_rounds
+  -- and three for its acknowledgement: two hops, and one
+  pub back : CompleteRounds 1 (node 1) (node 3) line_path 3 (send ++ (first_rounds ++ tick)) later_rounds
+  pub has_returned : HasReturnedBy line (send ++ (first_rounds ++ tick)) later_rounds
 
 -- ---- round a compromised node
 
@@ -91,7 +131,7 @@ pub record RoundACompromisedNode : Type 0 where
   pub seven_flows : flow_count square (send ++ four_rounds) ≡ 7
   -- four rounds, which are enough for the first message. Each has seven polls of each of its four directions
   pub rounds : CompleteRounds 7 (node 1) (node 3) square_path 4 send four_rounds
-  pub enough : hops square_path + 1 + 1 ≡ 4
+  pub is_delivered : IsDeliveredBy square four_rounds
   pub events : length four_rounds ≡ 4 * (4 * 7 * 2 + 1)
   pub frames : polls four_rounds (node 4) (node 3) ≡ 28
 

@@ -39,3 +39,5 @@ pub mod Turns
 pub mod Crafts
 pub mod Plays
 pub mod Stories
+pub mod WorkedBounds
+pub mod WorkedClaims

@@ -1,10 +1,12 @@
 -- What each change of the priority part of a node keeps of the numbers of a source that were told.
-use Rattle.std.proofs.Common.{◌≡◌, ◌<◌, ℕ, ◌+◌, ◌==◌, Bool, true, false, cond, eqb, List, [], ◌∷◌, ◌++◌, length, map, Option, Some, None, refl, sym, ap, subst, ◌∙◌, inl, inr, arith, append_assoc, not, nat_lt}
-use Rattle.std.specs.Prelude.{◌⊎◌, ◌||◌, slice_index_or, slice_set}
-use Rattle.std.specs.List.{flat_map}
-use Rattle.std.proofs.lemmas.Bool.{cases_Bool, cases_eq, eqb-true, eqb-false}
+use Rattle.std.proofs.Common.{◌≡◌, ◌<◌, ℕ, zero, suc, ◌+◌, ◌==◌, Bool, true, false, cond, eqb, List, [], ◌∷◌, ◌++◌, length, map, Option, Some, None, refl, sym, ap, subst, ◌∙◌, inl, inr, arith, append_assoc, not, nat_lt}
+use Rattle.std.specs.Prelude.{◌⊎◌, ◌≢◌, ◌||◌, slice_index_or, slice_set}
+use Rattle.std.specs.List.{All, Contains, flat_map}
+use Rattle.std.proofs.lemmas.Bool.{cases_Bool, cases_eq, eq-eqb, eqb-true}
 use Rattle.std.proofs.lemmas.List.{append-nil, get_or-set_other, get_or-set_same, length-set, map-append}
 use Rattle.std.proofs.lemmas.List.Concat.{flat_map-append}
+use Rattle.std.proofs.lemmas.List.Elements.{All-append, All-cons, All-nil}
+use Rattle.std.proofs.lemmas.List.Quantifiers.{all_pairs_push}
 use Rattle.sp_base.proofs.RowLemmas.{first_where-no_position}
 use Rattle.sp_base.specs.Rows.{first_where}
 use Rattle.sp_base.specs.declared.id.NodeId.{NodeId}
@@ -43,7 +45,7 @@ use Rattle.laws_node.proofs.Handles as judged
 use Rattle.laws_node.proofs.Updates.{place_within}
 use Rattle.laws_node.proofs.WindowMarks.{marked_is_seen, seen_stays}
 use Rattle.sp_runs.specs.Told.{Message, prio_by}
-use Rattle.laws_runs.specs.Priority.{AreAmong, AreOnce, IsOneOf}
+use Rattle.laws_runs.specs.Priority.{AreOnce}
 use Rattle.laws_runs.proofs.Tables.{same_node}
 
 -- ---- effects without a priority delivery
@@ -125,18 +127,18 @@ in_last q q0 (x ∷ xs) i = elim (cases_Bool (eqb x q)) [
   | inr t ↦ elim (in_last q q0 xs (rw t at i)) [ inl h ↦ inl (rw (t, h) refl) | inr h ↦ inr h ]
 ]
 
-not_in_last : (x q0 : ℕ) (xs : List ℕ) → is_in x xs ≡ false → (q0 ≡ x → ⊥) → is_in x (xs ++ q0 ∷ []) ≡ false
-not_in_last x q0 xs h other = elim (cases_Bool (is_in x (xs ++ q0 ∷ []))) [
-  | inl t ↦ absurd (elim (in_last x q0 xs t) [ inl k ↦ let f : true ≡ false = sym k ∙ h in cc | inr k ↦ other k ])
-  | inr t ↦ t
-]
+-- what stands at a place is among them
+at_place : (xs : List ℕ) (k d : ℕ) → k < length xs → is_in (slice_index_or xs k d) xs ≡ true
+at_place [] k d inside = absurd (omega (arith, inside))
+at_place (x ∷ xs) zero d inside = rw (eq-eqb x x refl) refl
+at_place (x ∷ xs) (suc k) d inside = let rest = at_place xs k d (omega (arith, inside)) in elim (cases_Bool (eqb x (slice_index_or xs k d))) [ inl t ↦ rw t refl | inr t ↦ rw (t, rest) refl ]
 
 once_last : (q0 : ℕ) (xs : List ℕ) → is_in q0 xs ≡ false → AreOnce xs → AreOnce (xs ++ q0 ∷ [])
-once_last q0 [] h once = (refl, tt)
-once_last q0 (x ∷ xs) h once = elim (cases_Bool (eqb x q0)) [
-  | inl t ↦ absurd (let f : true ≡ false = rw t at h in cc)
-  | inr t ↦ (not_in_last x q0 xs once.0 (λ e. let f = eqb-false _ _ t in f (sym e)), once_last q0 xs (rw t at h) once.1)
-]
+once_last q0 xs new once = all_pairs_push (λ p q. p ≢ q) xs q0 once (λ k d inside same.
+    let f : true ≡ false = sym (at_place xs k d inside) ∙ ap (λ (q : ℕ). is_in q xs) same ∙ new in absurd cc)
+
+pub none_once : AreOnce []
+none_once = λ i j d less inside. absurd (omega (arith, inside))
 
 -- ---- windows
 
@@ -266,11 +268,11 @@ prio_numbers s es = map (λ (m : Message). m.0) (flat_map (prio_by s) es)
 
 -- a new object from s for d was sent
 pub record VouchedPrio (C : Type 0) (s d : NodeId) (S : List Message) (o : Kept) : Type 0 where
-  pub message : C → (b : Prio) → o.body ≡ bodies.Prio b → b.src ≡ s → b.dst ≡ d → IsOneOf (b.seq, b.payload) S
+  pub message : C → (b : Prio) → o.body ≡ bodies.Prio b → b.src ≡ s → b.dst ≡ d → Contains S (b.seq, b.payload)
 
 pub record PrioDone (C : Type 0) (s d : NodeId) (S : List Message) (told : List ℕ) (p : PrioState) (es : List Effect) : Type 0 where
   pub at : PrioIs s d (told ++ prio_numbers s es) p
-  pub sent : C → AreAmong (flat_map (prio_by s) es) S
+  pub sent : C → All (Contains S) (flat_map (prio_by s) es)
 
 module _ (C : Type 0) (s d : NodeId) (S : List Message) where
   pub muted : (told : List ℕ) (p : PrioState) (es : List Effect) → Mute es → PrioIs s d told p → PrioDone C s d S told p es
@@ -278,7 +280,7 @@ module _ (C : Type 0) (s d : NodeId) (S : List Message) where
       let none : told ++ prio_numbers s es ≡ told = ap (λ (ms : List Message). told ++ map (λ (m : Message). m.0) ms) (mute.none s) ∙ append-nil told in
       record {
         at = subst (λ t. PrioIs s d t p) (sym none) h;
-        sent = λ k. subst (λ ms. AreAmong ms S) (sym (mute.none s)) tt;
+        sent = λ k. subst (All (Contains S)) (sym (mute.none s)) (All-nil (Contains S));
       }
 
   -- a message that is new here
@@ -309,14 +311,14 @@ module _ (C : Type 0) (s d : NodeId) (S : List Message) where
                     at = subst (λ t. PrioIs s d (told ++ t) p2) (sym numbers)
                         (marks_told s d told p p2 b.seq same.0 same.1 (windows ∙ ap (λ (v : NodeId). windows_with p.windows (place_of p.nodes v.0) b.seq) is_s)
                         (subst (λ (v : NodeId). is_node p.nodes v.0 ≡ true) is_s new.node) (subst (λ (v : NodeId). is_seen (window_in p v.0) b.seq ≡ false) is_s new.unseen) h);
-                    sent = λ k. subst (λ ms. AreAmong ms S) (sym one) (vouched.message k b new.is is_s dst, tt);
+                    sent = λ k. subst (All (Contains S)) (sym one) (All-cons (Contains S) (b.seq, b.payload) [] (vouched.message k b new.is is_s dst) (All-nil (Contains S)));
                   }
               | inr other ↦
                   let none : flat_map (prio_by s) (prio_effects p o came) ≡ [] = told_are ∙ rw other refl in
                   record {
                     at = subst (λ t. PrioIs s d t p2) (sym (ap (λ (ms : List Message). told ++ map (λ (m : Message). m.0) ms) none ∙ append-nil told))
                         (marks s d told p p2 b.src.0 b.seq same.0 same.1 windows h);
-                    sent = λ k. subst (λ ms. AreAmong ms S) (sym none) tt;
+                    sent = λ k. subst (All (Contains S)) (sym none) (All-nil (Contains S));
                   }
             ]
         | inr away ↦
@@ -364,10 +366,6 @@ module _ (C : Type 0) (s d : NodeId) (S : List Message) where
       chosen told (items.Rel (rel_answer (is_signed arts at.fixed o) (judge_rel_of p.rel flow o.body))) (record p { rel = admit_rel p.rel o }) p (rel_effects p.rel o)
       (λ t. muted told p.prio (rel_effects p.rel o) (mute_rel (is_to p.rel (flow_said o.body)) o.body) h) (muted told p.prio [] mute_none h)
 
-  among_both : (xs ys : List Message) → AreAmong xs S → AreAmong ys S → AreAmong (xs ++ ys) S
-  among_both [] ys one two = two
-  among_both (m ∷ xs) ys one two = (one.0, among_both xs ys one.1 two)
-
   pub all_handled : (told : List ℕ) (arts : Arts) (at : Arrival) (p : Parts) (pieces : List Piece) → NewKeep (VouchedPrio C s d S) (handle_all arts at p pieces).answered → PrioIs s d told p.prio
       → PrioDone C s d S told (handle_all arts at p pieces).parts.prio (handle_all arts at p pieces).effects
   all_handled told arts at p [] new h = muted told p.prio [] mute_none h
@@ -382,6 +380,6 @@ module _ (C : Type 0) (s d : NodeId) (S : List Message) where
       ∙ sym (append_assoc told (prio_numbers s first.effects) (prio_numbers s others.effects)) in
       record {
         at = subst (λ t. PrioIs s d t others.parts.prio) (sym both) rest.at;
-        sent = λ k. subst (λ ms. AreAmong ms S) (sym (flat_map-append (prio_by s) first.effects others.effects))
-            (among_both (flat_map (prio_by s) first.effects) (flat_map (prio_by s) others.effects) (one.sent k) (rest.sent k));
+        sent = λ k. subst (All (Contains S)) (sym (flat_map-append (prio_by s) first.effects others.effects))
+            (All-append (Contains S) (flat_map (prio_by s) first.effects) (flat_map (prio_by s) others.effects) (one.sent k) (rest.sent k));
       }

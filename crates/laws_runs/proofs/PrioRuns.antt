@@ -1,9 +1,10 @@
 -- The part on priority messages over a whole run.
 use Rattle.std.proofs.Common.{◌≡◌, ℕ, ◌==◌, true, false, cond, List, [], ◌∷◌, ◌++◌, length, map, Some, None, refl, sym, ap, subst, ◌∙◌, inl, inr}
 use Rattle.std.specs.Prelude.{IsTrue}
-use Rattle.std.specs.List.{flat_map}
+use Rattle.std.specs.List.{All, Contains, flat_map}
 use Rattle.std.proofs.lemmas.Bool.{cases_Bool, cases_eq, eq-eqb, eqb-true, ne_eqb}
 use Rattle.std.proofs.lemmas.List.{append-nil, length-replicate, map-append}
+use Rattle.std.proofs.lemmas.List.Elements.{All-append, All-nil, All-weaker, Contains-append_left, Contains-append_right}
 use Rattle.sp_base.specs.declared.id.NodeId.{NodeId}
 use Rattle.sp_msg.specs.Views.{signer_of}
 use Rattle.sp_msg.specs.declared.body.Body.TheVariants as bodies
@@ -30,13 +31,13 @@ use Rattle.sp_schedule_events.specs.declared.event.Event.{Event}
 use Rattle.sp_schedule_events.specs.declared.event.Event.TheVariants as events
 use Rattle.laws_node.specs.Shapes.{Shape}
 use Rattle.laws_runs.specs.Premises.{Carries}
-use Rattle.laws_runs.specs.Priority.{AreAmong, AreOnce, IsOneOf, PrioPart, PriorityIsKept, TurnsKeepPriority}
+use Rattle.laws_runs.specs.Priority.{AreOnce, PrioPart, PriorityIsKept, TurnsKeepPriority}
 use Rattle.laws_runs.specs.Signs.{Good, Known, NodeIs, Signs}
 use Rattle.laws_runs.proofs.FlowFacts.{flow_of}
 use Rattle.laws_runs.proofs.FlowRuns.{here_is, nothing_told}
 use Rattle.laws_runs.proofs.Flows.{came_bytes, crafted_bytes, new_both}
 use Rattle.laws_runs.proofs.Lists.{among_or, told_more}
-use Rattle.laws_runs.proofs.PrioFacts.{PrioIs, VouchedPrio}
+use Rattle.laws_runs.proofs.PrioFacts.{PrioIs, VouchedPrio, none_once}
 use Rattle.laws_runs.proofs.Goods.{new_known, started, unforged_tag}
 use Rattle.laws_runs.proofs.Signed.{new_have, signs}
 use Rattle.laws_runs.proofs.Reaches.{input_fits}
@@ -48,9 +49,9 @@ use Rattle.laws_runs.proofs.PrioSteps.{Acted, accepted_is, datagram_done, poll_d
 pub record PrioHold (arts : Arts) (x : Setting) (s d : NodeId) (es : List Event) (js : List Entry) (w : World) : Type 0 where
   pub node : (n : NodeState) → node_in w.nodes d ≡ Some n → PrioIs s d (map (λ m. m.0) (prio_delivered es js s d)) n.parts.prio
   pub once : AreOnce (map (λ m. m.0) (prio_delivered es js s d))
-  pub authentic : IsTrue (is_correct x s) → AreAmong (prio_delivered es js s d) (prio_sent es js s d)
+  pub authentic : IsTrue (is_correct x s) → All (Contains (prio_sent es js s d)) (prio_delivered es js s d)
   pub messages : IsTrue (is_correct x s) → (b : Prio) → IsTrue (arts.is_good (bodies.Prio b)) → b.src ≡ s → b.dst ≡ d → is_among (arts.spell (bodies.Prio b)) (signed es js s) ≡ true
-      → IsOneOf (b.seq, b.payload) (prio_sent es js s d)
+      → Contains (prio_sent es js s d) (b.seq, b.payload)
 
 vouched : (arts : Arts) (x : Setting) (s d : NodeId) (es : List Event) (js : List Entry) (w : World) → PrioHold arts x s d es js w → (o : Kept) → Known arts x es js o → IsTrue (arts.is_good o.body)
     → VouchedPrio (IsTrue (is_correct x s)) s d (prio_sent es js s d) o
@@ -114,21 +115,9 @@ module _ (arts : Arts) (x : Setting) (s d : NodeId) (fits : SettingFits arts x) 
 
 -- ---- one event more
 
-one_more : (m : Message) (S T : List Message) → IsOneOf m S → IsOneOf m (S ++ T)
-one_more m [] T h = absurd h
-one_more m (y ∷ S) T h = elim h [ inl e ↦ inl e | inr e ↦ inr (one_more m S T e) ]
-
-one_last : (m : Message) (S T : List Message) → IsOneOf m T → IsOneOf m (S ++ T)
-one_last m [] T h = h
-one_last m (y ∷ S) T h = inr (one_last m S T h)
-
-among_more : (ms S T : List Message) → AreAmong ms S → AreAmong ms (S ++ T)
-among_more [] S T h = tt
-among_more (m ∷ ms) S T h = (one_more m S T h.0, among_more ms S T h.1)
-
-among_join : (xs ys S : List Message) → AreAmong xs S → AreAmong ys S → AreAmong (xs ++ ys) S
-among_join [] ys S one two = two
-among_join (m ∷ xs) ys S one two = (one.0, among_join xs ys S one.1 two)
+-- what was sent stays so
+all_more : (ms S T : List Message) → All (Contains S) ms → All (Contains (S ++ T)) ms
+all_more ms S T h = All-weaker (Contains S) (Contains (S ++ T)) (λ m there. Contains-append_left S T m there) ms h
 
 abbrev numbers : List Message → List ℕ
 numbers ms = map (λ (m : Message). m.0) ms
@@ -160,19 +149,19 @@ moved_on arts x s d es js w new e j m same me h done =
         | inl z ↦ (here (same_node u d z)).once
         | inr never ↦ subst (λ t. AreOnce (numbers t)) (sym (d_is ∙ off (λ y. never (ap (λ (v : NodeId). v.0) y)))) h.once
       ];
-      authentic = λ k. subst (λ X. AreAmong X (prio_sent es2 js2 s d)) (sym d_is) (subst (λ Y. AreAmong (D ++ E) Y) (sym s_is)
+      authentic = λ k. subst (All (Contains (prio_sent es2 js2 s d))) (sym d_is) (subst (λ (Y : List Message). All (Contains Y) (D ++ E)) (sym s_is)
           (elim (cases_eq u.0 d.0) [
-            | inl z ↦ among_more (D ++ E) S T (among_join D E S (h.authentic k) (subst (λ t. AreAmong t S) (sym (at_d (same_node u d z))) (done.sent (same_node u d z) k)))
-            | inr never ↦ subst (λ t. AreAmong t (S ++ T)) (sym (off (λ y. never (ap (λ (v : NodeId). v.0) y)))) (among_more D S T (h.authentic k))
+            | inl z ↦ all_more (D ++ E) S T (All-append (Contains S) D E (h.authentic k) (subst (All (Contains S)) (sym (at_d (same_node u d z))) (done.sent (same_node u d z) k)))
+            | inr never ↦ subst (All (Contains (S ++ T))) (sym (off (λ y. never (ap (λ (v : NodeId). v.0) y)))) (all_more D S T (h.authentic k))
           ]));
       messages = λ k b good src dst among.
           let split : is_among (arts.spell (bodies.Prio b)) (signed es js s ++ cond (u.0 == s.0) (flat_map signed_by m.output.effects) []) ≡ true =
           subst (λ xs. is_among (arts.spell (bodies.Prio b)) xs ≡ true) (told_more (told_at s signed_by) es js e j same ∙ ap (λ t. signed es js s ++ t) (here_is s signed_by e j m.output.effects m.journal.effects)) among in
-          subst (λ X. IsOneOf (b.seq, b.payload) X) (sym s_is)
+          subst (λ (X : List Message). Contains X (b.seq, b.payload)) (sym s_is)
           (elim (among_or (arts.spell (bodies.Prio b)) (signed es js s) (cond (u.0 == s.0) (flat_map signed_by m.output.effects) []) split) [
-            | inl old ↦ one_more (b.seq, b.payload) S T (h.messages k b good src dst old)
+            | inl old ↦ Contains-append_left S T (b.seq, b.payload) (h.messages k b good src dst old)
             | inr now ↦ elim (cases_Bool (u.0 == s.0)) [
-              | inl t ↦ one_last (b.seq, b.payload) S T (done.messages k (same_node u s (eqb-true u.0 s.0 t)) b good src dst (rw t at now))
+              | inl t ↦ Contains-append_right S T (b.seq, b.payload) (done.messages k (same_node u s (eqb-true u.0 s.0 t)) b good src dst (rw t at now))
               | inr t ↦ absurd (let f : false ≡ true = rw t at now in cc)
             ]
           ]);
@@ -204,8 +193,8 @@ stayed_on arts x s d es js w new e j same m h =
     record {
       node = λ n at. subst (λ t. PrioIs s d (numbers t) n.parts.prio) (sym d_is) (h.node n (subst (λ (y : World). node_in y.nodes d ≡ Some n) m.world at));
       once = subst (λ t. AreOnce (numbers t)) (sym d_is) h.once;
-      authentic = λ k. subst (λ X. AreAmong X (prio_sent es2 js2 s d)) (sym d_is) (subst (λ Y. AreAmong (prio_delivered es js s d) Y) (sym s_is) (h.authentic k));
-      messages = λ k b good src dst among. subst (λ X. IsOneOf (b.seq, b.payload) X) (sym s_is) (h.messages k b good src dst (subst (λ xs. is_among (arts.spell (bodies.Prio b)) xs ≡ true) signed_is among));
+      authentic = λ k. subst (All (Contains (prio_sent es2 js2 s d))) (sym d_is) (subst (λ (Y : List Message). All (Contains Y) (prio_delivered es js s d)) (sym s_is) (h.authentic k));
+      messages = λ k b good src dst among. subst (λ (X : List Message). Contains X (b.seq, b.payload)) (sym s_is) (h.messages k b good src dst (subst (λ xs. is_among (arts.spell (bodies.Prio b)) xs ≡ true) signed_is among));
     }
 
 -- ---- a whole run
@@ -215,9 +204,9 @@ starts arts x s d = record {
   node = λ n at.
       let is = started x (nodes_of x.topology) d n at in
       subst (λ (m : NodeState). PrioIs s d [] m.parts.prio) (sym is.0)
-      (record { me = refl; len = length-replicate (length (nodes_of x.topology)) []; seen = λ q i. absurd (let f : false ≡ true = i in cc); once = tt });
-  once = tt;
-  authentic = λ k. tt;
+      (record { me = refl; len = length-replicate (length (nodes_of x.topology)) []; seen = λ q i. absurd (let f : false ≡ true = i in cc); once = none_once });
+  once = none_once;
+  authentic = λ k. All-nil (Contains []);
   messages = λ k b good src dst among. absurd (let f : false ≡ true = among in cc);
 }
 

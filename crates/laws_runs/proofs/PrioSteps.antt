@@ -1,7 +1,7 @@
 -- What each step tells and keeps of priority messages.
-use Rattle.std.proofs.Common.{◌≡◌, ℕ, ◌==◌, Bool, true, false, cond, List, [], ◌∷◌, ◌++◌, Option, Some, None, refl, sym, ap, subst, ◌∙◌, inl, inr}
+use Rattle.std.proofs.Common.{◌≡◌, ℕ, ◌==◌, Bool, true, false, cond, List, [], ◌∷◌, ◌++◌, Option, Some, None, refl, sym, ap, ap₂, subst, ◌∙◌, inl, inr, arith}
 use Rattle.std.specs.Prelude.{◌&&◌, ◌||◌, IsTrue}
-use Rattle.std.specs.List.{flat_map}
+use Rattle.std.specs.List.{All, Contains, flat_map}
 use Rattle.std.proofs.lemmas.Bool.{eq-eqb}
 use Rattle.std.proofs.lemmas.List.Concat.{flat_map-append}
 use Rattle.sp_base.specs.declared.id.NodeId.{NodeId}
@@ -52,7 +52,6 @@ use Rattle.sp_journal.specs.declared.entry.Entry.{Entry}
 use Rattle.sp_journal.specs.declared.entry.Reply.{Reply}
 use Rattle.sp_journal.specs.declared.entry.Reply.TheVariants as replies
 use Rattle.sp_schedule_events.specs.declared.event.Event.TheVariants as events
-use Rattle.laws_runs.specs.Priority.{AreAmong, IsOneOf}
 use Rattle.laws_runs.specs.Signs.{NodeIs, sizes_at}
 use Rattle.laws_runs.proofs.FlowPieces.{quiet_acked, quiet_expired, quiet_gone, quiet_prio, quiet_weight}
 use Rattle.laws_runs.proofs.Goods.{arts_fit}
@@ -88,9 +87,9 @@ unsigned_all arts at p (piece ∷ pieces) =
 
 pub record Acted (arts : Arts) (C : Type 0) (s d : NodeId) (S T : List Message) (told : List ℕ) (u : NodeId) (p : PrioState) (es : List Effect) : Type 0 where
   pub at : u ≡ d → PrioIs s d (told ++ prio_numbers s es) p
-  pub sent : u ≡ d → C → AreAmong (flat_map (prio_by s) es) S
+  pub sent : u ≡ d → C → All (Contains S) (flat_map (prio_by s) es)
   pub messages : C → u ≡ s → (b : Prio) → IsTrue (arts.is_good (bodies.Prio b)) → b.src ≡ s → b.dst ≡ d → is_among (arts.spell (bodies.Prio b)) (flat_map signed_by es) ≡ true
-      → IsOneOf (b.seq, b.payload) T
+      → Contains T (b.seq, b.payload)
 
 abbrev pub IsNoPrio : Body → Type 0
 IsNoPrio (bodies.Prio b) = ⊥
@@ -252,7 +251,7 @@ module _ (C : Type 0) (x : Setting) (P : Kept → Type 0) (arts : Arts) (reads :
                       let to : m.dst.0 ≡ b.dst.0 = ap (said (λ r. r.dst.0)) bodies_are in
                       let payload : m.payload ≡ b.payload = cc in
                       let now : sent_now n m ≡ (p.next, m.payload) ∷ [] = rw (eq-eqb u.0 s.0 (ap (λ (v : NodeId). v.0) z), eq-eqb m.dst.0 d.0 (to ∙ ap (λ (v : NodeId). v.0) dst)) refl in
-                      subst (λ t. IsOneOf (b.seq, b.payload) t) (sym now) (inl (ap (λ q. (q, m.payload)) number ∙ ap (λ y. (b.seq, y)) payload))
+                      subst (λ t. Contains t (b.seq, b.payload)) (sym now) (0, omega arith, ap₂ (λ (q : ℕ) (y : List ℕ). (q, y)) number payload)
                   | inr q ↦ absurd (let y : false ≡ true = q in cc)
                 ];
           }))

@@ -13,3 +13,5 @@ pub mod Calls
 pub mod Turns
 pub mod Crafts
 pub mod Story
+pub mod WorkedBounds
+pub mod WorkedClaims

@@ -1,5 +1,6 @@
 -- Priority messages over a run: each is told at most once, and those of a correct source were sent.
-use Rattle.std.specs.Prelude.{ℕ, ◌≡◌, ◌⊎◌, true, false, IsTrue, List, [], ◌∷◌, ◌++◌, map, None, Some}
+use Rattle.std.specs.Prelude.{ℕ, ◌≡◌, ◌≢◌, true, IsTrue, List, [], ◌∷◌, ◌++◌, map, None, Some}
+use Rattle.std.specs.List.{All, AllPairs, Contains}
 use Rattle.sp_base.specs.declared.id.NodeId.{NodeId}
 use Rattle.sp_msg.specs.declared.body.Body.TheVariants as bodies
 use Rattle.sp_msg.specs.declared.body.Prio.{Prio}
@@ -9,7 +10,7 @@ use Rattle.sp_rules.specs.Prio.{window_in}
 use Rattle.sp_rules.specs.Window.{is_in, is_seen}
 use Rattle.sp_runs.specs.Runs.{Clean, InRange, Turn, forged_in}
 use Rattle.sp_runs.specs.Settings.{Setting, SettingFits, is_correct}
-use Rattle.sp_runs.specs.Told.{Message, prio_delivered, prio_sent, signed}
+use Rattle.sp_runs.specs.Told.{prio_delivered, prio_sent, signed}
 use Rattle.sp_runs.specs.Worlds.{World, node_in}
 use Rattle.sp_journal.specs.declared.entry.Entry.{Entry}
 use Rattle.sp_schedule_events.specs.declared.event.Event.{Event}
@@ -19,23 +20,12 @@ use Rattle.laws_runs.specs.Signs.{Signs}
 
 -- no number stands twice
 abbrev pub AreOnce : List ℕ → Type 0
-AreOnce [] = Unit {0}
-AreOnce (q ∷ qs) = (is_in q qs ≡ false) × AreOnce qs
-
--- the message is one of these
-abbrev pub IsOneOf : Message → List Message → Type 0
-IsOneOf m [] = ⊥
-IsOneOf m (x ∷ xs) = (x ≡ m) ⊎ IsOneOf m xs
-
--- each of these is one of those that were sent
-abbrev pub AreAmong : List Message → List Message → Type 0
-AreAmong [] sent = Unit {0}
-AreAmong (m ∷ ms) sent = IsOneOf m sent × AreAmong ms sent
+AreOnce numbers = AllPairs (λ p q. p ≢ q) numbers
 
 -- at a correct d, of messages from any source s
 pub record PrioClaims (x : Setting) (s d : NodeId) (es : List Event) (js : List Entry) : Type 0 where
   pub once : AreOnce (map (λ m. m.0) (prio_delivered es js s d))
-  pub authentic : IsTrue (is_correct x s) → AreAmong (prio_delivered es js s d) (prio_sent es js s d)
+  pub authentic : IsTrue (is_correct x s) → All (Contains (prio_sent es js s d)) (prio_delivered es js s d)
 
 -- the same with what turns keep of it
 pub record PrioPart (arts : Arts) (x : Setting) (s d : NodeId) (es : List Event) (js : List Entry) (w : World) : Type 0 where
@@ -45,7 +35,7 @@ pub record PrioPart (arts : Arts) (x : Setting) (s d : NodeId) (es : List Event)
       → is_seen (window_in n.parts.prio s.0) q ≡ true
   -- whatever a correct s signed as a priority message for d was sent
   pub messages : IsTrue (is_correct x s) → (m : Prio) → IsTrue (arts.is_good (bodies.Prio m)) → m.src ≡ s → m.dst ≡ d
-      → is_among (arts.spell (bodies.Prio m)) (signed es js s) ≡ true → IsOneOf (m.seq, m.payload) (prio_sent es js s d)
+      → is_among (arts.spell (bodies.Prio m)) (signed es js s) ≡ true → Contains (prio_sent es js s d) (m.seq, m.payload)
 
 -- of each run without forgery
 abbrev pub PriorityIsKept : Type 0

@@ -14,6 +14,8 @@ ghost use Rattle.laws_runs.specs.Weights.{TurnsKeepWeights, WeightsAreKept};
 ghost use Rattle.laws_runs.specs.Crafts.{NoFrameIsForged, OwnCraftsForgeNothing};
 ghost use Rattle.laws_runs.specs.Story.{StoriesArePlayed};
 ghost use Rattle.laws_runs.specs.Turns.{EachEventHasATurn};
+ghost use Rattle.laws_runs.specs.WorkedBounds.{BoundsAreWorked};
+ghost use Rattle.laws_runs.specs.WorkedClaims.{NodesAreWorked, PriorityIsWorked, SignaturesAreWorked, WeightsAreWorked};
 
 /// A law: only bytes that the adversary brings are ever forged. A frame that is passed as it was made never is.
 pub fn only_the_adversary_forges()
@@ -160,4 +162,14 @@ pub fn bounds_follow()
 /// where its signer signed it before.
 pub fn stories_are_played()
     ensures { StoriesArePlayed }
+{}
+
+/// A law: what the claims say of small states and runs, both ways: the bounds of a node with two messages a flow and four entries a store, in numbers; who is
+/// there, priority messages, weights after two updates, and what is signed. States and journals that break one are refused.
+pub fn claims_are_worked()
+    ensures bounds { BoundsAreWorked }
+    ensures nodes { NodesAreWorked }
+    ensures priority { PriorityIsWorked }
+    ensures weights { WeightsAreWorked }
+    ensures signatures { SignaturesAreWorked }
 {}

@@ -18,5 +18,6 @@ pub mod MaskBits
 pub mod PathSets
 pub mod Choices
 pub mod Turned
+pub mod Hostile
 pub mod Unforged
 pub mod Generated

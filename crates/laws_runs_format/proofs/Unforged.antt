@@ -13,10 +13,10 @@ use Rattle.sp_schedule_events.specs.declared.event.Event.{Event}
 use Rattle.sp_schedule_events.specs.declared.event.Event.TheVariants as events
 use Rattle.sp_schedule_events.specs.declared.scenario.Scenario.{Scenario}
 use Rattle.laws_runs.proofs.Crafts.{no_frame_is_forged, own_crafts_forge_nothing}
-use Rattle.laws_runs.proofs.Passes.{only_the_adversary}
-use Rattle.laws_runs.specs.Laws.{IsHostile}
+use Rattle.laws_runs_format.specs.Hostile.{IsHostile}
 use Rattle.laws_runs_format.specs.Unforged.{HarmlessSchedulesForgeNothing, IsHarmless}
 use Rattle.laws_runs_format.proofs.Headers.{headers_fit, signatures_are_long}
+use Rattle.laws_runs_format.proofs.Hostile.{only_hostile}
 use Rattle.sp_node_format.proofs.GoodFields.{fields_pass}
 use Rattle.laws_runs_format.proofs.ReadBack.{format_carries}
 use Rattle.laws_runs_format.proofs.Schedules.{scheduled_events_are_in_range}
@@ -55,4 +55,4 @@ harmless_schedules_forge_nothing s es schedule all before event after js w what 
     let good = schedule.scenario.graph in
     harmless s before js w event what good (scheduled_events_are_in_range s es before after event schedule is) run
     (in_the_middle (IsHarmless (setting_of s)) before event after (subst (λ (xs : List Event). All (IsHarmless (setting_of s)) xs) is all))
-    (only_the_adversary format (setting_of s) before js w event what (headers_fit s good) format_carries run at) at
+    (only_hostile s before js w event what good run at) at

@@ -8,4 +8,5 @@ pub mod Schedules
 pub mod Turns
 pub mod ComesThrough
 pub mod Delivery
+pub mod Hostile
 pub mod Unforged

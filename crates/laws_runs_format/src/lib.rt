@@ -7,6 +7,7 @@ ghost use Rattle.laws_runs_format.specs.Delivery.{SchedulesDeliver, SchedulesRet
 ghost use Rattle.laws_runs_format.specs.FormatCarries.{FormatCarries};
 ghost use Rattle.laws_runs_format.specs.Headline.{EveryRun};
 ghost use Rattle.laws_runs_format.specs.Headers.{HeadersFit, SignaturesAreLong, TopologiesFit};
+ghost use Rattle.laws_runs_format.specs.Hostile.{OnlyHostileEventsAreForged};
 ghost use Rattle.laws_runs_format.specs.Journals.{JournalsAreCountable};
 ghost use Rattle.laws_runs_format.specs.Frames.{FramesHaveTheirLength};
 ghost use Rattle.laws_runs_format.specs.Schedules.{ScheduledEventsAreInRange};
@@ -58,6 +59,11 @@ pub fn frames_have_their_length()
 /// A law: each event of a good schedule may come where it stands, in a run of its header's setting.
 pub fn scheduled_events_are_in_range()
     ensures { ScheduledEventsAreInRange }
+{}
+
+/// A law: an event of which something is forged, after a run in which nothing is, is the adversary's: a changed bit, injected bytes, or a craft.
+pub fn only_hostile_events_are_forged()
+    ensures { OnlyHostileEventsAreForged }
 {}
 
 /// A law: nothing of a good schedule is forged whose injected bytes are no frames, whose crafts are by compromised nodes in the names of such, and that

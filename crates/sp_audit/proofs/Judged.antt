@@ -113,7 +113,7 @@ event_quiet x es js place e j even below is_e is_j quiet good =
 pub good_start : (x : Setting) → IsGood x [] []
 good_start x = record {
   prefix = λ s d a b. ([], refl);
-  once = λ s d b. tt;
+  once = λ s d b i j none less inside. absurd (omega (arith, inside));
   bounded = λ u place. omega arith;
   shares = λ u place. tt;
 }

@@ -4,3 +4,4 @@ pub mod Turns
 pub mod Finding
 pub mod Outcomes
 pub mod Short
+pub mod Rules

@@ -62,7 +62,7 @@ fn fill(room: &mut Vec<u8>, bytes: &[u8])
 }
 
 /// What of an arrival at `v` from `u` is forged, by what the node answered. None exactly where nothing is. It takes no memory.
-#[tactic(auto, using(crate::proofs::Outcomes::tag_is, crate::proofs::Outcomes::object_is, crate::proofs::Outcomes::link_is, crate::proofs::Outcomes::items_are))]
+#[tactic(auto, using(crate::proofs::Rules::judged))]
 pub fn judge<'a>(
     known: &Known<'_>,
     directions: &Directions,

@@ -14,7 +14,7 @@ use Rattle.sp_keystate.proofs.Torn.{patched_has, patched_torn, torn_kept, torn_s
 use Rattle.sp_keystate.proofs.SlotLemmas.{FineOpt, closed_fine, fine_open, open_numbers, stays_open}
 use Rattle.sp_keystate.proofs.Standing.{apart, behind_past, changed_here, changed_there, formatted_in_use, gate_leaves, head_at, here_of, length_in, next_in_use, numbered_body, reads_back}
 
-other_other : (slot : Slot) → other (other slot) ≡ slot
+pub other_other : (slot : Slot) → other (other slot) ≡ slot
 other_other First = refl
 other_other Second = refl
 

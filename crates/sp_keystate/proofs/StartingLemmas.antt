@@ -11,15 +11,16 @@ use Rattle.sp_keystate.specs.declared.slot.Slot.{Slot}
 use Rattle.sp_keystate.specs.declared.slot.InUse.{InUse}
 use Rattle.sp_keystate.specs.declared.key_state.KeyState.{KeyState}
 use Rattle.sp_keystate.specs.declared.starts.Started.{Started}
-use Rattle.sp_keystate.specs.Slots.{in_slot, in_use}
+use Rattle.sp_keystate.specs.Slots.{in_slot, in_use, other, place}
 use Rattle.sp_keystate.specs.Changes.{Changes, changed}
 use Rattle.sp_keystate.specs.Soundness.{IsSound, Keeps}
-use Rattle.sp_keystate.specs.States.{Finds, IsChangeAnswer, IsOpenAnswer, IsSoundAt, KeepsMeanwhile, SoundAs, boot_end, changed_state, numbers_of, reserve_end, serial_end}
+use Rattle.sp_keystate.specs.States.{Finds, IsChangeAnswer, IsOpenAnswer, IsSoundAt, KeepsMeanwhile, SoundAs, boot_end, changed_state, next_numbers, numbers_of, reserve_end, serial_end}
 use Rattle.sp_keystate.specs.declared.refused.KeyRefused.{KeyRefused}
 use Rattle.sp_keystate.specs.declared.refused.KeyRefused.TheVariants.{KeeperFault, Unformatted, Formatted, Exhausted}
-use Rattle.sp_keystate.specs.Starting.{AreSpent, BeginsAt, IsSpent, KeepsAll, NoStart, Starts, StartsSafely}
+use Rattle.sp_keystate.specs.Starting.{AreSpent, BeginsAt, IsSpent, KeepsAll, NoStart, Starts, StartsSafely, booted}
 use Rattle.sp_keystate.proofs.Pieces.{same_some}
 use Rattle.sp_keystate.proofs.Since.{since_on, since_weaker}
+use Rattle.sp_keystate.proofs.SoundLemmas.{other_other}
 
 -- ---- what was found
 
@@ -42,24 +43,59 @@ no_last opened is = go (nat_le (2 ^ 63 - 1) opened.boot) refl is
     go true most e = absurd (none-some opened.boot (sym e))
     go false less e = grind (arith, nat_tests)
 
-begins_at : (d e : Option Disk) (opened last : KeyState) (first : ℕ) → Finds d e (Some (in_slot opened.slot (numbers_of opened))) → first ≡ opened.bound → last.boot ≡ opened.boot + 1
-    → last.serial ≡ opened.serial + 2 → IfSome d (BeginsAt (record { state = last; first = first }))
-begins_at None e opened last first finds is boot serial = tt
-begins_at (Some d) e opened last first finds is boot serial =
-    record { found = in_slot opened.slot (numbers_of opened); stood = sym finds.1; first = is; boot = boot; serial = serial }
+-- a change of a file that was on the disk
+pub changed_file : (told after : Option Disk) (file : List ℕ) (at : ℕ) (next : Numbers) → told ≡ Some (still file) → Changes told after at next
+    → after ≡ Some (still (changed file at next))
+changed_file None after file at next is changes = absurd (none-some (still file) is)
+changed_file (Some d) after file at next is changes = changes ∙ ap (λ (l : List ℕ). Some (still (changed l at next))) (ap bytes_of (same_some d (still file) is) ∙ bytes_of-still file)
 
-pub starts : (d e : Option Disk) (opened booted last : KeyState) (n total : ℕ) → Finds d e (Some (in_slot opened.slot (numbers_of opened)))
-    → boot_end opened ≡ None → booted ≡ changed_state opened opened.bound (opened.boot + 1) → reserve_end booted total ≡ None
-    → last ≡ changed_state booted (min (booted.bound + n) total) booted.boot → last.serial < 2 ^ 64 → Starts d n total (record { state = last; first = opened.bound })
-starts d e opened booted last n total finds another boot room is numbered =
-    let bound : booted.bound ≡ opened.bound = ap (λ (s : KeyState). s.bound) boot in
-    let last_bound : last.bound ≡ min (booted.bound + n) total = ap (λ (s : KeyState). s.bound) is in
-    let last_boot : last.boot ≡ opened.boot + 1 = ap (λ (s : KeyState). s.boot) is ∙ ap (λ (s : KeyState). s.boot) boot in
-    let booted_serial : booted.serial ≡ opened.serial + 1 = ap (λ (s : KeyState). s.serial) boot in
-    let last_serial_is : last.serial ≡ booted.serial + 1 = ap (λ (s : KeyState). s.serial) is in
-    let some : booted.bound < total = no_end total booted.bound (serial_end booted) room in
+-- the two changes of a start
+changed_twice : (d : Disk) (e f g : Option Disk) (opened next last : KeyState) (bound : ℕ) → e ≡ Some (still (bytes_of d))
+    → Changes e f (place (other opened.slot)) (next_numbers opened opened.bound (opened.boot + 1)) → next ≡ changed_state opened opened.bound (opened.boot + 1)
+    → Changes f g (place (other next.slot)) (next_numbers next bound next.boot) → last ≡ changed_state next bound next.boot
+    → g ≡ Some (still (changed (changed (bytes_of d) (place (other opened.slot)) (booted (numbers_of opened))) (place opened.slot) (numbers_of last)))
+changed_twice d e f g opened next last bound found boots is reserves last_is =
+    let file = changed (bytes_of d) (place (other opened.slot)) (booted (numbers_of opened)) in
+    let there : f ≡ Some (still file) = changed_file e f (bytes_of d) (place (other opened.slot)) (booted (numbers_of opened)) found boots in
+    let slot : other next.slot ≡ opened.slot = ap (λ (s : KeyState). other s.slot) is ∙ other_other opened.slot in
+    let numbers : next_numbers next bound next.boot ≡ numbers_of last = sym (ap numbers_of last_is) in
+    changed_file f g file (place (other next.slot)) (next_numbers next bound next.boot) there reserves
+    ∙ ap (λ (s : Slot). Some (still (changed file (place s) (next_numbers next bound next.boot)))) slot
+    ∙ ap (λ (n : Numbers). Some (still (changed file (place opened.slot) n))) numbers
+
+begins_at : (d e f g : Option Disk) (opened next last : KeyState) (bound : ℕ) → Finds d e (Some (in_slot opened.slot (numbers_of opened)))
+    → Changes e f (place (other opened.slot)) (next_numbers opened opened.bound (opened.boot + 1)) → next ≡ changed_state opened opened.bound (opened.boot + 1)
+    → Changes f g (place (other next.slot)) (next_numbers next bound next.boot) → last ≡ changed_state next bound next.boot
+    → IfSome d (BeginsAt g (record { state = last; first = opened.bound }))
+begins_at None e f g opened next last bound finds boots is reserves last_is = tt
+begins_at (Some d) e f g opened next last bound finds boots is reserves last_is =
+    let boot : next.boot ≡ opened.boot + 1 = ap (λ (s : KeyState). s.boot) is in
+    let serial : next.serial ≡ opened.serial + 1 = ap (λ (s : KeyState). s.serial) is in
+    let last_boot : last.boot ≡ next.boot = ap (λ (s : KeyState). s.boot) last_is in
+    let last_serial_is : last.serial ≡ next.serial + 1 = ap (λ (s : KeyState). s.serial) last_is in
     record {
-      begins = begins_at d e opened last opened.bound finds refl last_boot (omega (arith, booted_serial, last_serial_is));
+      found = in_slot opened.slot (numbers_of opened);
+      stood = sym finds.1;
+      first = refl;
+      boot = last_boot ∙ boot;
+      serial = omega (arith, serial, last_serial_is);
+      slot = ap (λ (s : KeyState). s.slot) last_is ∙ ap (λ (s : KeyState). other s.slot) is ∙ other_other opened.slot;
+      changes = changed_twice d e f g opened next last bound finds.0 boots is reserves last_is;
+    }
+
+pub starts : (d e f g : Option Disk) (opened next last : KeyState) (n total : ℕ) → Finds d e (Some (in_slot opened.slot (numbers_of opened)))
+    → boot_end opened ≡ None → next ≡ changed_state opened opened.bound (opened.boot + 1) → reserve_end next total ≡ None
+    → last ≡ changed_state next (min (next.bound + n) total) next.boot → last.serial < 2 ^ 64
+    → Changes e f (place (other opened.slot)) (next_numbers opened opened.bound (opened.boot + 1))
+    → Changes f g (place (other next.slot)) (next_numbers next (min (next.bound + n) total) next.boot)
+    → Starts d g n total (record { state = last; first = opened.bound })
+starts d e f g opened next last n total finds another boot room is numbered boots reserves =
+    let bound : next.bound ≡ opened.bound = ap (λ (s : KeyState). s.bound) boot in
+    let last_bound : last.bound ≡ min (next.bound + n) total = ap (λ (s : KeyState). s.bound) is in
+    let last_boot : last.boot ≡ opened.boot + 1 = ap (λ (s : KeyState). s.boot) is ∙ ap (λ (s : KeyState). s.boot) boot in
+    let some : next.bound < total = no_end total next.bound (serial_end next) room in
+    record {
+      begins = begins_at d e f g opened next last (min (next.bound + n) total) finds boots boot reserves is;
       some = omega (arith, some, bound);
       bound = last_bound ∙ ap (λ (b : ℕ). min (b + n) total) bound;
       boot = (omega (arith, last_boot), (let few = no_last opened another in omega (arith, last_boot, few)));

@@ -8,20 +8,29 @@ use Rattle.sp_keystate.specs.declared.slot.InUse.{InUse}
 use Rattle.sp_keystate.specs.declared.starts.Started.{Started}
 use Rattle.sp_keystate.specs.declared.refused.KeyRefused.{KeyRefused}
 use Rattle.sp_keystate.specs.declared.refused.KeyRefused.TheVariants.{KeeperFault, Unformatted, Formatted, Exhausted}
-use Rattle.sp_keystate.specs.Slots.{in_use}
+use Rattle.sp_keystate.specs.Slots.{in_use, other, place}
+use Rattle.sp_keystate.specs.Changes.{changed}
 use Rattle.sp_keystate.specs.Soundness.{IsSound, Keeps}
-use Rattle.sp_keystate.specs.States.{IsSoundAt}
+use Rattle.sp_keystate.specs.States.{IsSoundAt, numbers_of}
 
--- the file stood for these numbers: the first index is their bound, and the boot is the next. It was changed twice
-pub record BeginsAt (started : Started) (disk : Disk) : Type 0 where
+-- the numbers that take the next boot
+abbrev pub booted : Numbers → Numbers
+booted numbers = record { serial = numbers.serial + 1; bound = numbers.bound; boot = numbers.boot + 1 }
+
+-- The file stood for these numbers: the first index is their bound, and the boot is the next. It was changed twice: the boot was taken in the slot that
+-- wasn't in use, and then the indexes in the one that was
+pub record BeginsAt (after : Option Disk) (started : Started) (disk : Disk) : Type 0 where
   pub found : InUse
   pub stood : in_use (bytes_of disk) ≡ Some found
   pub first : started.first ≡ found.numbers.bound
   pub boot : started.state.boot ≡ found.numbers.boot + 1
   pub serial : started.state.serial ≡ found.numbers.serial + 2
+  pub slot : started.state.slot ≡ found.slot
+  pub changes : after ≡ Some (still (changed (changed (bytes_of disk) (place (other found.slot)) (booted found.numbers)) (place found.slot)
+      (numbers_of started.state)))
 
-pub record Starts (told : Option Disk) (n total : ℕ) (started : Started) : Type 0 where
-  pub begins : IfSome told (BeginsAt started)
+pub record Starts (told after : Option Disk) (n total : ℕ) (started : Started) : Type 0 where
+  pub begins : IfSome told (BeginsAt after started)
   -- some indexes are reserved, so many at most, and none from the total on
   pub some : started.first < total
   pub bound : started.state.bound ≡ min (started.first + n) total

@@ -15,7 +15,7 @@ pub struct Started {
 
 /// Opens a key file, takes the next boot, and reserves up to so many indexes of this total. They begin at the bound that was found.
 pub fn start<P: Keeper>(keeper: &mut P, n: u64, total: u64) -> Result<Started, KeyRefused>
-    ensures started { IfOk result (Starts (P.disk keeper.old) n total) }
+    ensures started { IfOk result (Starts (P.disk keeper.old) (P.disk keeper.new) n total) }
     ensures stands { IfOk result (λ started. StandsFor (P.disk keeper.new) started.state) }
     ensures safe { IfOk result (StartsSafely (P.disk keeper.old) (P.disk keeper.new)) }
     ensures answer { IsStartAnswer result }

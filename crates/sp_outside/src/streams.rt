@@ -1,6 +1,6 @@
 // A source read to its end, and a whole text written to a sink.
-ghost use Rattle.std.specs.Prelude.{◌≡◌, ◌<◌, ◌≤◌, ◌^◌, length, OnOk, IfOk, IsErrOf, vec_len};
-ghost use Rattle.std.specs.Io.KnownBytes.{Appends};
+ghost use Rattle.std.specs.Prelude.{◌≡◌, ◌<◌, ◌≤◌, ◌^◌, false, length, OnOk, IfOk, IsErrOf, vec_len};
+ghost use Rattle.std.specs.Io.KnownBytes.{Appends, IsAtEnd};
 ghost use Rattle.sp_outside.specs.Causes.{Rose, HasCause};
 ghost use Rattle.sp_outside.specs.Streams.{IsInput, ReadsMore, AppendsFront};
 
@@ -35,6 +35,7 @@ pub fn read_up_to<S: Source>(
     requires { most < 2 ^ 63 }
     ensures bytes { IfOk result (λ input. IsInput (S.left source.old) most input.bytes.items input.is_cut) }
     ensures within { IfOk result (λ input. vec_len input.bytes ≤ most) }
+    ensures rest { IfOk result (λ input. input.is_cut ≡ false → IsAtEnd (S.left source.new)) }
     ensures fine { OnOk result (S.faults source.new ≡ S.faults source.old) }
     ensures memory { IsErrOf result ReadRefused.Memory → S.faults source.new ≡ S.faults source.old }
     ensures failed { IsErrOf result ReadRefused.Failed → Rose (S.faults source.old) (S.faults source.new) }

@@ -68,6 +68,8 @@ cut_is g s t k found reached right ends few =
     let same : (q : Part) → Has (parts_of g s t) q → is_among cut q ≡ test q = among_is test (parts_of g s t) in
     record {
       fewer = few.fewer;
+      paths = few.paths;
+      disjoint = few.disjoint;
       no_more = few.no_more;
       in_order = filter_same test (is_among cut) (parts_of g s t) (λ q h. sym (same q h));
       is_cut = record { source = same (parts.Out s) (source_there g s t ends) ∙ few.is_cut.source; destination = same (parts.In t) (destination_there g s t ends) ∙ few.is_cut.destination };

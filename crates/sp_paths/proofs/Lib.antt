@@ -7,6 +7,7 @@ pub mod WalkLemmas
 pub mod LaneLists
 pub mod Places
 pub mod WalksLemmas
+pub mod PartedFlows
 pub mod FlowLemmas
 pub mod Shapes
 pub mod ArcsOnce

@@ -28,6 +28,7 @@ use Rattle.sp_paths.specs.Trees.{IsReady}
 use Rattle.sp_paths.specs.Visits.{path_along, visits, way_of, ways_along}
 use Rattle.sp_paths.proofs.FlowLemmas.{closed_size, least_cut, open_size}
 use Rattle.sp_paths.proofs.OrderLemmas.{walks_in_order}
+use Rattle.sp_paths.proofs.PartedFlows.{Parted, parted}
 use Rattle.sp_paths.proofs.PathLemmas.{all_from}
 use Rattle.sp_paths.proofs.Sets.{walks_are_disjoint, walks_are_optimal}
 use Rattle.sp_paths.proofs.Places.{in_or_not, walk_in_joined}
@@ -83,11 +84,13 @@ leaves_same c lanes =
         let to : c (number (part_at l.to)) ≡ c l.to = ap c (number_at l.to) in
         rw (from, to) (ap (λ (n : ℕ). cond (c l.from && not (c l.to)) 1 0 + n) (each ls))
 
-pub few_is : (g : Graph) (s t : NodeId) (k found : ℕ) (lanes : List Lane) (reached : List Bool) → IsGraph g → map arc_of lanes ≡ arcs_of g s t
+pub few_is : (g : Graph) (s t : NodeId) (k found : ℕ) (lanes : List Lane) (reached : List Bool) → s ≢ t → IsGraph g → map arc_of lanes ≡ arcs_of g s t
     → HasOnly (number (parts.Out s)) (number (parts.In t)) found k lanes reached → length reached ≡ PARTS → IsFew g s t k found reached
-few_is g s t k found lanes reached right is only marks = record {
+few_is g s t k found lanes reached apart right is only marks = record {
   marks = marks;
   fewer = only.fewer;
+  paths = map (λ walk. path_along lanes s walk) flow.walks;
+  disjoint = walks_are_disjoint g s t apart right lanes flow.new is found flow.walks flow.apart;
   no_more = λ n paths good. omega (arith, cut_bounds_paths g s t n paths (λ part. is_in reached (number part)) right good cut, whole);
   is_cut = cut;
   size = whole;
@@ -97,6 +100,9 @@ few_is g s t k found lanes reached right is only marks = record {
       ap other (sym (part_of_number part)) ∙ only.least_set (λ n. other (part_at n)) (source other good) closed (number part) inside there;
 }
   where
+    flow : Parted lanes (number (parts.Out s)) (number (parts.In t)) found
+    flow = parted (number (parts.Out s)) (number (parts.In t)) found lanes only.flow
+
     cut : IsCut s t (λ part. is_in reached (number part))
     cut = record { source = only.source; destination = only.destination }
 
@@ -118,8 +124,8 @@ pub found_is : (g : Graph) (s t : NodeId) (k : ℕ) (old new : List Lane) (poten
     → paths ≡ map (λ walk. path_along old s walk) walks → length potential ≡ PARTS → IsFound g s t k paths potential
 found_is g s t k old new potential walks paths apart right is all taken none these numbers =
     let set = map (λ walk. path_along old s walk) walks in
-    let disjoint = walks_are_disjoint g s t apart right old new is (at potential) all.fits k walks taken none in
-    let optimal = walks_are_optimal g s t apart right old new is (at potential) all.fits k walks taken none in
+    let disjoint = walks_are_disjoint g s t apart right old new is k walks taken in
+    let optimal = walks_are_optimal g s t apart right old new is k walks taken (at potential) all.fits none in
     let found : IsFound g s t k set potential = record { disjoint = disjoint; ordered = walks_in_order g s t right old new is k walks taken; optimal = optimal; least = certified_is_least g s t k set (λ part. pos (at potential (number part))) right disjoint optimal; low = all.low; numbers = numbers } in
     subst (λ (ps : List (List NodeId)). IsFound g s t k ps potential) (sym these) found
 

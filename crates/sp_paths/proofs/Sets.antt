@@ -126,8 +126,8 @@ used_fits p l fits used = rw used at fits
 free_fits : (p : ℕ → ℕ) (l : Lane) → Fits p l → l.used ≡ false → p l.to ≤ l.cost + p l.from
 free_fits p l fits used = rw used at fits
 
-module _ (g : Graph) (s t : NodeId) (apart_ends : s ≢ t) (right : IsGraph g) (old new : List Lane) (is : map arc_of old ≡ arcs_of g s t) (p : ℕ → ℕ) (fits : FitAll p old) (k : ℕ) (walks : List (List ℕ))
-    (taken : IsApart old new (number (parts.Out s)) (number (parts.In t)) k walks) (none : Flow (number (parts.Out s)) (number (parts.In t)) 0 new) where
+module _ (g : Graph) (s t : NodeId) (apart_ends : s ≢ t) (right : IsGraph g) (old new : List Lane) (is : map arc_of old ≡ arcs_of g s t) (k : ℕ) (walks : List (List ℕ))
+    (taken : IsApart old new (number (parts.Out s)) (number (parts.In t)) k walks) where
   inside : (i : ℕ) → Has (joined walks) i → i < length old
   inside i h = taken.taken.inside i (contains (joined walks) i h)
 
@@ -151,68 +151,70 @@ module _ (g : Graph) (s t : NodeId) (apart_ends : s ≢ t) (right : IsGraph g) (
           let x : true ≡ false = sym used ∙ ap (λ (l : Lane). l.used) (taken.taken.free i c) ∙ free in absurd cc
       go (inr out) = taken.taken.others i (λ c. out (has (joined walks) i c))
 
-  nothing_left : (i : ℕ) → i < length new → (lane_at new i).used ≡ false
-  nothing_left = none_left (number (parts.Out s)) (number (parts.In t)) new (rank p)
-      (λ i less used.
-      let same = still_used i used in
-      let there : i < length old = omega (arith, less, taken.taken.long) in
-      let up = rank_rises g s t p (lane_at old i) right (has_arc old (arcs_of g s t) is i there) (used_fits p (lane_at old i) (fits i there) (ap (λ (l : Lane). l.used) (sym same) ∙ used)) in
-      subst (λ (l : Lane). rank p l.from < rank p l.to) (sym same) up)
-      none
+  -- where potentials fit and no flow is left
+  module _ (p : ℕ → ℕ) (fits : FitAll p old) (none : Flow (number (parts.Out s)) (number (parts.In t)) 0 new) where
+    nothing_left : (i : ℕ) → i < length new → (lane_at new i).used ≡ false
+    nothing_left = none_left (number (parts.Out s)) (number (parts.In t)) new (rank p)
+        (λ i less used.
+        let same = still_used i used in
+        let there : i < length old = omega (arith, less, taken.taken.long) in
+        let up = rank_rises g s t p (lane_at old i) right (has_arc old (arcs_of g s t) is i there) (used_fits p (lane_at old i) (fits i there) (ap (λ (l : Lane). l.used) (sym same) ∙ used)) in
+        subst (λ (l : Lane). rank p l.from < rank p l.to) (sym same) up)
+        none
 
-  -- each lane that was used is taken
-  used_is_taken : (i : ℕ) → i < length old → (lane_at old i).used ≡ true → Has (joined walks) i
-  used_is_taken i less used = go (in_or_not (joined walks) i)
-    where
-      go : Has (joined walks) i ⊎ (Has (joined walks) i → ⊥) → Has (joined walks) i
-      go (inl h) = h
-      go (inr out) =
-          let same = taken.taken.others i (λ c. out (has (joined walks) i c)) in
-          let x : true ≡ false = sym used ∙ ap (λ (l : Lane). l.used) (sym same) ∙ nothing_left i (omega (arith, less, taken.taken.long)) in absurd cc
+    -- each lane that was used is taken
+    used_is_taken : (i : ℕ) → i < length old → (lane_at old i).used ≡ true → Has (joined walks) i
+    used_is_taken i less used = go (in_or_not (joined walks) i)
+      where
+        go : Has (joined walks) i ⊎ (Has (joined walks) i → ⊥) → Has (joined walks) i
+        go (inl h) = h
+        go (inr out) =
+            let same = taken.taken.others i (λ c. out (has (joined walks) i c)) in
+            let x : true ≡ false = sym used ∙ ap (λ (l : Lane). l.used) (sym same) ∙ nothing_left i (omega (arith, less, taken.taken.long)) in absurd cc
 
-  all_ways : together (map (λ walk. path_along old s walk) walks) ≡ ways_along old (joined walks)
-  all_ways = together_is g s t apart_ends old walks laid
+    all_ways : together (map (λ walk. path_along old s walk) walks) ≡ ways_along old (joined walks)
+    all_ways = together_is g s t apart_ends old walks laid
 
-  -- the paths use an arc exactly where its lane is used
-  uses_used : (i : ℕ) → i < length old → uses (map (λ walk. path_along old s walk) walks) (arc_of (lane_at old i)) ≡ (lane_at old i).used
-  uses_used i less = go (lane_at old i).used refl (uses (map (λ walk. path_along old s walk) walks) (arc_of (lane_at old i))) refl
-    where
-      go : (a : Bool) → (lane_at old i).used ≡ a → (b : Bool) → uses (map (λ walk. path_along old s walk) walks) (arc_of (lane_at old i)) ≡ b → uses (map (λ walk. path_along old s walk) walks) (arc_of (lane_at old i)) ≡ (lane_at old i).used
-      go true e b f =
-          let at = has_map (λ j. way_of (lane_at old j)) (joined walks) i (used_is_taken i less e) in
-          way_is_used g (map (λ walk. path_along old s walk) walks) (way_of (lane_at old i)) (subst (λ (ws : List Way). Has ws (way_of (lane_at old i))) (sym all_ways) at) ∙ sym e
-      go false e false f = f ∙ sym e
-      go false e true f =
-          let way = used_is_way g (map (λ walk. path_along old s walk) walks) (way_of (lane_at old i)) f in
-          let (j, at, same) = from_map (λ j. way_of (lane_at old j)) (joined walks) (way_of (lane_at old i)) (subst (λ (ws : List Way). Has ws (way_of (lane_at old i))) all_ways way) in
-          let one : j ≡ i = place_once g s t old right is j i (inside j at) less same in
-          let used : (lane_at old i).used ≡ true = taken.taken.used i (contains (joined walks) i (subst (Has (joined walks)) one at)) in
-          let x : true ≡ false = sym used ∙ e in absurd cc
+    -- the paths use an arc exactly where its lane is used
+    uses_used : (i : ℕ) → i < length old → uses (map (λ walk. path_along old s walk) walks) (arc_of (lane_at old i)) ≡ (lane_at old i).used
+    uses_used i less = go (lane_at old i).used refl (uses (map (λ walk. path_along old s walk) walks) (arc_of (lane_at old i))) refl
+      where
+        go : (a : Bool) → (lane_at old i).used ≡ a → (b : Bool) → uses (map (λ walk. path_along old s walk) walks) (arc_of (lane_at old i)) ≡ b → uses (map (λ walk. path_along old s walk) walks) (arc_of (lane_at old i)) ≡ (lane_at old i).used
+        go true e b f =
+            let at = has_map (λ j. way_of (lane_at old j)) (joined walks) i (used_is_taken i less e) in
+            way_is_used g (map (λ walk. path_along old s walk) walks) (way_of (lane_at old i)) (subst (λ (ws : List Way). Has ws (way_of (lane_at old i))) (sym all_ways) at) ∙ sym e
+        go false e false f = f ∙ sym e
+        go false e true f =
+            let way = used_is_way g (map (λ walk. path_along old s walk) walks) (way_of (lane_at old i)) f in
+            let (j, at, same) = from_map (λ j. way_of (lane_at old j)) (joined walks) (way_of (lane_at old i)) (subst (λ (ws : List Way). Has ws (way_of (lane_at old i))) all_ways way) in
+            let one : j ≡ i = place_once g s t old right is j i (inside j at) less same in
+            let used : (lane_at old i).used ≡ true = taken.taken.used i (contains (joined walks) i (subst (Has (joined walks)) one at)) in
+            let x : true ≡ false = sym used ∙ e in absurd cc
 
-  -- each residual arc has a reduced cost of at least 0
-  fits_arc : (i : ℕ) → i < length old → (b : Bool) → (lane_at old i).used ≡ b → pos 0 ≤ℤ reduced_cost (λ q. pos (p (number q))) (cond b (turned (arc_of (lane_at old i))) (arc_of (lane_at old i)))
-  fits_arc i less true e =
-      let l = lane_at old i in
-      let from : p (number (part_at l.from)) ≡ p l.from = ap p (number_at l.from) in
-      let to : p (number (part_at l.to)) ≡ p l.to = ap p (number_at l.to) in
-      omega (arith, ints, used_fits p l (fits i less) e, from, to)
-  fits_arc i less false e =
-      let l = lane_at old i in
-      let from : p (number (part_at l.from)) ≡ p l.from = ap p (number_at l.from) in
-      let to : p (number (part_at l.to)) ≡ p l.to = ap p (number_at l.to) in
-      omega (arith, ints, free_fits p l (fits i less) e, from, to)
+    -- each residual arc has a reduced cost of at least 0
+    fits_arc : (i : ℕ) → i < length old → (b : Bool) → (lane_at old i).used ≡ b → pos 0 ≤ℤ reduced_cost (λ q. pos (p (number q))) (cond b (turned (arc_of (lane_at old i))) (arc_of (lane_at old i)))
+    fits_arc i less true e =
+        let l = lane_at old i in
+        let from : p (number (part_at l.from)) ≡ p l.from = ap p (number_at l.from) in
+        let to : p (number (part_at l.to)) ≡ p l.to = ap p (number_at l.to) in
+        omega (arith, ints, used_fits p l (fits i less) e, from, to)
+    fits_arc i less false e =
+        let l = lane_at old i in
+        let from : p (number (part_at l.from)) ≡ p l.from = ap p (number_at l.from) in
+        let to : p (number (part_at l.to)) ≡ p l.to = ap p (number_at l.to) in
+        omega (arith, ints, free_fits p l (fits i less) e, from, to)
 
-  place_of : (lanes : List Lane) (l : Lane) → Has lanes l → (i : ℕ) × (i < length lanes) × (lane_at lanes i ≡ l)
-  place_of [] l h = absurd h
-  place_of (m ∷ lanes) l (inl e) = (0, omega arith, e)
-  place_of (m ∷ lanes) l (inr h) = let (i, less, e) = place_of lanes l h in (suc i, omega (arith, less), e)
+    place_of : (lanes : List Lane) (l : Lane) → Has lanes l → (i : ℕ) × (i < length lanes) × (lane_at lanes i ≡ l)
+    place_of [] l h = absurd h
+    place_of (m ∷ lanes) l (inl e) = (0, omega arith, e)
+    place_of (m ∷ lanes) l (inr h) = let (i, less, e) = place_of lanes l h in (suc i, omega (arith, less), e)
 
-  pub walks_are_optimal : IsOptimal g s t (map (λ walk. path_along old s walk) walks) (λ q. pos (p (number q)))
-  walks_are_optimal = all_from (λ a. pos 0 ≤ℤ reduced_cost (λ q. pos (p (number q))) a) (residual g s t (map (λ walk. path_along old s walk) walks)) (λ x h.
-      let in_residual : Arc → Arc = λ b. cond (uses (map (λ walk. path_along old s walk) walks) b) (turned b) b in
-      let (a, at, e) = from_map in_residual (arcs_of g s t) x h in
-      let (l, there, f) = from_map arc_of old a (subst (λ (arcs : List Arc). Has arcs a) (sym is) at) in
-      let (i, less, place) = place_of old l there in
-      let fit = fits_arc i less (uses (map (λ walk. path_along old s walk) walks) (arc_of (lane_at old i))) (sym (uses_used i less)) in
-      subst (λ b. pos 0 ≤ℤ reduced_cost (λ q. pos (p (number q))) b) e
-      (subst (λ b. pos 0 ≤ℤ reduced_cost (λ q. pos (p (number q))) (in_residual b)) (ap arc_of place ∙ f) fit))
+    pub walks_are_optimal : IsOptimal g s t (map (λ walk. path_along old s walk) walks) (λ q. pos (p (number q)))
+    walks_are_optimal = all_from (λ a. pos 0 ≤ℤ reduced_cost (λ q. pos (p (number q))) a) (residual g s t (map (λ walk. path_along old s walk) walks)) (λ x h.
+        let in_residual : Arc → Arc = λ b. cond (uses (map (λ walk. path_along old s walk) walks) b) (turned b) b in
+        let (a, at, e) = from_map in_residual (arcs_of g s t) x h in
+        let (l, there, f) = from_map arc_of old a (subst (λ (arcs : List Arc). Has arcs a) (sym is) at) in
+        let (i, less, place) = place_of old l there in
+        let fit = fits_arc i less (uses (map (λ walk. path_along old s walk) walks) (arc_of (lane_at old i))) (sym (uses_used i less)) in
+        subst (λ b. pos 0 ≤ℤ reduced_cost (λ q. pos (p (number q))) b) e
+        (subst (λ b. pos 0 ≤ℤ reduced_cost (λ q. pos (p (number q))) (in_residual b)) (ap arc_of place ∙ f) fit))

@@ -10,10 +10,12 @@ use Rattle.sp_graph.specs.Split.{parts_of}
 use Rattle.sp_paths.specs.declared.refused.PathRefused.{PathRefused}
 use Rattle.sp_paths.specs.declared.refused.PathRefused.TheVariants as refusals
 
--- fewer than k: no more paths are disjoint than so many, which is how many arcs leave the cut; no cut is left by fewer, and this one lies inside
+-- fewer than k: so many paths are disjoint, and no more, which is how many arcs leave the cut; no cut is left by fewer, and this one lies inside
 -- every other that is left by as few
 pub record AreFewer (g : Graph) (s t : NodeId) (k found : ℕ) (cut : List Part) : Type 0 where
   pub fewer : found < k
+  pub paths : List (List NodeId)
+  pub disjoint : Disjoint g s t found paths
   pub no_more : (n : ℕ) (paths : List (List NodeId)) → Disjoint g s t n paths → n ≤ found
   pub in_order : cut ≡ filter (is_among cut) (parts_of g s t)
   pub is_cut : IsCut s t (is_among cut)

@@ -22,9 +22,11 @@ pub record IsFound (g : Graph) (s t : NodeId) (k : ℕ) (paths : List (List Node
   pub low : (v : ℕ) → at potential v ≤ most_potential
   pub numbers : length potential ≡ PARTS
 
--- no more than so many paths, and a cut of so many arcs that lies inside every other one
+-- so many paths and no more, and a cut of so many arcs that lies inside every other one
 pub record IsFew (g : Graph) (s t : NodeId) (k found : ℕ) (reached : List Bool) : Type 0 where
   pub fewer : found < k
+  pub paths : List (List NodeId)
+  pub disjoint : Disjoint g s t found paths
   pub no_more : (n : ℕ) (paths : List (List NodeId)) → Disjoint g s t n paths → n ≤ found
   pub is_cut : IsCut s t (λ part. is_in reached (number part))
   pub size : leaving g s t (λ part. is_in reached (number part)) ≡ found

@@ -10,11 +10,10 @@ use Rattle.sp_outside.specs.Disk.{Disk}
 use Rattle.sp_recording.specs.declared.line.Opening.{Opening}
 use Rattle.sp_service.specs.NodeParts.{peers_of}
 use Rattle.sp_service_station.specs.Stations.{Station, StationStep, indexes_in}
-use Rattle.sp_service_turns.proofs.EndingLemmas.{not_begun}
 use Rattle.sp_service_turns.specs.Daemons.{EndsAfter, FailsToWrite, first_text}
-use Rattle.sp_service_turns.specs.Done.{Text}
 use Rattle.sp_service_turns.specs.Keys.{HoldsKeys, KeepsKeys}
-use Rattle.sp_service_turns.specs.Served.{EndsTurns, IsOpened, Outside, opening_of}
+use Rattle.sp_service_turns.specs.Outside.{KeptFile, Outside, Text}
+use Rattle.sp_service_turns.specs.Served.{Begun, EndsTurns, IsOpened, Unbegun, opening_of}
 use Rattle.sp_service_turns.specs.declared.daemon.Daemon.{Daemon}
 use Rattle.sp_service_turns.specs.declared.peer.Peer.{Peer}
 use Rattle.sp_service_turns.specs.declared.served.Served.{Served}
@@ -26,8 +25,8 @@ use Rattle.sp_service.specs.Starts.{IsStarted, total_of}
 use Rattle.sp_service.proofs.Endings.{daemon, kept_on}
 use Rattle.sp_service.proofs.Openings.{held_at_start}
 
-abbrev seen : Option (List Call) → Option (List ℕ) → Option Disk → Text → Outside
-seen wire clock disk text = record { wire = wire; clock = clock; disk = disk; text = text }
+abbrev seen : Option (List Call) → Option (List ℕ) → Text → KeptFile → Outside
+seen wire clock text file = record { wire = wire; clock = clock; text = text; file = file }
 
 -- ---- what holds of an answer
 
@@ -62,29 +61,36 @@ begins_so c t started station o peers b0 b1 daemon is opens near given first = r
 }
 
 pub fails_so : (c : Config) (t : Topology) (count : ℕ) (started : Started) (station : Station) (o : Opening) (ended : Served) (w : Option (List Call)) (k : Option (List ℕ))
-    (d : Option Disk) (b0 b1 : Text) → IsStarted c t o station → o ≡ opening_of started → FailsToWrite (first_text o) b0 b1 ended
-    → EndsStarted c t count started ended (seen w k d b0) (seen w k d b1)
-fails_so c t count started station o ended w k d b0 b1 is opens fails =
+    (f : KeptFile) (b0 b1 : Text) → IsStarted c t o station → o ≡ opening_of started → FailsToWrite (first_text o) b0 b1 ended
+    → EndsStarted c t count started ended (seen w k b0 f) (seen w k b1 f)
+fails_so c t count started station o ended w k f b0 b1 is opens fails =
     inl (
       station,
       subst (λ (p : Opening). IsStarted c t p station) opens is,
-      not_begun StationStep indexes_in (peers_of c) (opening_of started) count station started.state.serial ended w k d b0 b1
-          (subst (λ (p : Opening). FailsToWrite (first_text p) b0 b1 ended) opens fails),
+      Unbegun (refl, refl, refl) (subst (λ (p : Opening). FailsToWrite (first_text p) b0 b1 ended) opens fails),
     )
 
 -- ---- the configuration
 
-pub configured_so : (c : Config) (t : Topology) (started : Started) (w0 w1 : Option (List Call)) (k : Option (List ℕ)) (d0 d1 : Option Disk) (b0 b b1 : Text) (daemon : Daemon Station)
-    → IsOpened (ports_of c) (total_of t) started (seen w0 k d0 b0) (seen w1 k d1 b) → StartsSafely d0 d1 started → BeginsStarted c t started b b1 daemon
-    → BeginsConfigured c t (seen w0 k d0 b0) (seen w1 k d1 b1) daemon
-configured_so c t started w0 w1 k d0 d1 b0 b b1 daemon opened safe begun = record {
+pub configured_so : (c : Config) (t : Topology) (started : Started) (w0 w1 : Option (List Call)) (k : Option (List ℕ)) (f0 f1 : KeptFile) (b0 b b1 : Text) (daemon : Daemon Station)
+    → IsOpened (ports_of c) (total_of t) started (seen w0 k b0 f0) (seen w1 k b f1) → StartsSafely f0.disk f1.disk started → BeginsStarted c t started b b1 daemon
+    → BeginsConfigured c t (seen w0 k b0 f0) (seen w1 k b1 f1) daemon
+configured_so c t started w0 w1 k f0 f1 b0 b b1 daemon opened safe begun = record {
   started = started;
-  opened = record { opened = opened.opened; starts = opened.starts; stands = opened.stands; unread = refl; unwritten = refl };
+  opened = record {
+    opened = opened.opened;
+    starts = opened.starts;
+    stands = opened.stands;
+    kept = opened.kept;
+    faultless = opened.faultless;
+    unread = refl;
+    unwritten = refl;
+  };
   safe = safe;
   is_start = begun.is_start;
   keys = begun.keys;
-  held = subst (λ (s : KeyState). HoldsKeys d1 s (indexes_in daemon.node)) (sym begun.keys)
-      (held_at_start c t started d1 daemon.node opened.stands opened.starts.serial begun.is_start);
+  held = subst (λ (s : KeyState). HoldsKeys f1.disk s (indexes_in daemon.node)) (sym begun.keys)
+      (held_at_start c t started f1.disk daemon.node opened.stands opened.starts.serial begun.is_start);
   peers = begun.peers;
   fresh = begun.fresh;
   first = subst (λ (x : Text). Appends x b1 (first_text (opening_of started))) opened.unwritten begun.first;
@@ -97,19 +103,17 @@ pub begins : (text : List ℕ) (is_cut : Bool) (c : Config) (t : Topology) (befo
 begins text is_cut c t before after d whole configured begun = record { config = c; topology = t; whole = whole; configured = configured; begins = begun }
 
 pub served : (text : List ℕ) (is_cut : Bool) (count : ℕ) (before mid after : Outside) (d : Daemon Station) (ended : Served) → Begins text is_cut before mid d
-    → EndsAfter StationStep indexes_in d.peers.items count d.node d.keys.serial mid after ended → Ends text is_cut count before after ended
+    → EndsAfter StationStep indexes_in d.peers.items count d.node d.keys mid after ended → Ends text is_cut count before after ended
 served text is_cut count before mid after d ended b ends =
     let x = b.begins in
-    let o = opening_of x.started in
-    let between : Outside = record { wire = mid.wire; clock = mid.clock; disk = mid.disk; text = before.text } in
-    let turns : EndsTurns StationStep indexes_in (peers_of b.config) o count d.node x.started.state.serial between after ended =
-    subst (λ (s : KeyState). EndsTurns StationStep indexes_in (peers_of b.config) o count d.node s.serial between after ended) x.keys
-    (subst (λ (ps : List Peer). EndsTurns StationStep indexes_in ps o count d.node d.keys.serial between after ended) x.peers (ends o before.text x.first)) in
-    Is_served ended b.config b.topology b.whole b.configured
-    (record { started = x.started; between = between; opened = x.opened; start = d.node; is_start = x.is_start; ends = turns })
+    let turns : EndsAfter StationStep indexes_in (peers_of b.config) count d.node x.started.state mid after ended =
+    subst (λ (s : KeyState). EndsAfter StationStep indexes_in (peers_of b.config) count d.node s mid after ended) x.keys
+    (subst (λ (ps : List Peer). EndsAfter StationStep indexes_in ps count d.node d.keys mid after ended) x.peers ends) in
+    Is_served b.config b.topology b.whole b.configured
+    (record { started = x.started; between = record mid { text = before.text }; opened = x.opened; start = d.node; is_start = x.is_start; ends = Begun mid.text x.first turns })
 
 pub kept_begun : (text : List ℕ) (is_cut : Bool) (before mid : Outside) (d : Daemon Station) (p q r : Option (List Disk)) → Begins text is_cut before mid d
-    → KeepsAll before.disk p q → KeepsKeys d.keys mid.disk q r → KeepsAll before.disk p r
+    → KeepsAll before.file.disk p q → KeepsKeys d.keys mid.file.disk q r → KeepsAll before.file.disk p r
 kept_begun text is_cut before mid d p q r b early late =
     let x = b.begins in
-    kept_on before.disk mid.disk p q r (total_of b.topology) x.started x.opened.starts x.safe early (subst (λ (s : KeyState). KeepsKeys s mid.disk q r) x.keys late)
+    kept_on before.file.disk mid.file.disk p q r (total_of b.topology) x.started x.opened.starts x.safe early (subst (λ (s : KeyState). KeepsKeys s mid.file.disk q r) x.keys late)

@@ -28,8 +28,8 @@ mapped f [] = refl
 mapped f (x ∷ xs) = let rest = mapped f xs in omega (arith, rest)
 
 -- a start's indexes are those of the key
-pub is_opening : (t : Topology) (told : Option Disk) (started : Started) → Starts told RESERVED (total_of t) started → IsOpening t (opening_of started)
-is_opening t told started starts = record {
+pub is_opening : (t : Topology) (told now : Option Disk) (started : Started) → Starts told now RESERVED (total_of t) started → IsOpening t (opening_of started)
+is_opening t told now started starts = record {
   boot = starts.boot.0;
   index = omega (arith, forward started.first (total_of t) starts.some, starts.bound);
   bound = omega (arith, capped started.first (total_of t), starts.bound);

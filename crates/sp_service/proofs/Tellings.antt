@@ -10,12 +10,17 @@ use Rattle.sp_keystate.specs.declared.refused.KeyRefused.TheVariants as keys
 use Rattle.sp_keystate.specs.declared.slot.InUse.{InUse}
 use Rattle.sp_keystate.specs.declared.starts.Started.{Started}
 use Rattle.sp_outside.specs.Disk.{Disk}
+use Rattle.sp_keystate.specs.declared.key_state.KeyState.{KeyState}
+use Rattle.sp_recording.specs.declared.line.Closing.{Closing}
 use Rattle.sp_recording.specs.declared.line.Opening.{Opening}
 use Rattle.sp_service_station.specs.Stations.{Station, StationStep, indexes_in}
-use Rattle.sp_service_turns.specs.Keys.{IsEnd}
-use Rattle.sp_service_turns.specs.Runs.{all_changes}
-use Rattle.sp_service_turns.specs.Served.{EndsTurns, FailsToOpen, Forgotten, No_start, No_start_told, No_wire, No_wire_told, Outside, Stopped, Stopped_untold, Unwritten, Whole}
-use Rattle.sp_service_turns.specs.Turns.{Turn, changes_by}
+use Rattle.sp_service_turns.specs.Daemons.{Broken, EndsAfter, EndsTurn, Finishes, FailsToWrite, Spent, Stopped, Whole}
+use Rattle.sp_service_turns.specs.Keys.{IsEnd, keys_after}
+use Rattle.sp_service_turns.specs.Outside.{Outside, Text}
+use Rattle.sp_service_turns.specs.Runs.{keys_on}
+use Rattle.sp_service_turns.specs.Served.{Begun, EndsTurns, FailsToOpen, No_start, No_wire, Unbegun}
+use Rattle.sp_service_turns.specs.Told.{IsTold}
+use Rattle.sp_service_turns.specs.Turns.{Turn}
 use Rattle.sp_service_turns.specs.declared.indexes.TheConstants.{RESERVED}
 use Rattle.sp_service_turns.specs.declared.peer.Peer.{Peer}
 use Rattle.sp_service_turns.specs.declared.served.Served.{Served}
@@ -23,7 +28,7 @@ use Rattle.sp_service_turns.specs.declared.served.Served.TheVariants as served
 use Rattle.sp_topology.specs.declared.topology.Topology.{Topology}
 use Rattle.sp_service.specs.Complete.{GivesNoStart, IsAtEnd, IsConfiguredFor}
 use Rattle.sp_service.specs.Configured.{IsConfigured}
-use Rattle.sp_service.specs.Served.{Ends, IsRefusal, Is_served, No_memory, No_node, Refusal, Refusal_begun, Unopened, ports_of}
+use Rattle.sp_service.specs.Served.{Ends, IsRefusal, Is_served, No_memory, No_node, Refusal, Unopened, ports_of}
 use Rattle.sp_service.specs.Starts.{total_of}
 use Rattle.sp_service.proofs.OneInput.{not_refused, same_topology}
 
@@ -48,17 +53,18 @@ both Holds Other text one two =
 
 -- ---- a start
 
-few_changes : (ts : List Turn) → all_changes ts ≤ length ts
-few_changes [] = omega arith
-few_changes (t ∷ ts) = let rest = few_changes ts in let here = one t.reserved in omega (arith, rest, here)
+-- each turn changes the file once at most
+few_changes : (keys : KeyState) (ts : List Turn) → (keys_on keys ts).serial ≤ keys.serial + length ts
+few_changes keys [] = omega arith
+few_changes keys (t ∷ ts) = let rest = few_changes (keys_after keys t.reserved) ts in let here = one t.reserved in omega (arith, rest, here)
   where
-    one : (reserved : Option ℕ) → changes_by reserved ≤ 1
+    one : (reserved : Option ℕ) → (keys_after keys reserved).serial ≤ keys.serial + 1
     one None = omega arith
     one (Some upto) = omega arith
 
-gave_start : (total : ℕ) (started : Started) (told : Option Disk) → Starts told RESERVED total started → IfSome told (λ disk. GivesNoStart total disk → ⊥)
-gave_start total started None starts = tt
-gave_start total started (Some disk) starts = none
+gave_start : (total : ℕ) (started : Started) (told now : Option Disk) → Starts told now RESERVED total started → IfSome told (λ disk. GivesNoStart total disk → ⊥)
+gave_start total started None now starts = tt
+gave_start total started (Some disk) now starts = none
   where
     spent : (found : InUse) → found ≡ starts.begins.found → AreSpent total found.numbers → ⊥
     spent found same (inl boot) =
@@ -75,10 +81,10 @@ gave_start total started (Some disk) starts = none
     none (inl unformatted) = none-some starts.begins.found (sym unformatted ∙ starts.begins.stood)
     none (inr is) = spent is.found (same_some is.found starts.begins.found (sym is.stood ∙ starts.begins.stood)) is.spent
 
-last_serial : (total turns changes : ℕ) (started : Started) (told : Option Disk) → Starts told RESERVED total started
-    → started.state.serial + changes ≡ 2 ^ 64 - 1 → changes < turns → IfSome told (IsAtEnd total turns)
-last_serial total turns changes started None starts last few = tt
-last_serial total turns changes started (Some disk) starts last few =
+last_serial : (total turns serial : ℕ) (started : Started) (told now : Option Disk) → Starts told now RESERVED total started
+    → serial ≡ 2 ^ 64 - 1 → serial < started.state.serial + turns → IfSome told (IsAtEnd total turns)
+last_serial total turns serial started None now starts last few = tt
+last_serial total turns serial started (Some disk) now starts last few =
     inr (record { found = starts.begins.found; stood = starts.begins.stood; most = omega (arith, last, few, starts.begins.serial) })
 
 -- ---- a daemon
@@ -98,41 +104,71 @@ module _ (text : List ℕ) (is_cut : Bool) (turns : ℕ) (c : Config) (t : Topol
   unstarted None (keys.Exhausted number) cause = by_keys None (keys.Exhausted number) tt
   unstarted (Some disk) (keys.Exhausted number) cause = by_keys (Some disk) (keys.Exhausted number) (inl (inr cause))
 
-  unopened : (before after : Outside) (ended : Served) → FailsToOpen (ports_of c) (total_of t) before after ended → Tells text is_cut turns before.disk ended
-  unopened before after _ (No_wire is written) = By_wire
-  unopened before after _ (No_wire_told is begun) = By_sink
-  unopened before after _ (No_start refused is written) = unstarted before.disk refused is.cause
-  unopened before after _ (No_start_told refused is begun) = By_sink
-
-  stopped : (told : Option Disk) (started : Started) (ts : List Turn) (refused : KeyRefused) → Starts told RESERVED (total_of t) started → length ts < turns
-      → IsEnd (started.state.serial + all_changes ts) refused → Tells text is_cut turns told (served.Keys refused)
-  stopped told started ts keys.KeeperFault starts few end = By_keeper
-  stopped told started ts keys.Unformatted starts few end = absurd end
-  stopped told started ts keys.Formatted starts few end = absurd end
-  stopped told started ts (keys.Exhausted number) starts few end =
-      by_keys told (keys.Exhausted number)
-      (last_serial (total_of t) turns (all_changes ts) started told starts end (let most = few_changes ts in omega (arith, few, most)))
-
-  turned : (peers : List Peer) (o : Opening) (start : Station) (told : Option Disk) (started : Started) (between after : Outside) (ended : Served)
-      → Starts told RESERVED (total_of t) started → EndsTurns StationStep indexes_in peers o turns start started.state.serial between after ended
+  -- it ended so, or since the line that tells so wasn't written
+  by_line : (told : Option Disk) (would ended : Served) (line : List ℕ) (b0 b1 : Text) → IsTold would line ended b0 b1 → Tells text is_cut turns told would
       → Tells text is_cut turns told ended
-  turned peers o start told started between after _ starts (Whole ts counted serves) =
-      By_turns (says (λ total. IfSome told (λ d. GivesNoStart total d → ⊥)) (gave_start (total_of t) started told starts))
-  turned peers o start told started between after _ starts (Stopped ts refused few stops) = stopped told started ts refused starts few stops.spent.end
-  turned peers o start told started between after _ starts (Stopped_untold ts refused few stops) = By_sink
-  turned peers o start told started between after _ starts (Unwritten breaks) = By_sink
-  turned peers o start told started between after _ starts (Forgotten breaks) = By_memory
+  by_line told would ended line b0 b1 (inl is) tells = subst (Tells text is_cut turns told) (sym is.0) tells
+  by_line told would ended line b0 b1 (inr is) tells = subst (Tells text is_cut turns told) (sym is.0) By_sink
+
+  by_want : (told : Option Disk) (ended : Served) (line : List ℕ) (b0 b1 : Text) → FailsToWrite line b0 b1 ended → Tells text is_cut turns told ended
+  by_want told served.Sink line b0 b1 fails = By_sink
+  by_want told served.Memory line b0 b1 fails = By_memory
+  by_want told served.Done line b0 b1 fails = absurd fails
+  by_want told served.Refused line b0 b1 fails = absurd fails
+  by_want told served.Wire line b0 b1 fails = absurd fails
+  by_want told (served.Keys refused) line b0 b1 fails = absurd fails
+
+  unopened : (before after : Outside) (ended : Served) → FailsToOpen (ports_of c) (total_of t) before after ended → Tells text is_cut turns before.file.disk ended
+  unopened before after ended (No_wire is told) = by_line before.file.disk served.Wire ended _ before.text after.text told By_wire
+  unopened before after ended (No_start refused is told) =
+      by_line before.file.disk (served.Keys refused) ended _ before.text after.text told (unstarted before.file.disk refused is.cause)
+
+  stopped : (told now : Option Disk) (started : Started) (ts : List Turn) (refused : KeyRefused) → Starts told now RESERVED (total_of t) started → length ts < turns
+      → IsEnd (keys_on started.state ts).serial refused → Tells text is_cut turns told (served.Keys refused)
+  stopped told now started ts keys.KeeperFault starts few end = By_keeper
+  stopped told now started ts keys.Unformatted starts few end = absurd end
+  stopped told now started ts keys.Formatted starts few end = absurd end
+  stopped told now started ts (keys.Exhausted number) starts few end =
+      by_keys told (keys.Exhausted number)
+      (last_serial (total_of t) turns (keys_on started.state ts).serial started told now starts end (let most = few_changes started.state ts in omega (arith, few, most)))
+
+  module _ (told now : Option Disk) (started : Started) (starts : Starts told now RESERVED (total_of t) started) where
+    finished : (line : Closing) (b0 b1 : Text) (ended : Served) → Finishes line b0 b1 ended → Tells text is_cut turns told ended
+    finished line b0 b1 served.Done ends = By_turns (says (λ total. IfSome told (λ d. GivesNoStart total d → ⊥)) (gave_start (total_of t) started told now starts))
+    finished line b0 b1 served.Sink ends = By_sink
+    finished line b0 b1 served.Memory ends = By_memory
+    finished line b0 b1 served.Refused ends = absurd ends
+    finished line b0 b1 served.Wire ends = absurd ends
+    finished line b0 b1 (served.Keys refused) ends = absurd ends
+
+    last_turn : (peers : List Peer) (polled : Option Peer) (node : Station) (ts : List Turn) (between after : Outside) (ended : Served) → length ts < turns
+        → EndsTurn StationStep indexes_in peers polled node (keys_on started.state ts) between after ended → Tells text is_cut turns told ended
+    last_turn peers polled node ts between after ended few (Spent refused why wire clock is) =
+        by_line told (served.Keys refused) ended _ between.text after.text is (stopped told now started ts refused starts few why.end)
+    last_turn peers polled node ts between after ended few (Broken (inl sink) early) = subst (Tells text is_cut turns told) (sym sink) By_sink
+    last_turn peers polled node ts between after ended few (Broken (inr memory) early) = subst (Tells text is_cut turns told) (sym memory) By_memory
+
+    begun : (peers : List Peer) (start : Station) (before after : Outside) (ended : Served) → EndsAfter StationStep indexes_in peers turns start started.state before after ended
+        → Tells text is_cut turns told ended
+    begun peers start before after ended (Whole ts last between counted ran quiet ends) = finished _ between.text after.text ended ends
+    begun peers start before after ended (Stopped ts last between few ran ends) = last_turn peers _ last ts between after ended few ends
+
+    turned : (peers : List Peer) (o : Opening) (start : Station) (before after : Outside) (ended : Served)
+        → EndsTurns StationStep indexes_in peers o turns start started.state before after ended → Tells text is_cut turns told ended
+    turned peers o start before after ended (Unbegun quiet fails) = by_want told ended _ before.text after.text fails
+    turned peers o start before after ended (Begun written first ends) = begun peers start _ after ended ends
 
 refusal : (text out : List ℕ) (is_cut : Bool) → IsRefusal text is_cut out → Says (λ _. Unit {0}) text is_cut → ⊥
 refusal text out true is says = let whole = says.whole in absurd (cc)
 refusal text out false is says = not_refused text out says.configured.config says.configured.topology says.configured.configured is
 
 pub told : (text : List ℕ) (is_cut : Bool) (turns : ℕ) (before after : Outside) (ended : Served) → Ends text is_cut turns before after ended
-    → Tells text is_cut turns before.disk ended
-told text is_cut turns before after _ (Refusal out is quiet written) = By_refusal (refusal text out is_cut is)
-told text is_cut turns before after _ (Refusal_begun out is quiet begun) = By_sink
-told text is_cut turns before after _ (Unopened ended c t whole configured fails) = unopened text is_cut turns c t whole configured before after ended fails
-told text is_cut turns before after _ (No_node c t started whole configured opened) = By_memory
-told text is_cut turns before after _ (Is_served ended c t whole configured ends) =
-    turned text is_cut turns c t whole configured _ _ ends.start before.disk ends.started ends.between after ended ends.opened.starts ends.ends
-told text is_cut turns before after _ (No_memory quiet unwritten) = By_memory
+    → Tells text is_cut turns before.file.disk ended
+told text is_cut turns before after ended (Refusal out is quiet (inl line)) =
+    subst (Tells text is_cut turns before.file.disk) (sym line.0) (By_refusal (refusal text out is_cut is))
+told text is_cut turns before after ended (Refusal out is quiet (inr line)) = subst (Tells text is_cut turns before.file.disk) (sym line.0) By_sink
+told text is_cut turns before after ended (Unopened c t whole configured fails) = unopened text is_cut turns c t whole configured before after ended fails
+told text is_cut turns before after ended (No_node c t started whole configured opened memory) = subst (Tells text is_cut turns before.file.disk) (sym memory) By_memory
+told text is_cut turns before after ended (Is_served c t whole configured ends) =
+    turned text is_cut turns c t whole configured before.file.disk _ ends.started ends.opened.starts _ _ ends.start ends.between after ended ends.ends
+told text is_cut turns before after ended (No_memory quiet unwritten memory) = subst (Tells text is_cut turns before.file.disk) (sym memory) By_memory

@@ -2,45 +2,41 @@
 use Rattle.std.specs.Prelude.{ℕ, ◌≡◌, ◌⊎◌, List}
 use Rattle.std.specs.Io.KnownBytes.{Appends}
 use Rattle.sp_config.specs.declared.config.Config.{Config}
-use Rattle.sp_outside.specs.Streams.{AppendsFront}
 use Rattle.sp_recording.specs.declared.line.Digest.{Digest}
 use Rattle.sp_recording.specs.declared.line.Opening.{Opening}
 use Rattle.sp_recording.specs.declared.stage.Reading.{Reading}
 use Rattle.sp_service_station.specs.Stations.{Station, StationStep, indexes_in}
 use Rattle.sp_service_turns.specs.Compared.{AgreesWhole, DiffersAt, IsBadAfter}
 use Rattle.sp_service_turns.specs.Daemons.{first_text}
-use Rattle.sp_service_turns.specs.Done.{Text}
 use Rattle.sp_service_turns.specs.declared.daemon.Daemon.{Daemon}
 use Rattle.sp_keystate.specs.declared.starts.Started.{Started}
 use Rattle.sp_service.specs.NodeParts.{peers_of}
-use Rattle.sp_service_turns.specs.Served.{EndsTurns, FailsToOpen, IsOpened, Outside, opening_of}
+use Rattle.sp_service_turns.specs.Outside.{IsQuiet, Outside, Text}
+use Rattle.sp_service_turns.specs.Served.{EndsTurns, FailsToOpen, IsOpened, opening_of}
 use Rattle.sp_service_turns.specs.declared.served.Served.{Served}
 use Rattle.sp_service_turns.specs.declared.served.Served.TheVariants as served
 use Rattle.sp_topology.specs.declared.topology.Topology.{Topology}
 use Rattle.sp_service.specs.Starts.{IsStarted, total_of}
-use Rattle.sp_service.specs.Served.{EndsOpened, IsQuiet, ports_of}
+use Rattle.sp_service.specs.Served.{EndsOpened, ports_of}
 use Rattle.sp_service.specs.Verdicts.{form_line, mismatch_line, verified_line}
 use Rattle.sp_service.specs.declared.verdict.Verdict.{Verdict}
 use Rattle.sp_service.specs.declared.verdict.Verdict.TheVariants as verdicts
 
 -- ---- a daemon
 
--- the refusal was written, and it ended so; or the sink failed, and has a beginning of it
-abbrev pub IsTold : List ℕ → Served → Text → Text → Type 0
-IsTold line ended before after = ((ended ≡ served.Refused) × Appends before after line) ⊎ ((ended ≡ served.Sink) × AppendsFront before after line)
-
 -- how a daemon of a configuration that fits ended
-pub data EndsConfigured (c : Config) (t : Topology) (count : ℕ) (before after : Outside) : Served → Type 0 where
-  Is_unopened : (ended : Served) → FailsToOpen (ports_of c) (total_of t) before after ended → EndsConfigured c t count before after ended
-  Is_nodeless : (started : Started) → IsOpened (ports_of c) (total_of t) started before after → EndsConfigured c t count before after served.Memory
-  Is_daemon : (ended : Served) → EndsOpened c t count ended before after → EndsConfigured c t count before after ended
-  Is_forgotten : IsQuiet before after → after.text ≡ before.text → EndsConfigured c t count before after served.Memory
+pub data EndsConfigured (c : Config) (t : Topology) (count : ℕ) (before after : Outside) (ended : Served) : Type 0 where
+  Is_unopened : FailsToOpen (ports_of c) (total_of t) before after ended → EndsConfigured c t count before after ended
+  Is_nodeless : (started : Started) → IsOpened (ports_of c) (total_of t) started before after → ended ≡ served.Memory
+      → EndsConfigured c t count before after ended
+  Is_daemon : EndsOpened c t count ended before after → EndsConfigured c t count before after ended
+  Is_forgotten : IsQuiet before after → after.text ≡ before.text → ended ≡ served.Memory → EndsConfigured c t count before after ended
 
 -- how it ended once its wire was open and its start was taken
 abbrev pub EndsStarted : Config → Topology → ℕ → Started → Served → Outside → Outside → Type 0
 EndsStarted c t count started ended before after =
     ((start : Station) × IsStarted c t (opening_of started) start
-    × EndsTurns StationStep indexes_in (peers_of c) (opening_of started) count start started.state.serial before after ended)
+    × EndsTurns StationStep indexes_in (peers_of c) (opening_of started) count start started.state before after ended)
     ⊎ ((ended ≡ served.Memory) × (after ≡ before))
 
 -- the daemon whose wire was open and whose start was taken: what its recording got is its first line

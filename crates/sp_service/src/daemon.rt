@@ -3,16 +3,17 @@ ghost use Rattle.std.specs.Prelude.{◌≡◌, ◌≢◌, ◌≤◌, ◌<◌, �
 ghost use Rattle.sp_keystate.specs.Starting.{KeepsAll};
 ghost use Rattle.sp_keystate.specs.declared.refused.KeyRefused.TheVariants.{KeeperFault};
 ghost use Rattle.sp_outside.specs.declared.wire.TheConstants.{DATAGRAM_BYTES};
-ghost use Rattle.sp_outside.specs.Disk.{Disk};
 ghost use Rattle.sp_outside.specs.Calls.{Call};
 ghost use Rattle.sp_outside.specs.Causes.{Rose};
 ghost use Rattle.sp_recording.specs.declared.line.TheConstants.{MAX_TURNS};
-ghost use Rattle.sp_service.specs.Parts.{BeginsStarted, EndsConfigured, EndsStarted, IsTold};
+ghost use Rattle.sp_service.specs.Parts.{BeginsStarted, EndsConfigured, EndsStarted};
 ghost use Rattle.sp_service.specs.Served.{Begins, BeginsConfigured, Ends, ports_of};
 ghost use Rattle.sp_service.specs.Starts.{IsOpening};
 ghost use Rattle.sp_service.specs.Fits.{Fits};
 ghost use Rattle.sp_service.specs.NodeParts.{IsKeyOf, peers_of};
+ghost use Rattle.sp_service_turns.specs.Outside.{KeptFile};
 ghost use Rattle.sp_service_turns.specs.Served.{opening_of};
+ghost use Rattle.sp_service_turns.specs.Told.{IsTold};
 ghost use Rattle.sp_topology.specs.Ranges.{IsTopology};
 
 use crate::configured::{Configured, configure};
@@ -29,7 +30,7 @@ use std::alloc::Global;
 /// Serves as the daemon of a configuration for so many turns. A text that `is_cut` had more bytes than may be read, and is refused for that.
 ///
 /// A failed receive or send is a lost datagram, which the end line counts.
-#[tactic(auto, using(crate::proofs::Beginnings::served))]
+#[tactic(auto)]
 pub fn serve<W: Wire, C: Clock, P: Keeper, K: Sink>(
     alloc: Global,
     text: &[u8],
@@ -42,12 +43,23 @@ pub fn serve<W: Wire, C: Clock, P: Keeper, K: Sink>(
 ) -> Served
     requires { turns ≤ MAX_TURNS }
     ensures ends { Ends text.now is_cut turns
-        (record { wire = W.told wire.old; clock = C.told clock.old; disk = P.disk keeper.old; text = K.contents sink.old })
-        (record { wire = W.told wire.new; clock = C.told clock.new; disk = P.disk keeper.new; text = K.contents sink.new }) result }
+        (record {
+          wire = W.told wire.old;
+          clock = C.told clock.old;
+          text = K.contents sink.old;
+          file = record { disk = P.disk keeper.old; past = P.past keeper.old; faults = P.faults keeper.old };
+        })
+        (record {
+          wire = W.told wire.new;
+          clock = C.told clock.new;
+          text = K.contents sink.new;
+          file = record { disk = P.disk keeper.new; past = P.past keeper.new; faults = P.faults keeper.new };
+        }) result }
     ensures kept { KeepsAll (P.disk keeper.old) (P.past keeper.old) (P.past keeper.new) }
     ensures open { result ≡ Served.Wire → Rose (W.failed_opens wire.old) (W.failed_opens wire.new) }
     ensures keeper { result ≡ Served.Keys KeeperFault → Rose (P.faults keeper.old) (P.faults keeper.new) }
     ensures write { result ≡ Served.Sink → Rose (K.faults sink.old) (K.faults sink.new) }
+    ensures sunk { result ≢ Served.Sink → K.faults sink.new ≡ K.faults sink.old }
 {
     match start(alloc, text, is_cut, wire, keeper, sink) {
         Ok(daemon) => make_turns(alloc, daemon, turns, wire, clock, keeper, sink),
@@ -69,17 +81,38 @@ pub fn start<W: Wire, P: Keeper, K: Sink>(
     sink: &mut K,
 ) -> Result<Daemon<Station>, Served>
     ensures begins { (clock : Option (List ℕ)) → IfOk result (Begins text.now is_cut
-        (record { wire = W.told wire.old; clock = clock; disk = P.disk keeper.old; text = K.contents sink.old })
-        (record { wire = W.told wire.new; clock = clock; disk = P.disk keeper.new; text = K.contents sink.new })) }
+        (record {
+          wire = W.told wire.old;
+          clock = clock;
+          text = K.contents sink.old;
+          file = record { disk = P.disk keeper.old; past = P.past keeper.old; faults = P.faults keeper.old };
+        })
+        (record {
+          wire = W.told wire.new;
+          clock = clock;
+          text = K.contents sink.new;
+          file = record { disk = P.disk keeper.new; past = P.past keeper.new; faults = P.faults keeper.new };
+        })) }
     ensures ended { (clock : Option (List ℕ)) (turns : ℕ) → IfErr result (Ends text.now is_cut turns
-        (record { wire = W.told wire.old; clock = clock; disk = P.disk keeper.old; text = K.contents sink.old })
-        (record { wire = W.told wire.new; clock = clock; disk = P.disk keeper.new; text = K.contents sink.new })) }
+        (record {
+          wire = W.told wire.old;
+          clock = clock;
+          text = K.contents sink.old;
+          file = record { disk = P.disk keeper.old; past = P.past keeper.old; faults = P.faults keeper.old };
+        })
+        (record {
+          wire = W.told wire.new;
+          clock = clock;
+          text = K.contents sink.new;
+          file = record { disk = P.disk keeper.new; past = P.past keeper.new; faults = P.faults keeper.new };
+        })) }
     ensures kept { KeepsAll (P.disk keeper.old) (P.past keeper.old) (P.past keeper.new) }
     ensures faultless { OnOk result (P.faults keeper.new ≡ P.faults keeper.old) }
     ensures open { result ≡ Err Served.Wire → Rose (W.failed_opens wire.old) (W.failed_opens wire.new) }
     ensures keeper { result ≡ Err (Served.Keys KeeperFault) → Rose (P.faults keeper.old) (P.faults keeper.new) }
     ensures later { OnOk result (K.faults sink.old ≤ K.faults sink.new) }
     ensures write { result ≡ Err Served.Sink → Rose (K.faults sink.old) (K.faults sink.new) }
+    ensures sunk { result ≢ Err Served.Sink → K.faults sink.new ≡ K.faults sink.old }
 {
     if is_cut {
         return Err(refuse(b"refused 0 TooBig\n", sink));
@@ -95,8 +128,9 @@ pub fn start<W: Wire, P: Keeper, K: Sink>(
 
 /// Writes the line that refuses a configuration.
 fn refuse<K: Sink>(line: &[u8], sink: &mut K) -> Served
-    ensures told { IsTold line.now result (K.contents sink.old) (K.contents sink.new) }
+    ensures told { IsTold Served.Refused line.now result (K.contents sink.old) (K.contents sink.new) }
     ensures write { result ≡ Served.Sink → Rose (K.faults sink.old) (K.faults sink.new) }
+    ensures sunk { result ≢ Served.Sink → K.faults sink.new ≡ K.faults sink.old }
 {
     match write_all(sink, line) {
         Ok(()) => Served::Refused,
@@ -105,7 +139,7 @@ fn refuse<K: Sink>(line: &[u8], sink: &mut K) -> Served
 }
 
 /// The daemon of a configuration that fits its topology, at its start.
-#[tactic(auto, using(crate::proofs::Endings::unopened, crate::proofs::Endings::forgotten, crate::proofs::Endings::kept_quiet))]
+#[tactic(auto, using(crate::proofs::Endings::forgotten, crate::proofs::Endings::kept_quiet))]
 fn start_configured<W: Wire, P: Keeper, K: Sink>(
     alloc: Global,
     config: &Config,
@@ -118,17 +152,38 @@ fn start_configured<W: Wire, P: Keeper, K: Sink>(
     requires topology { IsTopology fitted.topology }
     requires key { IsKeyOf config.now fitted.topology.height fitted.key }
     ensures begins { (clock : Option (List ℕ)) → IfOk result (BeginsConfigured config.now fitted.topology
-        (record { wire = W.told wire.old; clock = clock; disk = P.disk keeper.old; text = K.contents sink.old })
-        (record { wire = W.told wire.new; clock = clock; disk = P.disk keeper.new; text = K.contents sink.new })) }
+        (record {
+          wire = W.told wire.old;
+          clock = clock;
+          text = K.contents sink.old;
+          file = record { disk = P.disk keeper.old; past = P.past keeper.old; faults = P.faults keeper.old };
+        })
+        (record {
+          wire = W.told wire.new;
+          clock = clock;
+          text = K.contents sink.new;
+          file = record { disk = P.disk keeper.new; past = P.past keeper.new; faults = P.faults keeper.new };
+        })) }
     ensures ended { (clock : Option (List ℕ)) (turns : ℕ) → IfErr result (EndsConfigured config.now fitted.topology turns
-        (record { wire = W.told wire.old; clock = clock; disk = P.disk keeper.old; text = K.contents sink.old })
-        (record { wire = W.told wire.new; clock = clock; disk = P.disk keeper.new; text = K.contents sink.new })) }
+        (record {
+          wire = W.told wire.old;
+          clock = clock;
+          text = K.contents sink.old;
+          file = record { disk = P.disk keeper.old; past = P.past keeper.old; faults = P.faults keeper.old };
+        })
+        (record {
+          wire = W.told wire.new;
+          clock = clock;
+          text = K.contents sink.new;
+          file = record { disk = P.disk keeper.new; past = P.past keeper.new; faults = P.faults keeper.new };
+        })) }
     ensures kept { KeepsAll (P.disk keeper.old) (P.past keeper.old) (P.past keeper.new) }
     ensures faultless { OnOk result (P.faults keeper.new ≡ P.faults keeper.old) }
     ensures open { result ≡ Err Served.Wire → Rose (W.failed_opens wire.old) (W.failed_opens wire.new) }
     ensures keeper { result ≡ Err (Served.Keys KeeperFault) → Rose (P.faults keeper.old) (P.faults keeper.new) }
     ensures later { OnOk result (K.faults sink.old ≤ K.faults sink.new) }
     ensures write { result ≡ Err Served.Sink → Rose (K.faults sink.old) (K.faults sink.new) }
+    ensures sunk { result ≢ Err Served.Sink → K.faults sink.new ≡ K.faults sink.old }
 {
     let Ok(peers) = neighbours_at(alloc, config, &fitted.topology) else {
         return Err(Served::Memory);
@@ -166,14 +221,15 @@ fn start_node<K: Sink>(
     requires few { length peers.items < 2 ^ 16 }
     requires room { DATAGRAM_BYTES ≤ length buffer.items }
     ensures begins { IfOk result (BeginsStarted config.now fitted.topology started (K.contents sink.old) (K.contents sink.new)) }
-    ensures ended { (wire : Option (List Call)) (clock : Option (List ℕ)) (disk : Option Disk) (turns : ℕ)
+    ensures ended { (wire : Option (List Call)) (clock : Option (List ℕ)) (file : KeptFile) (turns : ℕ)
         → IfErr result (λ ended. EndsStarted config.now fitted.topology turns started ended
-        (record { wire = wire; clock = clock; disk = disk; text = K.contents sink.old })
-        (record { wire = wire; clock = clock; disk = disk; text = K.contents sink.new })) }
+        (record { wire = wire; clock = clock; text = K.contents sink.old; file = file })
+        (record { wire = wire; clock = clock; text = K.contents sink.new; file = file })) }
     ensures unopened { result ≢ Err Served.Wire }
     ensures unkept { result ≢ Err (Served.Keys KeeperFault) }
     ensures later { OnOk result (K.faults sink.old ≤ K.faults sink.new) }
     ensures write { result ≡ Err Served.Sink → Rose (K.faults sink.old) (K.faults sink.new) }
+    ensures sunk { result ≢ Err Served.Sink → K.faults sink.new ≡ K.faults sink.old }
 {
     let opening = opening_of(&started);
     match station_at(alloc, config, fitted, opening) {

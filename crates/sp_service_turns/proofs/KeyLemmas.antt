@@ -1,5 +1,5 @@
 -- Indexes and the key file over the parts of a turn, and over turns.
-use Rattle.std.proofs.Common.{◌≡◌, ℕ, ◌+◌, ◌-◌, ◌≤◌, ◌<◌, min, Bool, true, false, List, [], ◌∷◌, Option, None, Some, Err, refl, sym, ap, subst, ◌∙◌, arith, inl, inr}
+use Rattle.std.proofs.Common.{◌≡◌, ℕ, ◌+◌, ◌-◌, ◌≤◌, ◌<◌, min, Bool, true, false, List, [], ◌∷◌, Option, None, Some, Result, Ok, Err, refl, sym, ap, subst, ◌∙◌, arith, inl, inr}
 use Rattle.std.specs.Prelude.{◌&&◌, ◌^◌, if◌then◌else◌, nat_lt, nat_le, IfSome}
 use Rattle.std.proofs.lemmas.Bool.Decides.{nat_tests}
 use Rattle.std.proofs.lemmas.Option.{none-some}
@@ -7,17 +7,20 @@ use Rattle.sp_keystate.proofs.StartingLemmas.{last_serial}
 use Rattle.sp_keystate.proofs.Since.{since_none, since_on, since_weaker}
 use Rattle.sp_keystate.specs.Changes.{Changes}
 use Rattle.sp_keystate.specs.Soundness.{Keeps}
-use Rattle.sp_keystate.specs.States.{IsChangeAnswer, IsSoundAt, KeepsMeanwhile, SoundAs, StandsFor, changed_state, reserve_end, serial_end}
+use Rattle.sp_keystate.specs.Slots.{other, place}
+use Rattle.sp_keystate.specs.States.{HasFaultCause, IsChangeAnswer, IsSoundAt, KeepsMeanwhile, SoundAs, StandsFor, changed_state, next_numbers, reserve_end, serial_end}
 use Rattle.sp_keystate.specs.declared.key_state.KeyState.{KeyState}
 use Rattle.sp_keystate.specs.declared.refused.KeyRefused.{KeyRefused}
 use Rattle.sp_keystate.specs.declared.refused.KeyRefused.TheVariants.{KeeperFault, Unformatted, Formatted, Exhausted}
 use Rattle.sp_keystate.specs.declared.numbers.Numbers.{Numbers}
 use Rattle.sp_outside.specs.Disk.{Disk}
 use Rattle.sp_recording.specs.declared.line.Line.TheVariants as lines
-use Rattle.sp_service_turns.specs.Done.{Gets, Restocked, Text}
+use Rattle.sp_service_turns.specs.Done.{Gets, Restocked}
+use Rattle.sp_service_turns.specs.Early.{EarlyRestock, GetsFront, IfBroken}
 use Rattle.sp_service_turns.specs.Indexes.{AreReserved, HaveLeft, UsesOne, are_few, next_bound, reserved_by}
 use Rattle.sp_service_turns.specs.Inputs.{Reserve, Steps}
-use Rattle.sp_service_turns.specs.Keys.{HoldsKeys, IfKeysEnd, IfKeysEndBy, IsEnd, KeepsKeys, KeysGoOn, NoMore}
+use Rattle.sp_service_turns.specs.Keys.{HoldsKeys, IfKeysEnd, IfKeysEndBy, IsEnd, KeepsKeys, KeysGoOn, NoMore, Reserves}
+use Rattle.sp_service_turns.specs.Outside.{KeptFile, Text}
 use Rattle.sp_service_turns.specs.declared.ended.Ended.{Ended}
 use Rattle.sp_service_turns.specs.declared.ended.Ended.TheVariants as ended
 use Rattle.sp_service_turns.specs.declared.indexes.Indexes.{Indexes}
@@ -69,30 +72,7 @@ pub left_less : (n : ℕ) (i : Indexes) → HaveLeft (n + 1) i → HaveLeft n i
 left_less n i (inl left) = inl (omega (arith, left))
 left_less n i (inr all) = inr all
 
--- ---- a reserve, or none
-
-pub restocked_none : {N : Type 0} (steps : Steps N) (indexes : N → Indexes) (n : N) (b : Text) (s : ℕ) (i : Indexes) → i ≡ indexes n → are_few i ≡ false → Restocked steps indexes n n b b s s
-restocked_none steps indexes n b s i is few =
-    let here : are_few (indexes n) ≡ false = subst (λ (j : Indexes). are_few j ≡ false) is few in
-    record { reserved = None; due = not_due (indexes n) here; step = refl; left = enough (indexes n) here; text = gets_itself b; serial = omega arith }
-
-pub restocked_some : {N : Type 0} (steps : Steps N) (indexes : N → Indexes) (old new : N) (b0 b1 : Text) (before after : KeyState) (i : Indexes) (upto : ℕ) → i ≡ indexes old → i.index ≤ i.bound
-    → are_few i ≡ true → upto ≡ next_bound i → steps old (Reserve upto) [] new → AreReserved (indexes old) upto (indexes new) → Gets b0 b1 (lines.Reserve upto ∷ [])
-    → after ≡ changed_state before upto before.boot → Restocked steps indexes old new b0 b1 before.serial after.serial
-restocked_some steps indexes old new b0 b1 before after i upto is ordered few bound step reserved text changed =
-    let few_here : are_few (indexes old) ≡ true = subst (λ (j : Indexes). are_few j ≡ true) is few in
-    let bound_here : upto ≡ next_bound (indexes old) = bound ∙ ap next_bound is in
-    let ordered_here : (indexes old).index ≤ (indexes old).bound = subst (λ (j : Indexes). j.index ≤ j.bound) is ordered in
-    record {
-      reserved = Some upto;
-      due = ap (λ (u : ℕ). Some u) bound_here ∙ due (indexes old) few_here;
-      step = step;
-      left = stocked (indexes old) (indexes new) ordered_here (below (indexes old) few_here) (subst (λ (u : ℕ). AreReserved (indexes old) u (indexes new)) bound_here reserved);
-      text = text;
-      serial = ap (λ (s : KeyState). s.serial) changed;
-    }
-
--- ---- the key file
+-- ---- the key file over calls
 
 pub unchanged : (told : Option Disk) (keys : KeyState) → KeysGoOn keys keys told told
 unchanged told keys = record { bound = omega arith; boot = omega arith; sound = λ s. s }
@@ -103,6 +83,71 @@ kept_none keys told past sound = since_none past (Keeps keys.bound keys.boot)
 pub kept_by : (keys : KeyState) (told : Option Disk) (past now : Option (List Disk)) → KeepsMeanwhile told past now keys → KeepsKeys keys told past now
 kept_by keys None past now meanwhile sound = absurd sound
 kept_by keys (Some d) past now meanwhile sound = meanwhile sound.file (ap (λ (k : Disk). Some k) sound.still) sound.sound
+
+-- ---- a reserve, or none
+
+pub if_broken : {T : Type 0} {P : Type 0} (r : Result T Ended) → P → IfBroken r P
+if_broken (Ok x) h = tt
+if_broken (Err ended.Sink) h = h
+if_broken (Err ended.Memory) h = h
+if_broken (Err (ended.Keys refused)) h = tt
+
+pub restocked_none : {N : Type 0} (steps : Steps N) (indexes : N → Indexes) (n : N) (keys : KeyState) (file : KeptFile) (b : Text) (i : Indexes) → i ≡ indexes n → are_few i ≡ false
+    → Restocked steps indexes n n keys keys file file b b
+restocked_none steps indexes n keys file b i is few =
+    let here : are_few (indexes n) ≡ false = subst (λ (j : Indexes). are_few j ≡ false) is few in
+    record { reserved = None; due = not_due (indexes n) here; step = refl; left = enough (indexes n) here; text = gets_itself b; keys = refl; file = refl }
+
+abbrev kept_file : Option Disk → Option (List Disk) → ℕ → KeptFile
+kept_file disk past faults = record { disk = disk; past = past; faults = faults }
+
+-- a reserve from the bound of a node that has few left, as the node sees it
+module _ (i at : Indexes) (keys new : KeyState) (upto : ℕ) (is : i ≡ at) (same : keys.bound ≡ at.bound) (bound : upto ≡ min (keys.bound + RESERVED) i.total)
+    (few : are_few i ≡ true) (changed : new ≡ changed_state keys (min (keys.bound + RESERVED) i.total) keys.boot) where
+  few_here : are_few at ≡ true
+  few_here = subst (λ (j : Indexes). are_few j ≡ true) is few
+
+  next_here : upto ≡ next_bound at
+  next_here = bound ∙ ap (λ (n : ℕ). min (n + RESERVED) i.total) same ∙ ap (λ (j : Indexes). min (at.bound + RESERVED) j.total) is
+
+  pub due_here : Some upto ≡ reserved_by at
+  due_here = ap (λ (u : ℕ). Some u) next_here ∙ due at few_here
+
+  new_is : new ≡ changed_state keys upto keys.boot
+  new_is = changed ∙ ap (λ (u : ℕ). changed_state keys u keys.boot) (sym bound)
+
+  pub reserves : (d0 d1 : Option Disk) (p0 p1 : Option (List Disk)) (f0 f1 : ℕ) → Changes d0 d1 (place (other keys.slot)) (next_numbers keys (min (keys.bound + RESERVED) i.total) keys.boot)
+      → KeepsMeanwhile d0 p0 p1 keys → IfSome d1 (SoundAs new) → f1 ≡ f0 → Reserves keys upto (kept_file d0 p0 f0) (kept_file d1 p1 f1)
+  reserves d0 d1 p0 p1 f0 f1 changes meanwhile sound faultless = record {
+    change = subst (λ (u : ℕ). Changes d0 d1 (place (other keys.slot)) (next_numbers keys u keys.boot)) (sym bound) changes;
+    kept = kept_by keys d0 p0 p1 meanwhile;
+    sound = subst (λ (k : KeyState). IfSome d1 (SoundAs k)) new_is sound;
+    faultless = faultless;
+  }
+
+  pub restocked_some : {N : Type 0} (steps : Steps N) (indexes : N → Indexes) (before after : N) (file_before file_after : KeptFile) (b0 b1 : Text) → at ≡ indexes before → i.index ≤ i.bound
+      → steps before (Reserve upto) [] after → AreReserved at upto (indexes after) → Gets b0 b1 (lines.Reserve upto ∷ []) → Reserves keys upto file_before file_after
+      → Restocked steps indexes before after keys new file_before file_after b0 b1
+  restocked_some steps indexes before after file_before file_after b0 b1 here ordered step reserved text file =
+      let order : at.index ≤ at.bound = subst (λ (j : Indexes). j.index ≤ j.bound) is ordered in
+      record {
+        reserved = Some upto;
+        due = due_here ∙ ap reserved_by here;
+        step = step;
+        left = stocked at (indexes after) order (below at few_here) (subst (λ (u : ℕ). AreReserved at u (indexes after)) next_here reserved);
+        text = text;
+        keys = new_is;
+        file = file;
+      }
+
+-- the file was changed, and the line that tells it may not have been written
+pub early_restock : {N : Type 0} {T : Type 0} (steps : Steps N) (indexes : N → Indexes) (before after : N) (keys : KeyState) (upto : ℕ) (file_before file_after : KeptFile) (b0 b1 : Text) (r : Result T Ended)
+    → Some upto ≡ reserved_by (indexes before) → steps before (Reserve upto) [] after → Reserves keys upto file_before file_after → GetsFront b0 b1 (lines.Reserve upto ∷ [])
+    → IfBroken r (EarlyRestock steps indexes before keys file_before file_after b0 b1)
+early_restock steps indexes before after keys upto file_before file_after b0 b1 r due step file text =
+    if_broken r (record { upto = upto; due = due; new = after; step = step; file = file; text = text })
+
+-- ---- the key file
 
 sound_after : (keys : KeyState) (before after : Option Disk) (at : ℕ) (next : Numbers) (old : KeyState) → Changes before after at next → IfSome after (SoundAs keys)
     → IsSoundAt before old → IsSoundAt after keys
@@ -174,9 +219,12 @@ at_end keys total (Exhausted number) less answer = go (nat_le total keys.bound) 
     go true most e = let least : total ≤ keys.bound = grind (arith, nat_tests) in absurd (omega (arith, less, least))
     go false few e = last_serial keys.serial number e
 
-pub no_more : (keys : KeyState) (i at : Indexes) (refused : KeyRefused) → i ≡ at → keys.bound ≡ at.bound → are_few i ≡ true
-    → IsChangeAnswer {T = Unit {0}} (reserve_end keys i.total) (Err refused) → NoMore at keys.serial refused
-no_more keys i at refused is same few answer = record {
+pub no_more : (keys : KeyState) (i at : Indexes) (refused : KeyRefused) (d0 d1 : Option Disk) (p0 p1 : Option (List Disk)) (f0 f1 : ℕ) → i ≡ at → keys.bound ≡ at.bound → are_few i ≡ true
+    → IsChangeAnswer {T = Unit {0}} (reserve_end keys i.total) (Err refused) → KeepsMeanwhile d0 p0 p1 keys → HasFaultCause {T = Unit {0}} f0 f1 (Err refused)
+    → NoMore at keys refused (kept_file d0 p0 f0) (kept_file d1 p1 f1)
+no_more keys i at refused d0 d1 p0 p1 f0 f1 is same few answer meanwhile faults = record {
   due = subst (λ (j : Indexes). are_few j ≡ true) is few;
   end = at_end keys i.total refused (less_than_total keys i (same ∙ sym (ap (λ (j : Indexes). j.bound) is)) few) answer;
+  kept = kept_by keys d0 p0 p1 meanwhile;
+  faults = faults;
 }

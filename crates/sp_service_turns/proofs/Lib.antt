@@ -1,9 +1,9 @@
 pub mod TextLemmas
 pub mod KeyLemmas
 pub mod TurnLemmas
+pub mod RecordedLemmas
 pub mod EarlyLemmas
 pub mod RunLemmas
-pub mod RecordedLemmas
 pub mod VerifiedLemmas
 pub mod EndingLemmas
 pub mod OpenLemmas

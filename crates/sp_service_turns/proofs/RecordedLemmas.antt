@@ -21,7 +21,7 @@ module _ {N : Type 0} (steps : Steps N) (indexes : N → Indexes) (first : N) wh
   heard_from (Some node) arrived old new port bytes before count a h = (count + 1, Is_so (lines.Overlay node bytes (told arrived)) _ arrived a refl h refl)
   heard_from None arrived old new port bytes before count a h = (count, Is_silent (lines.Stray port) a refl h)
 
-  heard : (peers : List Peer) (arrived : List ℕ) (got : Got) (old new : N) (before : List Line) (count : ℕ) → Agrees steps first before old count → Hears steps peers arrived old got new
+  pub heard : (peers : List Peer) (arrived : List ℕ) (got : Got) (old new : N) (before : List Line) (count : ℕ) → Agrees steps first before old count → Hears steps peers arrived old got new
       → (n : ℕ) × Agrees steps first (before ++ overlay_lines peers arrived got) new n
   heard peers arrived (Came port bytes) old new before count a h = heard_from (node_at peers port) arrived old new port bytes before count a h
   heard peers arrived Nothing old new before count a h = no_lines old new before count a h
@@ -38,13 +38,13 @@ module _ {N : Type 0} (steps : Steps N) (indexes : N → Indexes) (first : N) wh
   polled frame (Some peer) old new before count a h = (count + 1, Is_so (lines.Poll peer.node (told frame)) _ frame a refl h refl)
   polled frame None old new before count a h = no_lines old new before count a h
 
-  reserved : (upto : Option ℕ) (old new : N) (before : List Line) (count : ℕ) → Agrees steps first before old count → Restocks steps upto old new
+  pub reserved : (upto : Option ℕ) (old new : N) (before : List Line) (count : ℕ) → Agrees steps first before old count → Restocks steps upto old new
       → (n : ℕ) × Agrees steps first (before ++ reserve_lines upto) new n
   reserved (Some upto) old new before count a h = (count, Is_silent (lines.Reserve upto) a refl h)
   reserved None old new before count a h = no_lines old new before count a h
 
   -- one turn
-  one : (peers : List Peer) (o : Option Peer) (t : Turn) (old new : N) (before : List Line) (count : ℕ) → Agrees steps first before old count → Moves steps indexes peers o t old new
+  pub one : (peers : List Peer) (o : Option Peer) (t : Turn) (old new : N) (before : List Line) (count : ℕ) → Agrees steps first before old count → Moves steps indexes peers o t old new
       → (n : ℕ) × Agrees steps first (before ++ lines_of peers o t) new n
   one peers o t old new before count a m =
       let more = reserve_lines t.reserved in

@@ -1,12 +1,17 @@
 -- One turn more.
 use Rattle.std.proofs.Common.{◌≡◌, ◌≤◌, ℕ, ◌+◌, Bool, true, false, List, [], ◌∷◌, ◌++◌, length, map, Option, Some, None, refl, sym, ap, subst, ◌∙◌, append_assoc, append-nil, arith}
 use Rattle.std.proofs.lemmas.List.{length_push}
+use Rattle.sp_keystate.specs.declared.key_state.KeyState.{KeyState}
 use Rattle.sp_outside.specs.Calls.{Call, Came, Got, Lost, Nothing, Tells}
 use Rattle.sp_recording.specs.declared.line.Line.{Line}
-use Rattle.sp_service_turns.specs.Done.{Done, Gets, Text}
+use Rattle.sp_service_turns.specs.Daemons.{HasMade, MakesTurn}
+use Rattle.sp_service_turns.specs.Done.{Gets}
 use Rattle.sp_service_turns.specs.Inputs.{Steps}
-use Rattle.sp_service_turns.specs.Runs.{MovesOn, Ran, all_calls, all_changes, all_lines, all_lost, polled_by}
-use Rattle.sp_service_turns.specs.Turns.{Moves, Turn, calls_of, changes_by, lines_of, lost_in, lost_of, lost_poll, lost_reply, unless}
+use Rattle.sp_service_turns.specs.Keys.{FileMoves, HoldsKeys, keys_after}
+use Rattle.sp_service_turns.specs.Outside.{KeptFile, Outside}
+use Rattle.sp_service_turns.specs.Runs.{FileMovesOn, MovesOn, all_calls, all_lines, all_lost, keys_on, polled_by}
+use Rattle.sp_service_turns.specs.Turns.{Moves, Turn, calls_of, lines_of, lost_in, lost_of, lost_poll, lost_reply, unless}
+use Rattle.sp_service_turns.specs.declared.daemon.Daemon.{Daemon}
 use Rattle.sp_service_turns.specs.declared.indexes.Indexes.{Indexes}
 use Rattle.sp_service_turns.specs.declared.peer.Peer.{Peer}
 use Rattle.sp_service_turns.proofs.TextLemmas.{gets_itself, gets_on, tells_itself, tells_on}
@@ -18,14 +23,14 @@ moves_on steps indexes peers turn [] t a b c h m =
 moves_on steps indexes peers turn (x ∷ ts) t a b c h m =
     (h.0, h.1, moves_on steps indexes peers (turn + 1) ts t h.0 b c h.2 (subst (λ (n : ℕ). Moves steps indexes peers (polled_by peers n) t b c) (omega arith) m))
 
-pub calls_on : (peers : List Peer) (turn : ℕ) (ts : List Turn) (t : Turn) → all_calls peers turn (ts ++ t ∷ []) ≡ all_calls peers turn ts ++ calls_of (polled_by peers (turn + length ts)) t
+calls_on : (peers : List Peer) (turn : ℕ) (ts : List Turn) (t : Turn) → all_calls peers turn (ts ++ t ∷ []) ≡ all_calls peers turn ts ++ calls_of (polled_by peers (turn + length ts)) t
 calls_on peers turn [] t = append-nil (calls_of (polled_by peers turn) t) ∙ ap (λ (n : ℕ). calls_of (polled_by peers n) t) (let e : turn ≡ turn + 0 = omega arith in e)
 calls_on peers turn (x ∷ ts) t =
     ap (λ (l : List Call). calls_of (polled_by peers turn) x ++ l) (calls_on peers (turn + 1) ts t)
     ∙ sym (append_assoc (calls_of (polled_by peers turn) x) (all_calls peers (turn + 1) ts) (calls_of (polled_by peers (turn + 1 + length ts)) t))
     ∙ ap (λ (n : ℕ). (calls_of (polled_by peers turn) x ++ all_calls peers (turn + 1) ts) ++ calls_of (polled_by peers n) t) (let e : turn + 1 + length ts ≡ turn + length (x ∷ ts) = omega arith in e)
 
-pub lines_on : (peers : List Peer) (turn : ℕ) (ts : List Turn) (t : Turn) → all_lines peers turn (ts ++ t ∷ []) ≡ all_lines peers turn ts ++ lines_of peers (polled_by peers (turn + length ts)) t
+lines_on : (peers : List Peer) (turn : ℕ) (ts : List Turn) (t : Turn) → all_lines peers turn (ts ++ t ∷ []) ≡ all_lines peers turn ts ++ lines_of peers (polled_by peers (turn + length ts)) t
 lines_on peers turn [] t = append-nil (lines_of peers (polled_by peers turn) t) ∙ ap (λ (n : ℕ). lines_of peers (polled_by peers n) t) (let e : turn ≡ turn + 0 = omega arith in e)
 lines_on peers turn (x ∷ ts) t =
     ap (λ (l : List Line). lines_of peers (polled_by peers turn) x ++ l) (lines_on peers (turn + 1) ts t)
@@ -40,41 +45,71 @@ lost_on peers turn (x ∷ ts) t =
     ap (λ (n : ℕ). lost_of (polled_by peers n) t) (let e : turn + 1 + length ts ≡ turn + length (x ∷ ts) = omega arith in e) in
     omega (arith, rest, same)
 
-changes_on : (ts : List Turn) (t : Turn) → all_changes (ts ++ t ∷ []) ≡ all_changes ts + changes_by t.reserved
-changes_on [] t = omega arith
-changes_on (x ∷ ts) t = let rest = changes_on ts t in omega (arith, rest)
+-- ---- the key file
+
+keys_more : (keys : KeyState) (ts : List Turn) (t : Turn) → keys_on keys (ts ++ t ∷ []) ≡ keys_after (keys_on keys ts) t.reserved
+keys_more keys [] t = refl
+keys_more keys (x ∷ ts) t = keys_more (keys_after keys x.reserved) ts t
+
+files_more : (keys : KeyState) (ts : List Turn) (t : Turn) (a b c : KeptFile) → FileMovesOn keys ts a b → FileMoves t.reserved (keys_on keys ts) b c
+    → FileMovesOn keys (ts ++ t ∷ []) a c
+files_more keys [] t a b c same move = (c, subst (λ (f : KeptFile). FileMoves t.reserved keys f c) same move, refl)
+files_more keys (x ∷ ts) t a b c on move = (on.0, on.1, files_more (keys_after keys x.reserved) ts t on.0 b c on.2 move)
+
+-- ---- the clock
 
 nows_on : (ts : List Turn) (t : Turn) → map (λ u. u.now) (ts ++ t ∷ []) ≡ map (λ u. u.now) ts ++ t.now ∷ []
 nows_on [] t = refl
 nows_on (x ∷ ts) t = ap (λ (l : List ℕ). x.now ∷ l) (nows_on ts t)
 
-pub none_ran : {N : Type 0} (steps : Steps N) (indexes : N → Indexes) (peers : List Peer) (n : N) (w : Option (List Call)) (c : Option (List ℕ)) (b : Text) (s : ℕ)
-    → Ran steps indexes peers 0 n n w w c c b b s s 0
-none_ran steps indexes peers n w c b s =
-    record { turns = []; counted = refl; moves = refl; calls = tells_itself w; readings = tells_itself c; text = gets_itself b; serial = omega arith; lost_are = refl }
+-- ---- a daemon
 
-pub ran_on : {N : Type 0} (steps : Steps N) (indexes : N → Indexes) (peers : List Peer) (count : ℕ) (n0 n1 n2 : N) (w0 w1 w2 : Option (List Call)) (c0 c1 c2 : Option (List ℕ)) (b0 b1 b2 : Text) (s0 s1 s2 x y : ℕ)
-    → Ran steps indexes peers count n0 n1 w0 w1 c0 c1 b0 b1 s0 s1 x → Done steps indexes peers (polled_by peers count) n1 n2 w1 w2 c1 c2 b1 b2 s1 s2 y
-    → Ran steps indexes peers (count + 1) n0 n2 w0 w2 c0 c2 b0 b2 s0 s2 (x + y)
-ran_on steps indexes peers count n0 n1 n2 w0 w1 w2 c0 c1 c2 b0 b1 b2 s0 s1 s2 x y r d =
-    let ts = r.turns in
-    let t = d.t in
-    let p : polled_by peers count ≡ polled_by peers (0 + length ts) = ap (polled_by peers) (let e : count ≡ 0 + length ts = omega (arith, r.counted) in e) in
-    let calls : Tells w1 w2 (calls_of (polled_by peers (0 + length ts)) t) = subst (λ (o : Option Peer). Tells w1 w2 (calls_of o t)) p d.calls in
-    let text : Gets b1 b2 (lines_of peers (polled_by peers (0 + length ts)) t) = subst (λ (o : Option Peer). Gets b1 b2 (lines_of peers o t)) p d.text in
-    let lost = lost_on peers 0 ts t in
-    let changes = changes_on ts t in
-    let same : lost_of (polled_by peers count) t ≡ lost_of (polled_by peers (0 + length ts)) t = ap (λ (o : Option Peer). lost_of o t) p in
-    record {
-      turns = ts ++ t ∷ [];
-      counted = length_push ts t ∙ omega (arith, r.counted);
-      moves = moves_on steps indexes peers 0 ts t n0 n1 n2 r.moves (subst (λ (o : Option Peer). Moves steps indexes peers o t n1 n2) p d.moves);
-      calls = subst (λ (l : List Call). Tells w0 w2 l) (sym (calls_on peers 0 ts t)) (tells_on w0 w1 w2 _ _ r.calls calls);
-      readings = subst (λ (l : List ℕ). Tells c0 c2 l) (sym (nows_on ts t)) (tells_on c0 c1 c2 _ _ r.readings d.reading);
-      text = subst (λ (l : List Line). Gets b0 b2 l) (sym (lines_on peers 0 ts t)) (gets_on b0 b1 b2 (all_lines peers 0 ts) (lines_of peers (polled_by peers (0 + length ts)) t) r.text text);
-      serial = omega (arith, changes, r.serial, d.serial);
-      lost_are = omega (arith, lost, same, r.lost_are, d.lost_are);
-    }
+module _ {N : Type 0} (steps : Steps N) (indexes : N → Indexes) where
+  pub none_made : (d : Daemon N) (o : Outside) → d.turns ≡ 0 → d.lost ≡ 0 → HoldsKeys o.file.disk d.keys (indexes d.node) → HasMade steps indexes 0 d d o o
+  none_made d o turns lost held = record {
+    turns = [];
+    made = refl;
+    ran = record { moves = refl; calls = tells_itself o.wire; readings = tells_itself o.clock; text = gets_itself o.text; file = refl; held = held };
+    keys = refl;
+    counted = turns;
+    lost_are = lost;
+    peers = refl;
+  }
+
+  pub made_more : (count : ℕ) (d0 d1 d2 : Daemon N) (o0 o1 o2 : Outside) → HasMade steps indexes count d0 d1 o0 o1 → MakesTurn steps indexes d1 d2 o1 o2
+      → HoldsKeys o2.file.disk d2.keys (indexes d2.node) → HasMade steps indexes (count + 1) d0 d2 o0 o2
+  made_more count d0 d1 d2 o0 o1 o2 r m held =
+      let ts = r.turns in
+      let t = m.done.t in
+      let near = ap (λ v. v.items) r.peers in
+      let at : d1.turns ≡ 0 + length ts = omega (arith, r.counted, r.made) in
+      let p : polled_by d1.peers.items d1.turns ≡ polled_by d0.peers.items (0 + length ts) = ap (λ (n : ℕ). polled_by d1.peers.items n) at ∙ ap (λ (ps : List Peer). polled_by ps (0 + length ts)) near in
+      let o : Option Peer = polled_by d0.peers.items (0 + length ts) in
+      let moves : Moves steps indexes d0.peers.items o t d1.node d2.node = subst (λ (ps : List Peer). Moves steps indexes ps o t d1.node d2.node) near
+      (subst (λ (q : Option Peer). Moves steps indexes d1.peers.items q t d1.node d2.node) p m.done.moves) in
+      let text : Gets o1.text o2.text (lines_of d0.peers.items o t) = subst (λ (ps : List Peer). Gets o1.text o2.text (lines_of ps o t)) near
+      (subst (λ (q : Option Peer). Gets o1.text o2.text (lines_of d1.peers.items q t)) p m.done.text) in
+      let keys : d2.keys ≡ keys_on d0.keys (ts ++ t ∷ []) = m.done.keys ∙ ap (λ (k : KeyState). keys_after k t.reserved) r.keys ∙ sym (keys_more d0.keys ts t) in
+      let lost = lost_on d0.peers.items 0 ts t in
+      let same : lost_of (polled_by d1.peers.items d1.turns) t ≡ lost_of o t = ap (λ (q : Option Peer). lost_of q t) p in
+      record {
+        turns = ts ++ t ∷ [];
+        made = length_push ts t ∙ omega (arith, r.made);
+        ran = record {
+          moves = moves_on steps indexes d0.peers.items 0 ts t d0.node d1.node d2.node r.ran.moves moves;
+          calls = subst (λ (l : List Call). Tells o0.wire o2.wire l) (sym (calls_on d0.peers.items 0 ts t))
+              (tells_on o0.wire o1.wire o2.wire _ _ r.ran.calls (subst (λ (q : Option Peer). Tells o1.wire o2.wire (calls_of q t)) p m.done.calls));
+          readings = subst (λ (l : List ℕ). Tells o0.clock o2.clock l) (sym (nows_on ts t)) (tells_on o0.clock o1.clock o2.clock _ _ r.ran.readings m.done.reading);
+          text = subst (λ (l : List Line). Gets o0.text o2.text l) (sym (lines_on d0.peers.items 0 ts t))
+              (gets_on o0.text o1.text o2.text (all_lines d0.peers.items 0 ts) (lines_of d0.peers.items o t) r.ran.text text);
+          file = files_more d0.keys ts t o0.file o1.file o2.file r.ran.file (subst (λ (k : KeyState). FileMoves t.reserved k o1.file o2.file) r.keys m.done.file);
+          held = subst (λ (k : KeyState). HoldsKeys o2.file.disk k (indexes d2.node)) keys held;
+        };
+        keys = keys;
+        counted = omega (arith, m.counted, r.counted);
+        lost_are = omega (arith, lost, same, m.lost_is, r.lost_are, m.done.lost_are);
+        peers = m.peers ∙ r.peers;
+      }
 
 -- ---- how many are lost
 

@@ -10,7 +10,8 @@ use Rattle.sp_outside.specs.Calls.{Tells}
 use Rattle.sp_outside.specs.Streams.{AppendsFront}
 use Rattle.sp_recording.specs.RecordingText.{line_words, lines_text}
 use Rattle.sp_recording.specs.declared.line.Line.{Line}
-use Rattle.sp_service_turns.specs.Done.{Gets, Text}
+use Rattle.sp_service_turns.specs.Done.{Gets}
+use Rattle.sp_service_turns.specs.Outside.{Text}
 use Rattle.sp_service_turns.specs.Early.{GetsFront}
 
 -- ---- what is told

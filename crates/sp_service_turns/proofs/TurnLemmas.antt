@@ -3,7 +3,9 @@ use Rattle.std.proofs.Common.{◌≡◌, ℕ, ◌+◌, Bool, true, List, [], ◌
 use Rattle.sp_base.specs.declared.id.NodeId.{NodeId}
 use Rattle.sp_outside.specs.Calls.{Call, Got, Nothing, Lost, Came as Came_in, Received, Tells}
 use Rattle.sp_outside.specs.declared.side.Side.TheVariants.{Client}
-use Rattle.sp_service_turns.specs.Done.{Came, Done, Gets, IsOverheard, IsServed, Overheard, PolledNext, Restocked, Served, Text, Ticked}
+use Rattle.sp_service_turns.specs.Done.{Came, Done, Gets, IsOverheard, IsServed, Overheard, PolledNext, Restocked, Served, Ticked}
+use Rattle.sp_service_turns.specs.Outside.{KeptFile, Text}
+use Rattle.sp_keystate.specs.declared.key_state.KeyState.{KeyState}
 use Rattle.sp_service_turns.specs.Indexes.{HaveLeft, UsesOne}
 use Rattle.sp_service_turns.specs.declared.indexes.Indexes.{Indexes}
 use Rattle.sp_service_turns.specs.Inputs.{Steps}
@@ -71,12 +73,12 @@ frames steps None old new w0 w1 before after lost h =
 
 -- ---- the turn
 
-pub whole : {N : Type 0} (steps : Steps N) (indexes : N → Indexes) (peers : List Peer) (polled : Option Peer) (n n0 n1 n2 n3 n4 : N) (w0 w1 w2 w3 : Option (List Call))
-    (c0 c1 : Option (List ℕ)) (b b0 b1 b2 b3 b4 : Text) (s0 s1 x y z : ℕ) → Restocked steps indexes n n0 b b0 s0 s1
+pub whole : {N : Type 0} (steps : Steps N) (indexes : N → Indexes) (peers : List Peer) (polled : Option Peer) (n n0 n1 n2 n3 n4 : N) (keys keys_now : KeyState) (f f0 : KeptFile)
+    (w0 w1 w2 w3 : Option (List Call)) (c0 c1 : Option (List ℕ)) (b b0 b1 b2 b3 b4 : Text) (x y z : ℕ) → Restocked steps indexes n n0 keys keys_now f f0 b b0
     → Ticked steps n0 n1 c0 c1 b0 b1 → UsesOne (indexes n0) (indexes n1) → Overheard steps peers n1 n2 w0 w1 b1 b2 x → UsesOne (indexes n1) (indexes n2)
     → Served steps n2 n3 w1 w2 b2 b3 y → PolledNext steps polled n3 n4 w2 w3 b3 b4 z
-    → Done steps indexes peers polled n n4 w0 w3 c0 c1 b b4 s0 s1 (x + y + z)
-whole steps indexes peers polled n n0 n1 n2 n3 n4 w0 w1 w2 w3 c0 c1 b b0 b1 b2 b3 b4 s0 s1 x y z restock tick tick_uses overlay overlay_uses client poll =
+    → Done steps indexes peers polled n n4 keys keys_now (record { wire = w0; clock = c0; text = b; file = f }) (record { wire = w3; clock = c1; text = b4; file = f0 }) (x + y + z)
+whole steps indexes peers polled n n0 n1 n2 n3 n4 keys keys_now f f0 w0 w1 w2 w3 c0 c1 b b0 b1 b2 b3 b4 x y z restock tick tick_uses overlay overlay_uses client poll =
     let a = arrives steps peers overlay.got n1 n2 b1 b2 x overlay.heard in
     let r = answers steps client.got n2 n3 client.wire_between w2 b2 b3 y client.served in
     let f = frames steps polled n3 n4 w2 w3 b3 b4 z poll in
@@ -118,6 +120,7 @@ whole steps indexes peers polled n n0 n1 n2 n3 n4 w0 w1 w2 w3 c0 c1 b b0 b1 b2 b
       text = gets_on b b0 b4 (reserve_lines restock.reserved) _ restock.text
           (gets_on b0 b1 b4 (tick_line t.now t.ticked ∷ []) _ tick.text
           (gets_on b1 b2 b4 (overlay_lines peers a.arrived overlay.got) _ a.text (gets_on b2 b3 b4 (client_lines r.reply client.got) (poll_lines f.frame polled) r.text f.text)));
-      serial = restock.serial;
+      keys = restock.keys;
+      file = restock.file;
       lost_are = omega (arith, a.lost_is, r.lost_is, f.lost_is);
     }

@@ -1,20 +1,22 @@
 -- How a daemon begins, makes a turn, and ends.
-use Rattle.std.specs.Prelude.{ℕ, ◌≡◌, ◌+◌, List, Option}
+use Rattle.std.specs.Prelude.{ℕ, ◌≡◌, ◌<◌, ◌+◌, ◌⊎◌, List, length, Option}
 use Rattle.std.specs.Io.KnownBytes.{Appends}
 use Rattle.sp_keystate.specs.RefusedLines.{refused_line}
+use Rattle.sp_keystate.specs.declared.key_state.KeyState.{KeyState}
 use Rattle.sp_keystate.specs.declared.refused.KeyRefused.{KeyRefused}
 use Rattle.sp_lines.specs.Rows.{line_text}
 use Rattle.sp_outside.specs.Streams.{AppendsFront}
 use Rattle.sp_recording.specs.RecordingText.{closing_words, opening_words}
 use Rattle.sp_recording.specs.declared.line.Closing.{Closing}
 use Rattle.sp_recording.specs.declared.line.Opening.{Opening}
-use Rattle.sp_service_turns.specs.Done.{Done, Text}
+use Rattle.sp_service_turns.specs.Done.{Done}
 use Rattle.sp_service_turns.specs.Early.{Early}
 use Rattle.sp_service_turns.specs.Inputs.{Steps}
 use Rattle.sp_service_turns.specs.Keys.{NoMore}
-use Rattle.sp_service_turns.specs.Runs.{polled_by}
-use Rattle.sp_service_turns.specs.Served.{EndsTurns, Outside}
+use Rattle.sp_service_turns.specs.Outside.{IsQuiet, Outside, Text}
+use Rattle.sp_service_turns.specs.Runs.{Ran, all_lost, closing_of, keys_on, polled_by}
 use Rattle.sp_service_turns.specs.Told.{IsTold}
+use Rattle.sp_service_turns.specs.Turns.{Turn}
 use Rattle.sp_service_turns.specs.declared.daemon.Daemon.{Daemon}
 use Rattle.sp_service_turns.specs.declared.indexes.Indexes.{Indexes}
 use Rattle.sp_service_turns.specs.declared.peer.Peer.{Peer}
@@ -45,25 +47,40 @@ Finishes c before after ended = FailsToWrite (last_text c) before after ended
 -- it made a turn, which is counted, as is what was lost in it
 pub record MakesTurn {N : Type 0} (steps : Steps N) (indexes : N → Indexes) (old new : Daemon N) (before after : Outside) : Type 0 where
   pub lost : ℕ
-  pub done : Done steps indexes old.peers.items (polled_by old.peers.items old.turns) old.node new.node before.wire after.wire before.clock after.clock
-      before.text after.text old.keys.serial new.keys.serial lost
+  pub done : Done steps indexes old.peers.items (polled_by old.peers.items old.turns) old.node new.node old.keys new.keys before after lost
   pub counted : new.turns ≡ old.turns + 1
   pub lost_is : new.lost ≡ old.lost + lost
   pub peers : new.peers ≡ old.peers
 
--- how a turn ended it that polls this neighbour, from these indexes of its node and this serial of its key file on
-pub data EndsTurn (peers : List Peer) (polled : Option Peer) (indexes : Indexes) (serial : ℕ) (before after : Outside) : Served → Type 0 where
+-- it made so many turns, the first that it made
+pub record HasMade {N : Type 0} (steps : Steps N) (indexes : N → Indexes) (count : ℕ) (old new : Daemon N) (before after : Outside) : Type 0 where
+  pub turns : List Turn
+  pub made : length turns ≡ count
+  pub ran : Ran steps indexes old.peers.items turns old.node new.node old.keys before after
+  pub keys : new.keys ≡ keys_on old.keys turns
+  pub counted : new.turns ≡ count
+  pub lost_are : new.lost ≡ all_lost old.peers.items 0 turns
+  pub peers : new.peers ≡ old.peers
+
+-- how a turn ended it that polls this neighbour, from this node and these keys on
+pub data EndsTurn {N : Type 0} (steps : Steps N) (indexes : N → Indexes) (peers : List Peer) (polled : Option Peer) (node : N) (keys : KeyState)
+    (before after : Outside) (ended : Served) : Type 0 where
   -- no more indexes could be reserved: nothing else was done, and that is written, or a beginning of it
-  Spent : (refused : KeyRefused) (ended : Served) → NoMore indexes serial refused → after.wire ≡ before.wire → after.clock ≡ before.clock
-      → IsTold (served.Keys refused) (refused_line refused) ended before.text after.text → EndsTurn peers polled indexes serial before after ended
-  -- the first calls of the turn were made, and the recording got a beginning of its lines
-  Not_written : Early peers polled before.wire after.wire before.text after.text → EndsTurn peers polled indexes serial before after served.Sink
-  No_memory : Early peers polled before.wire after.wire before.text after.text → EndsTurn peers polled indexes serial before after served.Memory
+  Spent : (refused : KeyRefused) → NoMore (indexes node) keys refused before.file after.file → after.wire ≡ before.wire → after.clock ≡ before.clock
+      → IsTold (served.Keys refused) (refused_line refused) ended before.text after.text → EndsTurn steps indexes peers polled node keys before after ended
+  -- the sink failed, or there was no memory
+  Broken : (ended ≡ served.Sink) ⊎ (ended ≡ served.Memory) → Early steps indexes peers polled node keys before after
+      → EndsTurn steps indexes peers polled node keys before after ended
 
 -- ---- all turns
 
 -- how a daemon ended that had written its first line, and then was to make so many turns
-abbrev pub EndsAfter : {N : Type 0} → Steps N → (N → Indexes) → List Peer → ℕ → N → ℕ → Outside → Outside → Served → Type 0
-EndsAfter steps indexes peers count start serial before after ended =
-    (o : Opening) (text : Text) → Appends text before.text (first_text o)
-    → EndsTurns steps indexes peers o count start serial (record { wire = before.wire; clock = before.clock; disk = before.disk; text = text }) after ended
+pub data EndsAfter {N : Type 0} (steps : Steps N) (indexes : N → Indexes) (peers : List Peer) (count : ℕ) (start : N) (keys : KeyState)
+    (before after : Outside) (ended : Served) : Type 0 where
+  -- it made all of them, and then it ended with its last line, or since that wasn't written
+  Whole : (turns : List Turn) (last : N) (between : Outside) → length turns ≡ count → Ran steps indexes peers turns start last keys before between
+      → IsQuiet between after → Finishes (closing_of peers turns) between.text after.text ended → EndsAfter steps indexes peers count start keys before after ended
+  -- it made these, and the next one ended it
+  Stopped : (turns : List Turn) (last : N) (between : Outside) → length turns < count → Ran steps indexes peers turns start last keys before between
+      → EndsTurn steps indexes peers (polled_by peers (length turns)) last (keys_on keys turns) between after ended
+      → EndsAfter steps indexes peers count start keys before after ended

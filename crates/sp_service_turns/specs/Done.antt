@@ -2,6 +2,7 @@
 use Rattle.std.specs.Prelude.{ℕ, ◌≡◌, ◌+◌, Bool, List, [], ◌∷◌, Option, None, Some}
 use Rattle.std.specs.Io.KnownBytes.{Appends}
 use Rattle.sp_base.specs.declared.id.NodeId.{NodeId}
+use Rattle.sp_keystate.specs.declared.key_state.KeyState.{KeyState}
 use Rattle.sp_outside.specs.declared.side.Side.TheVariants.{Overlay, Client}
 use Rattle.sp_outside.specs.declared.side.Side.{Side}
 use Rattle.sp_outside.specs.Calls.{Call, Got, Nothing, Lost, Came as Came_in, Tells, Received, Sent}
@@ -10,43 +11,42 @@ use Rattle.sp_recording.specs.declared.line.Line.{Line}
 use Rattle.sp_recording.specs.declared.line.Line.TheVariants as lines
 use Rattle.sp_service_turns.specs.Indexes.{HaveLeft, reserved_by}
 use Rattle.sp_service_turns.specs.Inputs.{Datagram, Poll, Request, Steps, Tick}
-use Rattle.sp_service_turns.specs.Turns.{Moves, Restocks, Turn, calls_of, changes_by, lines_of, lost_of, node_at, reserve_lines, tick_line, told, unless}
+use Rattle.sp_service_turns.specs.Keys.{FileMoves, keys_after}
+use Rattle.sp_service_turns.specs.Outside.{KeptFile, Outside, Text}
+use Rattle.sp_service_turns.specs.Turns.{Moves, Restocks, Turn, calls_of, lines_of, lost_of, node_at, reserve_lines, tick_line, told, unless}
 use Rattle.sp_service_turns.specs.declared.indexes.Indexes.{Indexes}
 use Rattle.sp_service_turns.specs.declared.indexes.TheConstants.{LEAST_LEFT}
 use Rattle.sp_service_turns.specs.declared.peer.Peer.{Peer}
-
--- what is known of a text
-abbrev pub Text : Type 0
-Text = Option (List ℕ)
 
 -- the recording got just these lines
 abbrev pub Gets : Text → Text → List Line → Type 0
 Gets before after ls = Appends before after (lines_text ls)
 
--- a turn was made: the node took its steps, the recording got its lines, what tells its calls tells just those of the turn, and the serial of the key file
--- rose with its reserve
+-- A turn was made: the node took its steps, the recording got its lines, what tells its calls tells just those of the turn, and of the key file it called
+-- what its reserve does
 pub record Done {N : Type 0} (steps : Steps N) (indexes : N → Indexes) (peers : List Peer) (polled : Option Peer) (old new : N)
-    (wire_before wire_after : Option (List Call)) (clock_before clock_after : Option (List ℕ)) (text_before text_after : Text)
-    (serial_before serial_after lost : ℕ) : Type 0 where
+    (keys_before keys_now : KeyState) (before after : Outside) (lost : ℕ) : Type 0 where
   pub t : Turn
   pub moves : Moves steps indexes peers polled t old new
-  pub calls : Tells wire_before wire_after (calls_of polled t)
-  pub reading : Tells clock_before clock_after (t.now ∷ [])
-  pub text : Gets text_before text_after (lines_of peers polled t)
-  pub serial : serial_after ≡ serial_before + changes_by t.reserved
+  pub calls : Tells before.wire after.wire (calls_of polled t)
+  pub reading : Tells before.clock after.clock (t.now ∷ [])
+  pub text : Gets before.text after.text (lines_of peers polled t)
+  pub keys : keys_now ≡ keys_after keys_before t.reserved
+  pub file : FileMoves t.reserved keys_before before.file after.file
   pub lost_are : lost ≡ lost_of polled t
 
 -- ---- the parts
 
 -- indexes were reserved where few were left, and so many are left now
-pub record Restocked {N : Type 0} (steps : Steps N) (indexes : N → Indexes) (old new : N) (text_before text_after : Text)
-    (serial_before serial_after : ℕ) : Type 0 where
+pub record Restocked {N : Type 0} (steps : Steps N) (indexes : N → Indexes) (old new : N) (keys_before keys_now : KeyState)
+    (file_before file_after : KeptFile) (text_before text_after : Text) : Type 0 where
   pub reserved : Option ℕ
   pub due : reserved ≡ reserved_by (indexes old)
   pub step : Restocks steps reserved old new
   pub left : HaveLeft LEAST_LEFT (indexes new)
   pub text : Gets text_before text_after (reserve_lines reserved)
-  pub serial : serial_after ≡ serial_before + changes_by reserved
+  pub keys : keys_now ≡ keys_after keys_before reserved
+  pub file : FileMoves reserved keys_before file_before file_after
 
 pub record Ticked {N : Type 0} (steps : Steps N) (old new : N) (clock_before clock_after : Option (List ℕ)) (text_before text_after : Text) : Type 0 where
   pub now : ℕ

@@ -1,18 +1,11 @@
--- A daemon's whole recording: its first line, the lines of its turns, and its end line.
-use Rattle.std.specs.Prelude.{ℕ, List, length, None, Some}
-use Rattle.sp_recording.specs.RecordingText.{recording_text}
+-- What is read as the text of a recording is what a daemon writes: its first line, the lines of its turns, and its end line, where it has one.
+use Rattle.std.specs.Prelude.{ℕ, ◌≡◌, List, ◌++◌, None, Some}
+use Rattle.sp_recording.specs.RecordingText.{lines_text, recording_text}
 use Rattle.sp_recording.specs.declared.line.Closing.{Closing}
+use Rattle.sp_recording.specs.declared.line.Line.{Line}
 use Rattle.sp_recording.specs.declared.line.Opening.{Opening}
-use Rattle.sp_service_turns.specs.Runs.{all_lines, all_lost}
-use Rattle.sp_service_turns.specs.Turns.{Turn}
-use Rattle.sp_service_turns.specs.declared.peer.Peer.{Peer}
+use Rattle.sp_service_turns.specs.Daemons.{first_text, last_text}
 
-abbrev pub closing_of : List Peer → List Turn → Closing
-closing_of peers turns = record { turns = length turns; lost = all_lost peers 0 turns }
-
-abbrev pub whole_text : List Peer → Opening → List Turn → List ℕ
-whole_text peers o turns = recording_text o (all_lines peers 0 turns) (Some (closing_of peers turns))
-
--- the recording of a daemon that stopped after these turns, without its end line
-abbrev pub open_text : List Peer → Opening → List Turn → List ℕ
-open_text peers o turns = recording_text o (all_lines peers 0 turns) None
+abbrev pub RecordingsAreWritten : Type 0
+RecordingsAreWritten = (o : Opening) (ls : List Line) (c : Closing)
+    → (recording_text o ls (Some c) ≡ first_text o ++ (lines_text ls ++ last_text c)) × (recording_text o ls None ≡ first_text o ++ lines_text ls)

@@ -3,7 +3,7 @@ use Rattle.std.specs.Prelude.{ℕ, ◌≡◌, ◌⊎◌, List}
 use Rattle.std.specs.Io.KnownBytes.{Appends}
 use Rattle.sp_keystate.specs.RefusedLines.{refused_line}
 use Rattle.sp_outside.specs.Streams.{AppendsFront}
-use Rattle.sp_service_turns.specs.Done.{Text}
+use Rattle.sp_service_turns.specs.Outside.{Text}
 use Rattle.sp_service_turns.specs.declared.ended.Ended.{Ended}
 use Rattle.sp_service_turns.specs.declared.ended.Ended.TheVariants as ended
 use Rattle.sp_service_turns.specs.declared.served.Served.{Served}

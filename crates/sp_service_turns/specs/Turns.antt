@@ -127,13 +127,6 @@ pub record Moves {N : Type 0} (steps : Steps N) (indexes : N → Indexes) (peers
   pub tick_supplied : HaveLeft 1 (indexes after_reserve)
   pub client_supplied : HaveLeft 1 (indexes after_overlay)
 
--- ---- the key file
-
--- how many changes of the key file a turn makes
-abbrev pub changes_by : Option ℕ → ℕ
-changes_by None = 0
-changes_by (Some upto) = 1
-
 -- ---- what is lost
 
 abbrev pub lost_in : Got → ℕ

@@ -1,5 +1,5 @@
 // A daemon as a value: it begins with its first line, makes turn after turn, and ends with its last line.
-ghost use Rattle.std.specs.Prelude.{◌≡◌, ◌≢◌, ◌≤◌, ◌<◌, ◌*◌, ◌^◌, Err, IfErr, IfOk, OnErr, OnOk, length};
+ghost use Rattle.std.specs.Prelude.{IsErrOf, ◌≡◌, ◌≢◌, ◌≤◌, ◌<◌, ◌*◌, ◌^◌, Err, IfErr, IfOk, OnOk, length};
 ghost use Rattle.sp_keystate.specs.declared.refused.KeyRefused.TheVariants.{KeeperFault};
 ghost use Rattle.sp_outside.specs.declared.wire.TheConstants.{DATAGRAM_BYTES};
 ghost use Rattle.sp_outside.specs.Causes.{Rose};
@@ -37,7 +37,7 @@ pub struct Daemon<N> {
 impl<N: Core + Drop> Daemon<N> {
     ghost use Rattle.sp_service_turns.specs.Daemons.{EndsTurn, FailsToWrite, Finishes, MakesTurn, first_text};
     ghost use Rattle.sp_service_turns.specs.Done.{Done};
-    ghost use Rattle.sp_service_turns.specs.Early.{Early};
+    ghost use Rattle.sp_service_turns.specs.Early.{Early, IfBroken};
     ghost use Rattle.sp_service_turns.specs.Runs.{polled_by};
     ghost use Rattle.std.specs.Io.KnownBytes.{Appends};
 
@@ -58,6 +58,7 @@ impl<N: Core + Drop> Daemon<N> {
         ensures failed { IfErr result (FailsToWrite (first_text opening.now) (K.contents sink.old) (K.contents sink.new)) }
         ensures later { K.faults sink.old ≤ K.faults sink.new }
         ensures write { result ≡ Err Served.Sink → Rose (K.faults sink.old) (K.faults sink.new) }
+        ensures sunk { result ≢ Err Served.Sink → K.faults sink.new ≡ K.faults sink.old }
     {
         let Ok(text) = first_line(alloc, opening) else {
             return Err(Served::Memory);
@@ -95,12 +96,32 @@ impl<N: Core + Drop> Daemon<N> {
         requires turns { self.old.turns < MAX_TURNS }
         requires held { HoldsKeys (P.disk keeper.old) self.old.keys (N.indexes self.old.node) }
         ensures made { OnOk result (MakesTurn N.steps N.indexes self.old self.new
-            (record { wire = W.told wire.old; clock = C.told clock.old; disk = P.disk keeper.old; text = K.contents sink.old })
-            (record { wire = W.told wire.new; clock = C.told clock.new; disk = P.disk keeper.new; text = K.contents sink.new })) }
-        ensures ended { IfErr result (EndsTurn self.old.peers.items (polled_by self.old.peers.items self.old.turns)
-            (N.indexes self.old.node) self.old.keys.serial
-            (record { wire = W.told wire.old; clock = C.told clock.old; disk = P.disk keeper.old; text = K.contents sink.old })
-            (record { wire = W.told wire.new; clock = C.told clock.new; disk = P.disk keeper.new; text = K.contents sink.new })) }
+            (record {
+              wire = W.told wire.old;
+              clock = C.told clock.old;
+              text = K.contents sink.old;
+              file = record { disk = P.disk keeper.old; past = P.past keeper.old; faults = P.faults keeper.old };
+            })
+            (record {
+              wire = W.told wire.new;
+              clock = C.told clock.new;
+              text = K.contents sink.new;
+              file = record { disk = P.disk keeper.new; past = P.past keeper.new; faults = P.faults keeper.new };
+            })) }
+        ensures ended { IfErr result (EndsTurn N.steps N.indexes self.old.peers.items (polled_by self.old.peers.items self.old.turns)
+            self.old.node self.old.keys
+            (record {
+              wire = W.told wire.old;
+              clock = C.told clock.old;
+              text = K.contents sink.old;
+              file = record { disk = P.disk keeper.old; past = P.past keeper.old; faults = P.faults keeper.old };
+            })
+            (record {
+              wire = W.told wire.new;
+              clock = C.told clock.new;
+              text = K.contents sink.new;
+              file = record { disk = P.disk keeper.new; past = P.past keeper.new; faults = P.faults keeper.new };
+            })) }
         ensures held { OnOk result (HoldsKeys (P.disk keeper.new) self.new.keys (N.indexes self.new.node)) }
         ensures on { OnOk result (KeysGoOn self.old.keys self.new.keys (P.disk keeper.old) (P.disk keeper.new)) }
         ensures faultless { OnOk result (P.faults keeper.new ≡ P.faults keeper.old) }
@@ -108,6 +129,7 @@ impl<N: Core + Drop> Daemon<N> {
         ensures later { K.faults sink.old ≤ K.faults sink.new }
         ensures keeper { result ≡ Err (Served.Keys KeeperFault) → Rose (P.faults keeper.old) (P.faults keeper.new) }
         ensures write { result ≡ Err Served.Sink → Rose (K.faults sink.old) (K.faults sink.new) }
+        ensures sunk { result ≢ Err Served.Sink → K.faults sink.new ≡ K.faults sink.old }
         ensures unopened { result ≢ Err Served.Wire }
     {
         match self.step(alloc, wire, clock, keeper, sink) {
@@ -131,22 +153,47 @@ impl<N: Core + Drop> Daemon<N> {
     ) -> Result<u32, Ended>
         requires held { HoldsKeys (P.disk keeper.old) self.old.keys (N.indexes self.old.node) }
         ensures done { IfOk result (λ lost. Done N.steps N.indexes self.old.peers.items
-            (polled_by self.old.peers.items self.old.turns) self.old.node self.new.node
-            (W.told wire.old) (W.told wire.new) (C.told clock.old) (C.told clock.new) (K.contents sink.old) (K.contents sink.new) self.old.keys.serial
-            self.new.keys.serial lost) }
+            (polled_by self.old.peers.items self.old.turns) self.old.node self.new.node self.old.keys self.new.keys
+            (record {
+              wire = W.told wire.old;
+              clock = C.told clock.old;
+              text = K.contents sink.old;
+              file = record { disk = P.disk keeper.old; past = P.past keeper.old; faults = P.faults keeper.old };
+            })
+            (record {
+              wire = W.told wire.new;
+              clock = C.told clock.new;
+              text = K.contents sink.new;
+              file = record { disk = P.disk keeper.new; past = P.past keeper.new; faults = P.faults keeper.new };
+            }) lost) }
         ensures four { IfOk result (λ lost. lost ≤ 4) }
         ensures still { (self.new.peers ≡ self.old.peers) × (self.new.turns ≡ self.old.turns) × (self.new.lost ≡ self.old.lost) }
-        ensures early { OnErr result (Early self.old.peers.items (polled_by self.old.peers.items self.old.turns) (W.told wire.old) (W.told wire.new)
-            (K.contents sink.old) (K.contents sink.new)) }
+        ensures early { IfBroken result (Early N.steps N.indexes self.old.peers.items (polled_by self.old.peers.items self.old.turns)
+            self.old.node self.old.keys
+            (record {
+              wire = W.told wire.old;
+              clock = C.told clock.old;
+              text = K.contents sink.old;
+              file = record { disk = P.disk keeper.old; past = P.past keeper.old; faults = P.faults keeper.old };
+            })
+            (record {
+              wire = W.told wire.new;
+              clock = C.told clock.new;
+              text = K.contents sink.new;
+              file = record { disk = P.disk keeper.new; past = P.past keeper.new; faults = P.faults keeper.new };
+            })) }
         ensures held { OnOk result (HoldsKeys (P.disk keeper.new) self.new.keys (N.indexes self.new.node)) }
         ensures on { OnOk result (KeysGoOn self.old.keys self.new.keys (P.disk keeper.old) (P.disk keeper.new)) }
         ensures faultless { OnOk result (P.faults keeper.new ≡ P.faults keeper.old) }
         ensures kept { KeepsKeys self.old.keys (P.disk keeper.old) (P.past keeper.old) (P.past keeper.new) }
         ensures unmoved { IfKeysEnd result ((W.told wire.new ≡ W.told wire.old) × (C.told clock.new ≡ C.told clock.old)
             × (K.contents sink.new ≡ K.contents sink.old)) }
-        ensures spent { IfKeysEndBy result (NoMore (N.indexes self.old.node) self.old.keys.serial) }
+        ensures spent { IfKeysEndBy result (λ refused. NoMore (N.indexes self.old.node) self.old.keys refused
+            (record { disk = P.disk keeper.old; past = P.past keeper.old; faults = P.faults keeper.old })
+            (record { disk = P.disk keeper.new; past = P.past keeper.new; faults = P.faults keeper.new })) }
         ensures later { K.faults sink.old ≤ K.faults sink.new }
         ensures failed { result ≡ Err Ended.Sink → Rose (K.faults sink.old) (K.faults sink.new) }
+        ensures sunk { ¬ IsErrOf result Ended.Sink → K.faults sink.new ≡ K.faults sink.old }
         ensures keeper { result ≡ Err (Ended.Keys KeeperFault) → Rose (P.faults keeper.old) (P.faults keeper.new) }
     {
         let polled = polled_by(&self.peers, self.turns);
@@ -168,6 +215,7 @@ impl<N: Core + Drop> Daemon<N> {
     pub fn finish<K: Sink>(self, alloc: Global, sink: &mut K) -> Served
         ensures ends { Finishes (record { turns = self.turns; lost = self.lost }) (K.contents sink.old) (K.contents sink.new) result }
         ensures write { result ≡ Served.Sink → Rose (K.faults sink.old) (K.faults sink.new) }
+        ensures sunk { result ≢ Served.Sink → K.faults sink.new ≡ K.faults sink.old }
     {
         let closing = Closing {
             turns: self.turns,

@@ -23,7 +23,7 @@ pub use compared::{LinesRefused, VerifyRefused};
 pub use daemon::Daemon;
 pub use ended::Ended;
 pub use indexes::{Indexes, LEAST_LEFT, RESERVED};
-pub use laws::recordings_agree;
+pub use laws::{recordings_agree, recordings_are_written};
 pub use many_turns::serve;
 pub use node::Core;
 pub use opened::{Ports, open, opening_of};

@@ -3,9 +3,8 @@ ghost use Rattle.std.specs.Prelude.{◌≡◌, ◌≢◌, ◌≤◌, Err, IfErr,
 ghost use Rattle.sp_keystate.specs.declared.refused.KeyRefused.TheVariants.{KeeperFault};
 ghost use Rattle.sp_outside.specs.Causes.{Rose};
 ghost use Rattle.sp_recording.specs.declared.line.TheConstants.{MAX_TURNS};
-ghost use Rattle.sp_service_turns.specs.Daemons.{EndsAfter};
+ghost use Rattle.sp_service_turns.specs.Daemons.{EndsAfter, HasMade};
 ghost use Rattle.sp_service_turns.specs.Keys.{HoldsKeys, KeepsKeys};
-ghost use Rattle.sp_service_turns.specs.Runs.{Ran};
 
 use crate::daemon::Daemon;
 use crate::node::Core;
@@ -15,7 +14,6 @@ use std::alloc::Global;
 
 /// Makes so many turns with a daemon that has made none, and ends it. The neighbours are polled in a cycle, in the order of the list, which is that of their
 /// ids.
-#[tactic(auto, using(crate::proofs::EndingLemmas::finishes))]
 pub fn serve<N: Core + Drop, W: Wire, C: Clock, P: Keeper, K: Sink>(
     alloc: Global,
     mut daemon: Daemon<N>,
@@ -28,13 +26,24 @@ pub fn serve<N: Core + Drop, W: Wire, C: Clock, P: Keeper, K: Sink>(
     requires turns { turns ≤ MAX_TURNS }
     requires fresh { (daemon.turns ≡ 0) × (daemon.lost ≡ 0) }
     requires held { HoldsKeys (P.disk keeper.old) daemon.keys (N.indexes daemon.node) }
-    ensures ends { EndsAfter N.steps N.indexes daemon.peers.items turns daemon.node daemon.keys.serial
-        (record { wire = W.told wire.old; clock = C.told clock.old; disk = P.disk keeper.old; text = K.contents sink.old })
-        (record { wire = W.told wire.new; clock = C.told clock.new; disk = P.disk keeper.new; text = K.contents sink.new }) result }
+    ensures ends { EndsAfter N.steps N.indexes daemon.peers.items turns daemon.node daemon.keys
+        (record {
+          wire = W.told wire.old;
+          clock = C.told clock.old;
+          text = K.contents sink.old;
+          file = record { disk = P.disk keeper.old; past = P.past keeper.old; faults = P.faults keeper.old };
+        })
+        (record {
+          wire = W.told wire.new;
+          clock = C.told clock.new;
+          text = K.contents sink.new;
+          file = record { disk = P.disk keeper.new; past = P.past keeper.new; faults = P.faults keeper.new };
+        }) result }
     ensures kept { KeepsKeys daemon.keys (P.disk keeper.old) (P.past keeper.old) (P.past keeper.new) }
     ensures unopened { result ≢ Served.Wire }
     ensures keeper { result ≡ Served.Keys KeeperFault → Rose (P.faults keeper.old) (P.faults keeper.new) }
     ensures write { result ≡ Served.Sink → Rose (K.faults sink.old) (K.faults sink.new) }
+    ensures sunk { result ≢ Served.Sink → K.faults sink.new ≡ K.faults sink.old }
 {
     match make_turns(alloc, &mut daemon, turns, wire, clock, keeper, sink) {
         Ok(()) => daemon.finish(alloc, sink),
@@ -55,18 +64,38 @@ fn make_turns<N: Core + Drop, W: Wire, C: Clock, P: Keeper, K: Sink>(
     requires turns { turns ≤ MAX_TURNS }
     requires fresh { (daemon.old.turns ≡ 0) × (daemon.old.lost ≡ 0) }
     requires held { HoldsKeys (P.disk keeper.old) daemon.old.keys (N.indexes daemon.old.node) }
-    ensures ran { OnOk result (Ran N.steps N.indexes daemon.old.peers.items turns daemon.old.node daemon.new.node (W.told wire.old) (W.told wire.new)
-        (C.told clock.old) (C.told clock.new) (K.contents sink.old) (K.contents sink.new) daemon.old.keys.serial daemon.new.keys.serial daemon.new.lost) }
-    ensures counted { OnOk result (daemon.new.turns ≡ turns) }
-    ensures ended { IfErr result (EndsAfter N.steps N.indexes daemon.old.peers.items turns daemon.old.node daemon.old.keys.serial
-        (record { wire = W.told wire.old; clock = C.told clock.old; disk = P.disk keeper.old; text = K.contents sink.old })
-        (record { wire = W.told wire.new; clock = C.told clock.new; disk = P.disk keeper.new; text = K.contents sink.new })) }
-    ensures held { OnOk result (HoldsKeys (P.disk keeper.new) daemon.new.keys (N.indexes daemon.new.node)) }
+    ensures made { OnOk result (HasMade N.steps N.indexes turns daemon.old daemon.new
+        (record {
+          wire = W.told wire.old;
+          clock = C.told clock.old;
+          text = K.contents sink.old;
+          file = record { disk = P.disk keeper.old; past = P.past keeper.old; faults = P.faults keeper.old };
+        })
+        (record {
+          wire = W.told wire.new;
+          clock = C.told clock.new;
+          text = K.contents sink.new;
+          file = record { disk = P.disk keeper.new; past = P.past keeper.new; faults = P.faults keeper.new };
+        })) }
+    ensures ended { IfErr result (EndsAfter N.steps N.indexes daemon.old.peers.items turns daemon.old.node daemon.old.keys
+        (record {
+          wire = W.told wire.old;
+          clock = C.told clock.old;
+          text = K.contents sink.old;
+          file = record { disk = P.disk keeper.old; past = P.past keeper.old; faults = P.faults keeper.old };
+        })
+        (record {
+          wire = W.told wire.new;
+          clock = C.told clock.new;
+          text = K.contents sink.new;
+          file = record { disk = P.disk keeper.new; past = P.past keeper.new; faults = P.faults keeper.new };
+        })) }
     ensures kept { KeepsKeys daemon.old.keys (P.disk keeper.old) (P.past keeper.old) (P.past keeper.new) }
     ensures later { K.faults sink.old ≤ K.faults sink.new }
     ensures unopened { result ≢ Err Served.Wire }
     ensures keeper { result ≡ Err (Served.Keys KeeperFault) → Rose (P.faults keeper.old) (P.faults keeper.new) }
     ensures write { result ≡ Err Served.Sink → Rose (K.faults sink.old) (K.faults sink.new) }
+    ensures sunk { result ≢ Err Served.Sink → K.faults sink.new ≡ K.faults sink.old }
 {
     'turns: for _made in 0..turns {
         daemon.turn(alloc, wire, clock, keeper, sink)?;

@@ -1,5 +1,5 @@
 // The recording of a daemon: each line goes out whole before the next thing happens.
-ghost use Rattle.std.specs.Prelude.{◌≡◌, ◌≤◌, ◌∷◌, [], IfOk, IsErrOf, OnOk};
+ghost use Rattle.std.specs.Prelude.{◌≢◌, ◌≡◌, ◌≤◌, ◌∷◌, [], IfOk, IsErrOf, OnOk};
 ghost use Rattle.std.specs.Io.KnownBytes.{Appends};
 ghost use Rattle.std.specs.String.{string_bytes};
 ghost use Rattle.sp_outside.specs.Causes.{Rose};
@@ -39,6 +39,7 @@ pub fn note<K: Sink>(alloc: Global, sink: &mut K, line: &LineRef<'_>) -> Result<
     ensures front { AppendsFront (K.contents sink.old) (K.contents sink.new) (lines_text (line_in line.now ∷ [])) }
     ensures later { K.faults sink.old ≤ K.faults sink.new }
     ensures failed { IsErrOf result Ended.Sink → Rose (K.faults sink.old) (K.faults sink.new) }
+    ensures sunk { ¬ IsErrOf result Ended.Sink → K.faults sink.new ≡ K.faults sink.old }
     ensures no_keys { IfKeysEnd result ⊥ }
 {
     let Ok(text) = text_of(alloc, line) else {

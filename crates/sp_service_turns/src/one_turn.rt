@@ -1,10 +1,10 @@
 // One whole turn.
-ghost use Rattle.std.specs.Prelude.{◌≡◌, ◌≤◌, IfOk, IsErrOf, OnErr, OnOk, length};
+ghost use Rattle.std.specs.Prelude.{◌≢◌, ◌≡◌, ◌≤◌, IfOk, IsErrOf, OnOk, length};
 ghost use Rattle.sp_keystate.specs.declared.refused.KeyRefused.TheVariants.{KeeperFault};
 ghost use Rattle.sp_outside.specs.declared.wire.TheConstants.{DATAGRAM_BYTES};
 ghost use Rattle.sp_outside.specs.Causes.{Rose};
 ghost use Rattle.sp_service_turns.specs.Done.{Done};
-ghost use Rattle.sp_service_turns.specs.Early.{Early};
+ghost use Rattle.sp_service_turns.specs.Early.{Early, IfBroken};
 ghost use Rattle.sp_service_turns.specs.Keys.{HoldsKeys, IfKeysEnd, IfKeysEndBy, KeepsKeys, KeysGoOn, NoMore};
 
 use crate::ended::Ended;
@@ -35,18 +35,44 @@ pub fn turn<N: Core, W: Wire, C: Clock, P: Keeper, K: Sink>(
 ) -> Result<u32, Ended>
     requires buffer { DATAGRAM_BYTES ≤ length buf.old }
     requires held { HoldsKeys (P.disk keeper.old) keys.old (N.indexes node.old) }
-    ensures done { IfOk result (λ lost. Done N.steps N.indexes peers.now polled node.old node.new (W.told wire.old) (W.told wire.new)
-        (C.told clock.old) (C.told clock.new) (K.contents sink.old) (K.contents sink.new) keys.old.serial keys.new.serial lost) }
-    ensures early { OnErr result (Early peers.now polled (W.told wire.old) (W.told wire.new) (K.contents sink.old) (K.contents sink.new)) }
+    ensures done { IfOk result (λ lost. Done N.steps N.indexes peers.now polled node.old node.new keys.old keys.new
+        (record {
+          wire = W.told wire.old;
+          clock = C.told clock.old;
+          text = K.contents sink.old;
+          file = record { disk = P.disk keeper.old; past = P.past keeper.old; faults = P.faults keeper.old };
+        })
+        (record {
+          wire = W.told wire.new;
+          clock = C.told clock.new;
+          text = K.contents sink.new;
+          file = record { disk = P.disk keeper.new; past = P.past keeper.new; faults = P.faults keeper.new };
+        }) lost) }
+    ensures early { IfBroken result (Early N.steps N.indexes peers.now polled node.old keys.old
+        (record {
+          wire = W.told wire.old;
+          clock = C.told clock.old;
+          text = K.contents sink.old;
+          file = record { disk = P.disk keeper.old; past = P.past keeper.old; faults = P.faults keeper.old };
+        })
+        (record {
+          wire = W.told wire.new;
+          clock = C.told clock.new;
+          text = K.contents sink.new;
+          file = record { disk = P.disk keeper.new; past = P.past keeper.new; faults = P.faults keeper.new };
+        })) }
     ensures held { OnOk result (HoldsKeys (P.disk keeper.new) keys.new (N.indexes node.new)) }
     ensures on { OnOk result (KeysGoOn keys.old keys.new (P.disk keeper.old) (P.disk keeper.new)) }
     ensures faultless { OnOk result (P.faults keeper.new ≡ P.faults keeper.old) }
     ensures kept { KeepsKeys keys.old (P.disk keeper.old) (P.past keeper.old) (P.past keeper.new) }
     ensures unmoved { IfKeysEnd result ((node.new ≡ node.old) × (W.told wire.new ≡ W.told wire.old) × (C.told clock.new ≡ C.told clock.old)
         × (K.contents sink.new ≡ K.contents sink.old)) }
-    ensures spent { IfKeysEndBy result (NoMore (N.indexes node.old) keys.old.serial) }
+    ensures spent { IfKeysEndBy result (λ refused. NoMore (N.indexes node.old) keys.old refused
+        (record { disk = P.disk keeper.old; past = P.past keeper.old; faults = P.faults keeper.old })
+        (record { disk = P.disk keeper.new; past = P.past keeper.new; faults = P.faults keeper.new })) }
     ensures later { K.faults sink.old ≤ K.faults sink.new }
     ensures failed { IsErrOf result Ended.Sink → Rose (K.faults sink.old) (K.faults sink.new) }
+    ensures sunk { ¬ IsErrOf result Ended.Sink → K.faults sink.new ≡ K.faults sink.old }
     ensures keeper { IsErrOf result (Ended.Keys KeeperFault) → Rose (P.faults keeper.old) (P.faults keeper.new) }
 {
     restock(alloc, node, keys, keeper, sink)?;

@@ -1,5 +1,5 @@
 // The opening of a daemon: its wire, and a start from its key file.
-ghost use Rattle.std.specs.Prelude.{◌≡◌, Err, IfErr, IfOk, List, OnOk, Option, ℕ};
+ghost use Rattle.std.specs.Prelude.{◌≢◌, ◌≡◌, Err, IfErr, IfOk, List, OnOk, Option, ℕ};
 ghost use Rattle.sp_outside.specs.Causes.{Rose};
 ghost use Rattle.sp_keystate.specs.Starting.{KeepsAll, StartsSafely};
 ghost use Rattle.sp_service_turns.specs.Served.{FailsToOpen, IsOpened, opening_of};
@@ -38,11 +38,31 @@ pub fn open<W: Wire, P: Keeper, K: Sink>(
     sink: &mut K,
 ) -> Result<Started, Served>
     ensures opened { (clock : Option (List ℕ)) → IfOk result (λ started. IsOpened ports total started
-        (record { wire = W.told wire.old; clock = clock; disk = P.disk keeper.old; text = K.contents sink.old })
-        (record { wire = W.told wire.new; clock = clock; disk = P.disk keeper.new; text = K.contents sink.new })) }
+        (record {
+          wire = W.told wire.old;
+          clock = clock;
+          text = K.contents sink.old;
+          file = record { disk = P.disk keeper.old; past = P.past keeper.old; faults = P.faults keeper.old };
+        })
+        (record {
+          wire = W.told wire.new;
+          clock = clock;
+          text = K.contents sink.new;
+          file = record { disk = P.disk keeper.new; past = P.past keeper.new; faults = P.faults keeper.new };
+        })) }
     ensures failed { (clock : Option (List ℕ)) → IfErr result (FailsToOpen ports total
-        (record { wire = W.told wire.old; clock = clock; disk = P.disk keeper.old; text = K.contents sink.old })
-        (record { wire = W.told wire.new; clock = clock; disk = P.disk keeper.new; text = K.contents sink.new })) }
+        (record {
+          wire = W.told wire.old;
+          clock = clock;
+          text = K.contents sink.old;
+          file = record { disk = P.disk keeper.old; past = P.past keeper.old; faults = P.faults keeper.old };
+        })
+        (record {
+          wire = W.told wire.new;
+          clock = clock;
+          text = K.contents sink.new;
+          file = record { disk = P.disk keeper.new; past = P.past keeper.new; faults = P.faults keeper.new };
+        })) }
     ensures safe { IfOk result (StartsSafely (P.disk keeper.old) (P.disk keeper.new)) }
     ensures kept { KeepsAll (P.disk keeper.old) (P.past keeper.old) (P.past keeper.new) }
     ensures faultless { OnOk result (P.faults keeper.new ≡ P.faults keeper.old) }
@@ -50,6 +70,7 @@ pub fn open<W: Wire, P: Keeper, K: Sink>(
     ensures wire { result ≡ Err Served.Wire → Rose (W.failed_opens wire.old) (W.failed_opens wire.new) }
     ensures keeper { result ≡ Err (Served.Keys KeyRefused.KeeperFault) → Rose (P.faults keeper.old) (P.faults keeper.new) }
     ensures write { result ≡ Err Served.Sink → Rose (K.faults sink.old) (K.faults sink.new) }
+    ensures sunk { result ≢ Err Served.Sink → K.faults sink.new ≡ K.faults sink.old }
 {
     if wire.open(ports.overlay, ports.client).is_err() {
         return Err(tell(Served::Wire, "wire\n", sink));

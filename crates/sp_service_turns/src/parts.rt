@@ -1,5 +1,5 @@
 // The parts of a turn before its poll: the tick, and what came on each side.
-ghost use Rattle.std.specs.Prelude.{◌≡◌, ◌≤◌, ◌∷◌, [], IfOk, IsErrOf, OnErr, OnOk, Some, length};
+ghost use Rattle.std.specs.Prelude.{◌≢◌, ◌≡◌, ◌≤◌, ◌∷◌, [], IfOk, IsErrOf, OnErr, OnOk, Some, length};
 ghost use Rattle.sp_outside.specs.declared.wire.TheConstants.{DATAGRAM_BYTES};
 ghost use Rattle.sp_outside.specs.Calls.{Received, Tells};
 ghost use Rattle.sp_outside.specs.Causes.{Rose};
@@ -28,9 +28,10 @@ pub fn tick<N: Core, C: Clock, K: Sink>(
 ) -> Result<(), Ended>
     ensures uses { OnOk result (UsesOne (N.indexes node.old) (N.indexes node.new)) }
     ensures ticked { OnOk result (Ticked N.steps node.old node.new (C.told clock.old) (C.told clock.new) (K.contents sink.old) (K.contents sink.new)) }
-    ensures early { OnErr result (EarlyTick (K.contents sink.old) (K.contents sink.new)) }
+    ensures early { OnErr result (EarlyTick N.steps node.old (C.told clock.old) (C.told clock.new) (K.contents sink.old) (K.contents sink.new)) }
     ensures later { K.faults sink.old ≤ K.faults sink.new }
     ensures failed { IsErrOf result Ended.Sink → Rose (K.faults sink.old) (K.faults sink.new) }
+    ensures sunk { ¬ IsErrOf result Ended.Sink → K.faults sink.new ≡ K.faults sink.old }
     ensures no_keys { IfKeysEnd result ⊥ }
 {
     let now = clock.now_ms();
@@ -75,9 +76,11 @@ pub fn overlay<N: Core, W: Wire, K: Sink>(
     ensures uses { IfOk result (λ _. UsesOne (N.indexes node.old) (N.indexes node.new)) }
     ensures heard { IfOk result (λ lost. Overheard N.steps peers.now node.old node.new (W.told wire.old) (W.told wire.new)
         (K.contents sink.old) (K.contents sink.new) lost) }
-    ensures early { OnErr result (EarlyOverlay peers.now (W.told wire.old) (W.told wire.new) (K.contents sink.old) (K.contents sink.new)) }
+    ensures early { OnErr result (EarlyOverlay N.steps peers.now node.old (W.told wire.old) (W.told wire.new)
+        (K.contents sink.old) (K.contents sink.new)) }
     ensures later { K.faults sink.old ≤ K.faults sink.new }
     ensures failed { IsErrOf result Ended.Sink → Rose (K.faults sink.old) (K.faults sink.new) }
+    ensures sunk { ¬ IsErrOf result Ended.Sink → K.faults sink.new ≡ K.faults sink.old }
     ensures no_keys { IfKeysEnd result ⊥ }
 {
     match hear(wire, Side::Overlay, buf) {
@@ -101,9 +104,10 @@ fn came<N: Core, K: Sink>(
 ) -> Result<(), Ended>
     ensures uses { OnOk result (UsesOne (N.indexes node.old) (N.indexes node.new)) }
     ensures came { OnOk result (Came N.steps (node_at peers.now port) node.old port bytes.now node.new (K.contents sink.old) (K.contents sink.new)) }
-    ensures early { OnErr result (EarlyCame (node_at peers.now port) port bytes.now (K.contents sink.old) (K.contents sink.new)) }
+    ensures early { OnErr result (EarlyCame N.steps (node_at peers.now port) node.old port bytes.now (K.contents sink.old) (K.contents sink.new)) }
     ensures later { K.faults sink.old ≤ K.faults sink.new }
     ensures failed { IsErrOf result Ended.Sink → Rose (K.faults sink.old) (K.faults sink.new) }
+    ensures sunk { ¬ IsErrOf result Ended.Sink → K.faults sink.new ≡ K.faults sink.old }
     ensures no_keys { IfKeysEnd result ⊥ }
 {
     match node_at(peers, port) {
@@ -123,9 +127,10 @@ fn arrived<N: Core, K: Sink>(
 ) -> Result<(), Ended>
     ensures uses { OnOk result (UsesOne (N.indexes node.old) (N.indexes node.new)) }
     ensures came { OnOk result (Came N.steps (Some from) node.old port bytes.now node.new (K.contents sink.old) (K.contents sink.new)) }
-    ensures early { OnErr result (EarlyCame (Some from) port bytes.now (K.contents sink.old) (K.contents sink.new)) }
+    ensures early { OnErr result (EarlyCame N.steps (Some from) node.old port bytes.now (K.contents sink.old) (K.contents sink.new)) }
     ensures later { K.faults sink.old ≤ K.faults sink.new }
     ensures failed { IsErrOf result Ended.Sink → Rose (K.faults sink.old) (K.faults sink.new) }
+    ensures sunk { ¬ IsErrOf result Ended.Sink → K.faults sink.new ≡ K.faults sink.old }
     ensures no_keys { IfKeysEnd result ⊥ }
 {
     let Ok(answer) = node.datagram(alloc, from, bytes) else {
@@ -151,9 +156,10 @@ pub fn client<N: Core, W: Wire, K: Sink>(
     ensures uses { IfOk result (λ _. UsesOne (N.indexes node.old) (N.indexes node.new)) }
     ensures served { IfOk result (λ lost. Served N.steps node.old node.new (W.told wire.old) (W.told wire.new)
         (K.contents sink.old) (K.contents sink.new) lost) }
-    ensures early { OnErr result (EarlyClient (W.told wire.old) (W.told wire.new) (K.contents sink.old) (K.contents sink.new)) }
+    ensures early { OnErr result (EarlyClient N.steps node.old (W.told wire.old) (W.told wire.new) (K.contents sink.old) (K.contents sink.new)) }
     ensures later { K.faults sink.old ≤ K.faults sink.new }
     ensures failed { IsErrOf result Ended.Sink → Rose (K.faults sink.old) (K.faults sink.new) }
+    ensures sunk { ¬ IsErrOf result Ended.Sink → K.faults sink.new ≡ K.faults sink.old }
     ensures no_keys { IfKeysEnd result ⊥ }
 {
     match hear(wire, Side::Client, buf) {
@@ -176,9 +182,10 @@ fn answer<N: Core, W: Wire, K: Sink>(
     ensures replied { IfOk result (λ lost. Replied N.steps node.old port bytes.now node.new (W.told wire.old) (W.told wire.new)
         (K.contents sink.old) (K.contents sink.new) lost) }
     ensures silent { OnErr result (W.told wire.new ≡ W.told wire.old) }
-    ensures early { OnErr result (EarlyReply port bytes.now (K.contents sink.old) (K.contents sink.new)) }
+    ensures early { OnErr result (EarlyReply N.steps node.old port bytes.now (K.contents sink.old) (K.contents sink.new)) }
     ensures later { K.faults sink.old ≤ K.faults sink.new }
     ensures failed { IsErrOf result Ended.Sink → Rose (K.faults sink.old) (K.faults sink.new) }
+    ensures sunk { ¬ IsErrOf result Ended.Sink → K.faults sink.new ≡ K.faults sink.old }
     ensures no_keys { IfKeysEnd result ⊥ }
 {
     let Ok(reply) = node.request(alloc, port, bytes) else {

@@ -1,5 +1,5 @@
 // The poll of the next neighbour, which ends a turn.
-ghost use Rattle.std.specs.Prelude.{◌≡◌, ◌≤◌, ◌<◌, ◌^◌, IfOk, IsErrOf, OnErr, Some, length};
+ghost use Rattle.std.specs.Prelude.{◌≢◌, ◌≡◌, ◌≤◌, ◌<◌, ◌^◌, IfOk, IsErrOf, OnErr, Some, length};
 ghost use Rattle.sp_outside.specs.Causes.{Rose};
 ghost use Rattle.sp_service_turns.specs.Keys.{IfKeysEnd};
 ghost use Rattle.sp_service_turns.specs.Done.{Polled, PolledNext};
@@ -28,9 +28,10 @@ fn poll<N: Core, W: Wire, K: Sink>(
     ensures polled { IfOk result (λ lost. Polled N.steps node.old peer node.new (W.told wire.old) (W.told wire.new)
         (K.contents sink.old) (K.contents sink.new) lost) }
     ensures silent { OnErr result (W.told wire.new ≡ W.told wire.old) }
-    ensures early { OnErr result (EarlyPoll (Some peer) (K.contents sink.old) (K.contents sink.new)) }
+    ensures early { OnErr result (EarlyPoll N.steps (Some peer) node.old (K.contents sink.old) (K.contents sink.new)) }
     ensures later { K.faults sink.old ≤ K.faults sink.new }
     ensures failed { IsErrOf result Ended.Sink → Rose (K.faults sink.old) (K.faults sink.new) }
+    ensures sunk { ¬ IsErrOf result Ended.Sink → K.faults sink.new ≡ K.faults sink.old }
     ensures no_keys { IfKeysEnd result ⊥ }
 {
     let Ok(frame) = node.poll(alloc, peer.node) else {
@@ -56,9 +57,10 @@ pub fn poll_next<N: Core, W: Wire, K: Sink>(
     ensures polled { IfOk result (λ lost. PolledNext N.steps polled node.old node.new (W.told wire.old) (W.told wire.new)
         (K.contents sink.old) (K.contents sink.new) lost) }
     ensures silent { OnErr result (W.told wire.new ≡ W.told wire.old) }
-    ensures early { OnErr result (EarlyPoll polled (K.contents sink.old) (K.contents sink.new)) }
+    ensures early { OnErr result (EarlyPoll N.steps polled node.old (K.contents sink.old) (K.contents sink.new)) }
     ensures later { K.faults sink.old ≤ K.faults sink.new }
     ensures failed { IsErrOf result Ended.Sink → Rose (K.faults sink.old) (K.faults sink.new) }
+    ensures sunk { ¬ IsErrOf result Ended.Sink → K.faults sink.new ≡ K.faults sink.old }
     ensures no_keys { IfKeysEnd result ⊥ }
 {
     match polled {

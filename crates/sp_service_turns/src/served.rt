@@ -32,6 +32,7 @@ pub fn tell<K: Sink>(would: Served, line: &str, sink: &mut K) -> Served
     ensures other { would ≢ Served.Wire → result ≢ Served.Wire }
     ensures later { K.faults sink.old ≤ K.faults sink.new }
     ensures write { result ≡ Served.Sink → Rose (K.faults sink.old) (K.faults sink.new) }
+    ensures sunk { result ≢ Served.Sink → K.faults sink.new ≡ K.faults sink.old }
 {
     match write_all(sink, line.as_bytes()) {
         Ok(()) => would,
@@ -45,6 +46,7 @@ pub fn stopped<K: Sink>(ended: Ended, sink: &mut K) -> Served
     ensures later { K.faults sink.old ≤ K.faults sink.new }
     ensures keeper { result ≡ Served.Keys KeeperFault → ended ≡ Ended.Keys KeeperFault }
     ensures write { result ≡ Served.Sink → (ended ≡ Ended.Sink) ⊎ Rose (K.faults sink.old) (K.faults sink.new) }
+    ensures sunk { result ≢ Served.Sink → K.faults sink.new ≡ K.faults sink.old }
     ensures unopened { result ≢ Served.Wire }
 {
     match ended {

@@ -10,12 +10,12 @@ use Rattle.sp_outside.specs.Disk.{Disk}
 use Rattle.sp_outside.specs.Streams.{IsInput}
 use Rattle.sp_service.proofs.Tellings.{By_keeper, By_keys, By_memory, By_refusal, By_sink, By_turns, By_wire, Says, Tells, both, told}
 use Rattle.sp_service.specs.Complete.{GivesNoStart, IsAtEnd, IsConfiguredFor}
-use Rattle.sp_service_turns.specs.Served.{Outside}
+use Rattle.sp_service_turns.specs.Outside.{Outside}
 use Rattle.sp_service_turns.specs.declared.served.Served.{Served}
 use Rattle.sp_top.specs.Daemons.{AreTold, As_wanted, CanServe, CannotStart, DaemonEnds, DaemonRuns, EndsUnlessFailed, IsInputFor, MayEndByKeys, No_keeper, No_memory, No_sink, No_source, No_wire, ServedFrom}
 use Rattle.sp_top.specs.Statuses.{key_status, served_status}
-use Rattle.sp_top.specs.declared.ended.Status.{Status}
-use Rattle.sp_top.specs.declared.ended.Status.TheVariants as statuses
+use Rattle.sp_words.specs.declared.status.Status.{Status}
+use Rattle.sp_words.specs.declared.status.Status.TheVariants as statuses
 
 -- ---- what its status tells
 
@@ -96,10 +96,10 @@ unread_keys status (inl source) is = absurd (cc)
 unread_keys status (inr memory) is = absurd (cc)
 
 module _ (turns : ℕ) (status : Status) (before after : Outside) where
-  tells : (left : Option (List ℕ)) (is : ServedFrom left turns status before after) → Tells is.text is.is_cut turns before.disk is.ended
+  tells : (left : Option (List ℕ)) (is : ServedFrom left turns status before after) → Tells is.text is.is_cut turns before.file.disk is.ended
   tells left is = told is.text is.is_cut turns before after is.ended is.ends
 
-  all_serve : (left : Option (List ℕ)) (disk : Option Disk) → before.disk ≡ disk → DaemonEnds left turns status before after → AreTold left disk (CanServe turns)
+  all_serve : (left : Option (List ℕ)) (disk : Option Disk) → before.file.disk ≡ disk → DaemonEnds left turns status before after → AreTold left disk (CanServe turns)
       → EndsUnlessFailed statuses.Done status
   all_serve (Some text) (Some disk) file (inl is) can =
       subst (EndsUnlessFailed statuses.Done) (sym is.status_is)
@@ -108,7 +108,7 @@ module _ (turns : ℕ) (status : Status) (before after : Outside) where
   all_serve (Some text) None file (inl is) can = absurd can
   all_serve None disk file (inl is) can = absurd can
 
-  all_stop : (left : Option (List ℕ)) (disk : Option Disk) → before.disk ≡ disk → DaemonEnds left turns status before after → AreTold left disk CannotStart
+  all_stop : (left : Option (List ℕ)) (disk : Option Disk) → before.file.disk ≡ disk → DaemonEnds left turns status before after → AreTold left disk CannotStart
       → EndsUnlessFailed statuses.KeyState status
   all_stop (Some text) (Some disk) file (inl is) can =
       subst (EndsUnlessFailed statuses.KeyState) (sym is.status_is)
@@ -118,7 +118,7 @@ module _ (turns : ℕ) (status : Status) (before after : Outside) where
   all_stop None disk file (inl is) can = absurd can
 
   -- a daemon that ended by its key file
-  stopped : (text : List ℕ) (disk : Disk) → before.disk ≡ Some disk → DaemonEnds (Some text) turns status before after → status ≡ statuses.KeyState → MayEndByKeys turns disk text
+  stopped : (text : List ℕ) (disk : Disk) → before.file.disk ≡ Some disk → DaemonEnds (Some text) turns status before after → status ≡ statuses.KeyState → MayEndByKeys turns disk text
   stopped text disk file (inl is) ended =
       by_keys text is.text is.is_cut turns disk is.input is.ended (subst (λ (d : Option Disk). Tells is.text is.is_cut turns d is.ended) file (tells (Some text) is))
       (sym is.status_is ∙ ended)
@@ -127,8 +127,8 @@ module _ (turns : ℕ) (status : Status) (before after : Outside) where
 pub runs : (left : Option (List ℕ)) (turns : ℕ) (status : Status) (before after : Outside) → DaemonEnds left turns status before after → DaemonRuns left turns status before after
 runs left turns status before after ends = record {
   ends = ends;
-  serves = all_serve turns status before after left before.disk refl ends;
-  stops = all_stop turns status before after left before.disk refl ends;
+  serves = all_serve turns status before after left before.file.disk refl ends;
+  stops = all_stop turns status before after left before.file.disk refl ends;
   stopped = λ is text disk source file.
       stopped turns status before after text disk file (subst (λ (l : Option (List ℕ)). DaemonEnds l turns status before after) source ends) is;
 }

@@ -1,14 +1,7 @@
-pub mod Complete
 pub mod Daemons
-pub mod GeneratedRuns
 pub mod Outputs
-pub mod Ways
-pub mod Begun
-pub mod Lines
-pub mod Feeding
-pub mod Ends
 pub mod Said
 pub mod SaidRuns
 pub mod Services
-pub mod Timelines
-pub mod Worlds
+pub mod Whole
+pub mod Rules

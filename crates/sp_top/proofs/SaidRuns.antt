@@ -11,12 +11,13 @@ use Rattle.sp_keystate.specs.declared.slot.Slot.TheVariants.{First}
 use Rattle.sp_outside.specs.Disk.{Disk, IsImage, bytes_of}
 use Rattle.sp_outside.specs.Streams.{AppendsFront}
 use Rattle.sp_service.proofs.Endings.{kept_quiet}
-use Rattle.sp_service_turns.specs.Served.{Outside}
+use Rattle.sp_service_turns.specs.Outside.{Outside}
 use Rattle.sp_words.specs.declared.command_line.Ask.{Ask}
 use Rattle.sp_world.specs.Past.{Past}
 use Rattle.sp_top.specs.Claims.{SaidClaims, Wrote}
 use Rattle.sp_top.specs.Commands.{BySaid, Says}
-use Rattle.sp_top.specs.Complete.{IsCompleteReplay, IsDoneOrFailed}
+use Rattle.sp_replay.specs.Claims.{Generates, Replays}
+use Rattle.sp_replay.specs.Complete.{IsCompleteReplay, IsDoneOrFailed}
 use Rattle.sp_top.specs.Outputs.{usage_line}
 use Rattle.sp_keystate.specs.RefusedLines.{refused_line}
 use Rattle.sp_keystate.specs.declared.refused.KeyRefused.TheVariants as keys
@@ -25,9 +26,9 @@ use Rattle.sp_top.specs.Daemons.{DaemonEnds}
 use Rattle.sp_top.specs.Services.{AskEnds, FormatEnds, Keeper_failed, KeepsFile}
 use Rattle.sp_top.specs.declared.command.Command.{Command}
 use Rattle.sp_top.specs.declared.command.Command.TheVariants as commands
-use Rattle.sp_top.specs.declared.ended.Status.{Status}
-use Rattle.sp_top.specs.declared.ended.Status.TheVariants as statuses
-use Rattle.sp_top.proofs.Begun.{nothing_begun}
+use Rattle.sp_words.specs.declared.status.Status.{Status}
+use Rattle.sp_words.specs.declared.status.Status.TheVariants as statuses
+use Rattle.sp_replay.proofs.Begun.{nothing_begun}
 use Rattle.sp_top.proofs.Outputs.{usage_written}
 
 -- what was claimed of what the words say holds by the words
@@ -37,10 +38,11 @@ by_said words said Holds says holds = inl (said, says, holds)
 -- ---- commands that write an output
 
 pub replayed : (left : Option (List ℕ)) (past : Option Past) (status : Status) (o0 o1 : Outside)
-    → Wrote (Some commands.Replay) left past status o0.text o1.text → (status ≢ statuses.Source → status ≢ statuses.Sink → IsCompleteReplay left status) → status ≢ statuses.Usage
+    → Replays left past status o0.text o1.text → (status ≢ statuses.Source → status ≢ statuses.Sink → IsCompleteReplay left status) → status ≢ statuses.Usage
     → SaidClaims (Some commands.Replay) left past status o0 o1
 replayed left past status o0 o1 wrote complete usage = record {
   wrote = λ _ _. wrote;
+  worldless = λ runs. absurd (cc);
   served = tt;
   complete = complete;
   generated = tt;
@@ -54,10 +56,11 @@ done_or_failed status (inr (inl sink)) is = absurd (cc)
 done_or_failed status (inr (inr memory)) is = absurd (cc)
 
 pub generated : (number : ℕ) (left : Option (List ℕ)) (past : Option Past) (status : Status) (o0 o1 : Outside)
-    → Wrote (Some (commands.Generate number)) left past status o0.text o1.text → IsDoneOrFailed status
+    → Generates number past status o0.text o1.text → IsDoneOrFailed status
     → SaidClaims (Some (commands.Generate number)) left past status o0 o1
 generated number left past status o0 o1 wrote ends = record {
   wrote = λ _ _. wrote;
+  worldless = λ runs. absurd (cc);
   served = tt;
   complete = λ read written. tt;
   generated = ends;
@@ -66,10 +69,11 @@ generated number left past status o0 o1 wrote ends = record {
 }
 
 pub answered : (command : Offline) (left : Option (List ℕ)) (past : Option Past) (status : Status) (o0 o1 : Outside)
-    → Wrote (Some (commands.Offline command)) left past status o0.text o1.text → status ≢ statuses.Usage
+    → Wrote (Some (commands.Offline command)) left past status o0.text o1.text → past ≡ None → status ≢ statuses.Usage
     → SaidClaims (Some (commands.Offline command)) left past status o0 o1
-answered command left past status o0 o1 wrote usage = record {
+answered command left past status o0 o1 wrote worldless usage = record {
   wrote = λ _ _. wrote;
+  worldless = λ runs. worldless;
   served = tt;
   complete = λ read written. tt;
   generated = tt;
@@ -78,9 +82,10 @@ answered command left past status o0 o1 wrote usage = record {
 }
 
 pub verified : (left : Option (List ℕ)) (past : Option Past) (status : Status) (o0 o1 : Outside)
-    → Wrote (Some commands.Verify) left past status o0.text o1.text → status ≢ statuses.Usage → SaidClaims (Some commands.Verify) left past status o0 o1
-verified left past status o0 o1 wrote usage = record {
+    → Wrote (Some commands.Verify) left past status o0.text o1.text → past ≡ None → status ≢ statuses.Usage → SaidClaims (Some commands.Verify) left past status o0 o1
+verified left past status o0 o1 wrote worldless usage = record {
   wrote = λ _ _. wrote;
+  worldless = λ runs. worldless;
   served = tt;
   complete = λ read written. tt;
   generated = tt;
@@ -91,9 +96,10 @@ verified left past status o0 o1 wrote usage = record {
 -- ---- commands that call the wire
 
 pub served : (turns : ℕ) (left : Option (List ℕ)) (past : Option Past) (status : Status) (o0 o1 : Outside)
-    → DaemonEnds left turns status o0 o1 → status ≢ statuses.Usage → SaidClaims (Some (commands.Daemon turns)) left past status o0 o1
-served turns left past status o0 o1 ends usage = record {
+    → DaemonEnds left turns status o0 o1 → past ≡ None → status ≢ statuses.Usage → SaidClaims (Some (commands.Daemon turns)) left past status o0 o1
+served turns left past status o0 o1 ends worldless usage = record {
   wrote = λ uncalled _. absurd (cc);
+  worldless = λ runs. worldless;
   served = runs left turns status o0 o1 ends;
   complete = λ read written. tt;
   generated = tt;
@@ -102,9 +108,10 @@ served turns left past status o0 o1 ends usage = record {
 }
 
 pub asked : (a : Ask) (left : Option (List ℕ)) (past : Option Past) (status : Status) (o0 o1 : Outside)
-    → AskEnds a status o0 o1 → status ≢ statuses.Usage → SaidClaims (Some (commands.Ask a)) left past status o0 o1
-asked a left past status o0 o1 ends usage = record {
+    → AskEnds a status o0 o1 → past ≡ None → status ≢ statuses.Usage → SaidClaims (Some (commands.Ask a)) left past status o0 o1
+asked a left past status o0 o1 ends worldless usage = record {
   wrote = λ uncalled _. absurd (cc);
+  worldless = λ runs. worldless;
   served = ends;
   complete = λ read written. tt;
   generated = tt;
@@ -113,9 +120,10 @@ asked a left past status o0 o1 ends usage = record {
 }
 
 pub formatted : (left : Option (List ℕ)) (past : Option Past) (status : Status) (o0 o1 : Outside)
-    → FormatEnds status o0 o1 → status ≢ statuses.Usage → SaidClaims (Some commands.Format) left past status o0 o1
-formatted left past status o0 o1 ends usage = record {
+    → FormatEnds status o0 o1 → past ≡ None → status ≢ statuses.Usage → SaidClaims (Some commands.Format) left past status o0 o1
+formatted left past status o0 o1 ends worldless usage = record {
   wrote = λ _ uncalled. absurd (cc);
+  worldless = λ runs. worldless;
   served = ends;
   complete = λ read written. tt;
   generated = tt;
@@ -134,7 +142,8 @@ pub no_command : (left : Option (List ℕ)) (past : Option Past) (status : Statu
     → (status ≡ statuses.Usage) ⊎ (status ≡ statuses.Sink) → (status ≡ statuses.Usage → Appends o0.text o1.text usage_line)
     → (status ≡ statuses.Sink → AppendsFront o0.text o1.text usage_line) → SaidClaims None left past status o0 o1
 no_command left past status o0 o1 worldless is written begun = record {
-  wrote = λ _ _. usage_written left past status o0.text o1.text worldless is written begun;
+  wrote = λ _ _. usage_written left status o0.text o1.text is written begun;
+  worldless = λ runs. worldless;
   served = tt;
   complete = λ read unwritten. tt;
   generated = tt;
@@ -150,7 +159,8 @@ nothing_made (Some disk) past = since_none past (λ image. IsImage disk image �
 -- where no memory was left to read the words, all holds of the run that they may say
 claimed : (said : Option Command) (left : Option (List ℕ)) (o : Outside) → SaidClaims said left None statuses.Memory o o
 claimed None left o = record {
-  wrote = λ _ _. (refl, refl);
+  wrote = λ _ _. refl;
+  worldless = λ runs. refl;
   served = tt;
   complete = λ read written. tt;
   generated = tt;
@@ -159,6 +169,7 @@ claimed None left o = record {
 }
 claimed (Some commands.Replay) left o = record {
   wrote = λ _ _. nothing_begun left o.text;
+  worldless = λ runs. refl;
   served = tt;
   complete = λ read written. record { honest = λ tells. inr refl; bad = λ tells. inr refl };
   generated = tt;
@@ -166,7 +177,8 @@ claimed (Some commands.Replay) left o = record {
   only_usage = λ _. inr (inr refl);
 }
 claimed (Some (commands.Generate number)) left o = record {
-  wrote = λ _ _. (refl, refl);
+  wrote = λ _ _. refl;
+  worldless = λ runs. refl;
   served = tt;
   complete = λ read written. tt;
   generated = inr (inr refl);
@@ -174,7 +186,8 @@ claimed (Some (commands.Generate number)) left o = record {
   only_usage = λ _. inr (inr refl);
 }
 claimed (Some (commands.Offline command)) left o = record {
-  wrote = λ _ _. (refl, refl);
+  wrote = λ _ _. refl;
+  worldless = λ runs. refl;
   served = tt;
   complete = λ read written. tt;
   generated = tt;
@@ -182,7 +195,8 @@ claimed (Some (commands.Offline command)) left o = record {
   only_usage = λ _. inr (inr refl);
 }
 claimed (Some commands.Verify) left o = record {
-  wrote = λ _ _. (refl, refl);
+  wrote = λ _ _. refl;
+  worldless = λ runs. refl;
   served = tt;
   complete = λ read written. tt;
   generated = tt;
@@ -190,7 +204,8 @@ claimed (Some commands.Verify) left o = record {
   only_usage = λ _. inr (inr refl);
 }
 claimed (Some (commands.Daemon turns)) left o = record {
-  wrote = λ _ _. (refl, refl);
+  wrote = λ _ _. refl;
+  worldless = λ runs. refl;
   served = runs left turns statuses.Memory o o (inr (record { cause = inr refl; quiet = (refl, refl, refl); unwritten = refl }));
   complete = λ read written. tt;
   generated = tt;
@@ -198,7 +213,8 @@ claimed (Some (commands.Daemon turns)) left o = record {
   only_usage = λ _. inr (inr refl);
 }
 claimed (Some (commands.Ask a)) left o = record {
-  wrote = λ _ _. (refl, refl);
+  wrote = λ _ _. refl;
+  worldless = λ runs. refl;
   served = inr (inr (record { memory = refl; called = inl refl; unwritten = refl }));
   complete = λ read written. tt;
   generated = tt;
@@ -207,6 +223,7 @@ claimed (Some (commands.Ask a)) left o = record {
 }
 claimed (Some commands.Format) left o = record {
   wrote = λ _ uncalled. absurd (cc);
+  worldless = λ runs. refl;
   served = record { would = statuses.Keeper; line = refused_line keys.KeeperFault; makes = Keeper_failed; told = inr (inr (refl, refl)) };
   complete = λ read written. tt;
   generated = tt;

@@ -14,7 +14,8 @@ use Rattle.sp_keystate.specs.declared.slot.InUse.{InUse}
 use Rattle.sp_outside.specs.Disk.{Disk}
 use Rattle.sp_outside.specs.Streams.{IsInput}
 use Rattle.sp_service.specs.Served.{Ends}
-use Rattle.sp_service_turns.specs.Served.{Outside, wire_line}
+use Rattle.sp_service_turns.specs.Outside.{KeptFile, Outside}
+use Rattle.sp_service_turns.specs.Served.{wire_line}
 use Rattle.sp_service_turns.specs.declared.served.Served.{Served}
 use Rattle.sp_service_ask.specs.Asking.{Asked, Unopened}
 use Rattle.sp_service_ask.specs.declared.question.Question.{Question}
@@ -22,8 +23,8 @@ use Rattle.sp_words.specs.declared.command_line.Ask.{Ask}
 use Rattle.sp_top.specs.Daemons.{DaemonEnds}
 use Rattle.sp_top.specs.Services.{Answers, AskEnds, FormatEnds, IsTold, Keeper_failed, Made, Makes, Was_formatted, formatted_line, No_port, No_reply, Reply, question_of, reply_line, unanswered_line}
 use Rattle.sp_top.specs.Statuses.{key_status, served_status}
-use Rattle.sp_top.specs.declared.ended.Status.{Status}
-use Rattle.sp_top.specs.declared.ended.Status.TheVariants as statuses
+use Rattle.sp_words.specs.declared.status.Status.{Status}
+use Rattle.sp_words.specs.declared.status.Status.TheVariants as statuses
 
 -- ---- a daemon
 
@@ -70,34 +71,34 @@ same_unopened a request w0 w1 same unopened = record {
   calls = unopened.calls;
 }
 
-pub replied : (a : Ask) (bytes : Bor (List ℕ)) (status : Status) (reply : List ℕ) (w0 w1 : Option (List Call)) (c : Option (List ℕ)) (d : Option Disk) (b0 b1 : Option (List ℕ))
+pub replied : (a : Ask) (bytes : Bor (List ℕ)) (status : Status) (reply : List ℕ) (w0 w1 : Option (List Call)) (c : Option (List ℕ)) (f : KeptFile) (b0 b1 : Option (List ℕ))
     → bytes.now ≡ a.request.now → Asked (question a bytes) w0 w1 (Some reply) → IsTold statuses.Done (reply_line reply) status b0 b1
-    → AskEnds a status (record { wire = w0; clock = c; disk = d; text = b0 }) (record { wire = w1; clock = c; disk = d; text = b1 })
-replied a bytes status reply w0 w1 c d b0 b1 same asked is =
-    told a statuses.Done status (reply_line reply) (record { wire = w0; clock = c; disk = d; text = b0 }) (record { wire = w1; clock = c; disk = d; text = b1 }) (Reply reply (same_asked a bytes w0 w1 (Some reply) same asked)) is
+    → AskEnds a status (record { wire = w0; clock = c; text = b0; file = f }) (record { wire = w1; clock = c; text = b1; file = f })
+replied a bytes status reply w0 w1 c f b0 b1 same asked is =
+    told a statuses.Done status (reply_line reply) (record { wire = w0; clock = c; text = b0; file = f }) (record { wire = w1; clock = c; text = b1; file = f }) (Reply reply (same_asked a bytes w0 w1 (Some reply) same asked)) is
 
-pub unanswered : (a : Ask) (bytes : Bor (List ℕ)) (status : Status) (w0 w1 : Option (List Call)) (c : Option (List ℕ)) (d : Option Disk) (b0 b1 : Option (List ℕ))
+pub unanswered : (a : Ask) (bytes : Bor (List ℕ)) (status : Status) (w0 w1 : Option (List Call)) (c : Option (List ℕ)) (f : KeptFile) (b0 b1 : Option (List ℕ))
     → bytes.now ≡ a.request.now → Asked (question a bytes) w0 w1 None → IsTold statuses.Unanswered (unanswered_line a.turns) status b0 b1
-    → AskEnds a status (record { wire = w0; clock = c; disk = d; text = b0 }) (record { wire = w1; clock = c; disk = d; text = b1 })
-unanswered a bytes status w0 w1 c d b0 b1 same asked is =
-    told a statuses.Unanswered status (unanswered_line a.turns) (record { wire = w0; clock = c; disk = d; text = b0 }) (record { wire = w1; clock = c; disk = d; text = b1 }) (No_reply (same_asked a bytes w0 w1 None same asked)) is
+    → AskEnds a status (record { wire = w0; clock = c; text = b0; file = f }) (record { wire = w1; clock = c; text = b1; file = f })
+unanswered a bytes status w0 w1 c f b0 b1 same asked is =
+    told a statuses.Unanswered status (unanswered_line a.turns) (record { wire = w0; clock = c; text = b0; file = f }) (record { wire = w1; clock = c; text = b1; file = f }) (No_reply (same_asked a bytes w0 w1 None same asked)) is
 
-pub unopened : (a : Ask) (bytes : Bor (List ℕ)) (status : Status) (w0 w1 : Option (List Call)) (c : Option (List ℕ)) (d : Option Disk) (b0 b1 : Option (List ℕ))
+pub unopened : (a : Ask) (bytes : Bor (List ℕ)) (status : Status) (w0 w1 : Option (List Call)) (c : Option (List ℕ)) (f : KeptFile) (b0 b1 : Option (List ℕ))
     → bytes.now ≡ a.request.now → Unopened (question a bytes) w0 w1 → IsTold statuses.Wire wire_line status b0 b1
-    → AskEnds a status (record { wire = w0; clock = c; disk = d; text = b0 }) (record { wire = w1; clock = c; disk = d; text = b1 })
-unopened a bytes status w0 w1 c d b0 b1 same opened is =
-    told a statuses.Wire status wire_line (record { wire = w0; clock = c; disk = d; text = b0 }) (record { wire = w1; clock = c; disk = d; text = b1 }) (No_port (same_unopened a bytes w0 w1 same opened)) is
+    → AskEnds a status (record { wire = w0; clock = c; text = b0; file = f }) (record { wire = w1; clock = c; text = b1; file = f })
+unopened a bytes status w0 w1 c f b0 b1 same opened is =
+    told a statuses.Wire status wire_line (record { wire = w0; clock = c; text = b0; file = f }) (record { wire = w1; clock = c; text = b1; file = f }) (No_port (same_unopened a bytes w0 w1 same opened)) is
 
-pub forgotten : (a : Ask) (w0 w1 : Option (List Call)) (c : Option (List ℕ)) (d : Option Disk) (b : Option (List ℕ)) → w1 ≡ w0
-    → AskEnds a statuses.Memory (record { wire = w0; clock = c; disk = d; text = b }) (record { wire = w1; clock = c; disk = d; text = b })
-forgotten a w0 w1 c d b same = inr (inr (record { memory = refl; called = inl same; unwritten = refl }))
+pub forgotten : (a : Ask) (w0 w1 : Option (List Call)) (c : Option (List ℕ)) (f : KeptFile) (b : Option (List ℕ)) → w1 ≡ w0
+    → AskEnds a statuses.Memory (record { wire = w0; clock = c; text = b; file = f }) (record { wire = w1; clock = c; text = b; file = f })
+forgotten a w0 w1 c f b same = inr (inr (record { memory = refl; called = inl same; unwritten = refl }))
 
 -- ---- a key file is made
 
-pub made : (w : Option (List Call)) (c : Option (List ℕ)) (d0 d1 : Option Disk) (b0 b1 : Option (List ℕ)) (status : Status) → Formats d0 d1
+pub made : (w : Option (List Call)) (c : Option (List ℕ)) (f0 f1 : KeptFile) (b0 b1 : Option (List ℕ)) (status : Status) → Formats f0.disk f1.disk
     → IsTold statuses.Done formatted_line status b0 b1
-    → FormatEnds status (record { wire = w; clock = c; disk = d0; text = b0 }) (record { wire = w; clock = c; disk = d1; text = b1 })
-made w c d0 d1 b0 b1 status formats told = record { would = statuses.Done; line = formatted_line; makes = Made formats; told = told }
+    → FormatEnds status (record { wire = w; clock = c; text = b0; file = f0 }) (record { wire = w; clock = c; text = b1; file = f1 })
+made w c f0 f1 b0 b1 status formats told = record { would = statuses.Done; line = formatted_line; makes = Made formats; told = told }
 
 -- why it wasn't made, by the answer of the call
 why : (d0 d1 : Option Disk) (refused : KeyRefused) → IsFormatAnswer {T = KeyState} (Err refused) → (refused ≡ keys.Formatted → (found : InUse) × Finds d0 d1 (Some found))
@@ -107,13 +108,13 @@ why d0 d1 keys.Unformatted answer found = absurd answer
 why d0 d1 keys.Formatted answer found = let there = found refl in Was_formatted there.0 there.1
 why d0 d1 (keys.Exhausted number) answer found = absurd answer
 
-pub unmade : (w : Option (List Call)) (c : Option (List ℕ)) (d0 d1 : Option Disk) (b0 b1 : Option (List ℕ)) (refused : KeyRefused) (line : List ℕ) (status : Status)
-    → IsFormatAnswer {T = KeyState} (Err refused) → (refused ≡ keys.Formatted → (found : InUse) × Finds d0 d1 (Some found)) → line ≡ refused_line refused
+pub unmade : (w : Option (List Call)) (c : Option (List ℕ)) (f0 f1 : KeptFile) (b0 b1 : Option (List ℕ)) (refused : KeyRefused) (line : List ℕ) (status : Status)
+    → IsFormatAnswer {T = KeyState} (Err refused) → (refused ≡ keys.Formatted → (found : InUse) × Finds f0.disk f1.disk (Some found)) → line ≡ refused_line refused
     → IsTold (key_status refused) line status b0 b1
-    → FormatEnds status (record { wire = w; clock = c; disk = d0; text = b0 }) (record { wire = w; clock = c; disk = d1; text = b1 })
-unmade w c d0 d1 b0 b1 refused line status answer found is told = record {
+    → FormatEnds status (record { wire = w; clock = c; text = b0; file = f0 }) (record { wire = w; clock = c; text = b1; file = f1 })
+unmade w c f0 f1 b0 b1 refused line status answer found is told = record {
   would = key_status refused;
   line = refused_line refused;
-  makes = why d0 d1 refused answer found;
+  makes = why f0.disk f1.disk refused answer found;
   told = subst (λ (l : List ℕ). IsTold (key_status refused) l status b0 b1) is told;
 }

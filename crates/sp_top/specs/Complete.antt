@@ -1,73 +1,26 @@
--- Which runs must be done: what the program may not refuse.
-use Rattle.std.specs.Prelude.{ℕ, ◌≡◌, ◌⊎◌, Bool, true, false, List, Option, Some, None}
-use Rattle.laws_runs_format.specs.Unforged.{NothingForged}
-use Rattle.sp_schedule.specs.declared.stage.Stage.{Stage}
-use Rattle.sp_schedule.specs.declared.stage.Stage.TheVariants as stages
-use Rattle.sp_schedule.specs.declared.stage.Ending.TheVariants as endings
-use Rattle.sp_schedule.specs.declared.refused.Kind.{Kind}
-use Rattle.sp_schedule_events.specs.declared.scenario.Scenario.{Scenario}
-use Rattle.sp_schedule_events.specs.declared.event.Event.{Event}
-use Rattle.sp_top.specs.Outputs.{IsRead, Spells}
+-- Which runs must be done, and which objects a command calls.
+use Rattle.std.specs.Prelude.{ℕ, Bool, true, false, List, Option, Some, None}
+use Rattle.sp_replay.specs.Complete.{IsCompleteReplay, IsDoneOrFailed}
 use Rattle.sp_top.specs.declared.command.Command.{Command}
 use Rattle.sp_top.specs.declared.command.Command.TheVariants as commands
-use Rattle.sp_top.specs.declared.ended.Status.{Status}
-use Rattle.sp_top.specs.declared.ended.Status.TheVariants as statuses
-
--- ---- inputs
-
--- the text is that of a schedule of which no event is forged
-pub record IsHonest (text : List ℕ) : Type 0 where
-  pub scenario : Scenario
-  pub events : List Event
-  pub spells : Spells text scenario events
-  pub unforged : NothingForged scenario events
-
--- no event of a stage is forged. Before the line `begin` it has none
-abbrev pub IsUnforged : Stage → Type 0
-IsUnforged (stages.Events s es) = NothingForged s es
-IsUnforged (stages.End s es) = NothingForged s es
-IsUnforged _ = Unit {0}
-
--- the text has a first bad line, and no event before it is forged
-pub record HasBadLine (text : List ℕ) : Type 0 where
-  pub stage : Stage
-  pub line : ℕ
-  pub kind : Kind
-  pub reading : IsRead text stage (endings.Refused line kind)
-  pub unforged : IsUnforged stage
-
--- this holds of what a source told that it had left
-abbrev pub Tells : (List ℕ → Type 0) → Option (List ℕ) → Type 0
-Tells Holds None = ⊥
-Tells Holds (Some text) = Holds text
-
--- ---- endings
-
--- it ended so, or there was no memory
-abbrev pub EndsAs : Status → Status → Type 0
-EndsAs wanted status = (status ≡ wanted) ⊎ (status ≡ statuses.Memory)
-
--- How a replay ends in which neither the source nor the sink fails.
-pub record IsCompleteReplay (left : Option (List ℕ)) (status : Status) : Type 0 where
-  -- a schedule of which nothing is forged is run to its end
-  pub honest : Tells IsHonest left → EndsAs statuses.Done status
-  -- a text that is no schedule is refused, where nothing is forged before its first bad line
-  pub bad : Tells HasBadLine left → EndsAs statuses.Refused status
+use Rattle.sp_words.specs.declared.status.Status.{Status}
 
 abbrev pub IsComplete : Option Command → Option (List ℕ) → Status → Type 0
 IsComplete (Some commands.Replay) left status = IsCompleteReplay left status
 IsComplete _ left status = Unit {0}
-
--- it is done, or the sink failed, or there was no memory
-abbrev pub IsDoneOrFailed : Status → Type 0
-IsDoneOrFailed status = (status ≡ statuses.Done) ⊎ ((status ≡ statuses.Sink) ⊎ (status ≡ statuses.Memory))
 
 -- the schedule of a number never meets a forgery
 abbrev pub GeneratesAll : Option Command → Status → Type 0
 GeneratesAll (Some (commands.Generate number)) status = IsDoneOrFailed status
 GeneratesAll _ status = Unit {0}
 
--- ---- which objects a command calls
+-- ---- what a command makes and calls
+
+-- a replay and the schedule of a number are run, and leave their world
+abbrev pub runs_world : Option Command → Bool
+runs_world (Some commands.Replay) = true
+runs_world (Some (commands.Generate number)) = true
+runs_world _ = false
 
 -- `generate`, `ask` and `format` read no input, and neither do words that are no command
 abbrev pub reads : Option Command → Bool

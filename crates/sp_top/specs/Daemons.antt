@@ -4,12 +4,12 @@ use Rattle.sp_base.specs.declared.limits.TheConstants.{MAX_INPUT_BYTES}
 use Rattle.sp_outside.specs.Disk.{Disk}
 use Rattle.sp_outside.specs.Streams.{IsInput}
 use Rattle.sp_service.specs.Complete.{GivesNoStart, IsAtEnd, IsConfiguredFor}
-use Rattle.sp_service.specs.Served.{Ends, IsQuiet}
-use Rattle.sp_service_turns.specs.Served.{Outside}
+use Rattle.sp_service.specs.Served.{Ends}
+use Rattle.sp_service_turns.specs.Outside.{IsQuiet, Outside}
 use Rattle.sp_service_turns.specs.declared.served.Served.{Served}
 use Rattle.sp_top.specs.Statuses.{served_status}
-use Rattle.sp_top.specs.declared.ended.Status.{Status}
-use Rattle.sp_top.specs.declared.ended.Status.TheVariants as statuses
+use Rattle.sp_words.specs.declared.status.Status.{Status}
+use Rattle.sp_words.specs.declared.status.Status.TheVariants as statuses
 
 -- ---- what it did
 
@@ -69,8 +69,8 @@ pub record DaemonRuns (left : Option (List ℕ)) (turns : ℕ) (status : Status)
   -- what it did, and what it recorded
   pub ends : DaemonEnds left turns status before after
   -- with a configuration that fits and a key file that isn't at its end it makes all its turns
-  pub serves : AreTold left before.disk (CanServe turns) → EndsUnlessFailed statuses.Done status
+  pub serves : AreTold left before.file.disk (CanServe turns) → EndsUnlessFailed statuses.Done status
   -- with one that gives no start it ends by its key file
-  pub stops : AreTold left before.disk CannotStart → EndsUnlessFailed statuses.KeyState status
+  pub stops : AreTold left before.file.disk CannotStart → EndsUnlessFailed statuses.KeyState status
   -- and by no other than one that is at its end
-  pub stopped : status ≡ statuses.KeyState → (text : List ℕ) (disk : Disk) → left ≡ Some text → before.disk ≡ Some disk → MayEndByKeys turns disk text
+  pub stopped : status ≡ statuses.KeyState → (text : List ℕ) (disk : Disk) → left ≡ Some text → before.file.disk ≡ Some disk → MayEndByKeys turns disk text

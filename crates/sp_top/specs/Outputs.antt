@@ -1,148 +1,20 @@
--- What the program writes for its words and its input.
-use Rattle.std.specs.Prelude.{ℕ, ◌≡◌, ◌+◌, ◌≤◌, Bool, List, [], ◌∷◌, ◌++◌, length, take, nat_lt, Option, Some, None, codes}
-use Rattle.std.specs.Fmt.{decimal}
-use Rattle.hex.specs.Hex.{encode_lower}
-use Rattle.sha2.specs.Sha256.{sha256}
+-- What the commands write that run no schedule and call neither the wire nor the key file.
+use Rattle.std.specs.Prelude.{ℕ, Bool, List, Option, Some, None, codes}
 use Rattle.sp_base.specs.declared.limits.TheConstants.{MAX_INPUT_BYTES}
-use Rattle.sp_lines.specs.Rows.{after_spaces, line_text}
-use Rattle.sp_text.specs.Spelling.{hex_word}
-use Rattle.sp_schedule.specs.declared.stage.Stage.{Stage}
-use Rattle.sp_schedule.specs.declared.stage.Stage.TheVariants as stages
-use Rattle.sp_schedule.specs.declared.stage.Ending.{Ending}
-use Rattle.sp_schedule.specs.declared.stage.Ending.TheVariants as endings
-use Rattle.sp_schedule.specs.declared.refused.Kind.{Kind}
-use Rattle.sp_schedule.specs.Readings.{IsReading}
-use Rattle.sp_schedule.specs.Refusals.{refused_line}
-use Rattle.sp_schedule.specs.Scenarios.{IsSchedule}
-use Rattle.sp_schedule.specs.Spelling.{schedule_text}
-use Rattle.sp_schedule_events.specs.declared.scenario.Scenario.{Scenario}
-use Rattle.sp_schedule_events.specs.declared.event.Event.{Event}
-use Rattle.sp_generate.specs.Generated.{generated_events, generated_scenario}
-use Rattle.sp_journal.specs.JournalText.{journal_lines, journal_text, summary_words}
-use Rattle.sp_node_format.specs.Format.{format}
-use Rattle.sp_runs.specs.Runs.{Clean, IsForgedAt}
-use Rattle.sp_runs.specs.Scenarios.{setting_of}
-use Rattle.sp_runs.specs.Worlds.{World}
-use Rattle.sp_runs.specs.declared.what.What.{What}
-use Rattle.sp_runs.specs.declared.what.What.TheVariants as whats
-use Rattle.sp_journal.specs.declared.entry.Entry.{Entry}
-use Rattle.sp_world.specs.Past.{Past}
-use Rattle.sp_world.specs.declared.refused.WorldRefused.TheVariants as stops
-use Rattle.sp_outside.specs.Streams.{IsInput}
+use Rattle.sp_offline.specs.Answers.{IsAnswered}
 use Rattle.sp_offline.specs.declared.answered.Verdict.{Verdict}
 use Rattle.sp_offline.specs.declared.command.Offline.{Offline}
-use Rattle.sp_offline.specs.Answers.{IsAnswered}
+use Rattle.sp_outside.specs.Streams.{IsInput}
 use Rattle.sp_service.specs.Verdicts.{IsJudged}
 use Rattle.sp_service.specs.declared.verdict.Verdict as verified
 use Rattle.sp_top.specs.Statuses.{verdict_status, verified_status}
 use Rattle.sp_top.specs.declared.command.Command.{Command}
 use Rattle.sp_top.specs.declared.command.Command.TheVariants as commands
-use Rattle.sp_top.specs.declared.ended.Status.{Status}
-use Rattle.sp_top.specs.declared.ended.Status.TheVariants as statuses
-
--- ---- the last line
+use Rattle.sp_words.specs.declared.status.Status.{Status}
+use Rattle.sp_words.specs.declared.status.Status.TheVariants as statuses
 
 abbrev pub usage_line : List ℕ
 usage_line = codes "usage\n"
-
--- the journal of the events before a refusal. A header that is refused has none
-abbrev pub lines_before : Option Past → List ℕ
-lines_before None = []
-lines_before (Some past) = journal_lines past.journal
-
--- the words that tell what is forged
-abbrev pub what_words : What → List (List ℕ)
-what_words whats.Tag = codes "tag" ∷ []
-what_words (whats.Object body) = codes "object" ∷ hex_word body ∷ []
-
--- forged EVENT tag, or forged EVENT object HEX
-unfoldable pub forged_line : ℕ → What → List ℕ
-forged_line number what = codes "forged" ++ (after_spaces (decimal number ∷ what_words what) ++ codes "\n")
-
--- ---- the events of a text
-
--- how the text of a source is read, of which no more is read than may be
-abbrev pub IsRead : List ℕ → Stage → Ending → Type 0
-IsRead text stage ending = IsReading (take MAX_INPUT_BYTES text) (nat_lt MAX_INPUT_BYTES (length text)) (record { stage = stage; ending = ending })
-
--- the scenario and the events of a stage. Before the line `begin` it has none
-abbrev pub IsOfStage : Stage → Scenario → List Event → Type 0
-IsOfStage (stages.Events s es) t fs = (s ≡ t) × (es ≡ fs)
-IsOfStage (stages.End s es) t fs = (s ≡ t) × (es ≡ fs)
-IsOfStage _ t fs = ⊥
-
-abbrev pub HasNoWorld : Stage → Type 0
-HasNoWorld (stages.Events s es) = ⊥
-HasNoWorld (stages.End s es) = ⊥
-HasNoWorld _ = Unit {0}
-
--- all events of a stage were done, and nothing of them is forged. Before the line `begin` there is no world
-abbrev pub AreDone : Stage → Option Past → Type 0
-AreDone stage (Some past) = IsOfStage stage past.scenario past.events × (past.stopped ≡ None)
-AreDone stage None = HasNoWorld stage
-
--- Of the events of a stage those of the past were done, and of the next this is forged: it is the first of which anything is.
-pub record IsForgedIn (stage : Stage) (past : Past) (number : ℕ) (what : What) : Type 0 where
-  pub event : Event
-  pub rest : List Event
-  pub events : IsOfStage stage past.scenario (past.events ++ event ∷ rest)
-  pub counted : number ≡ length past.events + 1
-  pub world : World
-  pub run : Clean format (setting_of past.scenario) past.events past.journal world
-  pub forged : IsForgedAt format (setting_of past.scenario) past.events past.journal world event what
-  pub stopped : past.stopped ≡ Some (stops.Forged number what)
-
--- ---- how a text ends
-
--- the text is that of this schedule, and no longer than may be read
-pub record Spells (text : List ℕ) (s : Scenario) (es : List Event) : Type 0 where
-  pub schedule : IsSchedule s es
-  pub spelled : text ≡ schedule_text s es
-  pub size : length text ≤ MAX_INPUT_BYTES
-
--- the text spells the scenario and the events of the past. A source that tells nothing may have had any
-abbrev pub ReadsWhole : Option (List ℕ) → Past → Type 0
-ReadsWhole None past = Unit {0}
-ReadsWhole (Some text) past = Spells text past.scenario past.events
-
--- the first bad line of a text, and why it is refused. The past is that of the lines before it
-pub record RefusalOf (text : List ℕ) (past : Option Past) (line : ℕ) (kind : Kind) : Type 0 where
-  pub stage : Stage
-  pub reading : IsRead text stage (endings.Refused line kind)
-  pub done : AreDone stage past
-  -- the text spells no schedule
-  pub bad : (s : Scenario) (es : List Event) → Spells text s es → ⊥
-
-abbrev pub IsRefusal : Option (List ℕ) → Option Past → ℕ → Kind → Type 0
-IsRefusal None past line kind = Unit {0}
-IsRefusal (Some text) past line kind = RefusalOf text past line kind
-
--- the first event of a text of which anything is forged, before any bad line
-pub record ForgeryOf (text : List ℕ) (past : Past) (number : ℕ) (what : What) : Type 0 where
-  pub stage : Stage
-  pub ending : Ending
-  pub reading : IsRead text stage ending
-  pub forged : IsForgedIn stage past number what
-
-abbrev pub IsForgery : Option (List ℕ) → Past → ℕ → What → Type 0
-IsForgery None past number what = past.stopped ≡ Some (stops.Forged number what)
-IsForgery (Some text) past number what = ForgeryOf text past number what
-
--- ---- the schedule of a number
-
--- the whole schedule of a number was run, and nothing of it is forged
-pub record IsGenerated (number : ℕ) (past : Past) : Type 0 where
-  pub scenario : past.scenario ≡ generated_scenario number
-  pub events : past.events ≡ generated_events number
-  pub going : past.stopped ≡ None
-
--- digest HEX, the SHA-256 of a text
-abbrev pub digest_line : List ℕ → List ℕ
-digest_line text = line_text (codes "digest" ∷ encode_lower (sha256 text) ∷ [])
-
--- the summary of a journal, and the digest of its whole text
-abbrev pub generated_text : List Entry → List ℕ
-generated_text journal = line_text (summary_words journal) ++ digest_line (journal_text journal)
 
 -- what an offline command answers for what a source had left, of which no more is read than may be
 pub record Answers (command : Offline) (left : Option (List ℕ)) (verdict : Verdict) (output : List ℕ) : Type 0 where
@@ -158,20 +30,10 @@ pub record Judges (left : Option (List ℕ)) (verdict : verified.Verdict) (outpu
   pub input : IsInput left MAX_INPUT_BYTES text is_cut
   pub judged : IsJudged text is_cut verdict output
 
--- ---- the output
-
--- what is written for what the words say and what a source had left, with the status and the world that go with it
-pub data IsOutput (left : Option (List ℕ)) : Option Command → Option Past → Status → List ℕ → Type 0 where
-  No_command : IsOutput left None None statuses.Usage usage_line
-  Whole_journal : (past : Past) → past.stopped ≡ None → ReadsWhole left past
-      → IsOutput left (Some commands.Replay) (Some past) statuses.Done (journal_text past.journal)
-  First_bad_line : (past : Option Past) (line : ℕ) (kind : Kind) → IsRefusal left past line kind
-      → IsOutput left (Some commands.Replay) past statuses.Refused (lines_before past ++ refused_line line kind)
-  First_forgery : (past : Past) (number : ℕ) (what : What) → IsForgery left past number what
-      → IsOutput left (Some commands.Replay) (Some past) statuses.Forged (journal_lines past.journal ++ forged_line number what)
-  Generated_summary : (number : ℕ) (past : Past) → IsGenerated number past
-      → IsOutput left (Some (commands.Generate number)) (Some past) statuses.Done (generated_text past.journal)
+-- what is written for what the words say and what a source had left, with the status that goes with it
+pub data IsOutput (left : Option (List ℕ)) : Option Command → Status → List ℕ → Type 0 where
+  No_command : IsOutput left None statuses.Usage usage_line
   Offline_answer : (command : Offline) (verdict : Verdict) (output : List ℕ) → Answers command left verdict output
-      → IsOutput left (Some (commands.Offline command)) None (verdict_status verdict) output
+      → IsOutput left (Some (commands.Offline command)) (verdict_status verdict) output
   Recording_judged : (verdict : verified.Verdict) (output : List ℕ) → Judges left verdict output
-      → IsOutput left (Some commands.Verify) None (verified_status verdict) output
+      → IsOutput left (Some commands.Verify) (verified_status verdict) output

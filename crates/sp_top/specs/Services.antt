@@ -10,15 +10,16 @@ use Rattle.sp_keystate.specs.declared.refused.KeyRefused.TheVariants as keys
 use Rattle.sp_keystate.specs.declared.slot.InUse.{InUse}
 use Rattle.sp_outside.specs.Disk.{Disk}
 use Rattle.sp_outside.specs.Streams.{AppendsFront}
-use Rattle.sp_service_turns.specs.Served.{Outside, wire_line}
+use Rattle.sp_service_turns.specs.Outside.{Outside}
+use Rattle.sp_service_turns.specs.Served.{wire_line}
 use Rattle.sp_service_ask.specs.Asking.{Asked, Unopened}
 use Rattle.sp_service_ask.specs.declared.question.Question.{Question}
 use Rattle.sp_words.specs.declared.command_line.Ask.{Ask}
 use Rattle.sp_top.specs.Daemons.{DaemonRuns}
 use Rattle.sp_top.specs.declared.command.Command.{Command}
 use Rattle.sp_top.specs.declared.command.Command.TheVariants as commands
-use Rattle.sp_top.specs.declared.ended.Status.{Status}
-use Rattle.sp_top.specs.declared.ended.Status.TheVariants as statuses
+use Rattle.sp_words.specs.declared.status.Status.{Status}
+use Rattle.sp_words.specs.declared.status.Status.TheVariants as statuses
 
 -- ---- a question
 
@@ -82,7 +83,7 @@ pub data Makes (before after : Option Disk) : Status → List ℕ → Type 0 whe
 pub record FormatEnds (status : Status) (before after : Outside) : Type 0 where
   pub would : Status
   pub line : List ℕ
-  pub makes : Makes before.disk after.disk would line
+  pub makes : Makes before.file.disk after.file.disk would line
   pub told : IsTold would line status before.text after.text
 
 -- what a crash leaves of the key file meanwhile: a daemon takes no bound and no boot back, and a file that is made leaves what that change may leave

@@ -1,5 +1,4 @@
--- The number of each status, and the status of each verdict.
-use Rattle.std.specs.Prelude.{ℕ}
+-- The status of each verdict.
 use Rattle.sp_offline.specs.declared.answered.Verdict.{Verdict}
 use Rattle.sp_offline.specs.declared.answered.Verdict.TheVariants as verdicts
 use Rattle.sp_service_turns.specs.declared.served.Served.{Served}
@@ -8,23 +7,8 @@ use Rattle.sp_keystate.specs.declared.refused.KeyRefused.{KeyRefused}
 use Rattle.sp_keystate.specs.declared.refused.KeyRefused.TheVariants as keys
 use Rattle.sp_service.specs.declared.verdict.Verdict as verified
 use Rattle.sp_service.specs.declared.verdict.Verdict.TheVariants as judgements
-use Rattle.sp_top.specs.declared.ended.Status.{Status}
-use Rattle.sp_top.specs.declared.ended.Status.TheVariants as statuses
-
-abbrev pub code_of : Status → ℕ
-code_of statuses.Done = 0
-code_of statuses.Usage = 2
-code_of statuses.Refused = 3
-code_of statuses.Forged = 4
-code_of statuses.Source = 5
-code_of statuses.Sink = 6
-code_of statuses.Wire = 7
-code_of statuses.Keeper = 8
-code_of statuses.Memory = 9
-code_of statuses.Mismatch = 10
-code_of statuses.Unanswered = 11
-code_of statuses.Fewer = 12
-code_of statuses.KeyState = 13
+use Rattle.sp_words.specs.declared.status.Status.{Status}
+use Rattle.sp_words.specs.declared.status.Status.TheVariants as statuses
 
 abbrev pub verdict_status : Verdict → Status
 verdict_status verdicts.Done = statuses.Done

@@ -1,6 +1,7 @@
 // The command `daemon`: the whole input is read as a configuration, and its daemon serves.
 ghost use Rattle.std.specs.Prelude.{◌≡◌, ◌≢◌, ◌⊎◌, None as Nothing};
 ghost use Rattle.sp_keystate.specs.Starting.{KeepsAll};
+ghost use Rattle.std.specs.Io.KnownBytes.{IsAtEnd};
 ghost use Rattle.sp_outside.specs.Causes.{Rose};
 ghost use Rattle.sp_top.specs.Daemons.{DaemonEnds};
 ghost use Rattle.sp_top.specs.Statuses.{served_status};
@@ -15,7 +16,7 @@ use sp_service_turns::Served;
 use std::alloc::Global;
 
 /// Reads the whole input, and serves as its daemon for so many turns.
-#[tactic(auto, using(crate::proofs::Services::served, crate::proofs::Services::unread, sp_service::proofs::Endings::kept_quiet))]
+#[tactic(auto, using(crate::proofs::Rules::daemon_ends))]
 pub fn daemon<S: Source, W: Wire, C: Clock, P: Keeper, K: Sink>(
     alloc: Global,
     turns: u32,
@@ -27,12 +28,24 @@ pub fn daemon<S: Source, W: Wire, C: Clock, P: Keeper, K: Sink>(
 ) -> Outcome
     requires { IsTurns turns }
     ensures ends { DaemonEnds (S.left source.old) turns result.status
-        (record { wire = W.told wire.old; clock = C.told clock.old; disk = P.disk keeper.old; text = K.contents sink.old })
-        (record { wire = W.told wire.new; clock = C.told clock.new; disk = P.disk keeper.new; text = K.contents sink.new }) }
+        (record {
+          wire = W.told wire.old;
+          clock = C.told clock.old;
+          text = K.contents sink.old;
+          file = record { disk = P.disk keeper.old; past = P.past keeper.old; faults = P.faults keeper.old };
+        })
+        (record {
+          wire = W.told wire.new;
+          clock = C.told clock.new;
+          text = K.contents sink.new;
+          file = record { disk = P.disk keeper.new; past = P.past keeper.new; faults = P.faults keeper.new };
+        }) }
     ensures kept { KeepsAll (P.disk keeper.old) (P.past keeper.old) (P.past keeper.new) }
     ensures worldless { result.world ≡ Nothing }
+    ensures ended { result.status ≡ Status.Done → IsAtEnd (S.left source.new) }
     ensures faultless { result.status ≢ Status.Source → S.faults source.new ≡ S.faults source.old }
     ensures read { result.status ≡ Status.Source → Rose (S.faults source.old) (S.faults source.new) }
+    ensures sunk { result.status ≢ Status.Sink → K.faults sink.new ≡ K.faults sink.old }
     ensures write { result.status ≡ Status.Sink → Rose (K.faults sink.old) (K.faults sink.new) }
     ensures keeper { result.status ≡ Status.Keeper → Rose (P.faults keeper.old) (P.faults keeper.new) }
     ensures open { result.status ≡ Status.Wire → Rose (W.failed_opens wire.old) (W.failed_opens wire.new) }

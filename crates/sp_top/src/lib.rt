@@ -3,22 +3,15 @@
 
 mod command;
 mod daemon;
-mod ended;
-mod generate;
-mod halt;
 mod key_file;
-mod line;
 mod offline;
-mod output;
-mod pieces;
-mod play;
 mod question;
-mod replay;
 mod told;
 mod top;
 mod verification;
 
-pub use ended::{Outcome, Status};
+pub use sp_replay::Outcome;
 pub use sp_schedule::{Event, Kind, Scenario};
+pub use sp_words::Status;
 pub use sp_world::{What, World, WorldRefused};
 pub use top::run;

@@ -1,6 +1,7 @@
 // The offline commands: the whole input is read, and its answer is written.
 ghost use Rattle.std.specs.Prelude.{◌≡◌, ◌≢◌, ◌≤◌, ◌⊎◌, List, None, vec_len, ℕ};
 ghost use Rattle.sp_base.specs.declared.limits.TheConstants.{MAX_INPUT_BYTES};
+ghost use Rattle.std.specs.Io.KnownBytes.{IsAtEnd};
 ghost use Rattle.sp_outside.specs.Causes.{Rose};
 ghost use Rattle.sp_top.specs.Claims.{Wrote};
 ghost use Rattle.sp_top.specs.Statuses.{verdict_status};
@@ -23,6 +24,7 @@ pub fn offline<S: Source, K: Sink>(
     requires { IsOffline command.now }
     ensures wrote { Wrote (Some (Command.Offline command.now)) (S.left source.old) result.world result.status (K.contents sink.old) (K.contents sink.new) }
     ensures worldless { result.world ≡ None }
+    ensures ended { result.status ≡ Status.Done → IsAtEnd (S.left source.new) }
     ensures quiet { (result.status ≡ Status.Source) ⊎ (result.status ≡ Status.Memory) → sink.new ≡ sink.old }
     ensures faultless { result.status ≢ Status.Source → S.faults source.new ≡ S.faults source.old }
     ensures sunk { result.status ≢ Status.Sink → K.faults sink.new ≡ K.faults sink.old }

@@ -3,8 +3,8 @@ ghost use Rattle.std.specs.Prelude.{◌≡◌, ◌≢◌, IfOk, List, None as No
 ghost use Rattle.sp_client.specs.Requests.{IsRequest};
 ghost use Rattle.sp_client.specs.declared.request.Request.{Request};
 ghost use Rattle.sp_outside.specs.Causes.{Rose};
-ghost use Rattle.sp_outside.specs.Disk.{Disk};
 ghost use Rattle.std.specs.String.{string_bytes};
+ghost use Rattle.sp_service_turns.specs.Outside.{KeptFile};
 ghost use Rattle.sp_top.specs.Services.{AskEnds, IsTold, reply_line, unanswered_line};
 
 use crate::told::tell;
@@ -25,10 +25,11 @@ pub fn question<W: Wire, K: Sink>(
     sink: &mut K,
 ) -> Outcome
     requires { (r : Request) × IsRequest asked.request.now r }
-    ensures ends { (clock : Option (List ℕ)) (disk : Option Disk) → AskEnds asked.entry result.status
-        (record { wire = W.told wire.old; clock = clock; disk = disk; text = K.contents sink.old })
-        (record { wire = W.told wire.new; clock = clock; disk = disk; text = K.contents sink.new }) }
+    ensures ends { (clock : Option (List ℕ)) (file : KeptFile) → AskEnds asked.entry result.status
+        (record { wire = W.told wire.old; clock = clock; text = K.contents sink.old; file = file })
+        (record { wire = W.told wire.new; clock = clock; text = K.contents sink.new; file = file }) }
     ensures worldless { result.world ≡ Nothing }
+    ensures sunk { result.status ≢ Status.Sink → K.faults sink.new ≡ K.faults sink.old }
     ensures write { result.status ≡ Status.Sink → Rose (K.faults sink.old) (K.faults sink.new) }
     ensures open { result.status ≡ Status.Wire → Rose (W.failed_opens wire.old) (W.failed_opens wire.new) }
     ensures usage { result.status ≢ Status.Usage }
@@ -54,6 +55,7 @@ pub fn question<W: Wire, K: Sink>(
 fn tell_reply<K: Sink>(alloc: Global, reply: Bytes, sink: &mut K) -> Outcome
     ensures told { IsTold Status.Done (reply_line reply) result.status (K.contents sink.old) (K.contents sink.new) }
     ensures worldless { result.world ≡ Nothing }
+    ensures sunk { result.status ≢ Status.Sink → K.faults sink.new ≡ K.faults sink.old }
     ensures write { result.status ≡ Status.Sink → Rose (K.faults sink.old) (K.faults sink.new) }
 {
     let mut line = reply.into_vec();
@@ -67,6 +69,7 @@ fn tell_reply<K: Sink>(alloc: Global, reply: Bytes, sink: &mut K) -> Outcome
 fn tell_silence<K: Sink>(alloc: Global, turns: u32, sink: &mut K) -> Outcome
     ensures told { IsTold Status.Unanswered (unanswered_line turns) result.status (K.contents sink.old) (K.contents sink.new) }
     ensures worldless { result.world ≡ Nothing }
+    ensures sunk { result.status ≢ Status.Sink → K.faults sink.new ≡ K.faults sink.old }
     ensures write { result.status ≡ Status.Sink → Rose (K.faults sink.old) (K.faults sink.new) }
 {
     match unanswered_line(alloc, turns) {

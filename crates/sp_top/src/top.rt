@@ -1,27 +1,27 @@
 // The top call: words and the outside go in, the outcome comes out.
 ghost use Rattle.std.specs.Prelude.{◌≡◌, ◌≢◌, ◌⊎◌, IfSome, None, false, map, true};
-ghost use Rattle.std.specs.Io.KnownBytes.{Appends};
+ghost use Rattle.std.specs.Io.KnownBytes.{Appends, IsAtEnd};
 ghost use Rattle.std.specs.String.{string_bytes};
 ghost use Rattle.sp_outside.specs.Causes.{Rose};
 ghost use Rattle.sp_outside.specs.Streams.{AppendsFront};
 ghost use Rattle.sp_top.specs.Outputs.{usage_line};
-ghost use Rattle.sp_top.specs.Claims.{SaidClaims, WorldClaims};
+ghost use Rattle.sp_replay.specs.Claims.{WorldClaims};
+ghost use Rattle.sp_top.specs.Claims.{SaidClaims};
 ghost use Rattle.sp_top.specs.Commands.{BySaid, IsInRange};
 ghost use Rattle.sp_top.specs.Complete.{calls_clock, calls_keeper, calls_wire, reads, writes_at_end};
-ghost use Rattle.sp_top.specs.Fronts.{IsBrokenOff};
+ghost use Rattle.sp_replay.specs.Fronts.{IsBrokenOff};
 ghost use Rattle.sp_top.specs.Services.{KeepsFile};
 
 use crate::command::{Command, command_of};
 use crate::daemon::daemon;
-use crate::generate::generate;
 use crate::key_file::format_key_file;
 use crate::offline::offline;
 use crate::question::question;
-use crate::replay::replay;
 use crate::verification::verification;
 use crate::{Outcome, Status};
 use sp_base::Memory;
 use sp_outside::{Clock, Keeper, Sink, Source, Wire, write_all};
+use sp_replay::{generate, replay};
 use std::alloc::Global;
 
 /// Runs the words over the outside that is handed in.
@@ -45,8 +45,18 @@ pub fn run<S: Source, K: Sink, W: Wire, C: Clock, P: Keeper>(
 ) -> Outcome
     // What the program does is what its words say: the output, the daemon's calls and recording, and which runs must be done.
     ensures said { BySaid (map string_bytes words.now) (λ said. SaidClaims said (S.left source.old) result.world result.status
-        (record { wire = W.told wire.old; clock = C.told clock.old; disk = P.disk keeper.old; text = K.contents sink.old })
-        (record { wire = W.told wire.new; clock = C.told clock.new; disk = P.disk keeper.new; text = K.contents sink.new })) }
+        (record {
+          wire = W.told wire.old;
+          clock = C.told clock.old;
+          text = K.contents sink.old;
+          file = record { disk = P.disk keeper.old; past = P.past keeper.old; faults = P.faults keeper.old };
+        })
+        (record {
+          wire = W.told wire.new;
+          clock = C.told clock.new;
+          text = K.contents sink.new;
+          file = record { disk = P.disk keeper.new; past = P.past keeper.new; faults = P.faults keeper.new };
+        })) }
 
     // A crash at any moment leaves a key file that takes nothing back.
     ensures kept { BySaid (map string_bytes words.now) (λ said. KeepsFile said (P.disk keeper.old) (P.past keeper.old) (P.past keeper.new)) }
@@ -60,6 +70,9 @@ pub fn run<S: Source, K: Sink, W: Wire, C: Clock, P: Keeper>(
         (λ said. said ≡ Some Command.Replay → result.status ≡ Status.Source
         → IsBrokenOff (S.left source.old) (S.left source.new) result.world (K.contents sink.old) (K.contents sink.new)) }
 
+    // A command that reads is done only where its input was read to the end.
+    ensures ended { BySaid (map string_bytes words.now) (λ said. reads said ≡ true → result.status ≡ Status.Done → IsAtEnd (S.left source.new)) }
+
     // A command calls only what it needs, and where it wrote nothing, the sink wasn't called.
     ensures unread { BySaid (map string_bytes words.now) (λ said. reads said ≡ false → source.new ≡ source.old) }
     ensures uncalled { BySaid (map string_bytes words.now) (λ said. calls_wire said ≡ false → wire.new ≡ wire.old) }
@@ -71,7 +84,7 @@ pub fn run<S: Source, K: Sink, W: Wire, C: Clock, P: Keeper>(
     // A status that tells a fault comes only with one.
     ensures faultless { result.status ≢ Status.Source → S.faults source.new ≡ S.faults source.old }
     ensures read { result.status ≡ Status.Source → Rose (S.faults source.old) (S.faults source.new) }
-    ensures sunk { BySaid (map string_bytes words.now) (λ said. calls_wire said ≡ false → result.status ≢ Status.Sink → K.faults sink.new ≡ K.faults sink.old) }
+    ensures sunk { result.status ≢ Status.Sink → K.faults sink.new ≡ K.faults sink.old }
     ensures write { result.status ≡ Status.Sink → Rose (K.faults sink.old) (K.faults sink.new) }
     ensures open { result.status ≡ Status.Wire → Rose (W.failed_opens wire.old) (W.failed_opens wire.new) }
     ensures keeper { result.status ≡ Status.Keeper → Rose (P.faults keeper.old) (P.faults keeper.new) }
@@ -83,7 +96,7 @@ pub fn run<S: Source, K: Sink, W: Wire, C: Clock, P: Keeper>(
 }
 
 /// Does what the words say.
-#[tactic(auto, using(crate::proofs::SaidRuns::replayed, crate::proofs::SaidRuns::generated, crate::proofs::SaidRuns::answered, crate::proofs::SaidRuns::verified, crate::proofs::SaidRuns::served, crate::proofs::SaidRuns::asked, crate::proofs::SaidRuns::formatted, crate::proofs::SaidRuns::no_command, crate::proofs::Daemons::runs))]
+#[tactic(auto, using(crate::proofs::Rules::said))]
 fn run_said<S: Source, K: Sink, W: Wire, C: Clock, P: Keeper>(
     alloc: Global,
     said: Option<Command<'_>>,
@@ -95,20 +108,31 @@ fn run_said<S: Source, K: Sink, W: Wire, C: Clock, P: Keeper>(
 ) -> Outcome
     requires { IfSome said IsInRange }
     ensures said { SaidClaims said.entry (S.left source.old) result.world result.status
-        (record { wire = W.told wire.old; clock = C.told clock.old; disk = P.disk keeper.old; text = K.contents sink.old })
-        (record { wire = W.told wire.new; clock = C.told clock.new; disk = P.disk keeper.new; text = K.contents sink.new }) }
+        (record {
+          wire = W.told wire.old;
+          clock = C.told clock.old;
+          text = K.contents sink.old;
+          file = record { disk = P.disk keeper.old; past = P.past keeper.old; faults = P.faults keeper.old };
+        })
+        (record {
+          wire = W.told wire.new;
+          clock = C.told clock.new;
+          text = K.contents sink.new;
+          file = record { disk = P.disk keeper.new; past = P.past keeper.new; faults = P.faults keeper.new };
+        }) }
     ensures claims { IfSome result.world WorldClaims }
     ensures unread { reads said.entry ≡ false → source.new ≡ source.old }
     ensures uncalled { calls_wire said.entry ≡ false → wire.new ≡ wire.old }
     ensures timeless { calls_clock said.entry ≡ false → clock.new ≡ clock.old }
     ensures untouched { calls_keeper said.entry ≡ false → keeper.new ≡ keeper.old }
+    ensures ended { reads said.entry ≡ true → result.status ≡ Status.Done → IsAtEnd (S.left source.new) }
     ensures kept { KeepsFile said.entry (P.disk keeper.old) (P.past keeper.old) (P.past keeper.new) }
     ensures broken { said.entry ≡ Some Command.Replay → result.status ≡ Status.Source
         → IsBrokenOff (S.left source.old) (S.left source.new) result.world (K.contents sink.old) (K.contents sink.new) }
     ensures quiet { writes_at_end said.entry ≡ true → (result.status ≡ Status.Source) ⊎ (result.status ≡ Status.Memory) → sink.new ≡ sink.old }
     ensures faultless { result.status ≢ Status.Source → S.faults source.new ≡ S.faults source.old }
     ensures read { result.status ≡ Status.Source → Rose (S.faults source.old) (S.faults source.new) }
-    ensures sunk { calls_wire said.entry ≡ false → result.status ≢ Status.Sink → K.faults sink.new ≡ K.faults sink.old }
+    ensures sunk { result.status ≢ Status.Sink → K.faults sink.new ≡ K.faults sink.old }
     ensures write { result.status ≡ Status.Sink → Rose (K.faults sink.old) (K.faults sink.new) }
     ensures open { result.status ≡ Status.Wire → Rose (W.failed_opens wire.old) (W.failed_opens wire.new) }
     ensures keeper { result.status ≡ Status.Keeper → Rose (P.faults keeper.old) (P.faults keeper.new) }

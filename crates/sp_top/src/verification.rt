@@ -1,5 +1,6 @@
 // The command `verify`: the whole input is read, a configuration and a recording, and what comes of it is written.
 ghost use Rattle.std.specs.Prelude.{◌≡◌, ◌≢◌, ◌⊎◌, None as Nothing};
+ghost use Rattle.std.specs.Io.KnownBytes.{IsAtEnd};
 ghost use Rattle.sp_outside.specs.Causes.{Rose};
 ghost use Rattle.sp_top.specs.Claims.{Wrote};
 ghost use Rattle.sp_top.specs.Statuses.{verified_status};
@@ -15,6 +16,7 @@ use std::alloc::Global;
 pub fn verification<S: Source, K: Sink>(alloc: Global, source: &mut S, sink: &mut K) -> Outcome
     ensures wrote { Wrote (Some Command.Verify) (S.left source.old) result.world result.status (K.contents sink.old) (K.contents sink.new) }
     ensures worldless { result.world ≡ Nothing }
+    ensures ended { result.status ≡ Status.Done → IsAtEnd (S.left source.new) }
     ensures quiet { (result.status ≡ Status.Source) ⊎ (result.status ≡ Status.Memory) → sink.new ≡ sink.old }
     ensures faultless { result.status ≢ Status.Source → S.faults source.new ≡ S.faults source.old }
     ensures sunk { result.status ≢ Status.Sink → K.faults sink.new ≡ K.faults sink.old }

@@ -1,3 +1,4 @@
 pub mod Parse
 pub mod CommandLines
 pub mod Views
+pub mod Statuses

@@ -5,3 +5,4 @@ pub mod Arriving
 pub mod Moving
 pub mod Booting
 pub mod Pasts
+pub mod Rules

@@ -1,23 +1,26 @@
 -- What a world keeps, it keeps over one more event.
-use Rattle.std.proofs.Common.{◌≡◌, ℕ, List, [], ◌∷◌, ◌++◌, Option, None, Some, refl, sym, subst, ◌<◌, arith, length, map}
+use Rattle.std.proofs.Common.{◌≡◌, ℕ, List, [], ◌∷◌, ◌++◌, Option, None, Some, refl, sym, ap, ◌∙◌, subst, ◌<◌, arith, length, map}
 use Rattle.sp_adversary.specs.Crafters.{Crafters}
 use Rattle.sp_adversary.specs.Crafting.{AreAfter, no_crafts}
 use Rattle.sp_base.specs.declared.limits.TheConstants.{MAX_EVENTS}
 use Rattle.sp_graph.specs.Edges.{IsGraph}
 use Rattle.sp_journal.specs.declared.entry.Entry.{Entry}
 use Rattle.sp_node_format.specs.Format.{format}
+use Rattle.sp_runs.specs.Inputs.{acting}
 use Rattle.sp_runs.specs.Runs as runs
 use Rattle.sp_runs.specs.Runs.{Clean, InRange, Turn}
 use Rattle.sp_runs.specs.Scenarios.{setting_of}
 use Rattle.sp_rules.specs.Node.{NodeState}
 use Rattle.sp_runs.specs.Settings.{correct_nodes, node_at_boot}
 use Rattle.sp_runs.specs.Worlds.{Direction, World, at_start}
+use Rattle.sp_runs.specs.declared.what.What.{What}
 use Rattle.sp_schedule_events.specs.declared.event.Event.{Event}
 use Rattle.sp_schedule_events.specs.declared.scenario.Scenario.{Scenario}
 use Rattle.sp_world.specs.Kept.{IsKept}
-use Rattle.sp_world.specs.Past.{GoesOn, IsUnforged, Past}
+use Rattle.sp_world.specs.Past.{GoesOn, IsLeft, Past, without}
 use Rattle.sp_world.specs.Stands.{IsTold, Stands}
 use Rattle.sp_world.specs.declared.refused.WorldRefused.{WorldRefused}
+use Rattle.sp_world.specs.declared.refused.WorldRefused.TheVariants as refusals
 
 -- a world that hasn't stopped
 abbrev pub going : Scenario → List Event → List Entry → World → Past
@@ -34,7 +37,7 @@ pub stands : (s : Scenario) (es : List Event) (js : List Entry) (w : World) (e :
     → IsKept (record { scenario = s; events = es; journal = js; world = w; stopped = t }) len c → t ≡ None → InRange (setting_of s) es e → length es < MAX_EVENTS → Stands s es js w e
 stands s es js w e len c t kept is range few = record {
   graph = kept.past.graph;
-  clean = subst (λ (v : World). Clean format (setting_of s) es js v) (sym (kept.past.now (subst IsUnforged (sym is) tt))) kept.past.clean;
+  clean = subst (λ (v : World). Clean format (setting_of s) es js v) (sym (subst (λ (u : Option WorldRefused). IsLeft u kept.past.last w) is kept.past.left)) kept.past.clean;
   range = range;
   few = few;
 }
@@ -48,11 +51,28 @@ kept_on s es es' js js' w w' e j len c c' t kept st told crafted events_are jour
     graph = st.graph;
     last = w';
     clean = runs.Turned st.clean st.range told.turn told.unforged;
-    now = λ is. refl;
+    left = refl;
   };
   long = kept.long;
   crafters = λ is. crafted;
 })
+
+-- where something of the event is forged, the node that acted in it is gone
+pub kept_forged : (s : Scenario) (es es' : List Event) (js js' : List Entry) (w w' : World) (e : Event) (number : ℕ) (what : What) (len : ℕ) (c c' : Crafters) (t : Option WorldRefused)
+    → IsKept (record { scenario = s; events = es; journal = js; world = w; stopped = t }) len c → t ≡ None → w' ≡ without w (acting e) → es' ≡ es → js' ≡ js
+    → IsKept (stopped_by s es' js' w' (refusals.Forged number what)) len c'
+kept_forged s es es' js js' w w' e number what len c c' t kept going gone events_are journal_is =
+    let same : w ≡ kept.past.last = subst (λ (u : Option WorldRefused). IsLeft u kept.past.last w) going kept.past.left in
+    rw (events_are, journal_is) (record {
+      past = record {
+        graph = kept.past.graph;
+        last = kept.past.last;
+        clean = kept.past.clean;
+        left = (acting e, gone ∙ ap (λ (v : World). without v (acting e)) same);
+      };
+      long = kept.long;
+      crafters = λ is. absurd (never (refusals.Forged number what) is);
+    })
 
 pub goes_on : (s : Scenario) (es es' : List Event) (js js' : List Entry) (w w' : World) (e : Event) (j : Entry) → IsTold (setting_of s) es js w e j w'
     → es' ≡ es ++ e ∷ [] → js' ≡ js ++ j ∷ [] → GoesOn (going s es js w) e (going s es' js' w')
@@ -76,7 +96,7 @@ kept_at_first s nodes ds len c graph booted none long fresh = rw (booted, none, 
     graph = graph;
     last = at_start (setting_of s);
     clean = runs.Starts;
-    now = λ is. refl;
+    left = refl;
   };
   long = long;
   crafters = λ is. record { height = refl; seed = refl; counted = λ key. omega arith };

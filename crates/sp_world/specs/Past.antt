@@ -27,25 +27,25 @@ pub record Past : Type 0 where
 abbrev pub at_first : Scenario → Past
 at_first s = record { scenario = s; events = []; journal = []; world = at_start (setting_of s); stopped = None }
 
--- no forgery has stopped it
-abbrev pub IsUnforged : Option WorldRefused → Type 0
-IsUnforged None = Unit {0}
-IsUnforged (Some refusals.Memory) = Unit {0}
-IsUnforged (Some (refusals.Forged number what)) = ⊥
+-- the world without a node
+abbrev pub without : World → NodeId → World
+without w u = record { nodes = without_node w.nodes u; directions = w.directions }
+
+-- what is left of the nodes and frames at the end of a run: all of them, but for one node where something of the next event is forged
+abbrev pub IsLeft : Option WorldRefused → World → World → Type 0
+IsLeft None last now = now ≡ last
+IsLeft (Some refusals.Memory) last now = now ≡ last
+IsLeft (Some (refusals.Forged number what)) last now = (u : NodeId) × (now ≡ without last u)
 
 -- The events are a run in which nothing is forged, and the entries are its journal. The nodes and frames are those at the end of the run, also
--- where the world has stopped for want of memory: until the event in which something is forged.
+-- where the world has stopped for want of memory. Where something of the next event is forged, the node that acted in it is gone.
 pub record IsPast (p : Past) : Type 0 where
   pub graph : IsGraph p.scenario.graph
   pub last : World
   pub clean : Clean format (setting_of p.scenario) p.events p.journal last
-  pub now : IsUnforged p.stopped → p.world ≡ last
+  pub left : IsLeft p.stopped last p.world
 
 -- ---- one event
-
--- the world without a node
-abbrev pub without : World → NodeId → World
-without w u = record { nodes = without_node w.nodes u; directions = w.directions }
 
 -- It is done: its acting node makes its step, or its crafting signer is spent, and nothing of it is forged.
 pub record GoesOn (old : Past) (event : Event) (new : Past) : Type 0 where

@@ -27,7 +27,7 @@ pub enum Done {
 }
 
 /// Does an event at its node. After want of memory the nodes and the frames are as before.
-#[tactic(auto, using(crate::proofs::Moving::asked_is_told, crate::proofs::Moving::poll_comes_to, crate::proofs::Standing::can_ask, crate::proofs::Standing::can_poll, crate::proofs::Standing::few_frames, crate::proofs::Crafting::after_asked, crate::proofs::Crafting::after_poll))]
+#[tactic(auto, using(crate::proofs::Rules::acted))]
 pub fn act(
     alloc: Global,
     known: &Known<'_>,
@@ -56,7 +56,7 @@ pub fn act(
 }
 
 /// Bytes come to the node that acts.
-#[tactic(auto, using(crate::proofs::Moving::arrived_comes_to, crate::proofs::Moving::spent_is_told, crate::proofs::Standing::can_hear, crate::proofs::Standing::even))]
+#[tactic(auto, using(crate::proofs::Rules::arrived))]
 fn arrival(
     alloc: Global,
     known: &Known<'_>,

@@ -36,7 +36,7 @@ pub fn sender(event: &Event) -> NodeId
 }
 
 /// The bytes of an arrival. The crafting signers go on by its message, if it crafts one.
-#[tactic(auto, using(crate::proofs::Coming::pass_there, crate::proofs::Coming::flip_there, crate::proofs::Coming::flip_long, crate::proofs::Coming::craft_may, crate::proofs::Coming::status_may, crate::proofs::Coming::pass_comes, crate::proofs::Coming::flip_comes, crate::proofs::Crafting::after_other))]
+#[tactic(auto, using(crate::proofs::Rules::brought))]
 pub fn bring(
     alloc: Global,
     known: &Known<'_>,

@@ -32,7 +32,7 @@ const BOOT: u64 = 1;
 const VERSION: u32 = 1;
 
 /// A frame of `c` for `v` with one message, which is signed with the next index of this key, or that it has none left.
-#[tactic(auto, using(crate::proofs::Crafting::signed_after, crate::proofs::Crafting::spent_after, crate::proofs::Crafting::spent_is, crate::proofs::Crafting::object_writable, crate::proofs::Crafting::signed_comes))]
+#[tactic(auto, using(crate::proofs::Rules::crafted))]
 pub fn crafted(
     alloc: Global,
     scenario: &Scenario,

@@ -3,3 +3,4 @@ pub mod Among
 pub mod Without
 pub mod Objects
 pub mod FrameRows
+pub mod Rules

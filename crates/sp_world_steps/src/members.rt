@@ -28,7 +28,7 @@ pub fn member_of(nodes: &[Member], u: NodeId) -> Option<&Member>
 }
 
 /// A client or the clock asks something of the node `u`, which acts.
-#[tactic(auto, using(sp_base::proofs::RowLemmas::placed, crate::proofs::Among::same_among, crate::proofs::Among::asked_at, crate::proofs::Among::asked_has_place, crate::proofs::Among::may_ask_at))]
+#[tactic(auto, using(crate::proofs::Rules::asked))]
 pub fn ask(
     alloc: Global,
     nodes: &mut Vec<Member>,
@@ -48,7 +48,7 @@ pub fn ask(
 }
 
 /// The node `u` makes its next frame for its neighbour `v`.
-#[tactic(auto, using(sp_base::proofs::RowLemmas::placed, crate::proofs::Among::same_among, crate::proofs::Among::polled_at, crate::proofs::Among::called_has_place, crate::proofs::Among::answers_at, crate::proofs::Among::short_at))]
+#[tactic(auto, using(crate::proofs::Rules::polled))]
 pub fn poll(alloc: Global, nodes: &mut Vec<Member>, u: NodeId, v: NodeId) -> Result<Bytes, Memory>
     requires can { CanCall nodes.old.items u v }
     ensures polled { IfOk result (λ bytes. PolledAmong nodes.old.items u v bytes nodes.new.items) }
@@ -63,7 +63,7 @@ pub fn poll(alloc: Global, nodes: &mut Vec<Member>, u: NodeId, v: NodeId) -> Res
 }
 
 /// The node `v` takes what came from its neighbour `u`.
-#[tactic(auto, using(sp_base::proofs::RowLemmas::placed, crate::proofs::Among::same_among, crate::proofs::Among::heard_at, crate::proofs::Among::called_has_place, crate::proofs::Among::answers_at))]
+#[tactic(auto, using(crate::proofs::Rules::heard))]
 pub fn hear(
     alloc: Global,
     nodes: &mut Vec<Member>,

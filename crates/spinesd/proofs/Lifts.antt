@@ -2,17 +2,16 @@
 use Rattle.std.proofs.Common.{◌≡◌, ℕ, true, false, List, Option, Some, inl, inr, refl, subst, arith}
 use Rattle.std.specs.Prelude.{◌⊎◌}
 use Rattle.sp_outside.specs.Calls.{Call}
-use Rattle.sp_outside.specs.Disk.{Disk}
-use Rattle.sp_service_turns.specs.Served.{Outside}
+use Rattle.sp_service_turns.specs.Outside.{KeptFile, Outside}
 use Rattle.sp_top.specs.Claims.{SaidClaims}
 use Rattle.sp_top.specs.Commands.{BySaid}
 use Rattle.sp_top.specs.declared.command.Command.{Command}
 use Rattle.sp_top.specs.declared.command.Command.TheVariants as commands
 use Rattle.sp_top.specs.Complete.{reads, writes_at_end}
-use Rattle.sp_top.specs.Fronts.{IsBrokenOff}
-use Rattle.sp_top.specs.Statuses.{code_of}
-use Rattle.sp_top.specs.declared.ended.Status.{Status}
-use Rattle.sp_top.specs.declared.ended.Status.TheVariants as statuses
+use Rattle.sp_replay.specs.Fronts.{IsBrokenOff}
+use Rattle.sp_words.specs.Statuses.{code_of}
+use Rattle.sp_words.specs.declared.status.Status.{Status}
+use Rattle.sp_words.specs.declared.status.Status.TheVariants as statuses
 use Rattle.sp_world.specs.Past.{Past}
 use Rattle.spinesd.specs.Ended.{SaidEnded}
 
@@ -30,13 +29,13 @@ ended_of left past status before after said claims = record {
   only_usage = claims.only_usage;
 }
 
-pub ended : (words : List (List ℕ)) (left l : Option (List ℕ)) (past : Option Past) (status : Status) (w0 w1 : Option (List Call)) (k0 k1 : Option (List ℕ)) (d0 d1 : Option Disk)
+pub ended : (words : List (List ℕ)) (left l : Option (List ℕ)) (past : Option Past) (status : Status) (w0 w1 : Option (List Call)) (k0 k1 : Option (List ℕ)) (f0 f1 : KeptFile)
     (b0 b1 t0 t1 : Option (List ℕ)) → l ≡ left → t0 ≡ b0 → t1 ≡ b1
-    → BySaid words (λ said. SaidClaims said l past status (record { wire = w0; clock = k0; disk = d0; text = t0 }) (record { wire = w1; clock = k1; disk = d1; text = t1 }))
+    → BySaid words (λ said. SaidClaims said l past status (record { wire = w0; clock = k0; text = t0; file = f0 }) (record { wire = w1; clock = k1; text = t1; file = f1 }))
     → BySaid words (λ said. SaidEnded said left past status b0 b1)
-ended words left l past status w0 w1 k0 k1 d0 d1 b0 b1 t0 t1 read before after is =
-    let o0 : Outside = record { wire = w0; clock = k0; disk = d0; text = t0 } in
-    let o1 : Outside = record { wire = w1; clock = k1; disk = d1; text = t1 } in
+ended words left l past status w0 w1 k0 k1 f0 f1 b0 b1 t0 t1 read before after is =
+    let o0 : Outside = record { wire = w0; clock = k0; text = t0; file = f0 } in
+    let o1 : Outside = record { wire = w1; clock = k1; text = t1; file = f1 } in
     let told : BySaid words (λ said. SaidEnded said l past status t0 t1) =
     lift words (λ said. SaidClaims said l past status o0 o1) (λ said. SaidEnded said l past status t0 t1) (ended_of l past status o0 o1) is in
     let P : Option (List ℕ) → Type 0 = λ x. BySaid words (λ said. SaidEnded said x past status t0 t1) in

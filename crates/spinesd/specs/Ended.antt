@@ -3,13 +3,14 @@ use Rattle.std.specs.Prelude.{ℕ, ◌≡◌, ◌≢◌, ◌⊎◌, false, List,
 use Rattle.sp_world.specs.Past.{Past}
 use Rattle.sp_top.specs.declared.command.Command.{Command}
 use Rattle.sp_top.specs.declared.command.Command.TheVariants as commands
-use Rattle.sp_top.specs.declared.ended.Status.{Status}
-use Rattle.sp_top.specs.declared.ended.Status.TheVariants as statuses
-use Rattle.sp_top.specs.Statuses.{code_of}
-use Rattle.sp_top.specs.Claims.{Wrote, WorldClaims}
+use Rattle.sp_words.specs.declared.status.Status.{Status}
+use Rattle.sp_words.specs.declared.status.Status.TheVariants as statuses
+use Rattle.sp_words.specs.Statuses.{code_of}
+use Rattle.sp_top.specs.Claims.{Wrote}
+use Rattle.sp_replay.specs.Claims.{WorldClaims}
 use Rattle.sp_top.specs.Commands.{BySaid}
 use Rattle.sp_top.specs.Complete.{GeneratesAll, IsComplete, calls_keeper, calls_wire}
-use Rattle.sp_top.specs.Fronts.{IsBrokenOff}
+use Rattle.sp_replay.specs.Fronts.{IsBrokenOff}
 
 -- what is claimed by what the words say, where the wire, the clock and the key file tell nothing
 pub record SaidEnded (said : Option Command) (left : Option (List ℕ)) (past : Option Past) (status : Status) (before after : Option (List ℕ)) : Type 0 where

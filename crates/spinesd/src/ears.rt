@@ -1,15 +1,17 @@
-// What a daemon hears: all that came to its two sockets is taken at once, and heard in turn. A daemon that has nothing to do waits for both.
+// What a daemon hears: what came to its two ports is taken at once, a bounded number of each sender, and heard in turn. A daemon that has nothing to do
+// waits for both.
 ghost use Rattle.std.specs.Prelude.{◌≡◌, ◌≤◌, IfOk, IfSome, length};
 ghost use Rattle.sp_outside.specs.declared.wire.TheConstants.{DATAGRAM_BYTES};
 
 use crate::hearing::Hearing;
 use crate::pace::{Pace, Pause};
 use crate::place::Waiting;
-use crate::sockets::{Given, received, sent};
+use crate::sockets::{Given, bound};
 use crate::waiter::Waiter;
 use sp_outside::{DATAGRAM_BYTES, Failed, Side};
 use std::alloc::Global;
-use std::net::UdpSocket;
+use std::io;
+use std::net::{Net, UdpSocket};
 use std::rt::Clock;
 use std::time::Duration;
 
@@ -25,8 +27,11 @@ const ASK_MS: u64 = 5;
 /// A client without a session is heard by a daemon that rests after so long: so what is no request wakes it seldom.
 const STRANGER_MS: u64 = 10;
 
-/// So much is taken of a socket at once.
+/// So much is taken of a side at once.
 const MOST_TAKEN: usize = 4_096;
+
+/// The sockets of the client side are waited for under their senders' ports and this.
+const CLIENTS: usize = 65_536;
 
 /// So often something that isn't heard wakes a daemon before it goes on.
 const MOST_WAKES: usize = 10_000;
@@ -39,10 +44,10 @@ const STRANGERS: usize = 8;
 /// A longer datagram is no request of a client. Of it one byte more is taken than a request has.
 const REQUEST_BYTES: usize = 4_096;
 
-/// Both sockets, and what waits at each.
+/// Both ports, and what waits at each.
 #[derive(Drop)]
 pub struct Ears {
-    sockets: Sockets,
+    waiter: Waiter,
     neighbours: Hearing,
     clients: Hearing,
     /// Whether a datagram longer than any request may be heard in this cycle.
@@ -50,24 +55,19 @@ pub struct Ears {
     pace: Pace,
 }
 
-/// The sockets that are open.
-#[derive(Drop)]
-pub struct Sockets {
-    pub overlay: Option<UdpSocket>,
-    pub client: Option<UdpSocket>,
-    pub waiter: Waiter,
-}
-
 impl Ears {
-    /// Nothing came yet.
-    pub fn new(alloc: Global, sockets: Sockets) -> Self {
-        Ears {
-            sockets,
-            neighbours: Hearing::new(alloc, STRAYS),
-            clients: Hearing::new(alloc, STRANGERS),
+    /// The two ports are opened, and both are waited for. Port 0 opens nothing on its side. Nothing came yet.
+    pub fn new<R: Net>(rt: &R, alloc: Global, overlay: u16, client: u16) -> io::Result<Self> {
+        let waiter = Waiter::new(rt, alloc)?;
+        let neighbours = opened(rt, &waiter, overlay, 0)?;
+        let clients = opened(rt, &waiter, client, CLIENTS)?;
+        Ok(Ears {
+            waiter,
+            neighbours: Hearing::new(alloc, neighbours, overlay, 0, STRAYS),
+            clients: Hearing::new(alloc, clients, client, CLIENTS, STRANGERS),
             hears_long: true,
             pace: Pace::new(),
-        }
+        })
     }
 
     /// The next datagram of this side in turn.
@@ -93,7 +93,7 @@ impl Ears {
     ) -> Result<Option<(u16, usize)>, Failed>
         ensures { IfOk result (λ got. IfSome got (λ datagram. datagram.1 ≤ DATAGRAM_BYTES)) }
     {
-        if self.sockets.overlay.is_none() {
+        if !self.neighbours.is_open() {
             return Ok(None);
         }
         if self.pace.begins() {
@@ -115,7 +115,7 @@ impl Ears {
         }
     }
 
-    /// Hears the next client in turn. Who has no overlay side asks, and waits for the answer.
+    /// Hears the next client in turn. One without a session asks for nothing that goes to a neighbour. Who has no overlay side asks, and waits for the answer.
     fn hear_client<R: Clock>(
         &mut self,
         rt: &R,
@@ -123,14 +123,16 @@ impl Ears {
     ) -> Result<Option<(u16, usize)>, Failed>
         ensures { IfOk result (λ got. IfSome got (λ datagram. datagram.1 ≤ DATAGRAM_BYTES)) }
     {
-        if self.sockets.overlay.is_none() {
+        if !self.neighbours.is_open() {
             self.clients.begin_cycle();
             self.wait(rt, Pause::Rest, buf)?;
         }
         let Some(waiting) = self.clients.take() else {
             return Ok(None);
         };
-        self.pace.asked();
+        if self.clients.knows(waiting.port) {
+            self.pace.asked();
+        }
         Ok(given(&waiting, buf))
     }
 
@@ -138,11 +140,11 @@ impl Ears {
     pub fn send(&mut self, side: Side, port: u16, bytes: &[u8]) -> Result<(), Failed> {
         if side == Side::Client {
             self.know_client(port, bytes);
-            return sent(&self.sockets.client, port, bytes);
+            return self.clients.send(port, bytes);
         }
-        self.neighbours.know(port);
+        self.neighbours.know(&self.waiter, port);
         if self.pace.goes_to(port, bytes) {
-            sent(&self.sockets.overlay, port, bytes)
+            self.neighbours.send(port, bytes)
         } else {
             Ok(())
         }
@@ -150,27 +152,42 @@ impl Ears {
 
     fn know_client(&mut self, port: u16, reply: &[u8]) {
         if has_session(reply) {
-            self.clients.know(port);
+            self.clients.know(&self.waiter, port);
         } else if self.clients.knows(port) {
             self.clients.forget(port);
         }
     }
 
-    /// Takes all that came, and waits until there is a reason to go on.
+    /// Takes what came, and waits until there is a reason to go on.
     fn wait<R: Clock>(&mut self, rt: &R, pause: Pause, buf: &mut [u8]) -> Result<(), Failed> {
         let begin = rt.monotonic();
-        for _ in 0..MOST_WAKES {
-            let is_dry = self.take_neighbours(buf)? & self.take_clients(buf)?;
+        self.neighbours.begin_wait();
+        self.clients.begin_wait();
+        for wakes in 0..MOST_WAKES {
+            self.take_neighbours(buf)?;
+            self.take_clients(buf)?;
             let passed = match (&begin, rt.monotonic()) {
                 (Ok(begin), Ok(now)) => passed_ms(*begin, now),
                 _ => REST_MS,
             };
             let left = self.left_ms(pause, passed);
-            if left == 0 {
+            if left == 0 && 0 < wakes {
                 return Ok(());
             }
-            if is_dry {
-                self.sockets.waiter.wait(left).map_err(|_| Failed)?;
+            self.look(left)?;
+        }
+        Ok(())
+    }
+
+    /// Waits so many milliseconds at most, and notes where something came.
+    fn look(&mut self, most_ms: u64) -> Result<(), Failed> {
+        self.waiter.wait(most_ms).map_err(|_| Failed)?;
+        for event in self.waiter.events() {
+            let name = event.token().0;
+            if name < CLIENTS {
+                self.neighbours.wake(name);
+            } else {
+                self.clients.wake(name.saturating_sub(CLIENTS));
             }
         }
         Ok(())
@@ -178,7 +195,7 @@ impl Ears {
 
     /// How long to wait yet after so long, in milliseconds. For 0 there is a reason to go on.
     fn left_ms(&self, pause: Pause, passed: u64) -> u64 {
-        let asks = self.sockets.overlay.is_none();
+        let asks = !self.neighbours.is_open();
         match pause {
             Pause::No => 0,
             Pause::Hold { for_clients }
@@ -192,11 +209,11 @@ impl Ears {
         }
     }
 
-    /// Takes what came to the overlay side. Gives whether that was all.
-    fn take_neighbours(&mut self, buf: &mut [u8]) -> Result<bool, Failed> {
+    /// Takes what came to the overlay side.
+    fn take_neighbours(&mut self, buf: &mut [u8]) -> Result<(), Failed> {
         for _ in 0..MOST_TAKEN {
-            match received(&self.sockets.overlay, buf)? {
-                Given::Nothing => return Ok(true),
+            match self.neighbours.receive(buf)? {
+                Given::Nothing => return Ok(()),
                 Given::Unheard => {}
                 Given::Datagram { port, count } => {
                     if let Some(bytes) = buf.get(..count) {
@@ -205,7 +222,7 @@ impl Ears {
                 }
             }
         }
-        Ok(false)
+        Ok(())
     }
 
     fn put_neighbour(&mut self, port: u16, bytes: &[u8]) -> Result<(), Failed> {
@@ -215,12 +232,12 @@ impl Ears {
         self.neighbours.put_first(port, bytes).map_err(|_| Failed)
     }
 
-    /// Takes what came to the client side. Gives whether that was all.
-    fn take_clients(&mut self, buf: &mut [u8]) -> Result<bool, Failed> {
+    /// Takes what came to the client side.
+    fn take_clients(&mut self, buf: &mut [u8]) -> Result<(), Failed> {
         let most = buf.len().min(REQUEST_BYTES + 1);
         for _ in 0..MOST_TAKEN {
-            match received(&self.sockets.client, &mut buf[..most])? {
-                Given::Nothing => return Ok(true),
+            match self.clients.receive(&mut buf[..most])? {
+                Given::Nothing => return Ok(()),
                 Given::Unheard => {}
                 Given::Datagram { port, count } => {
                     if let Some(bytes) = buf.get(..count) {
@@ -229,7 +246,7 @@ impl Ears {
                 }
             }
         }
-        Ok(false)
+        Ok(())
     }
 
     /// Of datagrams longer than any request one is heard in a cycle of the neighbours, and all others are lost.
@@ -245,6 +262,20 @@ impl Ears {
         }
         self.clients.put_newest(port, bytes).map_err(|_| Failed)
     }
+}
+
+/// The socket of a port, which is waited for under this name.
+fn opened<R: Net>(
+    rt: &R,
+    waiter: &Waiter,
+    port: u16,
+    name: usize,
+) -> io::Result<Option<UdpSocket>> {
+    let socket = bound(rt, port)?;
+    if let Some(socket) = &socket {
+        waiter.add(socket, name)?;
+    }
+    Ok(socket)
 }
 
 /// Milliseconds from one reading of the clock to another, rounded up.

@@ -4,12 +4,13 @@
 
 mod ears;
 mod hearing;
+mod inlet;
 mod key_file;
 mod news;
+mod options;
 mod pace;
 mod place;
 mod program;
-mod receive_buffer;
 mod sockets;
 mod standard;
 mod system_clock;

@@ -186,9 +186,10 @@ impl Pace {
                     || neighbour.is_silent()))
     }
 
-    /// A datagram came from this port of a neighbour. Those of others are nothing.
+    /// A datagram came from this port of a neighbour. One of another port is no answer.
     pub fn heard(&mut self, port: u16, is_news: bool) {
         let Some(place) = self.place_of(Some(port)) else {
+            self.unheard();
             return;
         };
         if let Some(neighbour) = self.neighbours.get_mut(place) {
@@ -199,7 +200,7 @@ impl Pace {
         }
     }
 
-    /// Nothing came. Where the daemon held, what the neighbour had to answer is lost.
+    /// No answer came. Where the daemon held, what the neighbour had to answer is lost.
     pub fn unheard(&mut self) {
         if !self.holds {
             return;

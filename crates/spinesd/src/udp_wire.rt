@@ -1,12 +1,9 @@
 // Datagrams on this machine: UDP on 127.0.0.1 for both sides of a daemon. The wire tells nothing of them.
 ghost use Rattle.std.specs.Prelude.{None};
 
-use crate::ears::{Ears, Sockets};
-use crate::sockets::bound;
-use crate::waiter::Waiter;
+use crate::ears::Ears;
 use sp_outside::{Failed, Side, Wire};
 use std::alloc::Global;
-use std::io;
 use std::net::Net;
 use std::rt::Clock;
 
@@ -35,21 +32,6 @@ impl<'r, R: Net + Clock> UdpWire<'r, R> {
     }
 }
 
-/// Both sockets, which are waited for together.
-fn both<R: Net>(rt: &R, alloc: Global, overlay: u16, client: u16) -> io::Result<Ears> {
-    let sockets = Sockets {
-        overlay: bound(rt, overlay)?,
-        client: bound(rt, client)?,
-        waiter: Waiter::new(rt, alloc)?,
-    };
-    for socket in [&sockets.overlay, &sockets.client] {
-        if let Some(socket) = socket {
-            sockets.waiter.add(socket)?;
-        }
-    }
-    Ok(Ears::new(alloc, sockets))
-}
-
 impl<R: Net + Clock> Wire for UdpWire<'_, R> {
     ghost told = { λ _. None };
 
@@ -58,7 +40,7 @@ impl<R: Net + Clock> Wire for UdpWire<'_, R> {
     ghost faults = { λ w. w.faults };
 
     fn open(&mut self, overlay: u16, client: u16) -> Result<(), Failed> {
-        match both(self.rt, self.alloc, overlay, client) {
+        match Ears::new(self.rt, self.alloc, overlay, client) {
             Ok(ears) => {
                 self.ears = Some(ears);
                 Ok(())

@@ -9,10 +9,10 @@ use std::net::{Net, UdpSocket};
 use std::os::fd::AsRawFd;
 use std::time::Duration;
 
-/// A daemon has so many sockets.
-const SOCKETS: usize = 2;
+/// Of so many sockets is told at once that something came. Of the others it is told by the next wait.
+const TOLD: usize = 64;
 
-/// The sockets that are waited for. Who waits takes all that is there first, since only what comes afterwards ends a wait.
+/// The sockets that are waited for. Each thing that comes ends one wait.
 #[derive(Drop)]
 pub struct Waiter {
     poll: Poll,
@@ -22,7 +22,7 @@ pub struct Waiter {
 impl Waiter {
     /// Of no socket yet.
     pub fn new<R: Net>(rt: &R, alloc: Global) -> io::Result<Self> {
-        let events = Events::with_capacity(alloc, SOCKETS).map_err(|_| io::Error::from(
+        let events = Events::with_capacity(alloc, TOLD).map_err(|_| io::Error::from(
             ErrorKind::OutOfMemory,
         ))?;
         Ok(Waiter {
@@ -31,17 +31,22 @@ impl Waiter {
         })
     }
 
-    /// A socket is waited for from now on.
-    pub fn add(&self, socket: &UdpSocket) -> io::Result<()> {
+    /// A socket is waited for from now on, under this name.
+    pub fn add(&self, socket: &UdpSocket, name: usize) -> io::Result<()> {
         let fd = socket.as_raw_fd();
         self.poll
             .registry()
-            .register(&mut SourceFd(&fd), Token(0), Interest::READABLE)
+            .register(&mut SourceFd(&fd), Token(name), Interest::READABLE)
     }
 
     /// Waits so many milliseconds at most.
     pub fn wait(&mut self, most_ms: u64) -> io::Result<()> {
         self.poll
             .poll(&mut self.events, Some(Duration::from_millis(most_ms)))
+    }
+
+    /// Where something came in the last wait.
+    pub fn events(&self) -> &Events<Global> {
+        &self.events
     }
 }

@@ -1,4 +1,4 @@
-//! Sessions of clients held against dialogues of another program, over a node in memory that counts its calls, and over a whole node.
+//! Sessions of clients held against dialogues of another program, over a node in memory that counts its calls.
 #![tactic(auto)]
 
 #[cfg(test)]
@@ -7,10 +7,6 @@ mod bad_input;
 mod dialogues;
 #[cfg(test)]
 mod memory_node;
-#[cfg(test)]
-mod node_talk;
-#[cfg(test)]
-mod node_talks;
 #[cfg(test)]
 mod questions;
 #[cfg(test)]

@@ -5,8 +5,9 @@ use Rattle.sp_keystate.proofs.starts.start.Goals as goal
 
 pub returns-clause-started : goal.returns-clause-started
 returns-clause-started g c =
-    starts _ _ c.in_ok-state.state c.next_boot.new.self c.reserve.new.self c.args.n c.args.total c.in_ok-state.ensures.state c.in_ok-next_boot.ensures.answer
-    c.in_ok-next_boot.ensures.state c.in_ok-reserve.ensures.answer c.in_ok-reserve.ensures.state c.in_ok-reserve.ensures.serial
+    starts _ _ _ _ c.in_ok-state.state c.next_boot.new.self c.reserve.new.self c.args.n c.args.total c.in_ok-state.ensures.state c.in_ok-next_boot.ensures.answer
+    c.in_ok-next_boot.ensures.state c.in_ok-reserve.ensures.answer c.in_ok-reserve.ensures.state c.in_ok-reserve.ensures.serial c.in_ok-next_boot.ensures.file
+    c.in_ok-reserve.ensures.file
 
 pub returns-clause-safe : goal.returns-clause-safe
 returns-clause-safe g c = starts_safely _ _ _ _ _ _ _ _ _ _ c.in_ok-state.ensures.state c.in_ok-next_boot.ensures.file c.in_ok-reserve.ensures.file c.in_ok-reserve.ensures.sound

@@ -34,4 +34,4 @@ returns c =
     let only : HasOnly (2 * c.args.s.0 + 1) (2 * c.args.t.0) c.in-Only.found c.args.count c.route.new.lanes c.route.new.reached = rw c.in-Only.is at c.in_ok-route.ensures.routed in
     let arcs : map arc_of c.route.new.lanes ≡ arcs_of c.args.graph.now c.args.s c.args.t =
     same_arcs c.as_mut_slice-slots.result.now c.route.new.lanes c.in_ok-route.ensures.same ∙ ap (λ (lanes : List Lane). map arc_of lanes) c.as_mut_slice-slots.ensures.value ∙ c.in_ok-lanes.ensures.arcs in
-    few_is c.args.graph.now c.args.s c.args.t c.args.count c.in-Only.found c.route.new.lanes c.route.new.reached c.requires.graph arcs only (omega (arith, c.in_ok-route.ensures.lengths.1))
+    few_is c.args.graph.now c.args.s c.args.t c.args.count c.in-Only.found c.route.new.lanes c.route.new.reached c.requires.ends.2 c.requires.graph arcs only (omega (arith, c.in_ok-route.ensures.lengths.1))

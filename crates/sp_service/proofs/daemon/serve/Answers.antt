@@ -15,3 +15,6 @@ returns-in-Ok-clause-ends g c =
 pub returns-in-Ok-clause-kept : goal.returns-in-Ok-clause-kept
 returns-in-Ok-clause-kept g c =
     kept_begun c.args.text.now c.args.is_cut _ _ c.in-Ok.daemon _ _ _ (c.in-Ok.ensures.begins None) c.in-Ok.ensures.kept c.serve.ensures.kept
+
+pub returns-in-Err-clause-ends : goal.returns-in-Err-clause-ends
+returns-in-Err-clause-ends g c = c.in-Err.ensures.ended (g.C.Clock.told c.args.clock.now) c.args.turns

@@ -10,8 +10,8 @@ returns-in-Ok-clause-begins g c =
     c.begin.ensures.begun c.begin.ensures.written
 
 pub returns-in-Ok-clause-ended : goal.returns-in-Ok-clause-ended
-returns-in-Ok-clause-ended g c = λ wire clock disk turns.
+returns-in-Ok-clause-ended g c = λ wire clock file turns.
     map_err c.begin.result _ _
-    (λ ended fails. fails_so c.args.config.now c.args.fitted.topology turns c.args.started c.in-Ok.station c.opening_of-opening.result ended wire clock disk _ _ c.in-Ok.ensures
+    (λ ended fails. fails_so c.args.config.now c.args.fitted.topology turns c.args.started c.in-Ok.station c.opening_of-opening.result ended wire clock file _ _ c.in-Ok.ensures
     c.opening_of-opening.ensures fails)
     c.begin.ensures.failed

@@ -1,0 +1,11 @@
+pub mod Outputs
+pub mod Complete
+pub mod GeneratedRuns
+pub mod Ways
+pub mod Begun
+pub mod Lines
+pub mod Feeding
+pub mod Ends
+pub mod Timelines
+pub mod Worlds
+pub mod LawLemmas

@@ -1,0 +1,18 @@
+-- How much the journal of a world tells: its length and its deliveries have room in a summary.
+use Rattle.std.proofs.Common.{◌<◌, ◌^◌, length, arith}
+use Rattle.laws_runs_format.specs.Journals.{IsCountable, JournalsAreCountable}
+use Rattle.sp_journal.specs.JournalText.{delivered_count, priority_count}
+use Rattle.sp_world.specs.Past.{Past, IsPast}
+use Rattle.sp_replay.specs.Played.{IsShort}
+
+countable : JournalsAreCountable → (p : Past) → IsPast p → IsCountable p.events p.journal
+countable law p is = law p.scenario p.events p.journal is.last is.graph is.clean
+
+pub journal_is_short : JournalsAreCountable → (p : Past) → IsPast p → IsShort p → length p.journal < 2 ^ 32
+journal_is_short law p is short = omega (arith, (countable law p is).entries, short)
+
+pub deliveries_are_few : JournalsAreCountable → (p : Past) → IsPast p → IsShort p → delivered_count p.journal < 2 ^ 64
+deliveries_are_few law p is short = let c = countable law p is in omega (arith, c.entries, c.deliveries, short)
+
+pub priority_is_few : JournalsAreCountable → (p : Past) → IsPast p → IsShort p → priority_count p.journal < 2 ^ 64
+priority_is_few law p is short = let c = countable law p is in omega (arith, c.entries, c.priority, short)
