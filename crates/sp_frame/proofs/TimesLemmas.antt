@@ -26,3 +26,5 @@ module _ {X : Type 0} (one : List ℕ → Result (X × List ℕ) SectionRefused)
   times_all (suc n) bytes x xs some first others =
       let later : times one n x.1 ≡ Ok xs = ap (λ (m : ℕ). times one m x.1) (let back : n ≡ suc n - 1 = omega arith in back) ∙ others in
       rw first (rw later refl)
+
+pub ruleset read_in_turn = (times_none, times_first, times_later, times_all)

@@ -91,7 +91,7 @@ fn prios_at<'a>(
 }
 
 /// So many messages with their link numbers.
-#[tactic(auto, using(crate::proofs::TimesLemmas::times_none, crate::proofs::TimesLemmas::times_first, crate::proofs::TimesLemmas::times_later, crate::proofs::TimesLemmas::times_all))]
+#[tactic(auto, using(crate::proofs::TimesLemmas::read_in_turn))]
 fn many_numbered<'a>(
     reader: &mut Reader<'a>,
     count: u8,
@@ -178,7 +178,7 @@ fn rels_at<'a>(
 }
 
 /// So many reliable messages.
-#[tactic(auto, using(crate::proofs::TimesLemmas::times_none, crate::proofs::TimesLemmas::times_first, crate::proofs::TimesLemmas::times_later, crate::proofs::TimesLemmas::times_all))]
+#[tactic(auto, using(crate::proofs::TimesLemmas::read_in_turn))]
 fn many_rels<'a>(
     reader: &mut Reader<'a>,
     count: u8,

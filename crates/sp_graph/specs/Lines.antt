@@ -64,11 +64,13 @@ place_3 line name a b = record { line = line; column = column_after (column_afte
 -- the fields of an edge between so many nodes, or the first one that is refused
 abbrev pub AreFields : ℕ → ℕ → Word → Word → Word → Result Edge GraphRefused → Type 0
 AreFields nodes line a b w (Ok e) =
-    IsField (place_1 line 4) 1 nodes a (Ok e.low.0) × IsField (place_2 line 4 a) 1 nodes b (Ok e.high.0) × IsField (place_3 line 4 a b) 1 MAX_WEIGHT w (Ok e.weight)
+    IsField (place_1 line 4) 1 nodes a (Ok e.low.0) × IsField (place_2 line 4 a) 1 nodes b (Ok e.high.0)
+    × IsField (place_3 line 4 a b) 1 MAX_WEIGHT w (Ok e.weight)
 AreFields nodes line a b w (Err refused) =
     IsField (place_1 line 4) 1 nodes a (Err refused)
     ⊎ ((low : ℕ) × IsField (place_1 line 4) 1 nodes a (Ok low) × IsField (place_2 line 4 a) 1 nodes b (Err refused))
-    ⊎ ((low high : ℕ) × IsField (place_1 line 4) 1 nodes a (Ok low) × IsField (place_2 line 4 a) 1 nodes b (Ok high) × IsField (place_3 line 4 a b) 1 MAX_WEIGHT w (Err refused))
+    ⊎ ((low high : ℕ) × IsField (place_1 line 4) 1 nodes a (Ok low) × IsField (place_2 line 4 a) 1 nodes b (Ok high)
+    × IsField (place_3 line 4 a b) 1 MAX_WEIGHT w (Err refused))
 
 -- ---- lines
 
@@ -88,7 +90,8 @@ SaysEdge g line a b w (Err refused) =
 pub data Says (line : ℕ) (words : List Word) : Stage → Result Stage GraphRefused → Type 0 where
   Version_line : words ≡ version_words → Says line words stages.Start (Ok stages.Version)
   Nodes_line : {said : Result Stage GraphRefused} (n : Word) → words ≡ nodes_form n → SaysNodes line n said → Says line words stages.Version said
-  Edge_line : {g : Graph} {said : Result Stage GraphRefused} (a b w : Word) → words ≡ edge_form a b w → SaysEdge g line a b w said → Says line words (stages.Edges g) said
+  Edge_line : {g : Graph} {said : Result Stage GraphRefused} (a b w : Word) → words ≡ edge_form a b w → SaysEdge g line a b w said
+      → Says line words (stages.Edges g) said
   End_line : {g : Graph} → words ≡ end_words → Says line words (stages.Edges g) (Ok (stages.End g))
   After_end : {g : Graph} → Says line words (stages.End g) (Err (refusals.AfterEnd line))
   No_form : {stage : Stage} → (HasForm stage words → ⊥) → Says line words stage (Err (refusals.Form line))

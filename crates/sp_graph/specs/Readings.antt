@@ -32,10 +32,10 @@ pub data Reads : Stage → ℕ → List ℕ → Result Graph GraphRefused → Ty
   No_end : {stage : Stage} {number : ℕ} → (IsEnd stage → ⊥) → Reads stage number [] (Err (refusals.NoEnd number))
   No_words : {stage : Stage} {number : ℕ} {text : List ℕ} (refused : TextRefused) → text ≢ [] → first_words number text ≡ Err refused
       → Reads stage number text (Err (refusals.Text refused))
-  Bad_line : {stage : Stage} {number : ℕ} {text : List ℕ} (words : List Word) (rest : List ℕ) (refused : GraphRefused) → first_words number text ≡ Ok (words, rest)
-      → Says number words stage (Err refused) → Reads stage number text (Err refused)
-  Good_line : {stage : Stage} {number : ℕ} {text : List ℕ} {answer : Result Graph GraphRefused} (words : List Word) (rest : List ℕ) (next : Stage) → first_words number text ≡ Ok (words, rest)
-      → Says number words stage (Ok next) → Reads next (number + 1) rest answer → Reads stage number text answer
+  Bad_line : {stage : Stage} {number : ℕ} {text : List ℕ} (words : List Word) (rest : List ℕ) (refused : GraphRefused)
+      → first_words number text ≡ Ok (words, rest) → Says number words stage (Err refused) → Reads stage number text (Err refused)
+  Good_line : {stage : Stage} {number : ℕ} {text : List ℕ} {answer : Result Graph GraphRefused} (words : List Word) (rest : List ℕ) (next : Stage)
+      → first_words number text ≡ Ok (words, rest) → Says number words stage (Ok next) → Reads next (number + 1) rest answer → Reads stage number text answer
 
 -- a whole text says this
 abbrev pub IsReading : List ℕ → Result Graph GraphRefused → Type 0

@@ -17,8 +17,8 @@ use Rattle.sp_schedule_events.specs.declared.event.Event.{Event}
 -- what was read of a whole text is what the text spells
 abbrev pub ReadingsAreOfTheirText : Type 0
 ReadingsAreOfTheirText =
-    (text : List ℕ) (reading : Reading) (s : Scenario) (es : List Event) → IsReading text false reading → reading.ending ≡ endings.Whole → reading.stage ≡ stages.End s es
-    → IsSchedule s es × (text ≡ schedule_text s es)
+    (text : List ℕ) (reading : Reading) (s : Scenario) (es : List Event) → IsReading text false reading
+    → reading.ending ≡ endings.Whole → reading.stage ≡ stages.End s es → IsSchedule s es × (text ≡ schedule_text s es)
 
 -- the text of a schedule is read whole, to just this schedule
 abbrev pub GoodTextsAreRead : Type 0

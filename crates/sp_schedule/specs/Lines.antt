@@ -16,7 +16,8 @@
 --     End         none
 --
 -- Every bad line of the header is `Header`. After 16,384 events each line but `end` is `TooMany`, whatever else is wrong with it.
-use Rattle.std.specs.Prelude.{ℕ, ◌≡◌, ◌&&◌, ◌||◌, ◌==◌, nat_le, nat_lt, Bool, true, List, [], ◌∷◌, ◌++◌, length, Option, Some, None, Result, Ok, Err, if◌then◌else◌}
+use Rattle.std.specs.Prelude.{ℕ, ◌≡◌, ◌&&◌, ◌||◌, ◌==◌, nat_le, nat_lt, Bool, true, if◌then◌else◌}
+use Rattle.std.specs.Prelude.{List, [], ◌∷◌, ◌++◌, length, Option, Some, None, Result, Ok, Err}
 use Rattle.sp_base.specs.Refusals.{◌>>=◌}
 use Rattle.sp_base.specs.declared.limits.TheConstants.{MAX_EVENTS}
 use Rattle.sp_base.specs.declared.id.NodeId.{NodeId}
@@ -32,7 +33,8 @@ use Rattle.sp_topology.specs.declared.topology.LmsHeight.{LmsHeight}
 use Rattle.sp_schedule_events.specs.EventLines.{read_event}
 use Rattle.sp_schedule_events.specs.declared.scenario.Scenario.{Scenario}
 use Rattle.sp_schedule_events.specs.declared.event.Event.{Event}
-use Rattle.sp_schedule.specs.Header.{bad_cells, begin_cells, bounds_cells, edge_cells, edge_of, end_cells, height_at, height_cells, limits_of, next_after, nodes_cells, seed_cells, version_cells}
+use Rattle.sp_schedule.specs.Header.{bad_cells, begin_cells, bounds_cells, edge_cells, end_cells, height_cells, nodes_cells, seed_cells, version_cells}
+use Rattle.sp_schedule.specs.Header.{edge_of, height_at, limits_of, next_after}
 use Rattle.sp_schedule.specs.Refusals.{kind_of}
 use Rattle.sp_schedule.specs.declared.lead.Lead.{Lead}
 use Rattle.sp_schedule.specs.declared.lead.Lead.TheVariants as leads
@@ -110,7 +112,8 @@ says (stages.Edges s) words =
     if fits begin_cells words then Ok (stages.Events s []) else (if fits (bad_cells 0 0) words then says_bad s words else says_edge s words)
 says (stages.Bads s) words = if fits begin_cells words then Ok (stages.Events s []) else says_bad s words
 says (stages.Events s es) words =
-    if fits end_cells words then Ok (stages.End s es) else (if nat_le MAX_EVENTS (length es) then Err kinds.TooMany else event_more s es (read_event s es words))
+    if fits end_cells words then Ok (stages.End s es)
+    else (if nat_le MAX_EVENTS (length es) then Err kinds.TooMany else event_more s es (read_event s es words))
 says (stages.End s es) words = Err kinds.AfterEnd
 
 -- the header isn't whole

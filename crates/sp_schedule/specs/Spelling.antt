@@ -10,7 +10,8 @@ use Rattle.sp_topology.specs.declared.topology.LmsHeight.{LmsHeight}
 use Rattle.sp_schedule_events.specs.Events.{event_words}
 use Rattle.sp_schedule_events.specs.declared.scenario.Scenario.{Scenario}
 use Rattle.sp_schedule_events.specs.declared.event.Event.{Event}
-use Rattle.sp_schedule.specs.Header.{bad_cells, begin_cells, bounds_cells, bounds_values, edge_cells, edge_values, end_cells, height_cells, height_number, nodes_cells, seed_cells, version_cells}
+use Rattle.sp_schedule.specs.Header.{bad_cells, begin_cells, bounds_cells, edge_cells, end_cells, height_cells, nodes_cells, seed_cells, version_cells}
+use Rattle.sp_schedule.specs.Header.{bounds_values, edge_values, height_number}
 
 -- ---- the words of each line
 

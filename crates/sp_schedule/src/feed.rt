@@ -2,7 +2,8 @@
 ghost use Rattle.std.specs.Prelude.{◌≡◌, ◌≢◌, ◌+◌, ◌≤◌, ◌∷◌, ◌++◌, [], true, false, length, take, IfNone, IfOk, IfSome, Bool, List, ℕ, vec_capacity};
 ghost use Rattle.sp_base.specs.declared.limits.TheConstants.{MAX_INPUT_BYTES, MAX_LINE_BYTES};
 ghost use Rattle.sp_text.specs.declared.place.At.{At};
-ghost use Rattle.sp_schedule.specs.Feeds.{AreReadSoFar, IsFront, IsLeadOf, IsReadAs, IsRefusedLead, IsUpToNewline, ReadsLine, ReadsOn, TakesPiece, is_ready, text_of, unfed};
+ghost use Rattle.sp_schedule.specs.Feeds.{AreReadSoFar, IsFront, IsLeadOf, IsReadAs, IsRefusedLead, IsUpToNewline, ReadsLine, ReadsOn, TakesPiece};
+ghost use Rattle.sp_schedule.specs.Feeds.{is_ready, text_of, unfed};
 ghost use Rattle.sp_schedule.specs.Readings.{IsGoodStage, no_words};
 
 use crate::lead::{Lead, follow};

@@ -5,7 +5,8 @@ ghost use Rattle.std.specs.String.{string_bytes};
 ghost use Rattle.sp_lines.specs.Rows.{line_text};
 ghost use Rattle.sp_schedule_events.specs.Events.{event_words};
 ghost use Rattle.sp_schedule_events.specs.declared.scenario.Scenario.{Scenario};
-ghost use Rattle.sp_schedule.specs.Spelling.{bad_words, begin_words, bounds_words, edge_words, end_words, front_lines, height_words, nodes_words, schedule_text, seed_words, version_words};
+ghost use Rattle.sp_schedule.specs.Spelling.{bad_words, begin_words, bounds_words, edge_words, end_words, height_words, nodes_words, seed_words, version_words};
+ghost use Rattle.sp_schedule.specs.Spelling.{front_lines, schedule_text};
 
 use crate::{Edge, Event, LmsHeight, Scenario};
 use sp_base::{Limits, Memory, NodeId};

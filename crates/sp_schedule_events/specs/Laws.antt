@@ -10,4 +10,5 @@ use Rattle.sp_schedule_events.specs.declared.event.Event.{Event}
 -- words are read as an event exactly where they are the event's words, and it may come there
 abbrev pub EventsHaveOneLine : Type 0
 EventsHaveOneLine =
-    (s : Scenario) (es : List Event) (words : List Word) (e : Event) → s.graph.nodes ≤ MAX_NODES → (read_event s es words ≡ Ok e) ↔ (InRange s es e × (words ≡ event_words s e))
+    (s : Scenario) (es : List Event) (words : List Word) (e : Event) → s.graph.nodes ≤ MAX_NODES
+    → (read_event s es words ≡ Ok e) ↔ (InRange s es e × (words ≡ event_words s e))

@@ -6,3 +6,4 @@ pub mod Judging
 pub mod OneInput
 pub mod Tellings
 pub mod Sizes
+pub mod Rules

@@ -71,7 +71,7 @@ pub fn serve<W: Wire, C: Clock, P: Keeper, K: Sink>(
 ///
 /// First the configuration is judged, then the wire is opened, then a start is taken from the key file, and then the first line is written: the first
 /// of these that fails ends it.
-#[tactic(auto, using(crate::proofs::Endings::told, crate::proofs::Endings::daemon, crate::proofs::Endings::no_memory, crate::proofs::Endings::kept_quiet, crate::proofs::Beginnings::begins))]
+#[tactic(auto, using(crate::proofs::Rules::started))]
 pub fn start<W: Wire, P: Keeper, K: Sink>(
     alloc: Global,
     text: &[u8],

@@ -228,3 +228,5 @@ no_more keys i at refused d0 d1 p0 p1 f0 f1 is same few answer meanwhile faults 
   kept = kept_by keys d0 p0 p1 meanwhile;
   faults = faults;
 }
+
+pub ruleset kept_or_spent = (unchanged, kept_none, kept_by, no_more)

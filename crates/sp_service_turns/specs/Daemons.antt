@@ -79,7 +79,8 @@ pub data EndsAfter {N : Type 0} (steps : Steps N) (indexes : N → Indexes) (pee
     (before after : Outside) (ended : Served) : Type 0 where
   -- it made all of them, and then it ended with its last line, or since that wasn't written
   Whole : (turns : List Turn) (last : N) (between : Outside) → length turns ≡ count → Ran steps indexes peers turns start last keys before between
-      → IsQuiet between after → Finishes (closing_of peers turns) between.text after.text ended → EndsAfter steps indexes peers count start keys before after ended
+      → IsQuiet between after → Finishes (closing_of peers turns) between.text after.text ended
+      → EndsAfter steps indexes peers count start keys before after ended
   -- it made these, and the next one ended it
   Stopped : (turns : List Turn) (last : N) (between : Outside) → length turns < count → Ran steps indexes peers turns start last keys before between
       → EndsTurn steps indexes peers (polled_by peers (length turns)) last (keys_on keys turns) between after ended

@@ -45,7 +45,8 @@ keys_on keys (t ∷ ts) = keys_on (keys_after keys t.reserved) ts
 -- what these turns made of it, one after another: of each, no moment left a lower bound than was reserved before that turn
 abbrev pub FileMovesOn : KeyState → List Turn → KeptFile → KeptFile → Type 0
 FileMovesOn keys [] before after = after ≡ before
-FileMovesOn keys (t ∷ ts) before after = (between : KeptFile) × FileMoves t.reserved keys before between × FileMovesOn (keys_after keys t.reserved) ts between after
+FileMovesOn keys (t ∷ ts) before after =
+    (between : KeptFile) × FileMoves t.reserved keys before between × FileMovesOn (keys_after keys t.reserved) ts between after
 
 -- ---- together
 

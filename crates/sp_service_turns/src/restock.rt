@@ -16,7 +16,7 @@ use sp_recording::LineRef;
 use std::alloc::Global;
 
 /// Reserves more indexes where few are left: in the key file first, then at the node, and then it is recorded.
-#[tactic(auto, using(crate::proofs::KeyLemmas::unchanged, crate::proofs::KeyLemmas::kept_none, crate::proofs::KeyLemmas::kept_by, crate::proofs::KeyLemmas::no_more))]
+#[tactic(auto, using(crate::proofs::KeyLemmas::kept_or_spent))]
 pub fn restock<N: Core, P: Keeper, K: Sink>(
     alloc: Global,
     node: &mut N,

@@ -249,8 +249,8 @@ fn keys_are_those_of_another_program(rt: HostRuntime) -> Result<(), Fail> {
     Ok(())
 }
 
-/// The indexes of a signer of node 1, from one up to, and not with, another, and how it signs the first message: 0 signed, 1 not reserved from 1,023 on, 2 spent at
-/// 1,024. A signer that refuses leaves the blank as it was.
+/// The indexes of a signer of node 1, from one up to, and not with, another, and how it signs the first message: 0 signed, 1 not reserved
+/// from 1,023 on, 2 spent at 1,024. A signer that refuses leaves the blank as it was.
 const ENDINGS: [(u64, u64, u8); 3] = [(1023, 1023, 1), (1024, 1024, 2), (1023, 1024, 0)];
 
 /// How a signing ended, by its number.
