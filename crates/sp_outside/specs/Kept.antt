@@ -1,5 +1,5 @@
 -- What a wire in memory holds and keeps: what comes on each side, and the calls that were made.
-use Rattle.std.specs.Prelude.{◌≡◌, Bool, true, false, List, [], ◌∷◌, drop, map, take, Option, None, Some}
+use Rattle.std.specs.Prelude.{ℕ, ◌≡◌, Bool, true, false, List, [], ◌∷◌, drop, map, take, Option, None, Some}
 use Rattle.sp_outside.specs.declared.wire.TheConstants.{DATAGRAM_BYTES}
 use Rattle.sp_outside.specs.Calls.{Call, Came, Got, Lost, Nothing, Opened, Received, Sent}
 use Rattle.sp_outside.specs.declared.side.Side.{Side}
@@ -7,6 +7,8 @@ use Rattle.sp_outside.specs.declared.side.Side.TheVariants as sides
 use Rattle.sp_outside.specs.declared.calls.Coming.{Coming}
 use Rattle.sp_outside.specs.declared.calls.Kept.{Kept}
 use Rattle.sp_outside.specs.declared.calls.Kept.TheVariants as kept
+use Rattle.sp_outside.specs.declared.calls.Way.{Way}
+use Rattle.sp_outside.specs.declared.calls.Way.TheVariants as ways
 
 -- ---- what comes
 
@@ -38,6 +40,11 @@ call_of (kept.Nothing side) = Received side Nothing
 call_of (kept.Lost side) = Received side Lost
 call_of (kept.Came side port bytes) = Received side (Came port bytes.items)
 call_of (kept.Sent side port bytes is_done) = Sent side port bytes.items is_done
+
+-- the call in which a datagram went this way
+abbrev pub call_by : Way → Side → ℕ → List ℕ → Call
+call_by ways.Came side port bytes = Received side (Came port bytes)
+call_by (ways.Sent is_done) side port bytes = Sent side port bytes is_done
 
 -- the calls that are told: none where the wire is mute
 abbrev pub told_by : Bool → List Kept → Option (List Call)

@@ -57,3 +57,10 @@ pub enum Kept {
         is_done: bool,
     },
 }
+
+/// Which way a datagram went, and whether a send was done.
+#[derive(Clone, Copy, Debug)]
+pub(crate) enum Way {
+    Came,
+    Sent { is_done: bool },
+}

@@ -3,10 +3,10 @@ ghost use Rattle.std.specs.Prelude.{◌≡◌, ◌≤◌, ◌∷◌, ◌+◌, �
 ghost use Rattle.sp_outside.specs.declared.wire.TheConstants.{DATAGRAM_BYTES};
 ghost use Rattle.sp_outside.specs.Calls.{Came, Opened, Received, Sent, Tells, got_of, is_done};
 ghost use Rattle.sp_outside.specs.Causes.{HasCause};
-ghost use Rattle.sp_outside.specs.Kept.{Takes, WentMute, call_of, got_from, next_in, of_side, told_by};
+ghost use Rattle.sp_outside.specs.Kept.{Takes, WentMute, call_by, call_of, got_from, next_in, of_side, told_by};
 ghost use Rattle.sp_outside.specs.Plans.{is_planned};
 
-use crate::calls::{Coming, Kept, WirePlan};
+use crate::calls::{Coming, Kept, Way, WirePlan};
 use crate::wire::{DATAGRAM_BYTES, Wire};
 use crate::{Failed, Side};
 use std::alloc::{AllocError, Global};
@@ -121,17 +121,18 @@ fn keep(calls: &mut Vec<Kept>, is_mute: &mut bool, call: Kept) -> bool
     !*is_mute
 }
 
-/// Keeps a datagram that came.
-fn keep_came(
+/// Keeps a datagram that went this way.
+fn keep_datagram(
     alloc: Global,
     calls: &mut Vec<Kept>,
     is_mute: &mut bool,
+    way: Way,
     side: Side,
     port: u16,
     bytes: &[u8],
 ) -> bool
     ensures kept { result ≡ true → Tells (told_by is_mute.old calls.old.items) (told_by is_mute.new calls.new.items)
-        (Received side (Came port bytes.now) ∷ []) }
+        (call_by way side port bytes.now ∷ []) }
     ensures still { result ≡ true → is_mute.new ≡ is_mute.old }
     ensures mute { result ≡ false → WentMute is_mute.old is_mute.new }
 {
@@ -142,36 +143,14 @@ fn keep_came(
         *is_mute = true;
         return false;
     };
-    keep(calls, is_mute, Kept::Came { side, port, bytes })
-}
-
-/// Keeps a send, and whether it was done.
-fn keep_sent(
-    alloc: Global,
-    calls: &mut Vec<Kept>,
-    is_mute: &mut bool,
-    side: Side,
-    port: u16,
-    bytes: &[u8],
-    is_done: bool,
-) -> bool
-    ensures kept { result ≡ true → Tells (told_by is_mute.old calls.old.items) (told_by is_mute.new calls.new.items)
-        (Sent side port bytes.now is_done ∷ []) }
-    ensures still { result ≡ true → is_mute.new ≡ is_mute.old }
-    ensures mute { result ≡ false → WentMute is_mute.old is_mute.new }
-{
-    if *is_mute {
-        return true;
-    }
-    let Ok(bytes) = Vec::from_slice(alloc, bytes) else {
-        *is_mute = true;
-        return false;
-    };
-    let call = Kept::Sent {
-        side,
-        port,
-        bytes,
-        is_done,
+    let call = match way {
+        Way::Came => Kept::Came { side, port, bytes },
+        Way::Sent { is_done } => Kept::Sent {
+            side,
+            port,
+            bytes,
+            is_done,
+        },
     };
     keep(calls, is_mute, call)
 }
@@ -218,7 +197,7 @@ fn give(
     };
     let piece = at_longest(coming.bytes);
     lay(piece, buf);
-    if keep_came(alloc, calls, is_mute, side, coming.port, piece) {
+    if keep_datagram(alloc, calls, is_mute, Way::Came, side, coming.port, piece) {
         return Some(Some((coming.port, piece.len())));
     }
     None
@@ -297,14 +276,14 @@ impl Wire for MemoryWire<'_> {
         ensures counted { self.new.sends ≡ min (self.old.sends + 1) (2 ^ 64 - 1) }
     {
         let is_done = !is_planned(self.plan.sends, &mut self.sends);
-        let is_kept = keep_sent(
+        let is_kept = keep_datagram(
             self.alloc,
             &mut self.calls,
             &mut self.is_mute,
+            Way::Sent { is_done },
             side,
             port,
             bytes,
-            is_done,
         );
         if is_done && is_kept {
             return Ok(());
