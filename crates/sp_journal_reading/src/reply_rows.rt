@@ -1,9 +1,6 @@
 // The rows of replies with numbers or bytes, each read by its own call.
 ghost use Rattle.std.specs.Prelude.{◌≡◌, [], ◌∷◌, codes};
-ghost use Rattle.sp_base.specs.Refusals.{Gives};
-ghost use Rattle.sp_base.specs.declared.limits.TheConstants.{MAX_NODES};
 ghost use Rattle.sp_lines.specs.Answers.{Reads};
-ghost use Rattle.sp_lines.specs.Cells.{bytes_at, number_at};
 ghost use Rattle.sp_journal_reading.specs.ReplyTable.{read_form, without_items};
 ghost use Rattle.sp_journal_reading.specs.ReplyTable as forms;
 
@@ -125,22 +122,12 @@ pub fn frame(
 {
     let number = ranged(number, 0, u64::from(u32::MAX))? as u32;
     let length = ranged(length, 0, u64::from(u32::MAX))? as u32;
-    let digest = digest_of(alloc, digest)?;
+    let digest = sp_lines::digest(alloc, digest)?;
     Ok(Reply::Frame {
         number,
         length,
         digest,
     })
-}
-
-/// Exactly 32 bytes.
-fn digest_of(alloc: Global, word: &[u8]) -> Result<[u8; 32], LineRefused>
-    ensures { Reads result (bytes_at 32 32 word.now) }
-{
-    let bytes = bytes(alloc, word, 32, 32)?;
-    let mut digest = [0u8; 32];
-    digest.copy_from_slice(bytes.as_slice());
-    Ok(digest)
 }
 
 #[tactic(auto, unfolding(crate::specs::ReplyTable::read_form))]

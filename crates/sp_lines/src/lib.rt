@@ -10,5 +10,5 @@ mod writing;
 pub use fault::{Fault, LineRefused};
 pub use laws::rows_have_one_spelling;
 pub use next_line::next_words;
-pub use places::{bytes, mask, named, ranged};
+pub use places::{bytes, digest, mask, named, ranged};
 pub use writing::{push_field, push_hex_field, push_mask_field, push_name_field};

@@ -74,3 +74,13 @@ pub fn mask(alloc: Global, word: &[u8]) -> Result<u128, LineRefused>
     }
     Ok(mask)
 }
+
+/// Exactly 32 bytes.
+pub fn digest(alloc: Global, word: &[u8]) -> Result<[u8; 32], LineRefused>
+    ensures { Reads result (bytes_at 32 32 word.now) }
+{
+    let bytes = bytes(alloc, word, 32, 32)?;
+    let mut digest = [0u8; 32];
+    digest.copy_from_slice(bytes.as_slice());
+    Ok(digest)
+}

@@ -2,7 +2,7 @@
 ghost use Rattle.std.specs.Prelude.{◌≡◌, ◌++◌, ◌∷◌, [], IfOk, map};
 ghost use Rattle.sp_recording.specs.Reading.{IsLead, held_with};
 
-use crate::line_rows::read_line;
+use crate::line_rows::{LineOf, read_line};
 use crate::outer_rows::{closing, opening};
 use crate::{Line, Opening, Stage};
 use sp_base::{Listed, Memory, NodeId};
@@ -63,7 +63,13 @@ fn after_lines(
     if let Some(closing) = closing(words) {
         return Ok(Lead::To(Stage::End(opening, lines, closing)));
     }
-    match read_line(alloc, total, neighbours, held, words) {
+    let at = LineOf {
+        alloc,
+        total,
+        neighbours,
+        held,
+    };
+    match read_line(&at, words) {
         Ok(line) => {
             let bound = held_with(held, &line);
             let lines = one_more(lines, line)?;

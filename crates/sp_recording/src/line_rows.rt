@@ -10,83 +10,63 @@ ghost use Rattle.sp_recording.specs.LineTable as forms;
 
 use crate::{Digest, Line};
 use sp_base::{Bytes, MAX_NODES, NodeId};
-use sp_lines::{Fault, LineRefused, bytes, named, ranged};
+use sp_lines::{Fault, LineRefused, bytes, digest, named, ranged};
 use sp_outside::DATAGRAM_BYTES;
 use std::alloc::Global;
 
-/// The line of these words, where indexes below `held` are held, or the first fault.
-pub fn read_line(
-    alloc: Global,
-    total: u64,
-    neighbours: &[NodeId],
-    held: u64,
-    words: &[&[u8]],
-) -> Result<Line, LineRefused>
-    ensures { Reads result (read_line total neighbours.now held (map (λ w. w.now) words.now)) }
+/// What a line is read with: memory, the number of indexes in all, the neighbours, and the bound that is held before it.
+#[derive(Clone, Copy)]
+pub struct LineOf<'a> {
+    pub alloc: Global,
+    pub total: u64,
+    pub neighbours: &'a [NodeId],
+    pub held: u64,
+}
+
+/// The line of these words, or the first fault.
+pub fn read_line(at: &LineOf<'_>, words: &[&[u8]]) -> Result<Line, LineRefused>
+    ensures { Reads result (read_line at.now.total at.now.neighbours.now at.now.held (map (λ w. w.now) words.now)) }
 {
     match words {
-        [name, a] => two(total, neighbours, held, name, a),
-        [name, a, b] => three(alloc, total, neighbours, held, name, a, b),
-        [name, a, b, c] => four(alloc, total, neighbours, held, name, a, b, c),
+        [name, a] => two(at, name, a),
+        [name, a, b] => three(at, name, a, b),
+        [name, a, b, c] => four(at, name, a, b, c),
         _ => Err(LineRefused::Bad(Fault::Form)),
     }
 }
 
-fn two(
-    total: u64,
-    neighbours: &[NodeId],
-    held: u64,
-    name: &[u8],
-    a: &[u8],
-) -> Result<Line, LineRefused>
-    ensures { Reads result (read_line total neighbours.now held (name.now ∷ a.now ∷ [])) }
+fn two(at: &LineOf<'_>, name: &[u8], a: &[u8]) -> Result<Line, LineRefused>
+    ensures { Reads result (read_line at.now.total at.now.neighbours.now at.now.held (name.now ∷ a.now ∷ [])) }
 {
     if named(name, b"reserve") {
-        return reserve(total, neighbours, held, a);
+        return reserve(at, a);
     }
     if named(name, b"stray") {
-        return stray(total, neighbours, held, a);
+        return stray(at, a);
     }
     Err(LineRefused::Bad(Fault::Form))
 }
 
-fn three(
-    alloc: Global,
-    total: u64,
-    neighbours: &[NodeId],
-    held: u64,
-    name: &[u8],
-    a: &[u8],
-    b: &[u8],
-) -> Result<Line, LineRefused>
-    ensures { Reads result (read_line total neighbours.now held (name.now ∷ a.now ∷ b.now ∷ [])) }
+fn three(at: &LineOf<'_>, name: &[u8], a: &[u8], b: &[u8]) -> Result<Line, LineRefused>
+    ensures { Reads result (read_line at.now.total at.now.neighbours.now at.now.held (name.now ∷ a.now ∷ b.now ∷ [])) }
 {
     if named(name, b"tick") {
-        return tick(alloc, total, neighbours, held, a, b);
+        return tick(at, a, b);
     }
     if named(name, b"poll") {
-        return poll(alloc, total, neighbours, held, a, b);
+        return poll(at, a, b);
     }
     Err(LineRefused::Bad(Fault::Form))
 }
 
-fn four(
-    alloc: Global,
-    total: u64,
-    neighbours: &[NodeId],
-    held: u64,
-    name: &[u8],
-    a: &[u8],
-    b: &[u8],
-    c: &[u8],
-) -> Result<Line, LineRefused>
-    ensures { Reads result (read_line total neighbours.now held (name.now ∷ a.now ∷ b.now ∷ c.now ∷ [])) }
+fn four(at: &LineOf<'_>, name: &[u8], a: &[u8], b: &[u8], c: &[u8]) -> Result<Line, LineRefused>
+    ensures { Reads result (read_line at.now.total at.now.neighbours.now at.now.held (name.now ∷ a.now ∷ b.now ∷ c.now ∷ [])) }
 {
     if named(name, b"overlay") {
-        return overlay(alloc, total, neighbours, held, a, b, c);
+        return overlay(at, a, b, c);
     }
     if named(name, b"client") {
-        return client(alloc, total, neighbours, held, a, b, c);
+        return client(at, a, b, c);
     }
     Err(LineRefused::Bad(Fault::Form))
 }
@@ -135,81 +115,50 @@ fn datagram(alloc: Global, word: &[u8]) -> Result<Bytes, LineRefused>
     bytes(alloc, word, 0, DATAGRAM_BYTES)
 }
 
-/// Exactly 32 bytes.
-fn digest(alloc: Global, word: &[u8]) -> Result<[u8; 32], LineRefused>
-    ensures { Reads result (bytes_at 32 32 word.now) }
-{
-    let bytes = bytes(alloc, word, 32, 32)?;
-    let mut digest = [0u8; 32];
-    digest.copy_from_slice(bytes.as_slice());
-    Ok(digest)
-}
-
 // ---- rows
 
 #[tactic(auto, unfolding(crate::specs::LineTable::read_form))]
-fn reserve(total: u64, neighbours: &[NodeId], held: u64, upto: &[u8]) -> Result<Line, LineRefused>
-    ensures { Reads result (read_form total neighbours.now held forms.Reserve (codes "reserve" ∷ upto.now ∷ [])) }
+fn reserve(at: &LineOf<'_>, upto: &[u8]) -> Result<Line, LineRefused>
+    ensures { Reads result (read_form at.now.total at.now.neighbours.now at.now.held forms.Reserve (codes "reserve" ∷ upto.now ∷ [])) }
 {
-    let upto = reserved(total, held, upto)?;
+    let upto = reserved(at.total, at.held, upto)?;
     Ok(Line::Reserve { upto })
 }
 
 #[tactic(auto, unfolding(crate::specs::LineTable::read_form))]
-fn stray(total: u64, neighbours: &[NodeId], held: u64, from: &[u8]) -> Result<Line, LineRefused>
-    ensures { Reads result (read_form total neighbours.now held forms.Stray (codes "stray" ∷ from.now ∷ [])) }
+fn stray(at: &LineOf<'_>, from: &[u8]) -> Result<Line, LineRefused>
+    ensures { Reads result (read_form at.now.total at.now.neighbours.now at.now.held forms.Stray (codes "stray" ∷ from.now ∷ [])) }
 {
     let port = port(from)?;
     Ok(Line::Stray { port })
 }
 
 #[tactic(auto, unfolding(crate::specs::LineTable::read_form))]
-fn tick(
-    alloc: Global,
-    total: u64,
-    neighbours: &[NodeId],
-    held: u64,
-    now: &[u8],
-    answered: &[u8],
-) -> Result<Line, LineRefused>
-    ensures { Reads result (read_form total neighbours.now held forms.Tick (codes "tick" ∷ now.now ∷ answered.now ∷ [])) }
+fn tick(at: &LineOf<'_>, now: &[u8], answered: &[u8]) -> Result<Line, LineRefused>
+    ensures { Reads result (read_form at.now.total at.now.neighbours.now at.now.held forms.Tick (codes "tick" ∷ now.now ∷ answered.now ∷ [])) }
 {
     let now = ranged(now, 0, u64::MAX)?;
-    let digest = Digest(digest(alloc, answered)?);
+    let digest = Digest(digest(at.alloc, answered)?);
     Ok(Line::Tick { now, digest })
 }
 
 #[tactic(auto, unfolding(crate::specs::LineTable::read_form))]
-fn poll(
-    alloc: Global,
-    total: u64,
-    neighbours: &[NodeId],
-    held: u64,
-    node: &[u8],
-    frame: &[u8],
-) -> Result<Line, LineRefused>
-    ensures { Reads result (read_form total neighbours.now held forms.Poll (codes "poll" ∷ node.now ∷ frame.now ∷ [])) }
+fn poll(at: &LineOf<'_>, node: &[u8], frame: &[u8]) -> Result<Line, LineRefused>
+    ensures { Reads result (read_form at.now.total at.now.neighbours.now at.now.held forms.Poll (codes "poll" ∷ node.now ∷ frame.now ∷ [])) }
 {
-    let node = neighbour(neighbours, node)?;
-    let digest = Digest(digest(alloc, frame)?);
+    let node = neighbour(at.neighbours, node)?;
+    let digest = Digest(digest(at.alloc, frame)?);
     Ok(Line::Poll { node, digest })
 }
 
 #[tactic(auto, unfolding(crate::specs::LineTable::read_form))]
-fn overlay(
-    alloc: Global,
-    total: u64,
-    neighbours: &[NodeId],
-    held: u64,
-    node: &[u8],
-    came: &[u8],
-    answered: &[u8],
-) -> Result<Line, LineRefused>
-    ensures { Reads result (read_form total neighbours.now held forms.Overlay (codes "overlay" ∷ node.now ∷ came.now ∷ answered.now ∷ [])) }
+fn overlay(at: &LineOf<'_>, node: &[u8], came: &[u8], answered: &[u8]) -> Result<Line, LineRefused>
+    ensures { Reads result (read_form at.now.total at.now.neighbours.now at.now.held forms.Overlay
+        (codes "overlay" ∷ node.now ∷ came.now ∷ answered.now ∷ [])) }
 {
-    let node = neighbour(neighbours, node)?;
-    let bytes = datagram(alloc, came)?;
-    let digest = Digest(digest(alloc, answered)?);
+    let node = neighbour(at.neighbours, node)?;
+    let bytes = datagram(at.alloc, came)?;
+    let digest = Digest(digest(at.alloc, answered)?);
     Ok(Line::Overlay {
         node,
         bytes,
@@ -218,20 +167,13 @@ fn overlay(
 }
 
 #[tactic(auto, unfolding(crate::specs::LineTable::read_form))]
-fn client(
-    alloc: Global,
-    total: u64,
-    neighbours: &[NodeId],
-    held: u64,
-    from: &[u8],
-    came: &[u8],
-    reply: &[u8],
-) -> Result<Line, LineRefused>
-    ensures { Reads result (read_form total neighbours.now held forms.Client (codes "client" ∷ from.now ∷ came.now ∷ reply.now ∷ [])) }
+fn client(at: &LineOf<'_>, from: &[u8], came: &[u8], reply: &[u8]) -> Result<Line, LineRefused>
+    ensures { Reads result (read_form at.now.total at.now.neighbours.now at.now.held forms.Client
+        (codes "client" ∷ from.now ∷ came.now ∷ reply.now ∷ [])) }
 {
     let port = port(from)?;
-    let bytes = datagram(alloc, came)?;
-    let digest = Digest(digest(alloc, reply)?);
+    let bytes = datagram(at.alloc, came)?;
+    let digest = Digest(digest(at.alloc, reply)?);
     Ok(Line::Client {
         port,
         bytes,
