@@ -11,6 +11,7 @@ use Rattle.sp_lines.proofs.WidthLemmas.{good_row_room}
 use Rattle.sp_msg.specs.declared.effect.Effect.{Effect}
 use Rattle.sp_msg.specs.declared.effect.Effect.TheVariants as effects
 use Rattle.sp_msg.specs.declared.effect.Why.TheVariants as whys
+use Rattle.sp_journal_reading.specs.declared.effect_line.Kind.TheVariants as kinds
 use Rattle.sp_journal_reading.specs.EffectTable as forms
 use Rattle.sp_journal_reading.specs.EffectTable.{Form, IsInRange, cells, effect_of, form_for, form_of, read_effect, read_for, read_form, values_of}
 use Rattle.sp_journal_reading.specs.Laws.{EffectsHaveOneLine}
@@ -64,8 +65,8 @@ of_form (forms.Gone whys.Evicted) xs = record { words = refl; ranges = λ are. a
 of_form (forms.Gone whys.Expired) xs = record { words = refl; ranges = λ are. are }
 of_form (forms.Gone whys.Acked) xs = record { words = refl; ranges = λ are. are }
 of_form (forms.Gone whys.Taken) xs = record { words = refl; ranges = λ are. are }
-of_form forms.Delivered xs = record { words = refl; ranges = λ are. are }
-of_form forms.DeliveredPrio xs = record { words = refl; ranges = λ are. are }
+of_form (forms.Delivered kinds.Rel) xs = record { words = refl; ranges = λ are. are }
+of_form (forms.Delivered kinds.Prio) xs = record { words = refl; ranges = λ are. are }
 of_form forms.Weight xs = record { words = refl; ranges = λ are. are }
 
 good_form : (form : Form) → is_good_row (cells form) ≡ true
@@ -75,8 +76,8 @@ good_form (forms.Gone whys.Evicted) = refl
 good_form (forms.Gone whys.Expired) = refl
 good_form (forms.Gone whys.Acked) = refl
 good_form (forms.Gone whys.Taken) = refl
-good_form forms.Delivered = refl
-good_form forms.DeliveredPrio = refl
+good_form (forms.Delivered kinds.Rel) = refl
+good_form (forms.Delivered kinds.Prio) = refl
 good_form forms.Weight = refl
 
 -- the row that was found is fitted

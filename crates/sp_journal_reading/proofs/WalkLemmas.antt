@@ -22,6 +22,7 @@ use Rattle.sp_lines.proofs.WidthLemmas.{good_row_line, good_row_room}
 use Rattle.sp_lines.proofs.Words.{same_words}
 use Rattle.sp_msg.specs.declared.effect.Effect.{Effect}
 use Rattle.sp_msg.specs.declared.effect.Why.TheVariants as whys
+use Rattle.sp_journal_reading.specs.declared.effect_line.Kind.TheVariants as kinds
 use Rattle.sp_journal_reading.specs.EffectTable as effect_forms
 use Rattle.sp_journal_reading.specs.EffectTable.{IsInRange, form_of, values_of}
 use Rattle.sp_journal.specs.JournalText.{delivered_count, frame_count, is_frame, is_sent, priority_count, sent_count, summary_words, version_words}
@@ -78,8 +79,8 @@ good_plus (effect_forms.Gone whys.Evicted) = refl
 good_plus (effect_forms.Gone whys.Expired) = refl
 good_plus (effect_forms.Gone whys.Acked) = refl
 good_plus (effect_forms.Gone whys.Taken) = refl
-good_plus effect_forms.Delivered = refl
-good_plus effect_forms.DeliveredPrio = refl
+good_plus (effect_forms.Delivered kinds.Rel) = refl
+good_plus (effect_forms.Delivered kinds.Prio) = refl
 good_plus effect_forms.Weight = refl
 
 effect_line : (effect : Effect) → IsInRange effect → IsGoodLine (effect_words effect)

@@ -16,14 +16,16 @@ use Rattle.sp_msg.specs.declared.effect.Effect.{Effect}
 use Rattle.sp_msg.specs.declared.effect.Effect.TheVariants as effects
 use Rattle.sp_msg.specs.declared.effect.Why.{Why}
 use Rattle.sp_msg.specs.declared.effect.Why.TheVariants as whys
+use Rattle.sp_journal.specs.Words.{why_word}
+use Rattle.sp_journal_reading.specs.declared.effect_line.Kind.{Kind}
+use Rattle.sp_journal_reading.specs.declared.effect_line.Kind.TheVariants as kinds
 
 -- the forms of an effect's line
 pub data Form : Type 0 where
   Signed : Form
   Stored : Form
   Gone : Why → Form
-  Delivered : Form
-  DeliveredPrio : Form
+  Delivered : Kind → Form
   Weight : Form
 
 -- ---- places
@@ -44,23 +46,26 @@ seq = Number 1 MAX_SEQ
 abbrev pub payload : Cell
 payload = Bytes 0 MAX_PAYLOAD_BYTES
 
+-- the word of each kind
+abbrev pub kind_word : Kind → Word
+kind_word kinds.Rel = codes "rel"
+kind_word kinds.Prio = codes "prio"
+
 -- ---- rows
 
 -- the row of a form. The longest body is that of a priority message, of 38 bytes and its payload
 abbrev pub cells : Form → List Cell
 cells Signed = Name (codes "signed") ∷ Bytes 0 (38 + MAX_PAYLOAD_BYTES) ∷ []
 cells Stored = Name (codes "stored") ∷ place ∷ any_number ∷ node ∷ seq ∷ Number 1 MAX_PRIORITY ∷ []
-cells (Gone whys.Evicted) = Name (codes "gone") ∷ place ∷ any_number ∷ Name (codes "evicted") ∷ []
-cells (Gone whys.Expired) = Name (codes "gone") ∷ place ∷ any_number ∷ Name (codes "expired") ∷ []
-cells (Gone whys.Acked) = Name (codes "gone") ∷ place ∷ any_number ∷ Name (codes "acked") ∷ []
-cells (Gone whys.Taken) = Name (codes "gone") ∷ place ∷ any_number ∷ Name (codes "taken") ∷ []
-cells Delivered = Name (codes "delivered") ∷ Name (codes "rel") ∷ node ∷ seq ∷ payload ∷ []
-cells DeliveredPrio = Name (codes "delivered") ∷ Name (codes "prio") ∷ node ∷ seq ∷ payload ∷ []
+cells (Gone why) = Name (codes "gone") ∷ place ∷ any_number ∷ Name (why_word why) ∷ []
+cells (Delivered kind) = Name (codes "delivered") ∷ Name (kind_word kind) ∷ node ∷ seq ∷ payload ∷ []
 cells Weight = Name (codes "weight") ∷ node ∷ Number 0 (MAX_EDGES - 1) ∷ seq ∷ Number 1 MAX_WEIGHT ∷ []
 
 -- all forms
 abbrev pub forms : List Form
-forms = Signed ∷ Stored ∷ Gone whys.Evicted ∷ Gone whys.Expired ∷ Gone whys.Acked ∷ Gone whys.Taken ∷ Delivered ∷ DeliveredPrio ∷ Weight ∷ []
+forms =
+    Signed ∷ Stored ∷ Gone whys.Evicted ∷ Gone whys.Expired ∷ Gone whys.Acked ∷ Gone whys.Taken
+    ∷ Delivered kinds.Rel ∷ Delivered kinds.Prio ∷ Weight ∷ []
 
 -- ---- effects
 
@@ -71,12 +76,9 @@ id n = record { 0 = n }
 abbrev pub effect_of : (form : Form) → Values (cells form) → Effect
 effect_of Signed x = effects.Signed x.0
 effect_of Stored x = effects.Stored x.0 x.1.0 (id x.1.1.0) x.1.1.1.0 x.1.1.1.1.0
-effect_of (Gone whys.Evicted) x = effects.Gone x.0 x.1.0 whys.Evicted
-effect_of (Gone whys.Expired) x = effects.Gone x.0 x.1.0 whys.Expired
-effect_of (Gone whys.Acked) x = effects.Gone x.0 x.1.0 whys.Acked
-effect_of (Gone whys.Taken) x = effects.Gone x.0 x.1.0 whys.Taken
-effect_of Delivered x = effects.Delivered (id x.0) x.1.0 x.1.1.0
-effect_of DeliveredPrio x = effects.DeliveredPrio (id x.0) x.1.0 x.1.1.0
+effect_of (Gone why) x = effects.Gone x.0 x.1.0 why
+effect_of (Delivered kinds.Rel) x = effects.Delivered (id x.0) x.1.0 x.1.1.0
+effect_of (Delivered kinds.Prio) x = effects.DeliveredPrio (id x.0) x.1.0 x.1.1.0
 effect_of Weight x = effects.WeightHeld (id x.0) (record { 0 = x.1.0 }) x.1.1.0 x.1.1.1.0
 
 -- the row of an effect
@@ -84,18 +86,15 @@ abbrev pub form_of : Effect → Form
 form_of (effects.Signed body) = Signed
 form_of (effects.Stored at key src number prio) = Stored
 form_of (effects.Gone at key why) = Gone why
-form_of (effects.Delivered src number bytes) = Delivered
-form_of (effects.DeliveredPrio src number bytes) = DeliveredPrio
+form_of (effects.Delivered src number bytes) = Delivered kinds.Rel
+form_of (effects.DeliveredPrio src number bytes) = Delivered kinds.Prio
 form_of (effects.WeightHeld origin edge number weight) = Weight
 
 -- its values in that row
 abbrev pub values_of : (e : Effect) → Values (cells (form_of e))
 values_of (effects.Signed body) = (body, tt)
 values_of (effects.Stored at key src number prio) = (at, (key, (src.0, (number, (prio, tt)))))
-values_of (effects.Gone at key whys.Evicted) = (at, (key, tt))
-values_of (effects.Gone at key whys.Expired) = (at, (key, tt))
-values_of (effects.Gone at key whys.Acked) = (at, (key, tt))
-values_of (effects.Gone at key whys.Taken) = (at, (key, tt))
+values_of (effects.Gone at key why) = (at, (key, tt))
 values_of (effects.Delivered src number bytes) = (src.0, (number, (bytes, tt)))
 values_of (effects.DeliveredPrio src number bytes) = (src.0, (number, (bytes, tt)))
 values_of (effects.WeightHeld origin edge number weight) = (origin.0, (edge.0, (number, (weight, tt))))

@@ -4,7 +4,8 @@ ghost use Rattle.sp_base.specs.Refusals.{Gives};
 ghost use Rattle.sp_base.specs.declared.limits.TheConstants.{MAX_NODES};
 ghost use Rattle.sp_lines.specs.Answers.{Reads};
 ghost use Rattle.sp_lines.specs.Cells.{number_at};
-ghost use Rattle.sp_journal_reading.specs.EffectTable.{read_effect, read_form};
+ghost use Rattle.sp_journal.specs.Words.{why_word};
+ghost use Rattle.sp_journal_reading.specs.EffectTable.{kind_word, read_effect, read_form};
 ghost use Rattle.sp_journal_reading.specs.EffectTable as forms;
 
 use sp_base::{
@@ -13,6 +14,13 @@ use sp_base::{
 use sp_lines::{Fault, LineRefused, bytes, named, ranged};
 use sp_msg::{Effect, Why};
 use std::alloc::Global;
+
+/// Which kind of message was delivered.
+#[derive(Clone, Copy, Debug, PartialEq, Eq)]
+pub(crate) enum Kind {
+    Rel,
+    Prio,
+}
 
 /// The longest body of a message.
 const MAX_BODY_BYTES: usize = 38 + MAX_PAYLOAD_BYTES;
@@ -46,16 +54,16 @@ fn four(name: &[u8], place: &[u8], id: &[u8], why: &[u8]) -> Result<Effect, Line
         return Err(LineRefused::Bad(Fault::Form));
     }
     if named(why, b"evicted") {
-        return evicted(place, id);
+        return gone(place, id, Why::Evicted);
     }
     if named(why, b"expired") {
-        return expired(place, id);
+        return gone(place, id, Why::Expired);
     }
     if named(why, b"acked") {
-        return acked(place, id);
+        return gone(place, id, Why::Acked);
     }
     if named(why, b"taken") {
-        return taken(place, id);
+        return gone(place, id, Why::Taken);
     }
     Err(LineRefused::Bad(Fault::Form))
 }
@@ -93,10 +101,10 @@ fn five(
         return Err(LineRefused::Bad(Fault::Form));
     }
     if named(a, b"rel") {
-        return delivered(alloc, b, c, d);
+        return delivered(alloc, Kind::Rel, b, c, d);
     }
     if named(a, b"prio") {
-        return delivered_prio(alloc, b, c, d);
+        return delivered(alloc, Kind::Prio, b, c, d);
     }
     Err(LineRefused::Bad(Fault::Form))
 }
@@ -141,80 +149,32 @@ fn stored(
 }
 
 #[tactic(auto, unfolding(crate::specs::EffectTable::read_form))]
-fn evicted(place: &[u8], id: &[u8]) -> Result<Effect, LineRefused>
-    ensures { Reads result (read_form (forms.Gone Why.Evicted) (codes "gone" ∷ place.now ∷ id.now ∷ codes "evicted" ∷ [])) }
+fn gone(place: &[u8], id: &[u8], why: Why) -> Result<Effect, LineRefused>
+    ensures { Reads result (read_form (forms.Gone why) (codes "gone" ∷ place.now ∷ id.now ∷ why_word why ∷ [])) }
 {
     let place = ranged(place, 0, u64::from(MAX_NODES))? as u8;
     let id = ranged(id, 0, u64::MAX)?;
-    Ok(Effect::Gone {
-        place,
-        id,
-        why: Why::Evicted,
-    })
+    Ok(Effect::Gone { place, id, why })
 }
 
 #[tactic(auto, unfolding(crate::specs::EffectTable::read_form))]
-fn expired(place: &[u8], id: &[u8]) -> Result<Effect, LineRefused>
-    ensures { Reads result (read_form (forms.Gone Why.Expired) (codes "gone" ∷ place.now ∷ id.now ∷ codes "expired" ∷ [])) }
-{
-    let place = ranged(place, 0, u64::from(MAX_NODES))? as u8;
-    let id = ranged(id, 0, u64::MAX)?;
-    Ok(Effect::Gone {
-        place,
-        id,
-        why: Why::Expired,
-    })
-}
-
-#[tactic(auto, unfolding(crate::specs::EffectTable::read_form))]
-fn acked(place: &[u8], id: &[u8]) -> Result<Effect, LineRefused>
-    ensures { Reads result (read_form (forms.Gone Why.Acked) (codes "gone" ∷ place.now ∷ id.now ∷ codes "acked" ∷ [])) }
-{
-    let place = ranged(place, 0, u64::from(MAX_NODES))? as u8;
-    let id = ranged(id, 0, u64::MAX)?;
-    Ok(Effect::Gone {
-        place,
-        id,
-        why: Why::Acked,
-    })
-}
-
-#[tactic(auto, unfolding(crate::specs::EffectTable::read_form))]
-fn taken(place: &[u8], id: &[u8]) -> Result<Effect, LineRefused>
-    ensures { Reads result (read_form (forms.Gone Why.Taken) (codes "gone" ∷ place.now ∷ id.now ∷ codes "taken" ∷ [])) }
-{
-    let place = ranged(place, 0, u64::from(MAX_NODES))? as u8;
-    let id = ranged(id, 0, u64::MAX)?;
-    Ok(Effect::Gone {
-        place,
-        id,
-        why: Why::Taken,
-    })
-}
-
-#[tactic(auto, unfolding(crate::specs::EffectTable::read_form))]
-fn delivered(alloc: Global, src: &[u8], seq: &[u8], payload: &[u8]) -> Result<Effect, LineRefused>
-    ensures { Reads result (read_form forms.Delivered (codes "delivered" ∷ codes "rel" ∷ src.now ∷ seq.now ∷ payload.now ∷ [])) }
-{
-    let src = node(src)?;
-    let seq = ranged(seq, 1, MAX_SEQ)?;
-    let payload = bytes(alloc, payload, 0, MAX_PAYLOAD_BYTES)?;
-    Ok(Effect::Delivered { src, seq, payload })
-}
-
-#[tactic(auto, unfolding(crate::specs::EffectTable::read_form))]
-fn delivered_prio(
+fn delivered(
     alloc: Global,
+    kind: Kind,
     src: &[u8],
     seq: &[u8],
     payload: &[u8],
 ) -> Result<Effect, LineRefused>
-    ensures { Reads result (read_form forms.DeliveredPrio (codes "delivered" ∷ codes "prio" ∷ src.now ∷ seq.now ∷ payload.now ∷ [])) }
+    ensures { Reads result
+        (read_form (forms.Delivered kind) (codes "delivered" ∷ kind_word kind ∷ src.now ∷ seq.now ∷ payload.now ∷ [])) }
 {
     let src = node(src)?;
     let seq = ranged(seq, 1, MAX_SEQ)?;
     let payload = bytes(alloc, payload, 0, MAX_PAYLOAD_BYTES)?;
-    Ok(Effect::DeliveredPrio { src, seq, payload })
+    Ok(match kind {
+        Kind::Rel => Effect::Delivered { src, seq, payload },
+        Kind::Prio => Effect::DeliveredPrio { src, seq, payload },
+    })
 }
 
 #[tactic(auto, unfolding(crate::specs::EffectTable::read_form))]
