@@ -163,7 +163,8 @@ fn ids_of(alloc: Global, nodes: &[DraftNode]) -> Result<Vec<NodeId>, Memory>
     Ok(nodes.iter().map(|node| node.id).collect(alloc)?)
 }
 
-fn links_of(alloc: Global, edges: &[DraftEdge]) -> Result<Vec<Edge>, Memory>
+/// Each edge as a document has it.
+pub fn links_of(alloc: Global, edges: &[DraftEdge]) -> Result<Vec<Edge>, Memory>
     ensures { IfOk result (λ links. links.items ≡ map as_edge edges.now) }
 {
     let mut links = Vec::new(alloc);

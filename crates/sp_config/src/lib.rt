@@ -14,6 +14,6 @@ mod values;
 mod walks;
 
 pub use config::{Config, Peer, read_config};
-pub use draft::{Draft, DraftEdge, DraftNode, read_draft};
+pub use draft::{Draft, DraftEdge, DraftNode, links_of, read_draft};
 pub use refusal::{fault_word, refused_line, too_big_line};
 pub use refused::ConfigRefused;

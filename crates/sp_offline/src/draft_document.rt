@@ -1,7 +1,6 @@
 // The document of a draft: each node with the public key of its seed.
 ghost use Rattle.std.specs.Prelude.{◌≡◌, ◌<◌, ◌^◌, All, IfOk, length, map};
 ghost use Rattle.sp_hss.specs.KeyTree.{public_key};
-ghost use Rattle.sp_config.specs.Readings.{as_edge};
 ghost use Rattle.sp_topology.specs.Documents.{document};
 ghost use Rattle.sp_topology.specs.Ranges.{IsKey};
 ghost use Rattle.sp_offline.specs.SignedKeys.{IsGoodDraft};
@@ -9,7 +8,7 @@ ghost use Rattle.sp_offline.specs.SignedDrafts.{node_key, topology_of};
 ghost use Rattle.sp_sign.specs.Heights.{param_of};
 
 use sp_base::{Bytes, Listed, Memory, NodeId};
-use sp_config::{Draft, DraftEdge, DraftNode};
+use sp_config::{Draft, DraftNode, links_of};
 use sp_hss::public_key;
 use sp_sign::param_of;
 use sp_topology::{Edge, LmsHeight, NodeKey, Topology, a_graph_without_fault_is_in_range};
@@ -32,7 +31,7 @@ fn topology_of(alloc: Global, draft: &Draft) -> Result<Topology, Memory>
     ensures keys { IfOk result (λ topology. All (λ n. IsKey draft.now.height n.key) topology.nodes) }
 {
     let nodes = keys_of(alloc, draft.height, draft.nodes.as_slice())?;
-    let edges = edges_of(alloc, draft.edges.as_slice())?;
+    let edges = links_of(alloc, draft.edges.as_slice())?;
     Ok(topology_with(draft.version, draft.height, nodes, edges))
 }
 
@@ -81,19 +80,4 @@ fn is_good_key(_height: LmsHeight, _node: &DraftNode, key: &[u8])
     ensures { IsKey _height key.now }
 {
     let _ = key.len();
-}
-
-/// Each edge as the document has it.
-fn edges_of(alloc: Global, edges: &[DraftEdge]) -> Result<Vec<Edge>, Memory>
-    ensures { IfOk result (λ links. links.items ≡ map as_edge edges.now) }
-{
-    let mut links = Vec::new(alloc);
-    'edges: for edge in edges {
-        links.push(Edge {
-            low: NodeId(edge.a),
-            high: NodeId(edge.b),
-            weight: edge.weight,
-        })?;
-    }
-    Ok(links)
 }
