@@ -51,15 +51,15 @@ abbrev seen : Option (List Call) → Option (List ℕ) → Text → KeptFile →
 seen wire clock text file = record { wire = wire; clock = clock; text = text; file = file }
 
 -- why a turn ended, and how its daemon ends then
-pub ended_by : {N : Type 0} (T : Type 0) (steps : Steps N) (indexes : N → Indexes) (peers : List Peer) (polled : Option Peer) (n : N) (keys : KeyState) (e : Ended) (end : Served)
+pub ended_by : {N : Type 0} (T : Type 0) (steps : Steps N) (indexes : N → Indexes) (peers : List Peer) (polled : Option Peer) (n n1 : N) (keys : KeyState) (e : Ended) (end : Served)
     (w0 w1 : Option (List Call)) (k0 k1 : Option (List ℕ)) (b0 b1 b2 : Text) (f0 f1 : KeptFile) → IfBroken {T = T} (Err e) (Early steps indexes peers polled n keys (seen w0 k0 b0 f0) (seen w1 k1 b1 f1))
-    → IfKeysEnd {T = T} (Err e) ((w1 ≡ w0) × (k1 ≡ k0) × (b1 ≡ b0)) → IfKeysEndBy {T = T} (Err e) (λ refused. NoMore (indexes n) keys refused f0 f1)
+    → IfKeysEnd {T = T} (Err e) ((n1 ≡ n) × (w1 ≡ w0) × (k1 ≡ k0) × (b1 ≡ b0)) → IfKeysEndBy {T = T} (Err e) (λ refused. NoMore (indexes n) keys refused f0 f1)
     → Stops e b1 b2 end → EndsTurn steps indexes peers polled n keys (seen w0 k0 b0 f0) (seen w1 k1 b2 f1) end
-ended_by T steps indexes peers polled n keys (ended.Keys refused) end w0 w1 k0 k1 b0 b1 b2 f0 f1 early still spent stops =
-    Spent refused spent still.0 still.1 (subst (λ (b : Text). IsTold (served.Keys refused) (refused_line refused) end b b2) still.2 stops)
-ended_by T steps indexes peers polled n keys ended.Sink end w0 w1 k0 k1 b0 b1 b2 f0 f1 early still spent stops =
+ended_by T steps indexes peers polled n n1 keys (ended.Keys refused) end w0 w1 k0 k1 b0 b1 b2 f0 f1 early still spent stops =
+    Spent refused spent still.1 still.2 (subst (λ (b : Text). IsTold (served.Keys refused) (refused_line refused) end b b2) still.3 stops)
+ended_by T steps indexes peers polled n n1 keys ended.Sink end w0 w1 k0 k1 b0 b1 b2 f0 f1 early still spent stops =
     Broken (inl stops.0) (subst (λ (b : Text). Early steps indexes peers polled n keys (seen w0 k0 b0 f0) (seen w1 k1 b f1)) (sym stops.1) early)
-ended_by T steps indexes peers polled n keys ended.Memory end w0 w1 k0 k1 b0 b1 b2 f0 f1 early still spent stops =
+ended_by T steps indexes peers polled n n1 keys ended.Memory end w0 w1 k0 k1 b0 b1 b2 f0 f1 early still spent stops =
     Broken (inr stops.0) (subst (λ (b : Text). Early steps indexes peers polled n keys (seen w0 k0 b0 f0) (seen w1 k1 b f1)) (sym stops.1) early)
 
 -- ---- all turns

@@ -13,3 +13,4 @@ pub mod Daemons
 pub mod Recorded
 pub mod Served
 pub mod Compared
+pub mod Sinks

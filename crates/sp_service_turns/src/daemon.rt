@@ -1,12 +1,11 @@
 // A daemon as a value: it begins with its first line, makes turn after turn, and ends with its last line.
-ghost use Rattle.std.specs.Prelude.{IsErrOf, ◌≡◌, ◌≢◌, ◌≤◌, ◌<◌, ◌*◌, ◌^◌, Err, IfErr, IfOk, OnOk, length};
+ghost use Rattle.std.specs.Prelude.{◌≡◌, ◌≢◌, ◌≤◌, ◌<◌, ◌*◌, ◌^◌, Err, IfErr, IfOk, OnOk, length};
 ghost use Rattle.sp_keystate.specs.declared.refused.KeyRefused.TheVariants.{KeeperFault};
 ghost use Rattle.sp_outside.specs.declared.wire.TheConstants.{DATAGRAM_BYTES};
 ghost use Rattle.sp_outside.specs.Causes.{Rose};
 ghost use Rattle.sp_recording.specs.declared.line.TheConstants.{MAX_TURNS};
-ghost use Rattle.sp_service_turns.specs.Keys.{HoldsKeys, IfKeysEnd, IfKeysEndBy, KeepsKeys, KeysGoOn, NoMore};
+ghost use Rattle.sp_service_turns.specs.Keys.{HoldsKeys, KeepsKeys, KeysGoOn};
 
-use crate::ended::Ended;
 use crate::lines::{first_line, last_line};
 use crate::node::Core;
 use crate::one_turn::turn;
@@ -36,8 +35,6 @@ pub struct Daemon<N> {
 
 impl<N: Core + Drop> Daemon<N> {
     ghost use Rattle.sp_service_turns.specs.Daemons.{EndsTurn, FailsToWrite, Finishes, MakesTurn, first_text};
-    ghost use Rattle.sp_service_turns.specs.Done.{Done};
-    ghost use Rattle.sp_service_turns.specs.Early.{Early, IfBroken};
     ghost use Rattle.sp_service_turns.specs.Runs.{polled_by};
     ghost use Rattle.std.specs.Io.KnownBytes.{Appends};
 
@@ -132,72 +129,8 @@ impl<N: Core + Drop> Daemon<N> {
         ensures sunk { result ≢ Err Served.Sink → K.faults sink.new ≡ K.faults sink.old }
         ensures unopened { result ≢ Err Served.Wire }
     {
-        match self.step(alloc, wire, clock, keeper, sink) {
-            Ok(lost) => {
-                self.turns += 1;
-                self.lost += lost;
-                Ok(())
-            }
-            Err(ended) => Err(stopped(ended, sink)),
-        }
-    }
-
-    /// What a turn does, but that it is counted. Gives how many datagrams were lost.
-    fn step<W: Wire, C: Clock, P: Keeper, K: Sink>(
-        &mut self,
-        alloc: Global,
-        wire: &mut W,
-        clock: &mut C,
-        keeper: &mut P,
-        sink: &mut K,
-    ) -> Result<u32, Ended>
-        requires held { HoldsKeys (P.disk keeper.old) self.old.keys (N.indexes self.old.node) }
-        ensures done { IfOk result (λ lost. Done N.steps N.indexes self.old.peers.items
-            (polled_by self.old.peers.items self.old.turns) self.old.node self.new.node self.old.keys self.new.keys
-            (record {
-              wire = W.told wire.old;
-              clock = C.told clock.old;
-              text = K.contents sink.old;
-              file = record { disk = P.disk keeper.old; past = P.past keeper.old; faults = P.faults keeper.old };
-            })
-            (record {
-              wire = W.told wire.new;
-              clock = C.told clock.new;
-              text = K.contents sink.new;
-              file = record { disk = P.disk keeper.new; past = P.past keeper.new; faults = P.faults keeper.new };
-            }) lost) }
-        ensures four { IfOk result (λ lost. lost ≤ 4) }
-        ensures still { (self.new.peers ≡ self.old.peers) × (self.new.turns ≡ self.old.turns) × (self.new.lost ≡ self.old.lost) }
-        ensures early { IfBroken result (Early N.steps N.indexes self.old.peers.items (polled_by self.old.peers.items self.old.turns)
-            self.old.node self.old.keys
-            (record {
-              wire = W.told wire.old;
-              clock = C.told clock.old;
-              text = K.contents sink.old;
-              file = record { disk = P.disk keeper.old; past = P.past keeper.old; faults = P.faults keeper.old };
-            })
-            (record {
-              wire = W.told wire.new;
-              clock = C.told clock.new;
-              text = K.contents sink.new;
-              file = record { disk = P.disk keeper.new; past = P.past keeper.new; faults = P.faults keeper.new };
-            })) }
-        ensures held { OnOk result (HoldsKeys (P.disk keeper.new) self.new.keys (N.indexes self.new.node)) }
-        ensures on { OnOk result (KeysGoOn self.old.keys self.new.keys (P.disk keeper.old) (P.disk keeper.new)) }
-        ensures faultless { OnOk result (P.faults keeper.new ≡ P.faults keeper.old) }
-        ensures kept { KeepsKeys self.old.keys (P.disk keeper.old) (P.past keeper.old) (P.past keeper.new) }
-        ensures unmoved { IfKeysEnd result ((W.told wire.new ≡ W.told wire.old) × (C.told clock.new ≡ C.told clock.old)
-            × (K.contents sink.new ≡ K.contents sink.old)) }
-        ensures spent { IfKeysEndBy result (λ refused. NoMore (N.indexes self.old.node) self.old.keys refused
-            (record { disk = P.disk keeper.old; past = P.past keeper.old; faults = P.faults keeper.old })
-            (record { disk = P.disk keeper.new; past = P.past keeper.new; faults = P.faults keeper.new })) }
-        ensures later { K.faults sink.old ≤ K.faults sink.new }
-        ensures failed { result ≡ Err Ended.Sink → Rose (K.faults sink.old) (K.faults sink.new) }
-        ensures sunk { ¬ IsErrOf result Ended.Sink → K.faults sink.new ≡ K.faults sink.old }
-        ensures keeper { result ≡ Err (Ended.Keys KeeperFault) → Rose (P.faults keeper.old) (P.faults keeper.new) }
-    {
         let polled = polled_by(&self.peers, self.turns);
-        turn(
+        match turn(
             alloc,
             &mut self.node,
             &mut self.keys,
@@ -208,7 +141,14 @@ impl<N: Core + Drop> Daemon<N> {
             keeper,
             sink,
             &mut self.buffer,
-        )
+        ) {
+            Ok(lost) => {
+                self.turns += 1;
+                self.lost += lost;
+                Ok(())
+            }
+            Err(ended) => Err(stopped(ended, sink)),
+        }
     }
 
     /// Ends it with its last line.

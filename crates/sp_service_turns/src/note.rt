@@ -1,12 +1,12 @@
 // The recording of a daemon: each line goes out whole before the next thing happens.
-ghost use Rattle.std.specs.Prelude.{◌≢◌, ◌≡◌, ◌≤◌, ◌∷◌, [], IfOk, IsErrOf, OnOk};
+ghost use Rattle.std.specs.Prelude.{◌≡◌, ◌∷◌, [], IfOk, OnOk};
 ghost use Rattle.std.specs.Io.KnownBytes.{Appends};
 ghost use Rattle.std.specs.String.{string_bytes};
-ghost use Rattle.sp_outside.specs.Causes.{Rose};
 ghost use Rattle.sp_outside.specs.Streams.{AppendsFront};
 ghost use Rattle.sp_recording.specs.RecordingText.{line_in, lines_text};
 ghost use Rattle.sp_service_turns.specs.Keys.{IfKeysEnd};
 ghost use Rattle.sp_service_turns.specs.Turns.{told};
+ghost use Rattle.sp_service_turns.specs.Sinks.{SinkFaults};
 
 use crate::Ended;
 use sha2::{Digest as _, Sha256};
@@ -37,9 +37,7 @@ fn text_of(alloc: Global, line: &LineRef<'_>) -> Result<String, Memory>
 pub fn note<K: Sink>(alloc: Global, sink: &mut K, line: &LineRef<'_>) -> Result<(), Ended>
     ensures whole { OnOk result (Appends (K.contents sink.old) (K.contents sink.new) (lines_text (line_in line.now ∷ []))) }
     ensures front { AppendsFront (K.contents sink.old) (K.contents sink.new) (lines_text (line_in line.now ∷ [])) }
-    ensures later { K.faults sink.old ≤ K.faults sink.new }
-    ensures failed { IsErrOf result Ended.Sink → Rose (K.faults sink.old) (K.faults sink.new) }
-    ensures sunk { ¬ IsErrOf result Ended.Sink → K.faults sink.new ≡ K.faults sink.old }
+    ensures sink { SinkFaults result (K.faults sink.old) (K.faults sink.new) }
     ensures no_keys { IfKeysEnd result ⊥ }
 {
     let Ok(text) = text_of(alloc, line) else {

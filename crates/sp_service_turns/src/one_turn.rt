@@ -1,11 +1,12 @@
 // One whole turn.
-ghost use Rattle.std.specs.Prelude.{◌≢◌, ◌≡◌, ◌≤◌, IfOk, IsErrOf, OnOk, length};
+ghost use Rattle.std.specs.Prelude.{◌≡◌, ◌≤◌, IfOk, IsErrOf, OnOk, length};
 ghost use Rattle.sp_keystate.specs.declared.refused.KeyRefused.TheVariants.{KeeperFault};
 ghost use Rattle.sp_outside.specs.declared.wire.TheConstants.{DATAGRAM_BYTES};
 ghost use Rattle.sp_outside.specs.Causes.{Rose};
 ghost use Rattle.sp_service_turns.specs.Done.{Done};
 ghost use Rattle.sp_service_turns.specs.Early.{Early, IfBroken};
 ghost use Rattle.sp_service_turns.specs.Keys.{HoldsKeys, IfKeysEnd, IfKeysEndBy, KeepsKeys, KeysGoOn, NoMore};
+ghost use Rattle.sp_service_turns.specs.Sinks.{SinkFaults};
 
 use crate::ended::Ended;
 use crate::node::Core;
@@ -70,9 +71,7 @@ pub fn turn<N: Core, W: Wire, C: Clock, P: Keeper, K: Sink>(
     ensures spent { IfKeysEndBy result (λ refused. NoMore (N.indexes node.old) keys.old refused
         (record { disk = P.disk keeper.old; past = P.past keeper.old; faults = P.faults keeper.old })
         (record { disk = P.disk keeper.new; past = P.past keeper.new; faults = P.faults keeper.new })) }
-    ensures later { K.faults sink.old ≤ K.faults sink.new }
-    ensures failed { IsErrOf result Ended.Sink → Rose (K.faults sink.old) (K.faults sink.new) }
-    ensures sunk { ¬ IsErrOf result Ended.Sink → K.faults sink.new ≡ K.faults sink.old }
+    ensures sink { SinkFaults result (K.faults sink.old) (K.faults sink.new) }
     ensures keeper { IsErrOf result (Ended.Keys KeeperFault) → Rose (P.faults keeper.old) (P.faults keeper.new) }
 {
     restock(alloc, node, keys, keeper, sink)?;

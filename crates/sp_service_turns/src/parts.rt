@@ -1,14 +1,14 @@
 // The parts of a turn before its poll: the tick, and what came on each side.
-ghost use Rattle.std.specs.Prelude.{◌≢◌, ◌≡◌, ◌≤◌, ◌∷◌, [], IfOk, IsErrOf, OnErr, OnOk, Some, length};
+ghost use Rattle.std.specs.Prelude.{◌≡◌, ◌≤◌, ◌∷◌, [], IfOk, OnErr, OnOk, Some, length};
 ghost use Rattle.sp_outside.specs.declared.wire.TheConstants.{DATAGRAM_BYTES};
 ghost use Rattle.sp_outside.specs.Calls.{Received, Tells};
-ghost use Rattle.sp_outside.specs.Causes.{Rose};
 ghost use Rattle.sp_service_turns.specs.Keys.{IfKeysEnd};
 ghost use Rattle.sp_service_turns.specs.Done.{Came, Overheard, Replied, SentOne, Served, Ticked};
 ghost use Rattle.sp_service_turns.specs.Indexes.{UsesOne};
 ghost use Rattle.sp_service_turns.specs.Early.{EarlyCame, EarlyClient, EarlyOverlay, EarlyReply, EarlyTick};
 ghost use Rattle.sp_service_turns.specs.Hearing.{IsWithin, heard_in};
 ghost use Rattle.sp_service_turns.specs.Turns.{node_at};
+ghost use Rattle.sp_service_turns.specs.Sinks.{SinkFaults};
 
 use crate::ended::{Ended, Heard};
 use crate::node::Core;
@@ -29,9 +29,7 @@ pub fn tick<N: Core, C: Clock, K: Sink>(
     ensures uses { OnOk result (UsesOne (N.indexes node.old) (N.indexes node.new)) }
     ensures ticked { OnOk result (Ticked N.steps node.old node.new (C.told clock.old) (C.told clock.new) (K.contents sink.old) (K.contents sink.new)) }
     ensures early { OnErr result (EarlyTick N.steps node.old (C.told clock.old) (C.told clock.new) (K.contents sink.old) (K.contents sink.new)) }
-    ensures later { K.faults sink.old ≤ K.faults sink.new }
-    ensures failed { IsErrOf result Ended.Sink → Rose (K.faults sink.old) (K.faults sink.new) }
-    ensures sunk { ¬ IsErrOf result Ended.Sink → K.faults sink.new ≡ K.faults sink.old }
+    ensures sink { SinkFaults result (K.faults sink.old) (K.faults sink.new) }
     ensures no_keys { IfKeysEnd result ⊥ }
 {
     let now = clock.now_ms();
@@ -78,9 +76,7 @@ pub fn overlay<N: Core, W: Wire, K: Sink>(
         (K.contents sink.old) (K.contents sink.new) lost) }
     ensures early { OnErr result (EarlyOverlay N.steps peers.now node.old (W.told wire.old) (W.told wire.new)
         (K.contents sink.old) (K.contents sink.new)) }
-    ensures later { K.faults sink.old ≤ K.faults sink.new }
-    ensures failed { IsErrOf result Ended.Sink → Rose (K.faults sink.old) (K.faults sink.new) }
-    ensures sunk { ¬ IsErrOf result Ended.Sink → K.faults sink.new ≡ K.faults sink.old }
+    ensures sink { SinkFaults result (K.faults sink.old) (K.faults sink.new) }
     ensures no_keys { IfKeysEnd result ⊥ }
 {
     match hear(wire, Side::Overlay, buf) {
@@ -105,9 +101,7 @@ fn came<N: Core, K: Sink>(
     ensures uses { OnOk result (UsesOne (N.indexes node.old) (N.indexes node.new)) }
     ensures came { OnOk result (Came N.steps (node_at peers.now port) node.old port bytes.now node.new (K.contents sink.old) (K.contents sink.new)) }
     ensures early { OnErr result (EarlyCame N.steps (node_at peers.now port) node.old port bytes.now (K.contents sink.old) (K.contents sink.new)) }
-    ensures later { K.faults sink.old ≤ K.faults sink.new }
-    ensures failed { IsErrOf result Ended.Sink → Rose (K.faults sink.old) (K.faults sink.new) }
-    ensures sunk { ¬ IsErrOf result Ended.Sink → K.faults sink.new ≡ K.faults sink.old }
+    ensures sink { SinkFaults result (K.faults sink.old) (K.faults sink.new) }
     ensures no_keys { IfKeysEnd result ⊥ }
 {
     match node_at(peers, port) {
@@ -128,9 +122,7 @@ fn arrived<N: Core, K: Sink>(
     ensures uses { OnOk result (UsesOne (N.indexes node.old) (N.indexes node.new)) }
     ensures came { OnOk result (Came N.steps (Some from) node.old port bytes.now node.new (K.contents sink.old) (K.contents sink.new)) }
     ensures early { OnErr result (EarlyCame N.steps (Some from) node.old port bytes.now (K.contents sink.old) (K.contents sink.new)) }
-    ensures later { K.faults sink.old ≤ K.faults sink.new }
-    ensures failed { IsErrOf result Ended.Sink → Rose (K.faults sink.old) (K.faults sink.new) }
-    ensures sunk { ¬ IsErrOf result Ended.Sink → K.faults sink.new ≡ K.faults sink.old }
+    ensures sink { SinkFaults result (K.faults sink.old) (K.faults sink.new) }
     ensures no_keys { IfKeysEnd result ⊥ }
 {
     let Ok(answer) = node.datagram(alloc, from, bytes) else {
@@ -157,9 +149,7 @@ pub fn client<N: Core, W: Wire, K: Sink>(
     ensures served { IfOk result (λ lost. Served N.steps node.old node.new (W.told wire.old) (W.told wire.new)
         (K.contents sink.old) (K.contents sink.new) lost) }
     ensures early { OnErr result (EarlyClient N.steps node.old (W.told wire.old) (W.told wire.new) (K.contents sink.old) (K.contents sink.new)) }
-    ensures later { K.faults sink.old ≤ K.faults sink.new }
-    ensures failed { IsErrOf result Ended.Sink → Rose (K.faults sink.old) (K.faults sink.new) }
-    ensures sunk { ¬ IsErrOf result Ended.Sink → K.faults sink.new ≡ K.faults sink.old }
+    ensures sink { SinkFaults result (K.faults sink.old) (K.faults sink.new) }
     ensures no_keys { IfKeysEnd result ⊥ }
 {
     match hear(wire, Side::Client, buf) {
@@ -183,9 +173,7 @@ fn answer<N: Core, W: Wire, K: Sink>(
         (K.contents sink.old) (K.contents sink.new) lost) }
     ensures silent { OnErr result (W.told wire.new ≡ W.told wire.old) }
     ensures early { OnErr result (EarlyReply N.steps node.old port bytes.now (K.contents sink.old) (K.contents sink.new)) }
-    ensures later { K.faults sink.old ≤ K.faults sink.new }
-    ensures failed { IsErrOf result Ended.Sink → Rose (K.faults sink.old) (K.faults sink.new) }
-    ensures sunk { ¬ IsErrOf result Ended.Sink → K.faults sink.new ≡ K.faults sink.old }
+    ensures sink { SinkFaults result (K.faults sink.old) (K.faults sink.new) }
     ensures no_keys { IfKeysEnd result ⊥ }
 {
     let Ok(reply) = node.request(alloc, port, bytes) else {

@@ -1,11 +1,11 @@
 // The poll of the next neighbour, which ends a turn.
-ghost use Rattle.std.specs.Prelude.{◌≢◌, ◌≡◌, ◌≤◌, ◌<◌, ◌^◌, IfOk, IsErrOf, OnErr, Some, length};
-ghost use Rattle.sp_outside.specs.Causes.{Rose};
+ghost use Rattle.std.specs.Prelude.{◌≡◌, ◌<◌, ◌^◌, IfOk, OnErr, Some, length};
 ghost use Rattle.sp_service_turns.specs.Keys.{IfKeysEnd};
 ghost use Rattle.sp_service_turns.specs.Done.{Polled, PolledNext};
 ghost use Rattle.sp_service_turns.specs.Indexes.{UsesOne};
 ghost use Rattle.sp_service_turns.specs.Early.{EarlyPoll};
 ghost use Rattle.sp_service_turns.specs.Runs.{polled_by};
+ghost use Rattle.sp_service_turns.specs.Sinks.{SinkFaults};
 
 use crate::ended::Ended;
 use crate::node::Core;
@@ -29,9 +29,7 @@ fn poll<N: Core, W: Wire, K: Sink>(
         (K.contents sink.old) (K.contents sink.new) lost) }
     ensures silent { OnErr result (W.told wire.new ≡ W.told wire.old) }
     ensures early { OnErr result (EarlyPoll N.steps (Some peer) node.old (K.contents sink.old) (K.contents sink.new)) }
-    ensures later { K.faults sink.old ≤ K.faults sink.new }
-    ensures failed { IsErrOf result Ended.Sink → Rose (K.faults sink.old) (K.faults sink.new) }
-    ensures sunk { ¬ IsErrOf result Ended.Sink → K.faults sink.new ≡ K.faults sink.old }
+    ensures sink { SinkFaults result (K.faults sink.old) (K.faults sink.new) }
     ensures no_keys { IfKeysEnd result ⊥ }
 {
     let Ok(frame) = node.poll(alloc, peer.node) else {
@@ -58,9 +56,7 @@ pub fn poll_next<N: Core, W: Wire, K: Sink>(
         (K.contents sink.old) (K.contents sink.new) lost) }
     ensures silent { OnErr result (W.told wire.new ≡ W.told wire.old) }
     ensures early { OnErr result (EarlyPoll N.steps polled node.old (K.contents sink.old) (K.contents sink.new)) }
-    ensures later { K.faults sink.old ≤ K.faults sink.new }
-    ensures failed { IsErrOf result Ended.Sink → Rose (K.faults sink.old) (K.faults sink.new) }
-    ensures sunk { ¬ IsErrOf result Ended.Sink → K.faults sink.new ≡ K.faults sink.old }
+    ensures sink { SinkFaults result (K.faults sink.old) (K.faults sink.new) }
     ensures no_keys { IfKeysEnd result ⊥ }
 {
     match polled {

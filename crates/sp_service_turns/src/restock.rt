@@ -1,10 +1,11 @@
 // The part of a turn before all others: indexes are reserved where few are left.
-ghost use Rattle.std.specs.Prelude.{◌≢◌, ◌≡◌, ◌≤◌, IsErrOf, OnOk};
+ghost use Rattle.std.specs.Prelude.{◌≡◌, IsErrOf, OnOk};
 ghost use Rattle.sp_keystate.specs.declared.refused.KeyRefused.TheVariants.{KeeperFault};
 ghost use Rattle.sp_outside.specs.Causes.{Rose};
 ghost use Rattle.sp_service_turns.specs.Done.{Restocked};
 ghost use Rattle.sp_service_turns.specs.Early.{EarlyRestock, IfBroken};
 ghost use Rattle.sp_service_turns.specs.Keys.{HoldsKeys, IfKeysEnd, IfKeysEndBy, KeepsKeys, KeysGoOn, NoMore};
+ghost use Rattle.sp_service_turns.specs.Sinks.{SinkFaults};
 
 use crate::ended::Ended;
 use crate::indexes::RESERVED;
@@ -39,9 +40,7 @@ pub fn restock<N: Core, P: Keeper, K: Sink>(
     ensures spent { IfKeysEndBy result (λ refused. NoMore (N.indexes node.old) keys.old refused
         (record { disk = P.disk keeper.old; past = P.past keeper.old; faults = P.faults keeper.old })
         (record { disk = P.disk keeper.new; past = P.past keeper.new; faults = P.faults keeper.new })) }
-    ensures later { K.faults sink.old ≤ K.faults sink.new }
-    ensures failed { IsErrOf result Ended.Sink → Rose (K.faults sink.old) (K.faults sink.new) }
-    ensures sunk { ¬ IsErrOf result Ended.Sink → K.faults sink.new ≡ K.faults sink.old }
+    ensures sink { SinkFaults result (K.faults sink.old) (K.faults sink.new) }
     ensures keeper { IsErrOf result (Ended.Keys KeeperFault) → Rose (P.faults keeper.old) (P.faults keeper.new) }
 {
     let indexes = node.indexes();
