@@ -79,20 +79,22 @@ impl Ears {
     ) -> Result<Option<(u16, usize)>, Failed>
         ensures { IfOk result (λ got. IfSome got (λ datagram. datagram.1 ≤ DATAGRAM_BYTES)) }
     {
-        match side {
-            Side::Overlay => self.hear_neighbour(rt, buf),
-            Side::Client => self.hear_client(rt, buf),
+        let next = match side {
+            Side::Overlay => self.next_neighbour(rt, buf)?,
+            Side::Client => self.next_client(rt, buf)?,
+        };
+        match next {
+            Some(waiting) => Ok(given(&waiting, buf)),
+            None => Ok(None),
         }
     }
 
-    /// Waits as the pace wants it, and hears the next neighbour in turn.
-    fn hear_neighbour<R: Clock>(
+    /// Waits as the pace wants it, and takes the datagram of the next neighbour in turn.
+    fn next_neighbour<R: Clock>(
         &mut self,
         rt: &R,
         buf: &mut [u8],
-    ) -> Result<Option<(u16, usize)>, Failed>
-        ensures { IfOk result (λ got. IfSome got (λ datagram. datagram.1 ≤ DATAGRAM_BYTES)) }
-    {
+    ) -> Result<Option<Waiting>, Failed> {
         if !self.neighbours.is_open() {
             return Ok(None);
         }
@@ -103,26 +105,19 @@ impl Ears {
         self.clients.begin_cycle();
         let pause = self.pace.pause();
         self.wait(rt, pause, buf)?;
-        match self.neighbours.take() {
+        let next = self.neighbours.take();
+        match &next {
             Some(waiting) => {
                 self.pace.heard(waiting.port, waiting.is_news);
-                Ok(given(&waiting, buf))
             }
-            None => {
-                self.pace.unheard();
-                Ok(None)
-            }
+            None => self.pace.unheard(),
         }
+        Ok(next)
     }
 
-    /// Hears the next client in turn. One without a session asks for nothing that goes to a neighbour. Who has no overlay side asks, and waits for the answer.
-    fn hear_client<R: Clock>(
-        &mut self,
-        rt: &R,
-        buf: &mut [u8],
-    ) -> Result<Option<(u16, usize)>, Failed>
-        ensures { IfOk result (λ got. IfSome got (λ datagram. datagram.1 ≤ DATAGRAM_BYTES)) }
-    {
+    /// Takes the datagram of the next client in turn. One without a session asks for nothing that goes to a neighbour. Who has no overlay side asks, and
+    /// waits for the answer.
+    fn next_client<R: Clock>(&mut self, rt: &R, buf: &mut [u8]) -> Result<Option<Waiting>, Failed> {
         if !self.neighbours.is_open() {
             self.clients.begin_cycle();
             self.wait(rt, Pause::Rest, buf)?;
@@ -133,7 +128,7 @@ impl Ears {
         if self.clients.knows(waiting.port) {
             self.pace.asked();
         }
-        Ok(given(&waiting, buf))
+        Ok(Some(waiting))
     }
 
     /// Sends a datagram, if the pace has it go. Its port is known from then on, at the client side as long as it has a session.
@@ -164,8 +159,8 @@ impl Ears {
         self.neighbours.begin_wait();
         self.clients.begin_wait();
         for wakes in 0..MOST_WAKES {
-            self.take_neighbours(buf)?;
-            self.take_clients(buf)?;
+            self.take(Side::Overlay, buf)?;
+            self.take(Side::Client, buf)?;
             let passed = match (&begin, rt.monotonic()) {
                 (Ok(begin), Ok(now)) => passed_ms(*begin, now),
                 _ => REST_MS,
@@ -209,20 +204,37 @@ impl Ears {
         }
     }
 
-    /// Takes what came to the overlay side.
-    fn take_neighbours(&mut self, buf: &mut [u8]) -> Result<(), Failed> {
+    /// Takes what came to a side.
+    fn take(&mut self, side: Side, buf: &mut [u8]) -> Result<(), Failed> {
         for _ in 0..MOST_TAKEN {
-            match self.neighbours.receive(buf)? {
+            match self.receive(side, buf)? {
                 Given::Nothing => return Ok(()),
                 Given::Unheard => {}
                 Given::Datagram { port, count } => {
                     if let Some(bytes) = buf.get(..count) {
-                        self.put_neighbour(port, bytes)?;
+                        self.put(side, port, bytes)?;
                     }
                 }
             }
         }
         Ok(())
+    }
+
+    fn receive(&mut self, side: Side, buf: &mut [u8]) -> Result<Given, Failed> {
+        match side {
+            Side::Overlay => self.neighbours.receive(buf),
+            Side::Client => {
+                let most = buf.len().min(REQUEST_BYTES + 1);
+                self.clients.receive(&mut buf[..most])
+            }
+        }
+    }
+
+    fn put(&mut self, side: Side, port: u16, bytes: &[u8]) -> Result<(), Failed> {
+        match side {
+            Side::Overlay => self.put_neighbour(port, bytes),
+            Side::Client => self.put_client(port, bytes),
+        }
     }
 
     fn put_neighbour(&mut self, port: u16, bytes: &[u8]) -> Result<(), Failed> {
@@ -230,23 +242,6 @@ impl Ears {
             return Ok(());
         }
         self.neighbours.put_first(port, bytes).map_err(|_| Failed)
-    }
-
-    /// Takes what came to the client side.
-    fn take_clients(&mut self, buf: &mut [u8]) -> Result<(), Failed> {
-        let most = buf.len().min(REQUEST_BYTES + 1);
-        for _ in 0..MOST_TAKEN {
-            match self.clients.receive(&mut buf[..most])? {
-                Given::Nothing => return Ok(()),
-                Given::Unheard => {}
-                Given::Datagram { port, count } => {
-                    if let Some(bytes) = buf.get(..count) {
-                        self.put_client(port, bytes)?;
-                    }
-                }
-            }
-        }
-        Ok(())
     }
 
     /// Of datagrams longer than any request one is heard in a cycle of the neighbours, and all others are lost.
