@@ -42,12 +42,13 @@ pub fn push_summary(out: &mut String, journal: &[Entry]) -> Result<(), Memory>
     requires priority { priority_count journal.now < 2 ^ 64 }
     ensures { OnOk result (string_bytes out.new ≡ string_bytes out.old ++ line_text (summary_words journal.now)) }
 {
+    let (reliable, priority) = delivered(journal);
     push_counts(
         out,
         journal.len() as u64,
         sent(journal),
-        delivered(journal),
-        priority(journal),
+        reliable,
+        priority,
         frames(journal),
     )
 }
@@ -153,46 +154,45 @@ fn is_frame(entry: &Entry) -> bool
     matches!(entry.reply, Reply::Frame { .. })
 }
 
-/// How many reliable messages were delivered.
-fn delivered(journal: &[Entry]) -> u64
-    requires { delivered_count journal.now < 2 ^ 64 }
-    ensures { result ≡ delivered_count journal.now }
+/// How many reliable messages were delivered, and how many priority messages.
+fn delivered(journal: &[Entry]) -> (u64, u64)
+    requires deliveries { delivered_count journal.now < 2 ^ 64 }
+    requires priority { priority_count journal.now < 2 ^ 64 }
+    ensures reliable { result.0 ≡ delivered_count journal.now }
+    ensures priority { result.1 ≡ priority_count journal.now }
 {
-    let mut count = 0u64;
+    let mut reliable = 0u64;
+    let mut priority = 0u64;
     'entries: for entry in journal {
-        count += delivered_in(entry.effects.as_slice());
+        let effects = entry.effects.as_slice();
+        reliable += delivered_in(effects);
+        priority += priority_in(effects);
     }
-    count
+    (reliable, priority)
 }
 
 /// How many of these effects deliver a reliable message.
 pub fn delivered_in(effects: &[Effect]) -> u64
     ensures { result ≡ length (filter is_delivered effects.now) }
 {
-    effects
-        .iter()
-        .filter(|effect| matches!(effect, Effect::Delivered { .. }))
-        .count() as u64
-}
-
-/// How many priority messages were delivered.
-fn priority(journal: &[Entry]) -> u64
-    requires { priority_count journal.now < 2 ^ 64 }
-    ensures { result ≡ priority_count journal.now }
-{
-    let mut count = 0u64;
-    'entries: for entry in journal {
-        count += priority_in(entry.effects.as_slice());
-    }
-    count
+    effects.iter().filter(|e| is_delivered(e)).count() as u64
 }
 
 /// How many of these effects deliver a priority message.
 pub fn priority_in(effects: &[Effect]) -> u64
     ensures { result ≡ length (filter is_delivered_prio effects.now) }
 {
-    effects
-        .iter()
-        .filter(|effect| matches!(effect, Effect::DeliveredPrio { .. }))
-        .count() as u64
+    effects.iter().filter(|e| is_delivered_prio(e)).count() as u64
+}
+
+fn is_delivered(effect: &Effect) -> bool
+    ensures { result ≡ is_delivered effect.now }
+{
+    matches!(effect, Effect::Delivered { .. })
+}
+
+fn is_delivered_prio(effect: &Effect) -> bool
+    ensures { result ≡ is_delivered_prio effect.now }
+{
+    matches!(effect, Effect::DeliveredPrio { .. })
 }
