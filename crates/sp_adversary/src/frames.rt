@@ -1,5 +1,5 @@
 // Frames that a compromised node crafts: fresh to their receiver, and under the right tag.
-ghost use Rattle.std.specs.Prelude.{◌≡◌, ◌≤◌, ◌++◌, [], IfOk, None as Nothing, length, replicate};
+ghost use Rattle.std.specs.Prelude.{◌≡◌, ◌≤◌, ◌++◌, [], All, IfOk, IfSome, None as Nothing, length, map, option_map, replicate};
 ghost use Rattle.sp_frame.specs.Frames.{frame_bytes, tagged_part};
 ghost use Rattle.sp_frame.specs.Writing.{IsWritable};
 ghost use Rattle.sp_frame.specs.declared.frame.TheConstants.{TAG_BYTES};
@@ -79,32 +79,43 @@ fn with_object(alloc: Global, head: &Head, object: &Kept) -> Result<Bytes, Memor
         Body::Prio(_) => write(alloc, head, None, 0, &Four::new().with((1, object)), None),
         Body::Weight(_) => write(alloc, head, Some(object), 0, &Four::new(), None),
         Body::Ack(ack) => {
-            let slot = OutSlot {
-                flow: Flow {
-                    src: ack.src,
-                    dst: ack.dst,
-                },
-                base: 0,
-                have: 0,
-                ack: Some(object),
-                rels: Four::new(),
+            let flow = Flow {
+                src: ack.src,
+                dst: ack.dst,
             };
-            write(alloc, head, None, 0, &Four::new(), Some(&slot))
+            in_slot(alloc, head, flow, Some(object), Four::new())
         }
         Body::Rel(rel) => {
-            let slot = OutSlot {
-                flow: Flow {
-                    src: rel.src,
-                    dst: rel.dst,
-                },
-                base: 0,
-                have: 0,
-                ack: None,
-                rels: Four::new().with(object),
+            let flow = Flow {
+                src: rel.src,
+                dst: rel.dst,
             };
-            write(alloc, head, None, 0, &Four::new(), Some(&slot))
+            in_slot(alloc, head, flow, None, Four::new().with(object))
         }
     }
+}
+
+/// The same of one in the slot of its flow, as the acknowledgement or as a message.
+fn in_slot(
+    alloc: Global,
+    head: &Head,
+    flow: Flow,
+    ack: Option<&Kept>,
+    rels: Four<&Kept>,
+) -> Result<Bytes, Memory>
+    requires ack { IfSome ack (λ o. IsWritable o.now) }
+    requires rels { All (λ o. IsWritable o.now) rels }
+    ensures { IfOk result (λ bytes. bytes ≡ frame_bytes head.now
+        (slot_alone flow 0 0 (option_map (λ o. o.now) ack.entry) (map (λ o. o.now) rels.entry)) (replicate 32 0)) }
+{
+    let slot = OutSlot {
+        flow,
+        base: 0,
+        have: 0,
+        ack,
+        rels,
+    };
+    write(alloc, head, None, 0, &Four::new(), Some(&slot))
 }
 
 /// Writes the tag of all bytes before it into the last 32 bytes (RFC 2104, section 2).
