@@ -26,13 +26,6 @@ abbrev pub is_close : Command → Bool
 is_close commands.Close = true
 is_close _ = false
 
--- what takes memory of the local
-abbrev pub sends : Command → Bool
-sends (commands.Send to payload) = true
-sends (commands.SendPrio to prio expiry paths payload) = true
-sends (commands.Weight peer weight) = true
-sends _ = false
-
 -- what the local does
 abbrev pub is_local : Command → Bool
 is_local commands.Open = false

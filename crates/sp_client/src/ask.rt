@@ -4,7 +4,7 @@ ghost use Rattle.std.specs.Result.{result_ok};
 ghost use Rattle.sp_client.specs.Locals.{message, sent, took, took_prio};
 ghost use Rattle.sp_client.specs.Replies.{IsShort};
 ghost use Rattle.sp_client.specs.Requests.{IsCommand};
-ghost use Rattle.sp_client.specs.Sessions.{is_local, sends};
+ghost use Rattle.sp_client.specs.Sessions.{is_local};
 
 use crate::{Answer, BadEnd, Command, Local, SendRefused};
 use sp_base::{Bytes, Memory};
@@ -23,19 +23,6 @@ pub fn ask<L: Local>(local: &mut L, alloc: Global, command: &Command) -> Result<
     match command {
         Command::Take { from } => Ok(took(local.take_rel(*from))),
         Command::TakePrio => Ok(took_prio(local.take_prio())),
-        _ => send(local, alloc, command),
-    }
-}
-
-/// The same of what the local may have no memory for.
-fn send<L: Local>(local: &mut L, alloc: Global, command: &Command) -> Result<Answer, Memory>
-    requires sends { sends command.now ≡ true }
-    requires range { IsCommand command.now }
-    ensures step { IfOk result (λ answer. L.steps local.old command.now answer local.new) }
-    ensures size { IfOk result IsShort }
-    ensures memory { OnErr result (local.new ≡ local.old) }
-{
-    match command {
         Command::Send { to, payload } => sent(local.send_rel(alloc, *to, payload.as_slice())),
         Command::SendPrio {
             to,
