@@ -96,12 +96,12 @@ fn with_object(alloc: Global, head: &Head, object: &Kept) -> Result<Bytes, Memor
 }
 
 /// The same of one in the slot of its flow, as the acknowledgement or as a message.
-fn in_slot(
+fn in_slot<'a>(
     alloc: Global,
     head: &Head,
     flow: Flow,
-    ack: Option<&Kept>,
-    rels: Four<&Kept>,
+    ack: Option<&'a Kept>,
+    rels: Four<&'a Kept>,
 ) -> Result<Bytes, Memory>
     requires ack { IfSome ack (λ o. IsWritable o.now) }
     requires rels { All (λ o. IsWritable o.now) rels }
