@@ -34,8 +34,8 @@ def read_edit(path):
 
 
 def function_at(text, place):
-    """The name of the last function that begins before this place."""
-    found = None
+    """The name of the last function that begins before this place. The empty name where none does, as in a table above all functions."""
+    found = ""
     for line in text[:place].split("\n") + [text[place:].split("\n", 1)[0]]:
         match = FUNCTION.match(line)
         found = match.group(1) if match else found
@@ -43,7 +43,7 @@ def function_at(text, place):
 
 
 def rounds_of(crate, edits):
-    """The bugs in rounds: in one round, no two of them stand in one function."""
+    """The bugs in rounds: in one round, no two of them stand in one function. One that stands in no function has a round of its own."""
     rounds = []
     for edit in sorted(edits):
         name, pairs = read_edit(os.path.join(ROOT, "planted", crate, edit))
@@ -52,7 +52,7 @@ def rounds_of(crate, edits):
         place = text.find(pairs[0][0])
         bug = (edit, name, pairs, function_at(text, place) if text.count(pairs[0][0]) == 1 else None)
         for there in rounds:
-            if all((name, bug[3]) != (other[1], other[3]) for other in there):
+            if bug[3] and all(other[3] and (name, bug[3]) != (other[1], other[3]) for other in there):
                 there.append(bug)
                 break
         else:
@@ -121,7 +121,7 @@ def try_round(crate, bugs, alone):
         folder = os.path.join(copy, "crates", crate)
         planted = plant(folder, bugs)
         at_fault, unproved = judged_in(folder)
-    refused = [bug for bug in planted if bug[1] in (unproved if alone else at_fault)]
+    refused = [bug for bug in planted if bug[1] in (unproved if alone else at_fault) or (not bug[1] and unproved)]
     unclear = [bug for bug in planted if bug not in refused and bug[1] in unproved]
     names = [edit for edit, _ in refused + unclear]
     passed = [bug for bug in bugs if bug[0] not in names]
@@ -141,7 +141,7 @@ def main():
             count += len(refused) + len(passed)
             wrong += len(passed)
             for edit, function in refused:
-                print(f"{crate}: {edit[:-5]}: refused at {function}", flush=True)
+                print(f"{crate}: {edit[:-5]}: refused at {function or 'a table'}", flush=True)
             for bug in passed:
                 print(f"{crate}: {bug[0][:-5]}: NOT REFUSED at {bug[3]}", flush=True)
     print(f"{count} planted bugs, {wrong} not refused or not planted")

@@ -43,7 +43,7 @@ def answer_to(copy, name):
     with open(source, encoding="utf-8") as lines:
         text = lines.read()
     try:
-        if not plant(folder, [(name, file, pairs, function_at(text, text.find(pairs[0][0])) or "")]):
+        if not plant(folder, [(name, file, pairs, function_at(text, text.find(pairs[0][0])))]):
             return "NOT PLANTED", False
         program = built(folder)
     finally:
