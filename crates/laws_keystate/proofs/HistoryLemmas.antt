@@ -22,7 +22,7 @@ ends_well : (height : LmsParam) (seed found : List ℕ) (start : Start) (slot : 
 ends_well height seed found start slot numbers sound is = all_well start.begin start.end start.acts (begins_well height seed found start.begin slot numbers is.begins sound) is.does
 
 -- what it leaves is sound and has no lower numbers than it had at its end
-left_keeps : (height : LmsParam) (seed found : List ℕ) (start : Start) (slot : Slot) (numbers : Numbers) → IsSound slot numbers found → IsStart height seed found start
+pub left_keeps : (height : LmsParam) (seed found : List ℕ) (start : Start) (slot : Slot) (numbers : Numbers) → IsSound slot numbers found → IsStart height seed found start
     → Keeps start.end.numbers.bound start.end.numbers.boot start.left
 left_keeps height seed found start slot numbers sound is = leaves_keep start.end start.left (ends_well height seed found start slot numbers sound is) is.leaves
 

@@ -4,3 +4,8 @@ pub mod HistoryLemmas
 pub mod CallLemmas
 pub mod DiskImages
 pub mod SomeHistory
+pub mod RunLemmas
+pub mod TakenStart
+pub mod StoppedLemmas
+pub mod MomentLemmas
+pub mod SomeRun

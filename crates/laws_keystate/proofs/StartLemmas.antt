@@ -11,7 +11,7 @@ use Rattle.sp_keystate.specs.Slots.{in_slot, in_use, other}
 use Rattle.sp_keystate.specs.Soundness.{IsSound, Keeps}
 use Rattle.sp_keystate.proofs.Pieces.{same_some}
 use Rattle.sp_keystate.proofs.SoundLemmas.{change_keeps, change_sound}
-use Rattle.laws_keystate.specs.Starts.{Act, And_then, Begins, Between, Boots, Does, DoesAll, During, Extends, IsChange, Leaves, Nothing_more, Reserves, Signs, Standing, boots_of, signings_of, with_boot, with_bound, written}
+use Rattle.laws_keystate.specs.Starts.{Act, And_then, Begins, Between, Boots, Does, DoesAll, During, Extends, IsChange, Kept, Leaves, Nothing_more, Reserves, Signs, Standing, boots_of, signings_of, with_boot, with_bound, written}
 use Rattle.laws_keystate.specs.Histories.{AllRise}
 use Rattle.laws_keystate.proofs.Elements.{first_or_other}
 
@@ -86,6 +86,7 @@ leaves_keep end left well (Between is) =
     record { slot = end.slot; numbers = end.numbers; sound = subst (IsSound end.slot end.numbers) (sym is) well.sound; bound_kept = omega arith; boot_kept = omega arith }
 leaves_keep end left well (During next change may) =
     change_keeps end.slot end.numbers next end.file left well.sound change.range (record { serial = omega (arith, change.serial); bound = change.bound; boot = change.boot }) may
+leaves_keep end left well (Kept keeps) = keeps
 
 -- ---- what it signs
 

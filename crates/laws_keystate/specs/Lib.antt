@@ -3,3 +3,5 @@ pub mod Starts
 pub mod Histories
 pub mod Laws
 pub mod Calls
+pub mod Runs
+pub mod RunLaws

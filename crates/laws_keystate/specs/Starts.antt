@@ -10,6 +10,7 @@ use Rattle.sp_keystate.specs.declared.numbers.Numbers.{Numbers}
 use Rattle.sp_keystate.specs.declared.slot.Slot.{Slot}
 use Rattle.sp_keystate.specs.Slots.{IsInRange, in_slot, in_use, other, place}
 use Rattle.sp_keystate.specs.Changes.{MayLeave, changed}
+use Rattle.sp_keystate.specs.Soundness.{Keeps}
 
 -- how a start stands between two of its calls
 pub record Standing : Type 0 where
@@ -65,10 +66,12 @@ pub data DoesAll : Standing → List Act → Standing → Type 0 where
   Nothing_more : (standing : Standing) → DoesAll standing [] standing
   And_then : (old between new : Standing) (act : Act) (acts : List Act) → Does old act between → DoesAll between acts new → DoesAll old (act ∷ acts) new
 
--- Where it is stopped: between two calls, when the file is as it stands, or at any moment of a change, when a crash may leave any image
+-- Where it is stopped: between two calls, when the file is as it stands, or at any moment of a change, when a crash may leave any image. And whatever else
+-- is left of the file, if it is sound and has no lower bound and no lower boot
 pub data Leaves (standing : Standing) (left : List ℕ) : Type 0 where
   Between : left ≡ standing.file → Leaves standing left
   During : (next : Numbers) → IsChange standing.numbers next → MayLeave standing.file (place (other standing.slot)) next left → Leaves standing left
+  Kept : Keeps standing.numbers.bound standing.numbers.boot left → Leaves standing left
 
 -- what it signed, and the boots that it took
 abbrev pub signings_of : List Act → List Signing

@@ -5,6 +5,9 @@ ghost use Rattle.laws_keystate.specs.Calls.{ABootIsAnAct, ACrashLeavesWhatAStart
 ghost use Rattle.laws_keystate.specs.Disks.{AReadGivesAnImage, ASyncLeavesOneImage, AWriteTakesNoImage, AnyBytesMayStand};
 ghost use Rattle.laws_keystate.specs.Laws.{AStartSignsWhatItReserved, AnUpperLeafSignsOneKey, BootsRise, EveryFileIsSound};
 ghost use Rattle.laws_keystate.specs.Laws.{AHistorySigns, IndexesRise, NoIndexSignsTwoMessages, NoKeySignsTwoMessages};
+ghost use Rattle.laws_keystate.specs.RunLaws.{ARunIsAStart, ARunSigns, EachMomentIsOfARun, NoRunSignsAgain, RunsAreAHistory};
+
+use sp_service_turns::Core;
 
 /// A law: every file of a history is sound, so no crash takes its numbers back.
 pub fn every_file_of_a_history_is_sound()
@@ -64,6 +67,31 @@ pub fn a_boot_is_an_act()
 /// A law: a crash at any moment of either leaves what a start may leave.
 pub fn a_crash_leaves_what_a_start_may()
     ensures { ACrashLeavesWhatAStartMay }
+{}
+
+/// A law: a daemon's run, stopped at any moment, is one start of a history.
+pub fn a_run_is_a_start<N: Core>()
+    ensures { ARunIsAStart N.steps N.indexes }
+{}
+
+/// A law: runs of daemons one after another on one key file are a history.
+pub fn runs_are_a_history<N: Core>()
+    ensures { RunsAreAHistory N.steps N.indexes }
+{}
+
+/// A law: over all of them no index signs two messages.
+pub fn no_run_signs_again<N: Core>()
+    ensures { NoRunSignsAgain N.steps N.indexes }
+{}
+
+/// A law: whatever a crash leaves at any moment of a daemon, a run so far leaves.
+pub fn each_moment_is_of_a_run<N: Core>()
+    ensures { EachMomentIsOfARun N.steps N.indexes }
+{}
+
+/// A law: there are runs that sign, so what is said of every run is said of something.
+pub fn a_run_signs()
+    ensures { ARunSigns }
 {}
 
 /// A law: what a read gives is an image.
