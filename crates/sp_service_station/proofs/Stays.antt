@@ -59,7 +59,7 @@ module _ (R : NodeState → NodeState → Type 0) (same : (n : NodeState) → R 
   by_served None None old port r reply new before after served =
       by_answer (own_answer old.holder port r.command) before r.command served.answer after served.answered
 
-  by_handled : (read : Option Request) (old : tables.Table) (port : ℕ) (reply : List ℕ) (new : tables.Table) (before after : LocalNode)
+  pub by_handled : (read : Option Request) (old : tables.Table) (port : ℕ) (reply : List ℕ) (new : tables.Table) (before after : LocalNode)
       → tables.Handles AnswersBy read old port reply new before after → R before.node.state after.node.state
   by_handled None old port reply new before after handled = as_before before after handled.2
   by_handled (Some r) old port reply new before after handled =

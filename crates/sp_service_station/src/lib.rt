@@ -2,6 +2,8 @@
 #![tactic(auto)]
 
 mod asked;
+mod laws;
 mod station;
 
+pub use laws::{stations_sign_in_order, turns_are_supplied};
 pub use station::Station;

@@ -1,0 +1,127 @@
+-- A station signs with one index after another, each below its bound.
+use Rattle.std.proofs.Common.{◌≡◌, ℕ, ◌+◌, ◌≤◌, Bool, true, false, List, [], Option, None, Some, refl, sym, ap, subst, ◌∙◌, inl, inr}
+use Rattle.std.specs.Prelude.{◌==◌, ◌≢◌, ◌||◌, if◌then◌else◌, nat_lt, not}
+use Rattle.std.proofs.lemmas.Bool.{eqb-false}
+use Rattle.std.proofs.lemmas.Option.{none-some}
+use Rattle.laws_keystate.specs.Runs.{SignsInOrder, TakesNext}
+use Rattle.sp_base.specs.Cursor.{or_else}
+use Rattle.sp_base.specs.declared.id.NodeId.{NodeId}
+use Rattle.sp_client.specs.Tables as tables
+use Rattle.sp_client_node.specs.Steps.{AnswersBy}
+use Rattle.sp_client_node.specs.declared.local.LocalNode.{LocalNode}
+use Rattle.sp_msg.specs.declared.body.Ack.{Ack}
+use Rattle.sp_msg.specs.declared.refused.SendRefused.{SendRefused}
+use Rattle.sp_msg.specs.declared.refused.SendRefused.TheVariants as refusals
+use Rattle.sp_node_format.specs.Format.{format}
+use Rattle.sp_rules.specs.Arrivals.{after_datagram}
+use Rattle.sp_rules.specs.Link.{Link}
+use Rattle.sp_rules.specs.Masks.{Choice}
+use Rattle.sp_rules.specs.Node.{NodeState, Signer, call_refusal, called, kept_or, signed_once}
+use Rattle.sp_rules.specs.Parts.{Parts, edge_to}
+use Rattle.sp_rules.specs.Polls.{after_poll}
+use Rattle.sp_rules.specs.Prio.{is_node}
+use Rattle.sp_rules.specs.Rel.{due, room}
+use Rattle.sp_rules.specs.Sends.{PrioSend, after_send_prio, after_send_rel, after_set_weight, after_take_prio, after_take_rel, no_paths, no_room, prio_refusal, rel_refusal, send_prio_refusal, signer_refusal, weight_refusal, weight_refusal_at}
+use Rattle.sp_rules.specs.Steps.{Datagram, Input, NodeStep, Output, Poll, SendPrio, SendRel, SetWeight, TakePrio, TakeRel, Tick}
+use Rattle.sp_rules.specs.Ticks.{after_tick, at_time, settled_by}
+use Rattle.sp_rules.specs.Weights.{minimum}
+use Rattle.sp_service_turns.specs.Inputs as inputs
+use Rattle.sp_service_turns.specs.declared.indexes.Indexes.{Indexes}
+use Rattle.sp_service_station.specs.Stations.{Station, StationStep, indexes_in, indexes_of, node_of}
+use Rattle.sp_service_station.proofs.Stays.{by_handled}
+use Rattle.sp_service_station.proofs.Uses.{are_reserved}
+
+-- ---- what isn't refused has an index
+
+-- a signer that refuses nothing hasn't come to its bound
+free_signer : (s : Signer) → signer_refusal s ≡ None → s.index ≢ s.bound
+free_signer s free same = go (s.index == s.total) (s.index == s.bound) refl free
+  where
+    go : (x y : Bool) → (s.index == s.bound) ≡ y → (if x then Some (refusals.Spent s.index) else if y then Some (refusals.NotReserved s.bound) else None) ≡ None → ⊥
+    go true y p e = none-some (refusals.Spent s.index) (sym e)
+    go false true p e = none-some (refusals.NotReserved s.bound) (sym e)
+    go false false p e = eqb-false s.index s.bound p same
+
+second_free : (first second : Option SendRefused) → or_else first second ≡ None → second ≡ None
+second_free None second free = free
+second_free (Some refused) second free = absurd (none-some refused (sym free))
+
+first_free : (first second : Option SendRefused) → or_else first second ≡ None → first ≡ None
+first_free None second free = refl
+first_free (Some refused) second free = free
+
+test_free : (t : Bool) (refused : SendRefused) (refusal : Option SendRefused) → (if t then Some refused else refusal) ≡ None → refusal ≡ None
+test_free true refused refusal free = absurd (none-some refused (sym free))
+test_free false refused refusal free = free
+
+prio_free : (n : NodeState) (m : PrioSend) (choice : Choice) → send_prio_refusal n m choice ≡ None → signer_refusal n.signer ≡ None
+prio_free n m choice free =
+    let own = first_free (prio_refusal n m) (no_paths choice) free in
+    test_free (nat_lt m.expiry n.now) (refusals.Expired n.now) (signer_refusal n.signer)
+    (test_free ((m.dst.0 == n.fixed.me.0) || not (is_node n.parts.prio.nodes m.dst.0)) refusals.BadEnd
+    (if nat_lt m.expiry n.now then Some (refusals.Expired n.now) else signer_refusal n.signer) own)
+
+weight_free : (n : NodeState) (edge : Option ℕ) (weight : ℕ) → weight_refusal_at n edge weight ≡ None → signer_refusal n.signer ≡ None
+weight_free n None weight free = absurd (none-some refusals.BadEnd (sym free))
+weight_free n (Some edge) weight free =
+    test_free (nat_lt weight (minimum n.parts.weights edge)) (refusals.Low (minimum n.parts.weights edge)) (signer_refusal n.signer) free
+
+-- ---- the steps of a node
+
+abbrev Goes : NodeState → NodeState → Type 0
+Goes old new = TakesNext (indexes_of old) (indexes_of new)
+
+goes_called : {X : Type 0} (refusal : Option X) (n : NodeState) (links : List Link) (parts : Parts) → Goes n (kept_or refusal n (called n links parts))
+goes_called None n links parts = inl refl
+goes_called (Some refused) n links parts = inl refl
+
+goes_signed : (refusal : Option SendRefused) (n : NodeState) (parts : Parts) → (refusal ≡ None → signer_refusal n.signer ≡ None)
+    → Goes n (kept_or refusal n (signed_once n parts))
+goes_signed None n parts free = inr (free_signer n.signer (free refl), refl)
+goes_signed (Some refused) n parts free = inl refl
+
+-- by the signer, now and after one signature
+abbrev indexes_by : Signer → Indexes
+indexes_by s = record { index = s.index; bound = s.bound; total = s.total }
+
+abbrev next_by : Signer → Indexes
+next_by s = record { index = s.index + 1; bound = s.bound; total = s.total }
+
+goes_settled : (n at : NodeState) (ack : Option Ack) (refusal : Option SendRefused) → at.signer ≡ n.signer → (refusal ≡ None → signer_refusal n.signer ≡ None)
+    → Goes n (settled_by format at ack refusal)
+goes_settled n at None refusal same free = inl (ap indexes_by same)
+goes_settled n at (Some ack) (Some refused) same free = inl (ap indexes_by same)
+goes_settled n at (Some ack) None same free = inr (free_signer n.signer (free refl), ap next_by same)
+
+is_going : (old new made : NodeState) → new ≡ made → Goes old made → Goes old new
+is_going old new made is goes = subst (Goes old) (sym is) goes
+
+goes : (old : NodeState) (input : Input) (output : Output) (new : NodeState) → NodeStep format old input output new → Goes old new
+goes old (Poll to) output new step = is_going old new (after_poll old to) step.1 (goes_called (call_refusal old to) old _ _)
+goes old (Datagram from bytes) output new step = is_going old new (after_datagram format old from bytes) step.1 (goes_called (call_refusal old from) old _ _)
+goes old (Tick now) output new step =
+    is_going old new (after_tick format old now) step.1 (goes_settled old (at_time old now) (due old.parts.rel) (signer_refusal old.signer) refl (λ free. free))
+goes old (SendRel dst payload) output new step =
+    is_going old new (after_send_rel format old dst payload) step.1
+    (goes_signed (rel_refusal old dst) old _ (second_free (no_room (room old.parts.rel dst)) (signer_refusal old.signer)))
+goes old (SendPrio message) output new step =
+    is_going old new (after_send_prio format old message step.choice) step.new_is
+    (goes_signed (send_prio_refusal old message step.choice) old _ (prio_free old message step.choice))
+goes old (SetWeight peer weight) output new step =
+    is_going old new (after_set_weight format old peer weight) step.1
+    (goes_signed (weight_refusal old peer weight) old _ (weight_free old (edge_to old.fixed peer) weight))
+goes old (TakeRel src) output new step = is_going old new (after_take_rel old src) step.1 (inl refl)
+goes old TakePrio output new step = is_going old new (after_take_prio old) step.1 (inl refl)
+
+-- ---- the steps of a station
+
+goes_by_request : (old : tables.Table) (port : ℕ) (bytes reply : List ℕ) (new : tables.Table) (before after : LocalNode)
+    → tables.Datagram AnswersBy old port bytes reply new before after → Goes before.node.state after.node.state
+goes_by_request old port bytes reply new before after done = by_handled Goes (λ n. inl refl) goes done.read old port reply new before after done.handled
+
+pub in_order : SignsInOrder StationStep indexes_in
+in_order old new (inputs.Reserve upto) answer step = λ above within. ap indexes_of step.1 ∙ are_reserved (node_of old) upto above within
+in_order old new (inputs.Tick now) answer step = goes (node_of old) (Tick now) step.0.0 (node_of new) step.0.1
+in_order old new (inputs.Datagram node bytes) answer step = goes (node_of old) (Datagram node bytes) step.0.0 (node_of new) step.0.1
+in_order old new (inputs.Request port bytes) answer step = goes_by_request old.clients port bytes answer new.clients old.local new.local step
+in_order old new (inputs.Poll node) answer step = goes (node_of old) (Poll node) step.0.0 (node_of new) step.0.1
