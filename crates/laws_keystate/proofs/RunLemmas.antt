@@ -1,5 +1,5 @@
 -- A run of a daemon, turn by turn, as the acts of a start.
-use Rattle.std.proofs.Common.{◌≡◌, ℕ, ◌+◌, ◌<◌, ◌≤◌, inl, inr, Bool, true, false, List, [], ◌∷◌, ◌++◌, Option, None, Some, refl, sym, ap, subst, ◌∙◌, append_assoc, append-nil, arith}
+use Rattle.std.proofs.Common.{◌≡◌, ℕ, ◌+◌, ◌<◌, ◌≤◌, inl, inr, Bool, true, false, List, [], ◌∷◌, ◌++◌, Option, None, Some, refl, sym, ap, subst, ◌∙◌, arith}
 use Rattle.std.specs.Prelude.{◌≢◌, ◌^◌, ◌-◌, ◌&&◌, nat_lt, min, if◌then◌else◌}
 use Rattle.std.proofs.lemmas.Bool.Decides.{nat_tests}
 use Rattle.std.proofs.lemmas.Option.{none-some}
@@ -8,9 +8,8 @@ use Rattle.sp_hss.specs.Signer.{Signer}
 use Rattle.sp_hss.specs.Uses.{Signing}
 use Rattle.sp_keystate.specs.Changes.{Changes}
 use Rattle.sp_keystate.specs.Slots.{IsInRange, other, place}
-use Rattle.sp_keystate.specs.States.{changed_state, next_numbers, numbers_of}
+use Rattle.sp_keystate.specs.States.{changed_state, next_numbers}
 use Rattle.sp_keystate.specs.declared.key_state.KeyState.{KeyState}
-use Rattle.sp_keystate.specs.declared.numbers.Numbers.{Numbers}
 use Rattle.sp_keystate.proofs.Pieces.{same_some}
 use Rattle.sp_outside.specs.Calls.{Came, Got, Lost, Nothing}
 use Rattle.sp_outside.specs.Disk.{Disk}
@@ -24,7 +23,7 @@ use Rattle.sp_service_turns.specs.declared.indexes.Indexes.{Indexes}
 use Rattle.sp_service_turns.specs.declared.peer.Peer.{Peer}
 use Rattle.laws_keystate.specs.Calls.{IsAt}
 use Rattle.laws_keystate.specs.Runs.{Nothing_signed, One_signed, SignsInOrder, SignsInTurn, SignsOn, SignsOne, TakesNext}
-use Rattle.laws_keystate.specs.Starts.{Act, And_then, Boots, Does, DoesAll, Extends, Nothing_more, Reserves, Signs, Standing, signings_of}
+use Rattle.laws_keystate.specs.Starts.{Act, And_then, Boots, DoesAll, Extends, Nothing_more, Reserves, Signs, Standing, signings_of}
 use Rattle.laws_keystate.proofs.CallLemmas.{a_reserve_is_an_act}
 
 -- ---- acts one after another

@@ -1,5 +1,5 @@
 -- A run of one turn on a file that was formatted: its start reserves 32 indexes, and its node signs with the first.
-use Rattle.std.proofs.Common.{◌≡◌, ℕ, inl, inr, true, false, List, [], ◌∷◌, None, Some, refl, sym, ap, ◌∙◌, lit<, lit≤, arith}
+use Rattle.std.proofs.Common.{ℕ, inl, inr, true, false, List, [], ◌∷◌, None, Some, refl, ap, ◌∙◌, lit<, lit≤, arith}
 use Rattle.std.specs.Prelude.{◌≢◌}
 use Rattle.sp_keystate.specs.Changes.{changed}
 use Rattle.sp_keystate.specs.Slots.{in_slot, in_use}
@@ -12,7 +12,7 @@ use Rattle.sp_keystate.proofs.Standing.{formatted_in_use}
 use Rattle.sp_outside.specs.Calls.{Nothing}
 use Rattle.sp_outside.specs.Disk.{Disk, bytes_of, still}
 use Rattle.sp_outside.proofs.DiskLemmas.{bytes_of-still, own_image}
-use Rattle.sp_service_turns.specs.Inputs.{Datagram, Input, Poll, Request, Reserve, Tick}
+use Rattle.sp_service_turns.specs.Inputs.{Datagram, Poll, Request, Reserve, Tick}
 use Rattle.sp_service_turns.specs.Outside.{KeptFile}
 use Rattle.sp_service_turns.specs.Turns.{Moves, Turn}
 use Rattle.sp_service_turns.specs.declared.indexes.Indexes.{Indexes}

@@ -1,12 +1,12 @@
 -- The laws of runs of daemons on one key file, of any node that signs in order.
-use Rattle.std.specs.Prelude.{ℕ, ◌≡◌, ◌+◌, ◌<◌, ◌^◌, List, [], ◌∷◌, ◌++◌, Some}
+use Rattle.std.specs.Prelude.{ℕ, ◌≡◌, ◌<◌, ◌^◌, List, [], ◌∷◌, Some}
 use Rattle.std.specs.List.{Contains}
 use Rattle.sp_hss.specs.Uses.{Rising, Signing}
 use Rattle.sp_keystate.specs.declared.starts.Started.{Started}
 use Rattle.sp_lms.specs.declared.param.LmsParam.{LmsParam}
 use Rattle.sp_outside.specs.Disk.{still}
 use Rattle.sp_outside.specs.Moments.{AllSince}
-use Rattle.sp_service_turns.specs.Inputs.{Input, Reserve, Steps, Tick}
+use Rattle.sp_service_turns.specs.Inputs.{Reserve, Steps, Tick}
 use Rattle.sp_service_turns.specs.Outside.{Outside}
 use Rattle.sp_service_turns.specs.Served.{EndsTurns, IsOpened, opening_of}
 use Rattle.sp_service_turns.specs.declared.indexes.Indexes.{Indexes}

@@ -7,3 +7,4 @@ pub mod OneInput
 pub mod Tellings
 pub mod Sizes
 pub mod Rules
+pub mod KeyHistories

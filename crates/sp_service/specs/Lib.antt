@@ -6,6 +6,7 @@ pub mod Starts
 -- ---- the daemon
 pub mod Served
 pub mod Complete
+pub mod KeyLaws
 -- ---- verification
 pub mod Splits
 pub mod Verdicts

@@ -4,6 +4,7 @@
 mod configured;
 mod daemon;
 mod fitting;
+mod laws;
 mod node_parts;
 mod peers;
 mod ready;
@@ -17,6 +18,7 @@ mod verifying;
 pub use configured::{Configured, configure};
 pub use daemon::{serve, start};
 pub use fitting::{Fitted, judge};
+pub use laws::{daemons_are_runs, no_daemon_signs_again};
 pub use refused::SetupRefused;
 pub use sp_service_turns::Served;
 pub use verdict::{Judged, Verdict};

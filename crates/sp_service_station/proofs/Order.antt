@@ -1,11 +1,10 @@
 -- A station signs with one index after another, each below its bound.
-use Rattle.std.proofs.Common.{◌≡◌, ℕ, ◌+◌, ◌≤◌, Bool, true, false, List, [], Option, None, Some, refl, sym, ap, subst, ◌∙◌, inl, inr}
+use Rattle.std.proofs.Common.{◌≡◌, ℕ, ◌+◌, Bool, true, false, List, [], Option, None, Some, refl, sym, ap, subst, ◌∙◌, inl, inr}
 use Rattle.std.specs.Prelude.{◌==◌, ◌≢◌, ◌||◌, if◌then◌else◌, nat_lt, not}
 use Rattle.std.proofs.lemmas.Bool.{eqb-false}
 use Rattle.std.proofs.lemmas.Option.{none-some}
 use Rattle.laws_keystate.specs.Runs.{SignsInOrder, TakesNext}
 use Rattle.sp_base.specs.Cursor.{or_else}
-use Rattle.sp_base.specs.declared.id.NodeId.{NodeId}
 use Rattle.sp_client.specs.Tables as tables
 use Rattle.sp_client_node.specs.Steps.{AnswersBy}
 use Rattle.sp_client_node.specs.declared.local.LocalNode.{LocalNode}
@@ -27,7 +26,7 @@ use Rattle.sp_rules.specs.Ticks.{after_tick, at_time, settled_by}
 use Rattle.sp_rules.specs.Weights.{minimum}
 use Rattle.sp_service_turns.specs.Inputs as inputs
 use Rattle.sp_service_turns.specs.declared.indexes.Indexes.{Indexes}
-use Rattle.sp_service_station.specs.Stations.{Station, StationStep, indexes_in, indexes_of, node_of}
+use Rattle.sp_service_station.specs.Stations.{StationStep, indexes_in, indexes_of, node_of}
 use Rattle.sp_service_station.proofs.Stays.{by_handled}
 use Rattle.sp_service_station.proofs.Uses.{are_reserved}
 

@@ -1,5 +1,5 @@
 -- A node that has an index left which is reserved, or none at all, answers nothing for want of a reserve.
-use Rattle.std.proofs.Common.{◌≡◌, ℕ, ◌+◌, ◌≤◌, Bool, true, false, List, Option, None, Some, Result, Ok, Err, refl, sym, ap, subst, ◌∙◌, inl, inr, arith}
+use Rattle.std.proofs.Common.{◌≡◌, ℕ, ◌≤◌, Bool, true, false, List, Option, None, Some, Result, Ok, Err, refl, sym, ap, subst, inl, inr, arith}
 use Rattle.std.specs.Prelude.{◌==◌, ◌≢◌, ◌||◌, ◌&&◌, if◌then◌else◌, nat_le, nat_lt, not}
 use Rattle.std.proofs.lemmas.Bool.{eqb-false, eqb-true}
 use Rattle.std.proofs.lemmas.Bool.Decides.{nat_tests}
@@ -8,7 +8,6 @@ use Rattle.sp_base.specs.declared.id.NodeId.{NodeId}
 use Rattle.sp_msg.specs.declared.body.Ack.{Ack}
 use Rattle.sp_msg.specs.declared.refused.SendRefused.{SendRefused}
 use Rattle.sp_msg.specs.declared.refused.SendRefused.TheVariants as refusals
-use Rattle.sp_node_format.specs.Format.{format}
 use Rattle.sp_outside.specs.Calls.{Came, Got, Lost, Nothing}
 use Rattle.sp_rules.specs.Masks.{Choice, Mask, OnlyPaths}
 use Rattle.sp_rules.specs.Node.{NodeState, Signer, call_refusal, extended}
@@ -20,14 +19,13 @@ use Rattle.sp_rules.specs.Steps as steps
 use Rattle.sp_rules.specs.Ticks.{reply_of, tick_reply_of}
 use Rattle.sp_rules.specs.Weights.{minimum}
 use Rattle.sp_rules.specs.declared.node.NodeRefused.{NodeRefused}
-use Rattle.sp_rules.specs.declared.node.TickReply.{TickReply}
 use Rattle.sp_rules.specs.declared.node.TickReply.TheVariants as ticks
 use Rattle.sp_rules.specs.declared.rel.RelRefused.{RelRefused}
 use Rattle.sp_rules.specs.declared.rel.RelRefused.TheVariants as rels
 use Rattle.sp_service_turns.specs.Indexes.{HaveLeft, UsesOne}
-use Rattle.sp_service_turns.specs.Turns.{Hears, HearsFrom, Moves, Restocks, Turn, node_at}
+use Rattle.sp_service_turns.specs.Turns.{Hears, HearsFrom, Restocks, node_at}
 use Rattle.sp_service_turns.specs.declared.peer.Peer.{Peer}
-use Rattle.sp_service_station.specs.Stations.{Station, StationStep, indexes_in, indexes_of, node_of, reserved}
+use Rattle.sp_service_station.specs.Stations.{Station, StationStep, indexes_in, node_of, reserved}
 use Rattle.sp_service_station.specs.Supplies.{IsSupplied, TurnsAreSupplied}
 use Rattle.sp_service_station.proofs.Uses.{uses_none, uses_one}
 
