@@ -7,3 +7,4 @@ pub mod RunLemmas
 pub mod VerifiedLemmas
 pub mod EndingLemmas
 pub mod OpenLemmas
+pub mod TurnLawLemmas

@@ -14,3 +14,4 @@ pub mod Recorded
 pub mod Served
 pub mod Compared
 pub mod Sinks
+pub mod TurnLaws

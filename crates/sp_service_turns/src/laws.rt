@@ -1,5 +1,6 @@
 // Laws of turns and their recordings.
 ghost use Rattle.sp_service_turns.specs.Recorded.{RecordingsAreWritten};
+ghost use Rattle.sp_service_turns.specs.TurnLaws.{KeyFilesEndLate, NothingAgreesAndDiffers};
 ghost use Rattle.sp_service_turns.specs.Verified.{RecordingsAgree};
 
 use crate::node::Core;
@@ -12,4 +13,14 @@ pub fn recordings_agree<N: Core>()
 /// A law: what a daemon writes is the text of its recording.
 pub fn recordings_are_written()
     ensures { RecordingsAreWritten }
+{}
+
+/// A law: of a node whose answers are determined no recording agrees that also differs.
+pub fn no_recording_agrees_and_differs<N: Core>()
+    ensures { NothingAgreesAndDiffers N.steps }
+{}
+
+/// A law: a key file ends a daemon only where few indexes are left and more could be reserved, and but for a fault only at its last serial.
+pub fn key_files_end_late()
+    ensures { KeyFilesEndLate }
 {}

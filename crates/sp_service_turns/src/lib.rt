@@ -23,7 +23,9 @@ pub use compared::{LinesRefused, VerifyRefused};
 pub use daemon::Daemon;
 pub use ended::Ended;
 pub use indexes::{Indexes, LEAST_LEFT, RESERVED};
-pub use laws::{recordings_agree, recordings_are_written};
+pub use laws::{
+    key_files_end_late, no_recording_agrees_and_differs, recordings_agree, recordings_are_written,
+};
 pub use many_turns::serve;
 pub use node::Core;
 pub use opened::{Ports, open, opening_of};
