@@ -59,12 +59,14 @@ impl Ears {
     /// The two ports are opened, and both are waited for. Port 0 opens nothing on its side. Nothing came yet.
     pub fn new<R: Net>(rt: &R, alloc: Global, overlay: u16, client: u16) -> io::Result<Self> {
         let waiter = Waiter::new(rt, alloc)?;
-        let neighbours = opened(rt, &waiter, overlay, 0)?;
-        let clients = opened(rt, &waiter, client, CLIENTS)?;
+        let neighbours = bound(rt, overlay)?;
+        let clients = bound(rt, client)?;
+        let neighbours = Hearing::new(alloc, &waiter, neighbours, overlay, 0, STRAYS)?;
+        let clients = Hearing::new(alloc, &waiter, clients, client, CLIENTS, STRANGERS)?;
         Ok(Ears {
             waiter,
-            neighbours: Hearing::new(alloc, neighbours, overlay, 0, STRAYS),
-            clients: Hearing::new(alloc, clients, client, CLIENTS, STRANGERS),
+            neighbours,
+            clients,
             hears_long: true,
             pace: Pace::new(),
         })
@@ -99,10 +101,10 @@ impl Ears {
             return Ok(None);
         }
         if self.pace.begins() {
-            self.neighbours.begin_cycle();
+            self.neighbours.begin_cycle(&self.waiter);
             self.hears_long = true;
         }
-        self.clients.begin_cycle();
+        self.clients.begin_cycle(&self.waiter);
         let pause = self.pace.pause();
         self.wait(rt, pause, buf)?;
         let next = self.neighbours.take();
@@ -119,7 +121,7 @@ impl Ears {
     /// waits for the answer.
     fn next_client<R: Clock>(&mut self, rt: &R, buf: &mut [u8]) -> Result<Option<Waiting>, Failed> {
         if !self.neighbours.is_open() {
-            self.clients.begin_cycle();
+            self.clients.begin_cycle(&self.waiter);
             self.wait(rt, Pause::Rest, buf)?;
         }
         let Some(waiting) = self.clients.take() else {
@@ -156,8 +158,8 @@ impl Ears {
     /// Takes what came, and waits until there is a reason to go on.
     fn wait<R: Clock>(&mut self, rt: &R, pause: Pause, buf: &mut [u8]) -> Result<(), Failed> {
         let begin = rt.monotonic();
-        self.neighbours.begin_wait();
-        self.clients.begin_wait();
+        self.neighbours.begin_wait(&self.waiter);
+        self.clients.begin_wait(&self.waiter);
         for wakes in 0..MOST_WAKES {
             self.take(Side::Overlay, buf)?;
             self.take(Side::Client, buf)?;
@@ -222,10 +224,10 @@ impl Ears {
 
     fn receive(&mut self, side: Side, buf: &mut [u8]) -> Result<Given, Failed> {
         match side {
-            Side::Overlay => self.neighbours.receive(buf),
+            Side::Overlay => self.neighbours.receive(&self.waiter, buf),
             Side::Client => {
                 let most = buf.len().min(REQUEST_BYTES + 1);
-                self.clients.receive(&mut buf[..most])
+                self.clients.receive(&self.waiter, &mut buf[..most])
             }
         }
     }
@@ -257,20 +259,6 @@ impl Ears {
         }
         self.clients.put_newest(port, bytes).map_err(|_| Failed)
     }
-}
-
-/// The socket of a port, which is waited for under this name.
-fn opened<R: Net>(
-    rt: &R,
-    waiter: &Waiter,
-    port: u16,
-    name: usize,
-) -> io::Result<Option<UdpSocket>> {
-    let socket = bound(rt, port)?;
-    if let Some(socket) = &socket {
-        waiter.add(socket, name)?;
-    }
-    Ok(socket)
 }
 
 /// Milliseconds from one reading of the clock to another, rounded up.

@@ -57,21 +57,26 @@ impl Hearing {
     /// No sender is known. So many datagrams of all others together wait.
     pub fn new(
         alloc: Global,
+        waiter: &Waiter,
         socket: Option<UdpSocket>,
         port: u16,
         name: usize,
         others: usize,
-    ) -> Self {
-        Hearing {
+    ) -> io::Result<Self> {
+        let inlet = match socket {
+            Some(socket) => Some(Inlet::new(waiter, socket, name, TAKEN_OF_OTHERS)?),
+            None => None,
+        };
+        Ok(Hearing {
             alloc,
             port,
-            inlet: socket.map(|socket| Inlet::new(socket, TAKEN_OF_OTHERS)),
+            inlet,
             name,
             known: Vec::new(alloc),
             others: Place::new(alloc, others),
             next: 0,
             hears_others: true,
-        }
+        })
     }
 
     /// Whether there is a socket at all.
@@ -80,18 +85,18 @@ impl Hearing {
     }
 
     /// A cycle begins, in which one of the others may be heard.
-    pub fn begin_cycle(&mut self) {
+    pub fn begin_cycle(&mut self, waiter: &Waiter) {
         self.hears_others = true;
         if let Some(inlet) = &mut self.inlet {
-            inlet.begin();
+            inlet.begin(waiter);
         }
     }
 
     /// A wait begins, in which so many of each sender are taken.
-    pub fn begin_wait(&mut self) {
+    pub fn begin_wait(&mut self, waiter: &Waiter) {
         for known in self.known.iter_mut() {
             if let Some(inlet) = &mut known.inlet {
-                inlet.begin();
+                inlet.begin(waiter);
             }
         }
     }
@@ -113,19 +118,23 @@ impl Hearing {
     }
 
     /// The next datagram that came to the port. The others' sockets are left alone where they were heard in this cycle.
-    pub fn receive(&mut self, buf: &mut [u8]) -> Result<Given, Failed> {
+    pub fn receive(&mut self, waiter: &Waiter, buf: &mut [u8]) -> Result<Given, Failed> {
         for known in self.known.iter_mut() {
             if let Some(inlet) = &mut known.inlet {
-                match inlet.next(buf)? {
+                match inlet.next(waiter, buf)? {
                     Given::Nothing => {}
                     given => return Ok(given),
                 }
             }
         }
-        match &mut self.inlet {
-            Some(inlet) if self.hears_others => inlet.next(buf),
-            _ => Ok(Given::Nothing),
+        let Some(inlet) = &mut self.inlet else {
+            return Ok(Given::Nothing);
+        };
+        if self.hears_others {
+            return inlet.next(waiter, buf);
         }
+        inlet.pass_over(waiter);
+        Ok(Given::Nothing)
     }
 
     /// Sends a datagram from the port.
@@ -160,8 +169,12 @@ impl Hearing {
     /// The socket of a sender, which is waited for.
     fn opened(&self, waiter: &Waiter, sender: u16) -> io::Result<Inlet> {
         let socket = beside(self.port, sender)?;
-        waiter.add(&socket, self.name.saturating_add(usize::from(sender)))?;
-        Ok(Inlet::new(socket, TAKEN))
+        Inlet::new(
+            waiter,
+            socket,
+            self.name.saturating_add(usize::from(sender)),
+            TAKEN,
+        )
     }
 
     /// The sender has no place any more, and nothing of it waits.

@@ -39,6 +39,12 @@ impl Waiter {
             .register(&mut SourceFd(&fd), Token(name), Interest::READABLE)
     }
 
+    /// A socket isn't waited for any more.
+    pub fn remove(&self, socket: &UdpSocket) -> io::Result<()> {
+        let fd = socket.as_raw_fd();
+        self.poll.registry().deregister(&mut SourceFd(&fd))
+    }
+
     /// Waits so many milliseconds at most.
     pub fn wait(&mut self, most_ms: u64) -> io::Result<()> {
         self.poll
