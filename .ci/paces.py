@@ -3,7 +3,7 @@
 A hub runs under the library of system_calls.c, and the script plays its three neighbours and a client, so its calls follow from what these send. Without
 news it rests, for 100 ms at a time, and each frame goes. News and requests wake it, and what says nothing new doesn't. Awake it waits for its neighbours, each
 of which is sent no frame while it has one to answer, but for one of 32; who lets three waits pass is waited for no more, and a stranger answers for nobody.
-Of a neighbour that floods it a bounded number is taken in a turn, and the newest few are heard.
+Of a neighbour that floods it a bounded number is taken in a turn, and the newest few are heard; strays that aren't taken end no wait.
 Each difference is told, and the status is then 1. It needs a C compiler, `cc`.
 """
 
@@ -28,6 +28,8 @@ NEWS, WORD, REQUEST = 1_201, 41, b"2 listen"
 ANSWERS, UNSENT = 100, 32
 # so many datagrams come at once; so many are taken in a turn, and so many of them wait
 BURST, TAKEN, WAITING = 40, 16, 4
+# so many strays in a second, of which at most so many end a wait
+STRAYS, WAKES = 1_000, 250
 # without news for so many cycles it rests, whoever answers
 QUIET, TRIES = 8, 5
 
@@ -191,13 +193,25 @@ def bursts(looks, hub):
     looks.holds("datagrams that are heard", heard[-WAITING:] == sent[-WAITING:] and heard[0] >= sent[TAKEN - WAITING], heard)
 
 
+def strays(looks, hub):
+    """Who isn't heard doesn't wake the hub once enough of it was taken."""
+    place = len(looks.calls())
+    hub.until_rest(place, QUIET * len(NEIGHBOURS))
+    place = len(looks.calls())
+    for number in range(STRAYS):
+        hub.sockets["stranger"].sendto(bytes(WORD), hub.target)
+        time.sleep(1 / STRAYS)
+    waits = sum(is_wait(call) for call in looks.calls()[place:])
+    looks.holds("waits while strays come", waits <= WAKES, waits)
+
+
 def main():
     if len(sys.argv) != 2:
         sys.exit("usage: python3 .ci/paces.py PATH/TO/spinesd")
     with tempfile.TemporaryDirectory() as folder:
         looks = Calls(os.path.abspath(sys.argv[1]), folder, HUB)
         with Hub(looks) as hub:
-            for look in (rests, news, words, requests, owed, bursts):
+            for look in (rests, news, words, requests, owed, bursts, strays):
                 looks.guarded(look, hub)
     print(f"{looks.looks - looks.wrong} looks at the pace of a daemon as wanted, {looks.wrong} not")
     sys.exit(1 if looks.wrong else 0)
