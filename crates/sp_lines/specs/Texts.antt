@@ -43,7 +43,8 @@ pub data Leads {S K : Type 0} (says : S → List Word → Result S K) : S → �
   At_words : {stage : S} {number : ℕ} {text : List ℕ} (words : List Word) (rest : List ℕ) (refused : K) → first_words number text ≡ Ok (words, rest)
       → says stage words ≡ Err refused → Leads says stage number text stage number (Bad_words refused)
   Good : {stage last : S} {number end : ℕ} {text : List ℕ} {stop : Stop K} (words : List Word) (rest : List ℕ) (next : S)
-      → first_words number text ≡ Ok (words, rest) → says stage words ≡ Ok next → Leads says next (number + 1) rest last end stop → Leads says stage number text last end stop
+      → first_words number text ≡ Ok (words, rest) → says stage words ≡ Ok next
+      → Leads says next (number + 1) rest last end stop → Leads says stage number text last end stop
 
 -- where these lines lead, each of which is good in its place
 abbrev pub follow_all : {S K : Type 0} → (S → List Word → Result S K) → S → List (List Word) → Result S K
