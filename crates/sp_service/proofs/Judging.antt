@@ -1,6 +1,7 @@
 -- What comes of a recording, from what comes of its lines.
-use Rattle.std.proofs.Common.{◌≡◌, ◌+◌, ◌∙◌, ℕ, List, Some, None, Result, Ok, Err, IfOk, map, sym, ap, subst}
+use Rattle.std.proofs.Common.{◌≡◌, ◌+◌, ◌∙◌, ℕ, List, Some, None, Result, Ok, Err, IfErr, IfOk, map, sym, ap, subst}
 use Rattle.sp_base.specs.declared.id.NodeId.{NodeId}
+use Rattle.sp_base.specs.declared.memory.Memory.{Memory}
 use Rattle.sp_config.specs.declared.config.Config.{Config}
 use Rattle.sp_config.specs.declared.config.Peer.{Peer}
 use Rattle.sp_lines.specs.Texts.{Nothing_left, Stop}
@@ -12,9 +13,12 @@ use Rattle.sp_recording.specs.declared.stage.Reading.{Reading}
 use Rattle.sp_recording.specs.declared.stage.Stage.{Stage}
 use Rattle.sp_recording.specs.declared.stage.Stage.TheVariants as stages
 use Rattle.sp_service.specs.Fits.{Fits, neighbours}
-use Rattle.sp_service_station.specs.Stations.{Station}
+use Rattle.sp_service_station.specs.Stations.{Station, StationStep}
+use Rattle.sp_service_turns.specs.Compared.{AgreesWhole, VerifyErr}
+use Rattle.sp_service_turns.specs.declared.compared.VerifyRefused.{VerifyRefused}
+use Rattle.sp_service_turns.specs.declared.compared.VerifyRefused.TheVariants as refusals
 use Rattle.sp_topology.specs.declared.topology.Topology.{Topology}
-use Rattle.sp_service.specs.Parts.{ComeTo, ComesFrom}
+use Rattle.sp_service.specs.Parts.{ComeTo, ComesFrom, TellsVerified}
 use Rattle.sp_service.specs.Starts.{IsOpening, IsStarted, total_of}
 use Rattle.sp_service.specs.Verdicts.{All_agree, Bad_line, IsPlayed, IsVerdict, No_first_line, One_differs, Reads, form_line}
 use Rattle.sp_service.specs.declared.verdict.Judged.{Judged}
@@ -47,6 +51,24 @@ pub unopened : (c : Config) (t : Topology) (before : ℕ) (text out : List ℕ) 
     → opening_in reading.stage ≡ None → reading.ending ≡ endings.Form line → out ≡ form_line line → IsVerdict c t before text verdicts.Refused out
 unopened c t before text out reading line reads none bad is =
     subst (λ (o : List ℕ). IsVerdict c t before text verdicts.Refused o) (sym is) (No_first_line reading line reads none bad)
+
+-- what a verification gives is what comes of the lines
+come_to : (start last : Station) (before : ℕ) (reading : Reading) (verified : Result ℕ VerifyRefused) (verdict : Verdict) (out : List ℕ)
+    → IfOk verified (λ count. AgreesWhole StationStep start reading last count) → IfErr verified (VerifyErr StationStep start before reading)
+    → TellsVerified verified verdict out → ComeTo start before reading verdict out
+come_to start last before reading (Ok count) verdict out agrees refused tells =
+    subst (λ (v : Verdict). ComeTo start before reading v out) (sym tells.0) (last, count, agrees, tells.1)
+come_to start last before reading (Err (refusals.Mismatch line recorded computed)) verdict out agrees refused tells =
+    subst (λ (v : Verdict). ComeTo start before reading v out) (sym tells.0) (line, recorded, computed, refused, tells.1)
+come_to start last before reading (Err (refusals.Form line)) verdict out agrees refused tells =
+    subst (λ (v : Verdict). ComeTo start before reading v out) (sym tells.0) (line, refused, tells.1)
+come_to start last before reading (Err refusals.Memory) verdict out agrees refused tells = absurd (tells)
+
+pub judged : (start last : Station) (before : ℕ) (reading : Reading) (verified : Result ℕ VerifyRefused) (judged : Result Judged Memory)
+    → IfOk verified (λ count. AgreesWhole StationStep start reading last count) → IfErr verified (VerifyErr StationStep start before reading)
+    → IfOk judged (λ judged. TellsVerified verified judged.verdict judged.line) → IfOk judged (λ judged. ComeTo start before reading judged.verdict judged.line)
+judged start last before reading verified (Ok j) agrees refused tells = come_to start last before reading verified j.verdict j.line agrees refused tells
+judged start last before reading verified (Err e) agrees refused tells = tells
 
 -- what comes of the lines comes of the text
 pub opened : (c : Config) (t : Topology) (o : Opening) (before : ℕ) (reading : Reading) (start : Station) (verdict : Verdict) (out : List ℕ)

@@ -1,5 +1,5 @@
 -- What the parts of a daemon and of a verification promise each other.
-use Rattle.std.specs.Prelude.{ℕ, ◌≡◌, ◌⊎◌, List}
+use Rattle.std.specs.Prelude.{ℕ, ◌≡◌, ◌⊎◌, List, Result, Ok, Err}
 use Rattle.std.specs.Io.KnownBytes.{Appends}
 use Rattle.sp_config.specs.declared.config.Config.{Config}
 use Rattle.sp_recording.specs.declared.line.Digest.{Digest}
@@ -7,6 +7,8 @@ use Rattle.sp_recording.specs.declared.line.Opening.{Opening}
 use Rattle.sp_recording.specs.declared.stage.Reading.{Reading}
 use Rattle.sp_service_station.specs.Stations.{Station, StationStep, indexes_in}
 use Rattle.sp_service_turns.specs.Compared.{AgreesWhole, DiffersAt, IsBadAfter}
+use Rattle.sp_service_turns.specs.declared.compared.VerifyRefused.{VerifyRefused}
+use Rattle.sp_service_turns.specs.declared.compared.VerifyRefused.TheVariants as refusals
 use Rattle.sp_service_turns.specs.Daemons.{first_text}
 use Rattle.sp_service_turns.specs.declared.daemon.Daemon.{Daemon}
 use Rattle.sp_keystate.specs.declared.starts.Started.{Started}
@@ -48,6 +50,13 @@ pub record BeginsStarted (c : Config) (t : Topology) (started : Started) (before
   pub first : Appends before after (first_text (opening_of started))
 
 -- ---- verification
+
+-- the verdict and the line of what a verification gives
+abbrev pub TellsVerified : Result ℕ VerifyRefused → Verdict → List ℕ → Type 0
+TellsVerified (Ok count) verdict out = (verdict ≡ verdicts.Verified) × (out ≡ verified_line count)
+TellsVerified (Err (refusals.Mismatch line recorded computed)) verdict out = (verdict ≡ verdicts.Mismatch) × (out ≡ mismatch_line line recorded computed)
+TellsVerified (Err (refusals.Form line)) verdict out = (verdict ≡ verdicts.Refused) × (out ≡ form_line line)
+TellsVerified (Err refusals.Memory) verdict out = ⊥
 
 -- what comes of the lines of a recording, asked of a node again from here on
 abbrev pub ComeTo : Station → ℕ → Reading → Verdict → List ℕ → Type 0

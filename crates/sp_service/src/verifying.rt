@@ -2,7 +2,7 @@
 ghost use Rattle.std.specs.Prelude.{◌≡◌, ◌≤◌, ◌+◌, IfOk, drop, length, map, take, ℕ};
 ghost use Rattle.sp_base.specs.declared.limits.TheConstants.{MAX_INPUT_BYTES};
 ghost use Rattle.sp_recording.specs.Reading.{lines_in, opening_in};
-ghost use Rattle.sp_service.specs.Parts.{ComeTo, ComesFrom};
+ghost use Rattle.sp_service.specs.Parts.{ComeTo, ComesFrom, TellsVerified};
 ghost use Rattle.sp_service.specs.Starts.{IsOpening};
 ghost use Rattle.sp_service.specs.Verdicts.{IsJudged, IsVerdict, form_line};
 ghost use Rattle.sp_service.specs.Fits.{Fits, neighbours};
@@ -158,7 +158,15 @@ fn verify_lines(
     requires { before + length (lines_in reading.now.stage) ≤ MAX_INPUT_BYTES }
     ensures { IfOk result (λ judged. ComeTo station.old before reading.now judged.verdict judged.line) }
 {
-    match sp_service_turns::verify(alloc, station, before, reading) {
+    let verified = sp_service_turns::verify(alloc, station, before, reading);
+    judged(alloc, verified)
+}
+
+/// The verdict on a recording, with its line.
+fn judged(alloc: Global, verified: Result<u32, VerifyRefused>) -> Result<Judged, Memory>
+    ensures { IfOk result (λ judged. TellsVerified verified judged.verdict judged.line) }
+{
+    match verified {
         Ok(count) => Ok(Judged {
             verdict: Verdict::Verified,
             line: verified_line(alloc, count)?,
