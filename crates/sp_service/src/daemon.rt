@@ -57,6 +57,7 @@ pub fn serve<W: Wire, C: Clock, P: Keeper, K: Sink>(
         }) result }
     ensures kept { KeepsAll (P.disk keeper.old) (P.past keeper.old) (P.past keeper.new) }
     ensures open { result ≡ Served.Wire → Rose (W.failed_opens wire.old) (W.failed_opens wire.new) }
+    ensures opens { result ≢ Served.Wire → result ≢ Served.Sink → W.failed_opens wire.new ≡ W.failed_opens wire.old }
     ensures keeper { result ≡ Served.Keys KeeperFault → Rose (P.faults keeper.old) (P.faults keeper.new) }
     ensures write { result ≡ Served.Sink → Rose (K.faults sink.old) (K.faults sink.new) }
     ensures sunk { result ≢ Served.Sink → K.faults sink.new ≡ K.faults sink.old }
@@ -109,6 +110,7 @@ pub fn start<W: Wire, P: Keeper, K: Sink>(
     ensures kept { KeepsAll (P.disk keeper.old) (P.past keeper.old) (P.past keeper.new) }
     ensures faultless { OnOk result (P.faults keeper.new ≡ P.faults keeper.old) }
     ensures open { result ≡ Err Served.Wire → Rose (W.failed_opens wire.old) (W.failed_opens wire.new) }
+    ensures opens { result ≢ Err Served.Wire → result ≢ Err Served.Sink → W.failed_opens wire.new ≡ W.failed_opens wire.old }
     ensures keeper { result ≡ Err (Served.Keys KeeperFault) → Rose (P.faults keeper.old) (P.faults keeper.new) }
     ensures later { OnOk result (K.faults sink.old ≤ K.faults sink.new) }
     ensures write { result ≡ Err Served.Sink → Rose (K.faults sink.old) (K.faults sink.new) }
@@ -180,6 +182,7 @@ fn start_configured<W: Wire, P: Keeper, K: Sink>(
     ensures kept { KeepsAll (P.disk keeper.old) (P.past keeper.old) (P.past keeper.new) }
     ensures faultless { OnOk result (P.faults keeper.new ≡ P.faults keeper.old) }
     ensures open { result ≡ Err Served.Wire → Rose (W.failed_opens wire.old) (W.failed_opens wire.new) }
+    ensures opens { result ≢ Err Served.Wire → result ≢ Err Served.Sink → W.failed_opens wire.new ≡ W.failed_opens wire.old }
     ensures keeper { result ≡ Err (Served.Keys KeeperFault) → Rose (P.faults keeper.old) (P.faults keeper.new) }
     ensures later { OnOk result (K.faults sink.old ≤ K.faults sink.new) }
     ensures write { result ≡ Err Served.Sink → Rose (K.faults sink.old) (K.faults sink.new) }

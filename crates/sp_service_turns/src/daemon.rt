@@ -124,6 +124,7 @@ impl<N: Core + Drop> Daemon<N> {
         ensures faultless { OnOk result (P.faults keeper.new ≡ P.faults keeper.old) }
         ensures kept { KeepsKeys self.old.keys (P.disk keeper.old) (P.past keeper.old) (P.past keeper.new) }
         ensures later { K.faults sink.old ≤ K.faults sink.new }
+        ensures opens { W.failed_opens wire.new ≡ W.failed_opens wire.old }
         ensures keeper { result ≡ Err (Served.Keys KeeperFault) → Rose (P.faults keeper.old) (P.faults keeper.new) }
         ensures write { result ≡ Err Served.Sink → Rose (K.faults sink.old) (K.faults sink.new) }
         ensures sunk { result ≢ Err Served.Sink → K.faults sink.new ≡ K.faults sink.old }

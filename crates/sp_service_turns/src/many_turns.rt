@@ -41,6 +41,7 @@ pub fn serve<N: Core + Drop, W: Wire, C: Clock, P: Keeper, K: Sink>(
         }) result }
     ensures kept { KeepsKeys daemon.keys (P.disk keeper.old) (P.past keeper.old) (P.past keeper.new) }
     ensures unopened { result ≢ Served.Wire }
+    ensures opens { W.failed_opens wire.new ≡ W.failed_opens wire.old }
     ensures keeper { result ≡ Served.Keys KeeperFault → Rose (P.faults keeper.old) (P.faults keeper.new) }
     ensures write { result ≡ Served.Sink → Rose (K.faults sink.old) (K.faults sink.new) }
     ensures sunk { result ≢ Served.Sink → K.faults sink.new ≡ K.faults sink.old }
@@ -93,6 +94,7 @@ fn make_turns<N: Core + Drop, W: Wire, C: Clock, P: Keeper, K: Sink>(
     ensures kept { KeepsKeys daemon.old.keys (P.disk keeper.old) (P.past keeper.old) (P.past keeper.new) }
     ensures later { K.faults sink.old ≤ K.faults sink.new }
     ensures unopened { result ≢ Err Served.Wire }
+    ensures opens { W.failed_opens wire.new ≡ W.failed_opens wire.old }
     ensures keeper { result ≡ Err (Served.Keys KeeperFault) → Rose (P.faults keeper.old) (P.faults keeper.new) }
     ensures write { result ≡ Err Served.Sink → Rose (K.faults sink.old) (K.faults sink.new) }
     ensures sunk { result ≢ Err Served.Sink → K.faults sink.new ≡ K.faults sink.old }

@@ -72,6 +72,7 @@ pub fn turn<N: Core, W: Wire, C: Clock, P: Keeper, K: Sink>(
         (record { disk = P.disk keeper.old; past = P.past keeper.old; faults = P.faults keeper.old })
         (record { disk = P.disk keeper.new; past = P.past keeper.new; faults = P.faults keeper.new })) }
     ensures sink { SinkFaults result (K.faults sink.old) (K.faults sink.new) }
+    ensures opens { W.failed_opens wire.new ≡ W.failed_opens wire.old }
     ensures keeper { IsErrOf result (Ended.Keys KeeperFault) → Rose (P.faults keeper.old) (P.faults keeper.new) }
 {
     restock(alloc, node, keys, keeper, sink)?;

@@ -68,6 +68,7 @@ pub fn open<W: Wire, P: Keeper, K: Sink>(
     ensures faultless { OnOk result (P.faults keeper.new ≡ P.faults keeper.old) }
     ensures silent { OnOk result (sink.new ≡ sink.old) }
     ensures wire { result ≡ Err Served.Wire → Rose (W.failed_opens wire.old) (W.failed_opens wire.new) }
+    ensures opens { result ≢ Err Served.Wire → result ≢ Err Served.Sink → W.failed_opens wire.new ≡ W.failed_opens wire.old }
     ensures keeper { result ≡ Err (Served.Keys KeyRefused.KeeperFault) → Rose (P.faults keeper.old) (P.faults keeper.new) }
     ensures write { result ≡ Err Served.Sink → Rose (K.faults sink.old) (K.faults sink.new) }
     ensures sunk { result ≢ Err Served.Sink → K.faults sink.new ≡ K.faults sink.old }

@@ -45,6 +45,7 @@ fn hear<W: Wire>(wire: &mut W, side: Side, buf: &mut [u8]) -> Heard
     requires { DATAGRAM_BYTES ≤ length buf.old }
     ensures within { IsWithin result }
     ensures told { Tells (W.told wire.old) (W.told wire.new) (Received side (heard_in buf.new result) ∷ []) }
+    ensures opens { W.failed_opens wire.new ≡ W.failed_opens wire.old }
 {
     match wire.receive(side, buf) {
         Ok(None) => Heard::Nothing,
@@ -77,6 +78,7 @@ pub fn overlay<N: Core, W: Wire, K: Sink>(
     ensures early { OnErr result (EarlyOverlay N.steps peers.now node.old (W.told wire.old) (W.told wire.new)
         (K.contents sink.old) (K.contents sink.new)) }
     ensures sink { SinkFaults result (K.faults sink.old) (K.faults sink.new) }
+    ensures opens { W.failed_opens wire.new ≡ W.failed_opens wire.old }
     ensures no_keys { IfKeysEnd result ⊥ }
 {
     match hear(wire, Side::Overlay, buf) {
@@ -150,6 +152,7 @@ pub fn client<N: Core, W: Wire, K: Sink>(
         (K.contents sink.old) (K.contents sink.new) lost) }
     ensures early { OnErr result (EarlyClient N.steps node.old (W.told wire.old) (W.told wire.new) (K.contents sink.old) (K.contents sink.new)) }
     ensures sink { SinkFaults result (K.faults sink.old) (K.faults sink.new) }
+    ensures opens { W.failed_opens wire.new ≡ W.failed_opens wire.old }
     ensures no_keys { IfKeysEnd result ⊥ }
 {
     match hear(wire, Side::Client, buf) {
@@ -174,6 +177,7 @@ fn answer<N: Core, W: Wire, K: Sink>(
     ensures silent { OnErr result (W.told wire.new ≡ W.told wire.old) }
     ensures early { OnErr result (EarlyReply N.steps node.old port bytes.now (K.contents sink.old) (K.contents sink.new)) }
     ensures sink { SinkFaults result (K.faults sink.old) (K.faults sink.new) }
+    ensures opens { W.failed_opens wire.new ≡ W.failed_opens wire.old }
     ensures no_keys { IfKeysEnd result ⊥ }
 {
     let Ok(reply) = node.request(alloc, port, bytes) else {
@@ -191,7 +195,8 @@ fn answer<N: Core, W: Wire, K: Sink>(
 /// Sends, and gives 1 where that is lost.
 pub fn sent<W: Wire>(wire: &mut W, side: Side, port: u16, bytes: &[u8]) -> u32
     requires { length bytes.now ≤ DATAGRAM_BYTES }
-    ensures { SentOne (W.told wire.old) (W.told wire.new) side port bytes.now result }
+    ensures sent { SentOne (W.told wire.old) (W.told wire.new) side port bytes.now result }
+    ensures opens { W.failed_opens wire.new ≡ W.failed_opens wire.old }
 {
     match wire.send(side, port, bytes) {
         Ok(()) => 0,

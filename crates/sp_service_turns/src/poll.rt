@@ -30,6 +30,7 @@ fn poll<N: Core, W: Wire, K: Sink>(
     ensures silent { OnErr result (W.told wire.new ≡ W.told wire.old) }
     ensures early { OnErr result (EarlyPoll N.steps (Some peer) node.old (K.contents sink.old) (K.contents sink.new)) }
     ensures sink { SinkFaults result (K.faults sink.old) (K.faults sink.new) }
+    ensures opens { W.failed_opens wire.new ≡ W.failed_opens wire.old }
     ensures no_keys { IfKeysEnd result ⊥ }
 {
     let Ok(frame) = node.poll(alloc, peer.node) else {
@@ -57,6 +58,7 @@ pub fn poll_next<N: Core, W: Wire, K: Sink>(
     ensures silent { OnErr result (W.told wire.new ≡ W.told wire.old) }
     ensures early { OnErr result (EarlyPoll N.steps polled node.old (K.contents sink.old) (K.contents sink.new)) }
     ensures sink { SinkFaults result (K.faults sink.old) (K.faults sink.new) }
+    ensures opens { W.failed_opens wire.new ≡ W.failed_opens wire.old }
     ensures no_keys { IfKeysEnd result ⊥ }
 {
     match polled {

@@ -49,6 +49,7 @@ pub fn daemon<S: Source, W: Wire, C: Clock, P: Keeper, K: Sink>(
     ensures write { result.status ≡ Status.Sink → Rose (K.faults sink.old) (K.faults sink.new) }
     ensures keeper { result.status ≡ Status.Keeper → Rose (P.faults keeper.old) (P.faults keeper.new) }
     ensures open { result.status ≡ Status.Wire → Rose (W.failed_opens wire.old) (W.failed_opens wire.new) }
+    ensures opens { result.status ≢ Status.Wire → result.status ≢ Status.Sink → W.failed_opens wire.new ≡ W.failed_opens wire.old }
     ensures usage { result.status ≢ Status.Usage }
 {
     let input = match read_up_to(alloc, source, MAX_INPUT_BYTES) {

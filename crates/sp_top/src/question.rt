@@ -32,6 +32,7 @@ pub fn question<W: Wire, K: Sink>(
     ensures sunk { result.status ≢ Status.Sink → K.faults sink.new ≡ K.faults sink.old }
     ensures write { result.status ≡ Status.Sink → Rose (K.faults sink.old) (K.faults sink.new) }
     ensures open { result.status ≡ Status.Wire → Rose (W.failed_opens wire.old) (W.failed_opens wire.new) }
+    ensures opens { result.status ≢ Status.Wire → result.status ≢ Status.Sink → W.failed_opens wire.new ≡ W.failed_opens wire.old }
     ensures usage { result.status ≢ Status.Usage }
     ensures source { result.status ≢ Status.Source }
     ensures keeper { result.status ≢ Status.Keeper }

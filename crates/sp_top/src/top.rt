@@ -87,6 +87,7 @@ pub fn run<S: Source, K: Sink, W: Wire, C: Clock, P: Keeper>(
     ensures sunk { result.status ≢ Status.Sink → K.faults sink.new ≡ K.faults sink.old }
     ensures write { result.status ≡ Status.Sink → Rose (K.faults sink.old) (K.faults sink.new) }
     ensures open { result.status ≡ Status.Wire → Rose (W.failed_opens wire.old) (W.failed_opens wire.new) }
+    ensures opens { result.status ≢ Status.Wire → result.status ≢ Status.Sink → W.failed_opens wire.new ≡ W.failed_opens wire.old }
     ensures keeper { result.status ≡ Status.Keeper → Rose (P.faults keeper.old) (P.faults keeper.new) }
 {
     match command_of(alloc, words) {
@@ -135,6 +136,7 @@ fn run_said<S: Source, K: Sink, W: Wire, C: Clock, P: Keeper>(
     ensures sunk { result.status ≢ Status.Sink → K.faults sink.new ≡ K.faults sink.old }
     ensures write { result.status ≡ Status.Sink → Rose (K.faults sink.old) (K.faults sink.new) }
     ensures open { result.status ≡ Status.Wire → Rose (W.failed_opens wire.old) (W.failed_opens wire.new) }
+    ensures opens { result.status ≢ Status.Wire → result.status ≢ Status.Sink → W.failed_opens wire.new ≡ W.failed_opens wire.old }
     ensures keeper { result.status ≡ Status.Keeper → Rose (P.faults keeper.old) (P.faults keeper.new) }
 {
     match said {

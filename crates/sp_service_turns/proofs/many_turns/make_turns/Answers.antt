@@ -14,6 +14,7 @@ turns-init g c = record {
   on = unchanged _ _;
   kept = kept_none _ _ _;
   faultless = refl;
+  opens = refl;
 }
 
 pub returns-in_err-turn-clause-ended : goal.returns-in_err-turn-clause-ended
@@ -35,4 +36,5 @@ turns-preserved g c = record {
   on = on_again _ _ _ _ _ _ c.turns.invariant.on c.in_ok-turn.ensures.on;
   kept = kept_on _ _ _ _ _ _ _ c.turns.invariant.on c.turns.invariant.kept c.in_ok-turn.ensures.kept;
   faultless = c.in_ok-turn.ensures.faultless ∙ c.turns.invariant.faultless;
+  opens = c.in_ok-turn.ensures.opens ∙ c.turns.invariant.opens;
 }

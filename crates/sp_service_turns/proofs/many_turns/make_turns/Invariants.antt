@@ -25,4 +25,5 @@ invariant-turns g l = record {
   on : KeysGoOn l.fn.daemon.keys l.daemon.keys (g.P.Keeper.disk l.fn.keeper) (g.P.Keeper.disk l.keeper);
   kept : KeepsKeys l.fn.daemon.keys (g.P.Keeper.disk l.fn.keeper) (g.P.Keeper.past l.fn.keeper) (g.P.Keeper.past l.keeper);
   faultless : g.P.Keeper.faults l.keeper ≡ g.P.Keeper.faults l.fn.keeper;
+  opens : g.W.Wire.failed_opens l.wire ≡ g.W.Wire.failed_opens l.fn.wire;
 }
