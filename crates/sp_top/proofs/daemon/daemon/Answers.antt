@@ -12,3 +12,8 @@ returns-clause-ends g c =
 pub returns-clause-sunk : goal.returns-clause-sunk
 returns-clause-sunk g c = λ other.
     c.serve-served.ensures.sunk (λ is. other (ap (λ (o : Outcome). o.status) c.ended-2.ensures ∙ c.status_of.ensures ∙ ap served_status is))
+
+pub returns-clause-opens : goal.returns-clause-opens
+returns-clause-opens g c = λ wire sink.
+    let status = ap (λ (o : Outcome). o.status) c.ended-2.ensures ∙ c.status_of.ensures in
+    c.serve-served.ensures.opens (λ is. wire (status ∙ ap served_status is)) (λ is. sink (status ∙ ap served_status is))

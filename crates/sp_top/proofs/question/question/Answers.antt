@@ -16,6 +16,9 @@ returns-in-Err-Unopened-clause-ends g c = λ clock file.
     unopened c.args.asked c.as_bytes.result _ _ _ clock file _ _ c.as_bytes.ensures.value (c.in-Err-Unopened.ensures.unopened (ap Err c.in-Err-Unopened.field-0-is))
     c.tell.ensures.told
 
+pub returns-in-Err-Unopened-clause-opens : goal.returns-in-Err-Unopened-clause-opens
+returns-in-Err-Unopened-clause-opens g c = λ wire sink. absurd (wire (c.tell.ensures.others sink))
+
 pub returns-in-Err-Memory-clause-ends : goal.returns-in-Err-Memory-clause-ends
 returns-in-Err-Memory-clause-ends g c = rw c.ended.ensures (λ clock file.
     forgotten c.args.asked _ _ clock file _ (ap g.W.Wire.told (c.in-Err-Memory.ensures.untouched (inr (ap Err c.in-Err-Memory.field-0-is)))))
