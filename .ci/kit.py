@@ -165,6 +165,19 @@ def statuses(kit):
     kit.equal("status: answers that aren't those of the rules", told["checked"], {"right": 0, "different": 5})
 
 
+def bodies(kit):
+    """Messages of both formats are read by one table of fields; each cut within a number is none."""
+    sys.path.insert(0, os.path.join(KIT, "lib"))
+    import frames
+    for version, digits, kind, numbers, behind in kit_recording.BODIES:
+        data = bytes.fromhex(digits)
+        got, said, rest = frames.body_of(data, version)
+        sizes = [sizes[version - 1] for _, *sizes in frames.FIELDS[kind]]
+        kit.equal(f"body {digits}", (got, [n for n, size in zip(said.values(), sizes) if size], rest.hex()), (kind, numbers, behind))
+        kit.equal(f"body {digits}, cut", {frames.body_of(data[:count], version) for count in range(len(data) - len(rest))}, {None})
+    kit.equal("a kind that format 1 lacks", frames.body_of(bytes([5]) + bytes(100)), None)
+
+
 def several_messages(kit):
     """Frames with several messages of a kind are read, and their answers are found."""
     configuration = kit.write("several.conf", kit_recording.CONFIGURATION)
@@ -364,7 +377,7 @@ def main():
         sys.exit("usage: python3 .ci/kit.py PATH/TO/spinesd")
     with tempfile.TemporaryDirectory() as folder:
         kit = Kit(os.path.abspath(sys.argv[1]), folder)
-        for look in (explains, endings_of_conformance, statuses, several_messages, many_folders, cut_recordings, follows, broken_off, views, keys,
+        for look in (explains, endings_of_conformance, statuses, bodies, several_messages, many_folders, cut_recordings, follows, broken_off, views, keys,
                      kit_next.look, kit_house.look, kit_daemons.daemons, kit_busy.look):
             look(kit)
     print(f"{kit.looks - kit.wrong} looks at the operator's kit as wanted, {kit.wrong} not")

@@ -5,11 +5,24 @@ import hashlib
 import hmac
 
 HEAD, TAG, LEAST, MOST = 33, 32, 65, 65_507
-KINDS = {1: "prio", 2: "rel", 3: "ack", 4: "weight"}
+# the kinds of messages by their first byte; format 1 has the first four
+KINDS = {1: "prio", 2: "rel", 3: "ack", 4: "weight", 5: "krel", 6: "kack", 7: "epoch"}
+FIRST_KINDS = 4
 # how many messages of a kind a frame has at most
 MOST_MESSAGES = 4
-# how many bytes a body has before its payload
-FIXED = {"prio": 38, "rel": 13, "ack": 11, "weight": 16}
+FLOW = (("src", 1, 1), ("dst", 1, 1), ("sboot", 0, 8), ("dboot", 0, 8), ("seq", 8, 8))
+MASK = (("high", 0, 16), ("mask", 16, 16))
+LENGTH = (("length", 2, 2),)
+# the fields of each kind behind its first byte, with the bytes that each has in format 1 and in format 2
+FIELDS = {
+    "prio": FLOW[:3] + (("seq", 8, 8), ("prio", 1, 1), ("expiry", 8, 8)) + MASK + LENGTH,
+    "rel": FLOW + LENGTH,
+    "ack": FLOW,
+    "weight": (("origin", 1, 1), ("edge", 2, 2), ("seq", 8, 8), ("weight", 4, 4)),
+    "krel": FLOW + MASK + LENGTH,
+    "kack": FLOW,
+    "epoch": (("origin", 1, 1), ("boot", 0, 8)),
+}
 
 Head = collections.namedtuple("Head", "sender to boot echo counter topology")
 # of a weight the source is the origin and the destination the edge's number; rank, expiry and mask are of a priority message
@@ -47,6 +60,19 @@ def has_right_tag(frame, key):
     return hmac.compare_digest(hmac.new(key, frame[:-TAG], hashlib.sha256).digest(), frame[-TAG:])
 
 
+def body_of(data, version=1):
+    """The kind of a message of a format, its numbers by name, and the bytes behind them. None where the format has no such kind, or where
+    the message ends within a number; ranges aren't judged."""
+    kind = KINDS.get(data[0]) if data and (version > 1 or data[0] <= FIRST_KINDS) else None
+    if kind is None:
+        return None
+    numbers, at = {}, 1
+    for name, *sizes in FIELDS[kind]:
+        size = sizes[min(version, 2) - 1]
+        numbers[name], at = number(data[at:at + size]), at + size
+    return (kind, numbers, data[at:]) if at <= len(data) else None
+
+
 class Pieces:
     """The bytes of the sections, read from the left."""
 
@@ -68,17 +94,15 @@ class Pieces:
 
     def item(self, section, signature):
         """One signed message of a section; its ranges aren't judged."""
-        body = self.take(number(self.take(2)))
-        kind = KINDS.get(body[0]) if body else None
-        if kind != section or len(body) < FIXED[kind]:
-            raise Bad("object")
-        if number(self.take(2)) != signature:
+        body = body_of(self.take(number(self.take(2))))
+        if body is None or body[0] != section or number(self.take(2)) != signature:
             raise Bad("object")
         self.take(signature)
+        kind, said, payload = body
         if kind == "weight":
-            return Item(kind, body[1], number(body[2:4]), number(body[4:12]), body[12:])
-        more = (body[11], number(body[12:20]), number(body[20:36])) if kind == "prio" else ()
-        return Item(kind, body[1], body[2], number(body[3:11]), body[FIXED[kind]:], *more)
+            return Item(kind, said["origin"], said["edge"], said["seq"], said["weight"].to_bytes(4, "big"))
+        more = (said["prio"], said["expiry"], said["mask"]) if kind == "prio" else ()
+        return Item(kind, said["src"], said["dst"], said["seq"], payload, *more)
 
 
 def sections_of(frame, signature):

@@ -7,6 +7,7 @@ use Rattle.std.proofs.lemmas.List.Elements.{All-cons, All-nil}
 use Rattle.sp_base.specs.declared.id.Flow.{Flow}
 use Rattle.sp_base.specs.declared.id.NodeId.{NodeId}
 use Rattle.sp_base.specs.declared.limits.TheConstants.{MAX_PAYLOAD_BYTES, MAX_WEIGHT}
+use Rattle.sp_msg.proofs.HalfLemmas.{bits_from}
 use Rattle.sp_msg.specs.declared.body.Ack.{Ack}
 use Rattle.sp_msg.specs.declared.body.Body.TheVariants as bodies
 use Rattle.sp_msg.specs.declared.refused.SendRefused.TheVariants as refusals
@@ -86,7 +87,7 @@ prio_about k n m choice me e is h =
     let both = either (prio_refusal n m) (no_paths choice) e in
     let one = if_none ((m.dst.0 == n.fixed.me.0) || not (is_node n.parts.prio.nodes m.dst.0)) refusals.BadEnd _ both.0 in
     let to : is_node n.parts.prio.nodes m.dst.0 ≡ true = split (m.dst.0 == n.fixed.me.0) (is_node n.parts.prio.nodes m.dst.0) one.0 in
-    (me, subst (λ (us : List NodeId). is_node us m.dst.0 ≡ true) (h.parts.prio.known ∙ sym h.fixed.nodes) to, within choice both.1 is)
+    (me, subst (λ (us : List NodeId). is_node us m.dst.0 ≡ true) (h.parts.prio.known ∙ sym h.fixed.nodes) to, subst (λ (mask : ℕ). mask < 2 ^ length n.fixed.topology.edges) (sym (bits_from (mask_in choice))) (within choice both.1 is))
   where
     within : (c : Choice) → no_paths c ≡ None → IsChoice (graph_of n.fixed.topology n.parts.weights) n.fixed.me m.dst m.paths c
         → mask_in c < 2 ^ length n.fixed.topology.edges

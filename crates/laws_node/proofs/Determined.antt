@@ -2,6 +2,8 @@
 use Rattle.std.proofs.Common.{◌≡◌, ℕ, Bool, true, false, List, [], ◌∷◌, Option, Some, None, refl, sym, ap, ◌∙◌}
 use Rattle.std.specs.Prelude.{IsTrue}
 use Rattle.sp_base.specs.Cursor.{or_else}
+use Rattle.sp_msg.proofs.HalfLemmas.{bits_from}
+use Rattle.sp_msg.specs.Masks.{bits}
 use Rattle.sp_msg.specs.declared.body.Body.{Body}
 use Rattle.sp_msg.specs.declared.body.Body.TheVariants as bodies
 use Rattle.sp_msg.specs.declared.effect.Effect.{Effect}
@@ -26,7 +28,7 @@ first_signed (effects.Signed bytes ∷ rest) = bytes
 first_signed _ = []
 
 abbrev mask_of : Body → ℕ
-mask_of (bodies.Prio p) = p.mask
+mask_of (bodies.Prio p) = bits p.mask
 mask_of _ = 0
 
 abbrev was_accepted : Reply → Bool
@@ -54,7 +56,7 @@ module _ (arts : Arts) (n : NodeState) (x : PrioSend) (o : Output) (one two : No
   by_choice e (Mask k) (Mask l) is also o1 o2 n1 n2 =
       let bytes : arts.spell (prio_body n x k) ≡ arts.spell (prio_body n x l) = ap (λ (q : Output). first_signed q.effects) (sym o1 ∙ o2) in
       let body = no_other_is_spelled_so arts reads (prio_body n x k) (prio_body n x l) (good k e is) (good l e also) bytes in
-      let mask : k ≡ l = ap mask_of body in
+      let mask : k ≡ l = sym (bits_from k) ∙ ap mask_of body ∙ bits_from l in
       n1 ∙ (ap (λ (m : ℕ). step_by arts n x (Mask m) None) mask ∙ sym n2)
 
   by_refusal : (r : Option SendRefused) → prio_refusal n x ≡ r → (c d : Choice)

@@ -1,6 +1,8 @@
 -- What each change of a flow keeps.
 use Rattle.std.proofs.Common.{◌≡◌, ◌<◌, ◌≤◌, ℕ, ◌-◌, ◌==◌, true, false, List, arith}
 use Rattle.sp_base.specs.declared.id.Flow.{Flow}
+use Rattle.sp_base.specs.declared.format.TheConstants.{FORMAT_1}
+use Rattle.sp_msg.proofs.GoodFields.{good_ack}
 use Rattle.sp_msg.specs.Bodies.{HasGoodFields}
 use Rattle.sp_msg.specs.declared.body.Body.{Body}
 use Rattle.sp_msg.specs.declared.body.Body.TheVariants as bodies
@@ -64,10 +66,13 @@ received_holds k index f payload other can short h = record {
 }
 
 ack_some : (flow : Flow) (body : Body) → IsAckOf flow body → HasGoodFields body → 1 ≤ number_said body
-ack_some flow (bodies.Ack a) is good = good.1.1.0.0
+ack_some flow (bodies.Ack a) is good = (good_ack FORMAT_1 a good).seq.0
 ack_some flow (bodies.Prio b) is good = absurd is
 ack_some flow (bodies.Rel b) is good = absurd is
 ack_some flow (bodies.Weight b) is good = absurd is
+ack_some flow (bodies.Krel b) is good = absurd is
+ack_some flow (bodies.Kack b) is good = absurd is
+ack_some flow (bodies.Epoch b) is good = absurd is
 
 pub acknowledged_holds : (k : Sizes) (index : ℕ) (f : FlowState) (ack : Kept) → ((f.src.0 == k.me.0) ≡ true → number_said ack.body ≤ f.at.have)
     → CanAcknowledge k.me f ack → AckKept k (ends f) ack → FlowHolds k index f → FlowHolds k index (acknowledged_by f ack)

@@ -47,24 +47,36 @@ is_weight (bodies.Weight u) is = refl
 is_weight (bodies.Prio p) is = absurd is
 is_weight (bodies.Rel r) is = absurd is
 is_weight (bodies.Ack a) is = absurd is
+is_weight (bodies.Krel a) is = absurd is
+is_weight (bodies.Kack a) is = absurd is
+is_weight (bodies.Epoch a) is = absurd is
 
 is_prio : (body : Body) → IsPrio body → is_of kinds.Prio body ≡ true
 is_prio (bodies.Prio p) is = refl
 is_prio (bodies.Weight u) is = absurd is
 is_prio (bodies.Rel r) is = absurd is
 is_prio (bodies.Ack a) is = absurd is
+is_prio (bodies.Krel a) is = absurd is
+is_prio (bodies.Kack a) is = absurd is
+is_prio (bodies.Epoch a) is = absurd is
 
 is_ack : (flow : Flow) (body : Body) → IsAckOf flow body → is_of kinds.Ack body ≡ true
 is_ack flow (bodies.Ack a) is = refl
 is_ack flow (bodies.Prio p) is = absurd is
 is_ack flow (bodies.Weight u) is = absurd is
 is_ack flow (bodies.Rel r) is = absurd is
+is_ack flow (bodies.Krel r) is = absurd is
+is_ack flow (bodies.Kack r) is = absurd is
+is_ack flow (bodies.Epoch r) is = absurd is
 
 is_rel : (flow : Flow) (number : ℕ) (body : Body) → IsMessage flow number body → is_of kinds.Rel body ≡ true
 is_rel flow number (bodies.Rel r) is = refl
 is_rel flow number (bodies.Prio p) is = absurd is
 is_rel flow number (bodies.Weight u) is = absurd is
 is_rel flow number (bodies.Ack a) is = absurd is
+is_rel flow number (bodies.Krel a) is = absurd is
+is_rel flow number (bodies.Kack a) is = absurd is
+is_rel flow number (bodies.Epoch a) is = absurd is
 
 -- so many at most, and each of them fits
 record FewFit {X : Type 0} (most : ℕ) (P : X → Type 0) (xs : List X) : Type 0 where

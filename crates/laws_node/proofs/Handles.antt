@@ -104,6 +104,9 @@ is_prio p (bodies.Prio b) now e = tt
 is_prio p (bodies.Rel b) now e = absurd (cc)
 is_prio p (bodies.Ack b) now e = absurd (cc)
 is_prio p (bodies.Weight b) now e = absurd (cc)
+is_prio p (bodies.Krel b) now e = absurd (cc)
+is_prio p (bodies.Kack b) now e = absurd (cc)
+is_prio p (bodies.Epoch b) now e = absurd (cc)
 
 -- ---- each piece
 

@@ -34,6 +34,9 @@ pub new_at : (s : WeightState) (b : Body) → offer_of s b ≡ offers.New → Is
 new_at s (bodies.Prio p) new = absurd cc
 new_at s (bodies.Rel r) new = absurd cc
 new_at s (bodies.Ack a) new = absurd cc
+new_at s (bodies.Krel a) new = absurd cc
+new_at s (bodies.Kack a) new = absurd cc
+new_at s (bodies.Epoch a) new = absurd cc
 new_at s (bodies.Weight u) new = edges (slice_get s.edges u.edge.0) refl
   where
     rows : (e : Edge) (row : Option ℕ) → row_of u.edge.0 e u.origin.0 ≡ row → slice_get s.edges u.edge.0 ≡ Some e → IsUpdateAt s (bodies.Weight u)

@@ -91,6 +91,9 @@ silent_stored place id (bodies.Prio p) = λ edge end w. refl
 silent_stored place id (bodies.Rel r) = λ edge end w. refl
 silent_stored place id (bodies.Ack a) = λ edge end w. refl
 silent_stored place id (bodies.Weight u) = λ edge end w. refl
+silent_stored place id (bodies.Krel u) = λ edge end w. refl
+silent_stored place id (bodies.Kack u) = λ edge end w. refl
+silent_stored place id (bodies.Epoch u) = λ edge end w. refl
 
 silent_put : (place : ℕ) (s : Store) (o : Kept) → Silent (rows.put_effects place s o)
 silent_put place s o =
@@ -102,6 +105,9 @@ silent_delivered (bodies.Prio p) = λ edge end w. refl
 silent_delivered (bodies.Rel r) = λ edge end w. refl
 silent_delivered (bodies.Ack a) = λ edge end w. refl
 silent_delivered (bodies.Weight u) = λ edge end w. refl
+silent_delivered (bodies.Krel u) = λ edge end w. refl
+silent_delivered (bodies.Kack u) = λ edge end w. refl
+silent_delivered (bodies.Epoch u) = λ edge end w. refl
 
 silent_prio : (p : PrioState) (o : Kept) (came : Option NodeId) → Silent (prio_effects p o came)
 silent_prio p o came = elim (cases_Bool (prio.is_here p o.body)) [
@@ -170,6 +176,9 @@ held_turns s o at h = record {
     same edge end w (bodies.Prio v) u e = absurd (cc)
     same edge end w (bodies.Rel v) u e = absurd (cc)
     same edge end w (bodies.Ack v) u e = absurd (cc)
+    same edge end w (bodies.Krel v) u e = absurd (cc)
+    same edge end w (bodies.Kack v) u e = absurd (cc)
+    same edge end w (bodies.Epoch v) u e = absurd (cc)
 
 pub offered : (me : NodeId) (s : WeightState) (body : Body) → offer_to me s body ≡ offers.New → offer_of s body ≡ offers.New
 offered me s (bodies.Weight u) e = go ((u.origin.0 == me.0) && nat_lt MAX_OWN_HEARD u.seq) e
@@ -180,6 +189,9 @@ offered me s (bodies.Weight u) e = go ((u.origin.0 == me.0) && nat_lt MAX_OWN_HE
 offered me s (bodies.Prio u) e = absurd (cc)
 offered me s (bodies.Rel u) e = absurd (cc)
 offered me s (bodies.Ack u) e = absurd (cc)
+offered me s (bodies.Krel u) e = absurd (cc)
+offered me s (bodies.Kack u) e = absurd (cc)
+offered me s (bodies.Epoch u) e = absurd (cc)
 
 -- the row of an own update is there
 own_at : (s : WeightState) (u : WeightBody) (row : ℕ) → row_for s.edges (bodies.Weight u) ≡ Some row → IsUpdateAt s (bodies.Weight u)

@@ -166,6 +166,9 @@ module _ (src : ℕ) where
   number_is s (bodies.Rel r) now new = absurd (cc)
   number_is s (bodies.Ack a) now new = absurd (cc)
   number_is s (bodies.Weight u) now new = absurd (cc)
+  number_is s (bodies.Krel u) now new = absurd (cc)
+  number_is s (bodies.Kack u) now new = absurd (cc)
+  number_is s (bodies.Epoch u) now new = absurd (cc)
 
   -- what else is new has no such number
   ack_number : (r : RelState) (flow : Flow) (body : Body) → judge_ack_of r flow body ≡ acks.New → number_of src body ≡ []
@@ -173,18 +176,27 @@ module _ (src : ℕ) where
   ack_number r flow (bodies.Prio p) new = absurd (cc)
   ack_number r flow (bodies.Rel m) new = refl
   ack_number r flow (bodies.Weight u) new = refl
+  ack_number r flow (bodies.Krel u) new = refl
+  ack_number r flow (bodies.Kack u) new = refl
+  ack_number r flow (bodies.Epoch u) new = refl
 
   rel_number_of : (r : RelState) (flow : Flow) (body : Body) → judge_rel_of r flow body ≡ rels.New → number_of src body ≡ []
   rel_number_of r flow (bodies.Ack a) new = refl
   rel_number_of r flow (bodies.Prio p) new = absurd (cc)
   rel_number_of r flow (bodies.Rel m) new = refl
   rel_number_of r flow (bodies.Weight u) new = refl
+  rel_number_of r flow (bodies.Krel u) new = refl
+  rel_number_of r flow (bodies.Kack u) new = refl
+  rel_number_of r flow (bodies.Epoch u) new = refl
 
   weight_number_of : (me : NodeId) (w : WeightState) (body : Body) → offer_to me w body ≡ offers.New → number_of src body ≡ []
   weight_number_of me w (bodies.Ack a) new = refl
   weight_number_of me w (bodies.Prio p) new = absurd (cc)
   weight_number_of me w (bodies.Rel m) new = refl
   weight_number_of me w (bodies.Weight u) new = refl
+  weight_number_of me w (bodies.Krel u) new = refl
+  weight_number_of me w (bodies.Kack u) new = refl
+  weight_number_of me w (bodies.Epoch u) new = refl
 
   -- ---- a datagram
 

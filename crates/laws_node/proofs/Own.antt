@@ -6,10 +6,13 @@ use Rattle.sp_base.specs.Cursor.{or_else}
 use Rattle.sp_base.specs.declared.id.Flow.{Flow}
 use Rattle.sp_base.specs.declared.id.NodeId.{NodeId}
 use Rattle.sp_base.specs.declared.limits.TheConstants.{MAX_EDGES, MAX_PAYLOAD_BYTES, MAX_WEIGHT}
+use Rattle.sp_base.specs.declared.format.TheConstants.{FORMAT_1}
+use Rattle.sp_msg.proofs.GoodFields.{first_mask, no_boot, prio_is_good, rel_is_good, weight_is_good}
 use Rattle.sp_msg.specs.Bodies.{HasGoodFields}
 use Rattle.sp_msg.specs.Views.{signer_of}
 use Rattle.sp_msg.specs.declared.body.Body.{Body}
 use Rattle.sp_msg.specs.declared.body.Body.TheVariants as bodies
+use Rattle.sp_msg.specs.declared.body.WeightBody.{WeightBody}
 use Rattle.sp_msg.specs.declared.refused.SendRefused.{SendRefused}
 use Rattle.sp_msg.specs.declared.refused.SendRefused.TheVariants as refusals
 use Rattle.sp_rules.proofs.FlowJudged.{both_nodes, found_ends, room_is}
@@ -19,7 +22,7 @@ use Rattle.sp_rules.specs.Node.{NodeState, Signer, signed_now}
 use Rattle.sp_rules.specs.Parts.{edge_to, is_signed, is_signed_by}
 use Rattle.sp_rules.specs.Prio.{is_node}
 use Rattle.sp_rules.specs.Rel.{IsNextOwn, flow_in, own_flow, room}
-use Rattle.sp_rules.specs.Sends.{PrioSend, edge_or, mask_in, no_paths, no_room, prio_body, prio_refusal, rel_body, rel_refusal, send_prio_refusal, signer_refusal, weight_body, weight_refusal, weight_refusal_at}
+use Rattle.sp_rules.specs.Sends.{PrioSend, edge_or, mask_in, no_paths, no_room, prio_body, prio_of, prio_refusal, rel_body, rel_number, rel_refusal, send_prio_refusal, signer_refusal, weight_body, weight_refusal, weight_refusal_at}
 use Rattle.sp_rules.specs.Weights.{minimum, next_seq, row_for, row_in}
 use Rattle.sp_rules.specs.declared.rel.RelRefused.{RelRefused}
 use Rattle.sp_rules.specs.declared.rel.RelRefused.TheVariants as rels
@@ -104,7 +107,14 @@ rel_sent_fits k n dst payload short e h =
     record {
       free = both.1;
       next = (sym me_too, number.1 ∙ ap (λ (q : ℕ). Ok q) facts.1);
-      fields = (h.fixed.is_node, (to, ((omega arith, omega (arith, own, h.signer.index, h.signer.bound, h.signer.total)), ((omega arith, short), tt))));
+      fields = rel_is_good FORMAT_1 (record { src = n.fixed.me; dst = dst; sboot = 0; dboot = 0; seq = rel_number n dst; payload = payload }) (record {
+        src = h.fixed.is_node;
+        dst = to;
+        sboot = no_boot;
+        dboot = no_boot;
+        seq = (omega arith, omega (arith, own, h.signer.index, h.signer.bound, h.signer.total));
+        payload = short;
+      });
     }
   where
     is_same : (a b : ℕ) → a ≡ b → (a == b) ≡ true
@@ -137,16 +147,16 @@ prio_sent_fits k n m choice fits e is h =
     let mask = mask_fits k n m choice both.1 h is in
     record {
       free = two.1;
-      fields = (
-        h.fixed.is_node,
-        (
-          to,
-          (
-            (h.parts.prio.least, omega (arith, h.parts.prio.next, h.signer.index, h.signer.bound, h.signer.total)),
-            ((fits.0, fits.1), (omega (arith, fits.2), ((omega arith, omega (arith, mask)), ((omega arith, fits.3), tt)))),
-          ),
-        ),
-      );
+      fields = prio_is_good FORMAT_1 (prio_of n m (mask_in choice)) (record {
+        src = h.fixed.is_node;
+        dst = to;
+        sboot = no_boot;
+        seq = (h.parts.prio.least, omega (arith, h.parts.prio.next, h.signer.index, h.signer.bound, h.signer.total));
+        prio = (fits.0, fits.1);
+        expiry = omega (arith, fits.2);
+        mask = first_mask (mask_in choice) mask;
+        payload = fits.3;
+      });
     }
 
 -- ---- a weight
@@ -164,8 +174,8 @@ weight_sent_fits k n v weight least most e h = go (edge_to n.fixed v) refl e
   where
     at : (edge : ℕ) → edge_to n.fixed v ≡ Some edge → signer_refusal n.signer ≡ None → WeightSent k n v weight
     at edge is free =
-        let body = bodies.Weight (record { origin = n.fixed.me; edge = record { 0 = edge }; seq = next_seq n.parts.weights edge n.fixed.me.0; weight = weight }) in
-        let same : weight_body n v weight ≡ body =
+        let update : WeightBody = record { origin = n.fixed.me; edge = record { 0 = edge }; seq = next_seq n.parts.weights edge n.fixed.me.0; weight = weight } in
+        let same : weight_body n v weight ≡ bodies.Weight update =
         ap (λ (o : Option ℕ). bodies.Weight (record { origin = n.fixed.me; edge = record { 0 = edge_or o }; seq = next_seq n.parts.weights (edge_or o) n.fixed.me.0; weight = weight })) is in
         let number = subst (λ (u : NodeId). (1 ≤ next_seq n.parts.weights edge u.0) × (next_seq n.parts.weights edge u.0 ≤ MAX_OWN_HEARD + n.signer.index + 1)) (sym h.fixed.me)
         (own_next_seq k n.signer.index edge n.parts.weights h.parts.weights) in
@@ -173,10 +183,12 @@ weight_sent_fits k n v weight least most e h = go (edge_to n.fixed v) refl e
         let within = place_within (joins n.fixed.me.0 v.0) n.fixed.topology.edges edge is in
         record {
           free = free;
-          fields = subst HasGoodFields (sym same) (
-            h.fixed.is_node,
-            ((omega arith, omega (arith, within, h.fixed.topology.graph.edge_count)), ((number.0, omega (arith, number.1, h.signer.index, h.signer.bound, h.signer.total)), ((least, most), tt))),
-          );
+          fields = subst HasGoodFields (sym same) (weight_is_good FORMAT_1 update (record {
+            origin = h.fixed.is_node;
+            edge = omega (arith, within, h.fixed.topology.graph.edge_count);
+            seq = (number.0, omega (arith, number.1, h.signer.index, h.signer.bound, h.signer.total));
+            weight = (least, most);
+          }));
           row = row.0;
           place = subst (λ (b : Body). row_for k.edges b ≡ Some row.0) (sym same) (ap (λ (es : List Edge). row_in es edge n.fixed.me.0) (sym h.fixed.edges) ∙ row.1);
           own = subst (OwnUpTo k.me (MAX_OWN_HEARD + (n.signer.index + 1))) (sym same) (λ mine. omega (arith, number.1));

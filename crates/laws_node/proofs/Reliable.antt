@@ -7,6 +7,8 @@ use Rattle.std.proofs.lemmas.List.Elements.{All-head, All-tail}
 use Rattle.sp_base.specs.declared.id.Flow.{Flow}
 use Rattle.sp_base.specs.declared.id.NodeId.{NodeId}
 use Rattle.sp_base.specs.declared.limits.TheConstants.{MAX_NODES}
+use Rattle.sp_base.specs.declared.format.TheConstants.{FORMAT_1}
+use Rattle.sp_msg.proofs.GoodFields.{ack_is_good, good_rel, no_boot}
 use Rattle.sp_msg.specs.Bodies.{HasGoodFields, payload_of}
 use Rattle.sp_msg.specs.declared.body.Ack.{Ack}
 use Rattle.sp_msg.specs.declared.body.Body.{Body}
@@ -71,10 +73,13 @@ are_standing k index r h =
 -- ---- a message arrives
 
 short : (body : Body) → IsReliable body → HasGoodFields body → IsShort (payload_of body)
-short (bodies.Rel b) is good = good.1.1.1.0.1
+short (bodies.Rel b) is good = (good_rel FORMAT_1 b good).payload
 short (bodies.Prio b) is good = absurd is
 short (bodies.Ack b) is good = absurd is
 short (bodies.Weight b) is good = absurd is
+short (bodies.Krel b) is good = absurd is
+short (bodies.Kack b) is good = absurd is
+short (bodies.Epoch b) is good = absurd is
 
 -- its flow isn't from this node
 record ComesFrom (k : Sizes) (r : RelState) (flow : Flow) : Type 0 where
@@ -120,6 +125,9 @@ admit_rel_holds k index r flow m new fits h = go m.body refl new
     go (bodies.Prio b) is new = absurd (cc)
     go (bodies.Ack b) is new = absurd (cc)
     go (bodies.Weight b) is new = absurd (cc)
+    go (bodies.Krel b) is new = absurd (cc)
+    go (bodies.Kack b) is new = absurd (cc)
+    go (bodies.Epoch b) is new = absurd (cc)
 
 -- ---- an acknowledgement arrives
 
@@ -164,6 +172,9 @@ admit_ack_holds k index r flow o new fits h = go o.body refl new
     go (bodies.Prio b) is new = absurd (cc)
     go (bodies.Rel b) is new = absurd (cc)
     go (bodies.Weight b) is new = absurd (cc)
+    go (bodies.Krel b) is new = absurd (cc)
+    go (bodies.Kack b) is new = absurd (cc)
+    go (bodies.Epoch b) is new = absurd (cc)
 
 -- ---- a client sends
 
@@ -289,7 +300,13 @@ due_fits k index r ack e h =
     record {
       mine = ap (λ (a : Ack). a.dst) at.is ∙ same_id f.dst r.me flags.0 ∙ h.me;
       fields = subst (λ (a : Ack). HasGoodFields (bodies.Ack a)) (sym at.is)
-          (facts.src, (facts.dst, ((omega (arith, some, ap (λ (g : FlowState). g.at.have) read_again), omega (arith, facts.standing.numbers, ap (λ (g : FlowState). g.at.have) read_again)), tt)));
+          (ack_is_good FORMAT_1 (ack_of r (ends f)) (record {
+            src = facts.src;
+            dst = facts.dst;
+            sboot = no_boot;
+            dboot = no_boot;
+            seq = (omega (arith, some, ap (λ (g : FlowState). g.at.have) read_again), omega (arith, facts.standing.numbers, ap (λ (g : FlowState). g.at.have) read_again));
+          }));
     }
 
 ack_kept : (r : RelState) (ack : Ack) (o : Kept) → o.body ≡ bodies.Ack ack → IsAckOf (ends (flow_in r.flows (flow_said o.body))) o.body

@@ -27,6 +27,9 @@ own_more me number more (bodies.Weight u) up own = λ mine. let at = own mine in
 own_more me number more (bodies.Prio p) up own = tt
 own_more me number more (bodies.Rel r) up own = tt
 own_more me number more (bodies.Ack a) up own = tt
+own_more me number more (bodies.Krel a) up own = tt
+own_more me number more (bodies.Kack a) up own = tt
+own_more me number more (bodies.Epoch a) up own = tt
 
 update_more : (k : Sizes) (index more row : ℕ) (o : Kept) → index ≤ more → UpdateHolds k index row o → UpdateHolds k more row o
 update_more k index more row o up h =
@@ -118,6 +121,9 @@ new_update k index w o new fits h = go o.body refl new
     go (bodies.Prio p) is new = absurd (cc)
     go (bodies.Rel r) is new = absurd (cc)
     go (bodies.Ack a) is new = absurd (cc)
+    go (bodies.Krel a) is new = absurd (cc)
+    go (bodies.Kack a) is new = absurd (cc)
+    go (bodies.Epoch a) is new = absurd (cc)
 
 -- ---- an own update
 
@@ -177,6 +183,9 @@ own_seq k index row edge o mine h = go o.body h.place h.own
     go (bodies.Prio p) place own = absurd (cc)
     go (bodies.Rel r) place own = absurd (cc)
     go (bodies.Ack a) place own = absurd (cc)
+    go (bodies.Krel a) place own = absurd (cc)
+    go (bodies.Kack a) place own = absurd (cc)
+    go (bodies.Epoch a) place own = absurd (cc)
 
 pub own_next_seq : (k : Sizes) (index edge : ℕ) (w : WeightState) → WeightsHold k index w
     → (1 ≤ next_seq w edge k.me.0) × (next_seq w edge k.me.0 ≤ MAX_OWN_HEARD + index + 1)

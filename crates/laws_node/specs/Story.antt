@@ -63,13 +63,13 @@ toy_head bytes = record {
 
 abbrev pub toy_ack : List ℕ → Option Kept
 toy_ack b = if slice_index b 14 == 1 then Some (record {
-  body = bodies.Ack (record { src = node (slice_index b 10); dst = node (slice_index b 11); seq = slice_index b 15 });
+  body = bodies.Ack (record { src = node (slice_index b 10); dst = node (slice_index b 11); sboot = 0; dboot = 0; seq = slice_index b 15 });
   signature = slice_index b 11 ∷ [];
 }) else None
 
 abbrev pub toy_rels : List ℕ → List Kept
 toy_rels b = if slice_index b 16 == 1 then (record {
-  body = bodies.Rel (record { src = node (slice_index b 10); dst = node (slice_index b 11); seq = slice_index b 17; payload = payload_of (slice_index b 17) });
+  body = bodies.Rel (record { src = node (slice_index b 10); dst = node (slice_index b 11); sboot = 0; dboot = 0; seq = slice_index b 17; payload = payload_of (slice_index b 17) });
   signature = slice_index b 10 ∷ [];
 }) ∷ [] else []
 

@@ -2,6 +2,7 @@
 use Rattle.std.specs.Prelude.{ℕ, ◌≡◌, ◌≢◌, List, [], ◌∷◌, Some, length}
 use Rattle.sp_base.specs.declared.id.Flow.{Flow}
 use Rattle.sp_base.specs.declared.id.NodeId.{NodeId}
+use Rattle.sp_msg.specs.Masks.{mask_from}
 use Rattle.sp_msg.specs.declared.body.Body.TheVariants as bodies
 use Rattle.sp_msg.specs.declared.effect.Effect.TheVariants.{Delivered}
 use Rattle.sp_msg.specs.declared.kept.Kept.{Kept}
@@ -37,7 +38,7 @@ wider = record whole { bound = 3 }
 
 -- message 1 of the flow from 1 to 2
 abbrev pub message : Kept
-message = record { body = bodies.Rel (record { src = node 1; dst = node 2; seq = 1; payload = [] }); signature = [] }
+message = record { body = bodies.Rel (record { src = node 1; dst = node 2; sboot = 0; dboot = 0; seq = 1; payload = [] }); signature = [] }
 
 -- this flow
 abbrev pub flow : Flow
@@ -49,7 +50,7 @@ blind = record { me = 2; nodes = both; inbox = empty_store 4; peers = []; window
 
 -- priority message 1 from 1 to 2
 abbrev pub urgent : Kept
-urgent = record { body = bodies.Prio (record { src = node 1; dst = node 2; seq = 1; prio = 1; expiry = 9; mask = 0; payload = [] }); signature = [] }
+urgent = record { body = bodies.Prio (record { src = node 1; dst = node 2; sboot = 0; seq = 1; prio = 1; expiry = 9; mask = mask_from 0; payload = [] }); signature = [] }
 
 -- the sizes of node 2
 abbrev pub sizes : Sizes

@@ -106,6 +106,9 @@ ack_heard arts fx nodes bound v flow r o q ready are kind number signed at_sourc
     go (bodies.Rel a) e kind number above = absurd kind
     go (bodies.Prio a) e kind number above = absurd kind
     go (bodies.Weight a) e kind number above = absurd kind
+    go (bodies.Krel a) e kind number above = absurd kind
+    go (bodies.Kack a) e kind number above = absurd kind
+    go (bodies.Epoch a) e kind number above = absurd kind
 
 -- ---- a message
 
@@ -152,6 +155,9 @@ rel_heard arts fx nodes bound v flow r o q ready are message signed near window 
     go (bodies.Ack m) e message above space = absurd message
     go (bodies.Prio m) e message above space = absurd message
     go (bodies.Weight m) e message above space = absurd message
+    go (bodies.Krel m) e message above space = absurd message
+    go (bodies.Kack m) e message above space = absurd message
+    go (bodies.Epoch m) e message above space = absurd message
 
     either_have : (t : Bool) (f : FlowState) (p : List ℕ) → (cond t (received f p) (pushed f o)).at.have ≡ f.at.have + 1
     either_have true f p = refl

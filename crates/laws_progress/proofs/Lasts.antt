@@ -30,6 +30,7 @@ use Rattle.laws_runs.specs.Premises.{Carries}
 use Rattle.sp_runs.specs.Inputs.{acting, crafted_frame, crafted_object, crafts, flipped, input_of, object_alone}
 use Rattle.sp_runs.specs.Settings.{Setting, SettingFits}
 use Rattle.sp_runs.specs.Worlds.{World, frame_in}
+use Rattle.sp_schedule_crafts.specs.Objects.{body_of}
 use Rattle.sp_schedule_events.specs.declared.event.Event.{Event}
 use Rattle.sp_schedule_events.specs.declared.event.Event.TheVariants as events
 use Rattle.sp_runs.specs.Runs.{is_poll}
@@ -170,7 +171,7 @@ no_poll arts x es w n (events.Pass a b c) i u v acts off is = came_by v a (frame
 no_poll arts x es w n (events.Flip a b c f g) i u v acts off is = came_by v a (frame_in w.directions a b c) (flipped f g) i is
 no_poll arts x es w n (events.Inject a b c) i u v acts off is = just v i _ tt is
 no_poll arts x es w n (events.Craft a b c f) i u v acts off is =
-    either_by v (nat_lt (crafts es c) x.total) i (Datagram a (crafted_frame arts n a (object_alone f (crafted_object arts x es c f)))) tt is
+    either_by v (nat_lt (crafts es c) x.total) i (Datagram a (crafted_frame arts n a (object_alone (body_of f) (crafted_object arts x es c (body_of f))))) tt is
 no_poll arts x es w n (events.CraftStatus a b c f g h) i u v acts off is = just v i _ tt is
 
 pub serves_none : (arts : Arts) (x : Setting) (all : List Event) (flow : Flow) → SettingFits arts x → Carries arts → (w y : State arts x all) (e : Event) (u v : NodeId) → Follows arts x all w e y

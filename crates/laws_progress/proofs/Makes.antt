@@ -64,6 +64,9 @@ said flow q (bodies.Rel r) is = is.2
 said flow q (bodies.Ack a) is = absurd is
 said flow q (bodies.Prio a) is = absurd is
 said flow q (bodies.Weight a) is = absurd is
+said flow q (bodies.Krel a) is = absurd is
+said flow q (bodies.Kack a) is = absurd is
+said flow q (bodies.Epoch a) is = absurd is
 
 message_at : (flow : Flow) (after : ℕ) (os : List Kept) (i : ℕ) (o : Kept) → AreMessages flow after os → slice_get os i ≡ Some o → IsMessage flow (after + i + 1) o.body
 message_at flow after [] i o are at = absurd cc

@@ -22,7 +22,7 @@ abbrev pub accepted : List Entry
 accepted = (record { reply = replies.Accepted 1; effects = [] }) ∷ []
 
 abbrev pub message : (payload : List ℕ) → Kept
-message payload = record { body = bodies.Rel (record { src = node 1; dst = node 3; seq = 1; payload = payload }); signature = [] }
+message payload = record { body = bodies.Rel (record { src = node 1; dst = node 3; sboot = 0; dboot = 0; seq = 1; payload = payload }); signature = [] }
 
 -- it, with its payload
 abbrev pub sent_message : Kept

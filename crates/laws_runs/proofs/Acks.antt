@@ -91,6 +91,9 @@ above_new r flow (bodies.Ack a) new =
 above_new r flow (bodies.Rel a) new = absurd (let e : acks.BadEnd ≡ acks.New = new in cc)
 above_new r flow (bodies.Prio a) new = absurd (let e : acks.BadEnd ≡ acks.New = new in cc)
 above_new r flow (bodies.Weight a) new = absurd (let e : acks.BadEnd ≡ acks.New = new in cc)
+above_new r flow (bodies.Krel a) new = absurd (let e : acks.BadEnd ≡ acks.New = new in cc)
+above_new r flow (bodies.Kack a) new = absurd (let e : acks.BadEnd ≡ acks.New = new in cc)
+above_new r flow (bodies.Epoch a) new = absurd (let e : acks.BadEnd ≡ acks.New = new in cc)
 
 was_new : (right : Bool) (j : AckJudged) → is_new (items.Ack (ack_answer right j)) ≡ true → j ≡ acks.New
 was_new right acks.New e = refl

@@ -38,6 +38,9 @@ use Rattle.sp_runs.specs.Settings.{Setting, SettingFits, is_correct, is_node}
 use Rattle.sp_runs.specs.Told.{signed}
 use Rattle.sp_runs.specs.Worlds.{World, frames_in}
 use Rattle.sp_journal.specs.declared.entry.Entry.{Entry}
+use Rattle.sp_schedule_crafts.specs.Objects.{body_of}
+use Rattle.sp_base.specs.declared.format.TheConstants.{FORMAT_1}
+use Rattle.sp_msg.proofs.GoodFields.{good_ack, good_rel, no_epoch, no_kack, no_krel}
 use Rattle.sp_schedule_events.specs.declared.event.Event.{Event}
 use Rattle.sp_schedule_events.specs.declared.event.Event.TheVariants as events
 use Rattle.sp_runs.specs.declared.what.What.TheVariants as whats
@@ -167,8 +170,8 @@ object_fits len (bodies.Rel r) signature good long short = record {
   few_prios = omega arith;
   prios = All-nil (IsNumbered len);
   slot = record {
-    src = let most : r.src.0 ≤ 16 = good.0.1 in omega (arith, most);
-    dst = let most : r.dst.0 ≤ 16 = good.1.0.1 in omega (arith, most);
+    src = omega (arith, (good_rel FORMAT_1 r good).src.1);
+    dst = omega (arith, (good_rel FORMAT_1 r good).dst.1);
     base = omega arith;
     have = omega arith;
     ack = tt;
@@ -184,8 +187,8 @@ object_fits len (bodies.Ack a) signature good long short = record {
   few_prios = omega arith;
   prios = All-nil (IsNumbered len);
   slot = record {
-    src = let most : a.src.0 ≤ 16 = good.0.1 in omega (arith, most);
-    dst = let most : a.dst.0 ≤ 16 = good.1.0.1 in omega (arith, most);
+    src = omega (arith, (good_ack FORMAT_1 a good).src.1);
+    dst = omega (arith, (good_ack FORMAT_1 a good).dst.1);
     base = omega arith;
     have = omega arith;
     ack = record { fields = good; is = refl; long = long; fits = short };
@@ -202,35 +205,41 @@ object_fits len (bodies.Weight w) signature good long short = record {
   prios = All-nil (IsNumbered len);
   slot = tt;
 }
+object_fits len (bodies.Krel r) signature good long short = absurd (no_krel r good)
+object_fits len (bodies.Kack a) signature good long short = absurd (no_kack a good)
+object_fits len (bodies.Epoch e) signature good long short = absurd (no_epoch e good)
 
--- what it carries is that object alone
+-- what it carries is that object alone, or none of a kind that format 1 lacks
 only_it : (P : Kept → Type 0) (body : Body) (signature : List ℕ) → P (record { body = body; signature = signature })
     → AllKeep P (pieces_of (object_alone body (record { body = body; signature = signature })))
 only_it P (bodies.Prio p) signature h = (tt, (h, tt))
 only_it P (bodies.Rel r) signature h = (tt, (tt, (h, tt)))
 only_it P (bodies.Ack a) signature h = (tt, (tt, (h, tt)))
 only_it P (bodies.Weight w) signature h = (h, (tt, tt))
+only_it P (bodies.Krel r) signature h = (tt, tt)
+only_it P (bodies.Kack a) signature h = (tt, tt)
+only_it P (bodies.Epoch e) signature h = (tt, tt)
 
 -- ---- the law
 
 pub own_crafts_forge_nothing : OwnCraftsForgeNothing
 own_crafts_forge_nothing arts x es js w fits carries lengths run e j new range good names (Stays s) = refl
-own_crafts_forge_nothing arts x es js w fits carries lengths run (events.Craft c v key body) j new range good names (Moves m) = go (nat_lt (crafts es key) x.total) m.reaches
+own_crafts_forge_nothing arts x es js w fits carries lengths run (events.Craft c v key object) j new range good names (Moves m) = go (nat_lt (crafts es key) x.total) m.reaches
   where
     o : Kept
-    o = crafted_object arts x es key body
+    o = crafted_object arts x es key (body_of object)
 
     len : m.node.fixed.signature_len ≡ x.signature_len
     len = ap (λ (f : Fixed). f.signature_len) ((signs arts x es js w fits carries run).nodes v m.node m.is_there).fixed
 
-    go : (t : Bool) → cond t (Some (steps.Datagram c (crafted_frame arts m.node c (object_alone body o)))) None ≡ Some m.input
+    go : (t : Bool) → cond t (Some (steps.Datagram c (crafted_frame arts m.node c (object_alone (body_of object) o)))) None ≡ Some m.input
         → cond (has_forged_tag arts x w m.node m.input) (Some whats.Tag) (option_map whats.Object (forged_object arts x es js m.output.answered)) ≡ None
     go false is = absurd cc
     go true is =
-        arrived_unforged arts x es js w new (events.Craft c v key body) j m c (object_alone body o) carries len names.0
-        (object_fits x.signature_len body o.signature range.3 (lengths key range.2 (crafts es key) (arts.spell body)) fits.short)
-        (all_of (λ p. IsTrue (arts.is_good p.body)) (pieces_of (object_alone body o)) (only_it (λ p. IsTrue (arts.is_good p.body)) body o.signature good))
-        (only_it (IsOfCompromised x) body o.signature names.1) (one_input _ m.input is)
+        arrived_unforged arts x es js w new (events.Craft c v key object) j m c (object_alone (body_of object) o) carries len names.0
+        (object_fits x.signature_len (body_of object) o.signature range.3 (lengths key range.2 (crafts es key) (arts.spell (body_of object))) fits.short)
+        (all_of (λ p. IsTrue (arts.is_good p.body)) (pieces_of (object_alone (body_of object) o)) (only_it (λ p. IsTrue (arts.is_good p.body)) (body_of object) o.signature good))
+        (only_it (IsOfCompromised x) (body_of object) o.signature names.1) (one_input _ m.input is)
 own_crafts_forge_nothing arts x es js w fits carries lengths run (events.CraftStatus c v s d base have) j new range good names (Moves m) =
     let len = ap (λ (f : Fixed). f.signature_len) ((signs arts x es js w fits carries run).nodes v m.node m.is_there).fixed in
     let flow : Flow = record { src = s; dst = d } in

@@ -24,6 +24,7 @@ use Rattle.sp_runs.specs.Runs.{Clean, InRange, Move, Moves, Spends, Starts, Stay
 use Rattle.sp_runs.specs.Settings.{Setting, SettingFits}
 use Rattle.sp_runs.specs.Worlds.{World, at_start, with_node}
 use Rattle.sp_journal.specs.declared.entry.Entry.{Entry}
+use Rattle.sp_schedule_crafts.specs.Objects.{body_of}
 use Rattle.sp_schedule_events.specs.declared.event.Event.{Event}
 use Rattle.sp_schedule_events.specs.declared.event.Event.TheVariants as events
 use Rattle.laws_runs.specs.Premises.{Carries}
@@ -98,13 +99,13 @@ by_moves arts reads x es old w v e j m n arts_are fits kept =
 
 -- a crafting signer that is spent brings nothing
 not_both : (arts : Arts) (x : Setting) (es : List Event) (old w v : World) (e : Event) (j : Entry) → Move arts x es old e j w → Spends x es old e j v → ⊥
-not_both arts x es old w v (events.Craft c u k body) j m s = go (nat_lt (crafts es k) x.total) refl m.reaches
+not_both arts x es old w v (events.Craft c u k object) j m s = go (nat_lt (crafts es k) x.total) refl m.reaches
   where
     o : Kept
-    o = crafted_object arts x es k body
+    o = crafted_object arts x es k (body_of object)
 
     go : (t : Bool) → nat_lt (crafts es k) x.total ≡ t
-        → cond t (Some (steps.Datagram c (crafted_frame arts m.node c (object_alone body o)))) None ≡ Some m.input → ⊥
+        → cond t (Some (steps.Datagram c (crafted_frame arts m.node c (object_alone (body_of object) o)))) None ≡ Some m.input → ⊥
     go true is e =
         let spent : x.total ≤ crafts es k = subst (λ (u : NodeId). x.total ≤ crafts es u) (sym s.is_craft) s.spent in
         let below : crafts es k < x.total = grind (arith, nat_tests, is) in

@@ -76,6 +76,9 @@ quiet_weight (bodies.Prio p) = quiet_none
 quiet_weight (bodies.Rel r) = quiet_none
 quiet_weight (bodies.Ack a) = quiet_none
 quiet_weight (bodies.Weight u) = record { no_delivery = λ a. refl; no_signature = refl }
+quiet_weight (bodies.Krel a) = quiet_none
+quiet_weight (bodies.Kack a) = quiet_none
+quiet_weight (bodies.Epoch a) = quiet_none
 
 pub quiet_gone : (place : ℕ) (why : Why) (e : Option Entry) → Quiet (rows.gone place why e)
 quiet_gone place why None = quiet_none
@@ -86,6 +89,9 @@ quiet_stored place id (bodies.Prio p) = record { no_delivery = λ a. refl; no_si
 quiet_stored place id (bodies.Rel r) = quiet_none
 quiet_stored place id (bodies.Ack a) = quiet_none
 quiet_stored place id (bodies.Weight u) = quiet_none
+quiet_stored place id (bodies.Krel u) = quiet_none
+quiet_stored place id (bodies.Kack u) = quiet_none
+quiet_stored place id (bodies.Epoch u) = quiet_none
 
 quiet_put : (place : ℕ) (s : Store) (o : Kept) → Quiet (rows.put_effects place s o)
 quiet_put place s o = quiet_append (rows.stored place (s.last + 1) o.body) _ (quiet_stored place (s.last + 1) o.body) (quiet_gone place Evicted _)
@@ -95,6 +101,9 @@ quiet_delivered (bodies.Prio p) = record { no_delivery = λ a. refl; no_signatur
 quiet_delivered (bodies.Rel r) = quiet_none
 quiet_delivered (bodies.Ack a) = quiet_none
 quiet_delivered (bodies.Weight u) = quiet_none
+quiet_delivered (bodies.Krel u) = quiet_none
+quiet_delivered (bodies.Kack u) = quiet_none
+quiet_delivered (bodies.Epoch u) = quiet_none
 
 pub quiet_prio : (p : PrioState) (o : Kept) (came : Option NodeId) → Quiet (prio_effects p o came)
 quiet_prio p o came =
@@ -197,6 +206,9 @@ module _ (C : Type 0) (s d : NodeId) (S : List Message) (c : ℕ) (u : NodeId) (
   got_ack r flow (bodies.Rel b) new = absurd (cc)
   got_ack r flow (bodies.Prio b) new = absurd (cc)
   got_ack r flow (bodies.Weight b) new = absurd (cc)
+  got_ack r flow (bodies.Krel b) new = absurd (cc)
+  got_ack r flow (bodies.Kack b) new = absurd (cc)
+  got_ack r flow (bodies.Epoch b) new = absurd (cc)
 
   ack_taken : (D : List Message) (r : RelState) (flow : Flow) (o : Kept) → judge_ack_of r flow o.body ≡ acks.New → Vouched C s d S c o → RelIs C s d S D c u r → (C → IsPrefix D S) → c ≤ length D
       → Handles C s d S D c u (admit_ack r o) []
@@ -248,6 +260,9 @@ module _ (C : Type 0) (s d : NodeId) (S : List Message) (c : ℕ) (u : NodeId) (
   got_rel r flow (bodies.Ack b) new = absurd (cc)
   got_rel r flow (bodies.Prio b) new = absurd (cc)
   got_rel r flow (bodies.Weight b) new = absurd (cc)
+  got_rel r flow (bodies.Krel b) new = absurd (cc)
+  got_rel r flow (bodies.Kack b) new = absurd (cc)
+  got_rel r flow (bodies.Epoch b) new = absurd (cc)
 
   -- its delivery is told where it is of the flow
   told_mine : (body : Body) → flow_said body ≡ flow_of s d → u ≡ d → told_here u s d (delivery body ∷ []) ≡ (number_said body, payload_of body) ∷ []

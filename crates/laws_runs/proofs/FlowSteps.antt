@@ -74,6 +74,9 @@ no_ack s d (bodies.Prio p) is = refl
 no_ack s d (bodies.Rel r) is = refl
 no_ack s d (bodies.Weight w) is = refl
 no_ack s d (bodies.Ack a) is = absurd is
+no_ack s d (bodies.Krel w) is = refl
+no_ack s d (bodies.Kack w) is = refl
+no_ack s d (bodies.Epoch w) is = refl
 
 acked_other : (arts : Arts) → ReadsBack arts → (u s d : NodeId) (es : List Effect) (body : Body) → IsTrue (arts.is_good body) → IsNoAck body → flat_map signed_by es ≡ arts.spell body ∷ [] → acked_here arts u s d es ≡ 0
 acked_other arts reads u s d es body good is e = elim (cases_eq u.0 d.0) [
@@ -119,12 +122,18 @@ module _ (arts : Arts) (reads : ReadsBack arts) (C : Type 0) (s d : NodeId) (S D
   other_is_no_ack (bodies.Weight w) is = tt
   other_is_no_ack (bodies.Rel r) is = absurd is
   other_is_no_ack (bodies.Ack a) is = absurd is
+  other_is_no_ack (bodies.Krel w) is = tt
+  other_is_no_ack (bodies.Kack w) is = tt
+  other_is_no_ack (bodies.Epoch w) is = tt
 
   other_is_no_rel : (body : Body) (m : Rel) → IsOther body → body ≡ bodies.Rel m → ⊥
   other_is_no_rel (bodies.Prio p) m is e = cc
   other_is_no_rel (bodies.Weight w) m is e = cc
   other_is_no_rel (bodies.Rel r) m is e = absurd is
   other_is_no_rel (bodies.Ack a) m is e = absurd is
+  other_is_no_rel (bodies.Krel w) m is e = cc
+  other_is_no_rel (bodies.Kack w) m is e = cc
+  other_is_no_rel (bodies.Epoch w) m is e = cc
 
   pub signed_other : (body : Body) (es : List Effect) (r : RelState) → IsOther body → IsTrue (arts.is_good body) → Quiet es → RelIs C s d S D c u r → (C → IsPrefix D S) → c ≤ length D
       → Stepped arts C s d S [] D c u (Signed (arts.spell body) ∷ es) r

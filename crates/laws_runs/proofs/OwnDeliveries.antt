@@ -93,6 +93,9 @@ module _ (u : NodeId) where
   other_source r flow (bodies.Ack b) me new = absurd (cc)
   other_source r flow (bodies.Prio b) me new = absurd (cc)
   other_source r flow (bodies.Weight b) me new = absurd (cc)
+  other_source r flow (bodies.Krel b) me new = absurd (cc)
+  other_source r flow (bodies.Kack b) me new = absurd (cc)
+  other_source r flow (bodies.Epoch b) me new = absurd (cc)
 
   delivery_unheard : (t : Bool) (body : Body) → ((flow_said body).src.0 == u.0) ≡ false → Unheard (cond t (delivery body ∷ []) [])
   delivery_unheard true body other = rw other refl

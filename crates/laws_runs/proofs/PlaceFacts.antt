@@ -147,6 +147,9 @@ delivered_away place (bodies.Prio b) = (Tells_prio, tt)
 delivered_away place (bodies.Rel b) = tt
 delivered_away place (bodies.Ack b) = tt
 delivered_away place (bodies.Weight b) = tt
+delivered_away place (bodies.Krel b) = tt
+delivered_away place (bodies.Kack b) = tt
+delivered_away place (bodies.Epoch b) = tt
 
 pub admitted_turns : (capacity : ℕ) (p : PrioState) (o : Kept) (came : Option NodeId) → IsPrio o.body → said (λ r. r.src.0) o.body < IDS → PlacesAre capacity p
     → Turns capacity p (prio_effects p o came) (admit_prio p o came)

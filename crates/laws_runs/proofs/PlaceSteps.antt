@@ -1,4 +1,6 @@
 -- What each step tells of each place of the node.
+use Rattle.sp_base.specs.declared.format.TheConstants.{FORMAT_1}
+use Rattle.sp_msg.proofs.GoodFields.{good_prio}
 use Rattle.laws_runs.specs.Places.{PlacesAre, StoreIs, shelf}
 use Rattle.std.proofs.Common.{◌≡◌, ◌<◌, ℕ, zero, suc, ◌-◌, Bool, true, false, cond, List, [], ◌∷◌, ◌++◌, length, Option, Some, None, refl, sym, ap, subst, ◌∙◌, inl, inr, arith}
 use Rattle.std.specs.List.{flat_map}
@@ -63,6 +65,9 @@ weight_away (bodies.Prio b) = λ place. tt
 weight_away (bodies.Rel b) = λ place. tt
 weight_away (bodies.Ack b) = λ place. tt
 weight_away (bodies.Weight b) = λ place. (Tells_weight, tt)
+weight_away (bodies.Krel b) = λ place. tt
+weight_away (bodies.Kack b) = λ place. tt
+weight_away (bodies.Epoch b) = λ place. tt
 
 either_away : (t : Bool) (es : List Effect) → AllAway es → AllAway (cond t es [])
 either_away true es h = h
@@ -76,10 +81,13 @@ none_away : AllAway []
 none_away = λ place. tt
 
 small_of : (body : Body) → IsPrio body → HasGoodFields body → said (λ p. p.src.0) body < IDS
-small_of (bodies.Prio p) is good = omega (arith, good.0.1)
+small_of (bodies.Prio p) is good = omega (arith, (good_prio FORMAT_1 p good).src.1)
 small_of (bodies.Rel r) is good = absurd is
 small_of (bodies.Ack a) is good = absurd is
 small_of (bodies.Weight w) is good = absurd is
+small_of (bodies.Krel w) is good = absurd is
+small_of (bodies.Kack w) is good = absurd is
+small_of (bodies.Epoch w) is good = absurd is
 
 -- what goes in flight changes neither the place nor its store
 launched_stays : (q : PrioPeer) (e : Option Entry) → ((launched q e).peer ≡ q.peer) × ((launched q e).store ≡ q.store)

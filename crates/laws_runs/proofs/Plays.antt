@@ -14,6 +14,7 @@ use Rattle.sp_runs.specs.Settings.{Setting}
 use Rattle.sp_runs.specs.Worlds.{World, frame_in, node_in}
 use Rattle.sp_runs.specs.declared.what.What.{What}
 use Rattle.sp_journal.specs.declared.entry.Reply.{Reply}
+use Rattle.sp_schedule_crafts.specs.Objects.{body_of}
 use Rattle.sp_schedule_events.specs.declared.event.Event.{Event}
 use Rattle.sp_schedule_events.specs.declared.event.Event.TheVariants as events
 use Rattle.laws_runs.specs.Story.{Played, after, after_input, after_words, at_acting, one_more, output_of, play_on}
@@ -90,7 +91,7 @@ plain_input x es w n (events.Flip a b c d f) i none is = from_frame (λ bytes. s
 plain_input x es w n (events.Inject a b c) i none is = just _ i tt is
 plain_input x es w n (events.Craft a b c d) i none is = go (nat_lt (crafts es c) x.total) is
   where
-    go : (t : Bool) → cond t (Some (steps.Datagram a (crafted_frame toys n a (object_alone d (crafted_object toys x es c d))))) None ≡ Some i → IsPlain i
+    go : (t : Bool) → cond t (Some (steps.Datagram a (crafted_frame toys n a (object_alone (body_of d) (crafted_object toys x es c (body_of d)))))) None ≡ Some i → IsPlain i
     go true is = just _ i tt is
     go false is = absurd cc
 plain_input x es w n (events.CraftStatus a b c d f g) i none is = just _ i tt is

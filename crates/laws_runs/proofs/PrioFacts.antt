@@ -75,6 +75,9 @@ mute_weight (bodies.Prio p) = mute_none
 mute_weight (bodies.Rel r) = mute_none
 mute_weight (bodies.Ack a) = mute_none
 mute_weight (bodies.Weight u) = record { none = λ s. refl }
+mute_weight (bodies.Krel a) = mute_none
+mute_weight (bodies.Kack a) = mute_none
+mute_weight (bodies.Epoch a) = mute_none
 
 pub mute_gone : (place : ℕ) (why : Why) (e : Option Entry) → Mute (rows.gone place why e)
 mute_gone place why None = mute_none
@@ -85,6 +88,9 @@ mute_stored place id (bodies.Prio p) = record { none = λ s. refl }
 mute_stored place id (bodies.Rel r) = mute_none
 mute_stored place id (bodies.Ack a) = mute_none
 mute_stored place id (bodies.Weight u) = mute_none
+mute_stored place id (bodies.Krel u) = mute_none
+mute_stored place id (bodies.Kack u) = mute_none
+mute_stored place id (bodies.Epoch u) = mute_none
 
 mute_put : (place : ℕ) (s : Store) (o : Kept) → Mute (rows.put_effects place s o)
 mute_put place s o = mute_append (rows.stored place (s.last + 1) o.body) _ (mute_stored place (s.last + 1) o.body) (mute_gone place Evicted _)
@@ -258,6 +264,9 @@ new_prio p (bodies.Prio b) now e =
 new_prio p (bodies.Rel b) now e = absurd (cc)
 new_prio p (bodies.Ack b) now e = absurd (cc)
 new_prio p (bodies.Weight b) now e = absurd (cc)
+new_prio p (bodies.Krel b) now e = absurd (cc)
+new_prio p (bodies.Kack b) now e = absurd (cc)
+new_prio p (bodies.Epoch b) now e = absurd (cc)
 
 pub spread_same : (s : PrioState) (o : Kept) (came : Option NodeId) → ((spread s o came).me ≡ s.me) × ((spread s o came).nodes ≡ s.nodes) × ((spread s o came).windows ≡ s.windows)
 spread_same s o came = elim (cases_Bool (is_here s o.body)) [ inl t ↦ rw t (refl, refl, refl) | inr t ↦ rw t (refl, refl, refl) ]

@@ -100,6 +100,9 @@ never_prio (bodies.Prio r) b is e = absurd is
 never_prio (bodies.Rel r) b is e = cc
 never_prio (bodies.Ack r) b is e = cc
 never_prio (bodies.Weight r) b is e = cc
+never_prio (bodies.Krel r) b is e = cc
+never_prio (bodies.Kack r) b is e = cc
+never_prio (bodies.Epoch r) b is e = cc
 
 module _ (C : Type 0) (x : Setting) (P : Kept → Type 0) (arts : Arts) (reads : ReadsBack arts) (fits : SettingFits arts x) (s d : NodeId) (S : List Message) (told : List ℕ) (u : NodeId) where
   -- nothing was signed

@@ -19,6 +19,7 @@ use Rattle.sp_runs.specs.Inputs.{crafted_frame, crafted_head, crafted_object, cr
 use Rattle.sp_runs.specs.Runs.{InRange}
 use Rattle.sp_runs.specs.Settings.{Setting}
 use Rattle.sp_runs.specs.Worlds.{Direction, World, frame_in, frames_in}
+use Rattle.sp_schedule_crafts.specs.Objects.{body_of}
 use Rattle.sp_schedule_events.specs.declared.event.Event.{Event}
 use Rattle.sp_schedule_events.specs.declared.event.Event.TheVariants as events
 use Rattle.laws_runs.specs.Premises.{AreOfBytes, Carries, IsOfBytes}
@@ -72,6 +73,9 @@ one_object o (bodies.Prio p) is of = All-cons IsOfBytes o [] of (All-nil IsOfByt
 one_object o (bodies.Rel r) is of = All-cons IsOfBytes o [] of (All-nil IsOfBytes)
 one_object o (bodies.Ack a) is of = All-cons IsOfBytes o [] of (All-nil IsOfBytes)
 one_object o (bodies.Weight w) is of = All-cons IsOfBytes o [] of (All-nil IsOfBytes)
+one_object o (bodies.Krel r) is of = All-nil IsOfBytes
+one_object o (bodies.Kack a) is of = All-nil IsOfBytes
+one_object o (bodies.Epoch e) is of = All-nil IsOfBytes
 
 crafted_bytes : (arts : Arts) (n : NodeState) (c : NodeId) (s : Contents) → Carries arts → AreOfBytes s → AreBytes (crafted_frame arts n c s)
 crafted_bytes arts n c s carries of =
@@ -106,16 +110,16 @@ input_fits arts x es w n (events.Flip u v number back bit) input carries are ran
     let it = came w.directions u v number (λ bytes. steps.Datagram u (flipped back bit bytes)) input reaches in
     subst InputFits (sym it.is) (flip_bytes back bit it.bytes range.6 (are u v it.place it.bytes it.there))
 input_fits arts x es w n (events.Inject u v bytes) input carries are range reaches = subst InputFits (same_input _ input reaches) range.3
-input_fits arts x es w n (events.Craft c v key body) input carries are range reaches = go (nat_lt (crafts es key) x.total) reaches
+input_fits arts x es w n (events.Craft c v key object) input carries are range reaches = go (nat_lt (crafts es key) x.total) reaches
   where
     o : Kept
-    o = crafted_object arts x es key body
+    o = crafted_object arts x es key (body_of object)
 
     frame : List ℕ
-    frame = crafted_frame arts n c (object_alone body o)
+    frame = crafted_frame arts n c (object_alone (body_of object) o)
 
     bytes : AreBytes frame
-    bytes = crafted_bytes arts n c (object_alone body o) carries (one_object o body refl (range.4, carries.signatures x.topology.height _ _ _))
+    bytes = crafted_bytes arts n c (object_alone (body_of object) o) carries (one_object o (body_of object) refl (range.4, carries.signatures x.topology.height _ _ _))
 
     go : (t : Bool) → cond t (Some (steps.Datagram c frame)) None ≡ Some input → InputFits input
     go true e = subst InputFits (same_input (steps.Datagram c frame) input e) bytes
@@ -145,10 +149,10 @@ payload_fits arts x es w n (events.Flip u v number back bit) input range reaches
     subst (λ (i : Input). AreBytes (payload_in i)) (sym it.is) no_bytes
 payload_fits arts x es w n (events.Inject u v bytes) input range reaches =
     subst (λ (i : Input). AreBytes (payload_in i)) (same_input _ input reaches) no_bytes
-payload_fits arts x es w n (events.Craft c v key body) input range reaches = go (nat_lt (crafts es key) x.total) reaches
+payload_fits arts x es w n (events.Craft c v key object) input range reaches = go (nat_lt (crafts es key) x.total) reaches
   where
     frame : List ℕ
-    frame = crafted_frame arts n c (object_alone body (crafted_object arts x es key body))
+    frame = crafted_frame arts n c (object_alone (body_of object) (crafted_object arts x es key (body_of object)))
 
     go : (t : Bool) → cond t (Some (steps.Datagram c frame)) None ≡ Some input → AreBytes (payload_in input)
     go true e = subst (λ (i : Input). AreBytes (payload_in i)) (same_input (steps.Datagram c frame) input e) no_bytes

@@ -48,6 +48,9 @@ module _ (arts : Arts) (x : Setting) (s d : NodeId) (es : List Event) (js : List
       go (bodies.Prio m) body is = absurd is
       go (bodies.Ack m) body is = absurd is
       go (bodies.Weight m) body is = absurd is
+      go (bodies.Krel m) body is = absurd is
+      go (bodies.Kack m) body is = absurd is
+      go (bodies.Epoch m) body is = absurd is
 
   list_sent : (u : NodeId) (flow : Flow) (after : ℕ) (os : List Kept) → flow ≡ flow_of s d → AreMessages flow after os → All (Fits (sizes_at x (Good arts x es js) u)) os
       → AreSent (sent es js s d) after os

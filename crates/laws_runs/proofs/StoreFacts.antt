@@ -139,6 +139,9 @@ stored_here capacity p top id o es above is = go o.body refl is
     go (bodies.Rel b) same is = absurd is
     go (bodies.Ack b) same is = absurd is
     go (bodies.Weight b) same is = absurd is
+    go (bodies.Krel b) same is = absurd is
+    go (bodies.Kack b) same is = absurd is
+    go (bodies.Epoch b) same is = absurd is
 
 pub record PutFacts (capacity p : ℕ) (s : Store) (o : Kept) (gone : Option Entry) : Type 0 where
   pub leads : Leads capacity p (shelf s) (rows.stored p (s.last + 1) o.body ++ rows.gone p whys.Evicted gone) (shelf_of (s.last + 1) (without gone (arriving s o)))
@@ -344,6 +347,9 @@ put_away p place s o other = away_both p (rows.stored place (s.last + 1) o.body)
     stored (bodies.Rel b) = tt
     stored (bodies.Ack b) = tt
     stored (bodies.Weight b) = tt
+    stored (bodies.Krel b) = tt
+    stored (bodies.Kack b) = tt
+    stored (bodies.Epoch b) = tt
 
 pub expired_away : (p place : ℕ) (s : Store) (now : ℕ) → (place ≡ p → ⊥) → AreAway p (rows.expired_effects place s now)
 expired_away p place s now other = go (expired_entries s now)

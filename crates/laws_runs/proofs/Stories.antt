@@ -8,7 +8,7 @@ use Rattle.sp_runs.specs.Runs.{IsMade, Starts, polls}
 use Rattle.sp_schedule_events.specs.declared.event.Event.{Event}
 use Rattle.laws_runs.proofs.Plays.{AreInRange, plays_are_clean}
 use Rattle.sp_base.specs.Reading.{number_at}
-use Rattle.sp_msg.specs.Bodies.{body_at, of_fields, read_body}
+use Rattle.sp_msg.specs.Bodies.{body_at_in, of_fields, read_body_in}
 use Rattle.sp_msg.specs.Fields.{field_at}
 use Rattle.sp_rules.specs.Store.{ids}
 use Rattle.laws_runs.specs.Story.{StoriesArePlayed, begins, line, message}
@@ -87,7 +87,7 @@ in_range = (
 )
 
 pub stories_are_played : StoriesArePlayed
-unfolding ids read_body body_at number_at of_fields field_at
+unfolding ids read_body_in body_at_in number_at of_fields field_at
 stories_are_played = record {
   is_run = plays_are_clean (line []) (begins (line [])) message Starts refl in_range refl;
   all_of_it = refl;

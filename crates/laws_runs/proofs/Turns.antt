@@ -21,6 +21,7 @@ use Rattle.sp_runs.specs.Settings.{Setting, is_correct}
 use Rattle.sp_runs.specs.Worlds.{Direction, World, frame_in, frames_in, node_in, with_node}
 use Rattle.sp_journal.specs.declared.entry.Reply.{Reply}
 use Rattle.sp_journal.specs.declared.entry.Reply.TheVariants as replies
+use Rattle.sp_schedule_crafts.specs.Objects.{body_of}
 use Rattle.sp_schedule_events.specs.declared.event.Event.{Event}
 use Rattle.sp_schedule_events.specs.declared.event.Event.TheVariants as events
 use Rattle.laws_runs.specs.Turns.{EachEventHasATurn, Happens}
@@ -92,12 +93,12 @@ reached arts x es w n (events.Flip u v k back bit) range count choices =
     let it = frame_there es w.directions u v k (count u v) range.3 in
     Comes (steps.Datagram u (flipped back bit it.0)) (ap (option_map (λ bytes. steps.Datagram u (flipped back bit bytes))) it.1) tt
 reached arts x es w n (events.Inject u v bytes) range count choices = Comes (steps.Datagram u bytes) refl tt
-reached arts x es w n (events.Craft c v key body) range count choices = go (nat_lt (crafts es key) x.total) refl
+reached arts x es w n (events.Craft c v key object) range count choices = go (nat_lt (crafts es key) x.total) refl
   where
     bytes : List ℕ
-    bytes = crafted_frame arts n c (object_alone body (crafted_object arts x es key body))
+    bytes = crafted_frame arts n c (object_alone (body_of object) (crafted_object arts x es key (body_of object)))
 
-    go : (t : Bool) → nat_lt (crafts es key) x.total ≡ t → Reached arts x es w n (events.Craft c v key body)
+    go : (t : Bool) → nat_lt (crafts es key) x.total ≡ t → Reached arts x es w n (events.Craft c v key object)
     go true some = Comes (steps.Datagram c bytes) (ap (λ t. cond t (Some (steps.Datagram c bytes)) None) some) tt
     go false none = Spent key refl (ltb-false (crafts es key) x.total none)
 reached arts x es w n (events.CraftStatus c v s d base have) range count choices = Comes _ refl tt
@@ -114,7 +115,7 @@ acts x es (events.Poll u v) range = range.0
 acts x es (events.Pass u v k) range = range.1
 acts x es (events.Flip u v k back bit) range = range.1
 acts x es (events.Inject u v bytes) range = range.0
-acts x es (events.Craft c v key body) range = range.0
+acts x es (events.Craft c v key object) range = range.0
 acts x es (events.CraftStatus c v s d base have) range = range.0
 
 -- ---- the turn

@@ -3,6 +3,9 @@ use Rattle.std.proofs.Common.{◌≡◌, ◌≤◌, ℕ, true, List, Some, refl,
 use Rattle.std.specs.Prelude.{IfSome, IsTrue}
 use Rattle.sp_base.specs.declared.id.Flow.{Flow}
 use Rattle.sp_base.specs.declared.id.NodeId.{NodeId}
+use Rattle.sp_base.specs.declared.format.TheConstants.{FORMAT_1}
+use Rattle.sp_msg.proofs.GoodFields.{good_ack, is_no_boot}
+use Rattle.sp_msg.specs.Bodies.{HasGoodFields}
 use Rattle.sp_msg.specs.Views.{signer_of}
 use Rattle.sp_msg.specs.declared.body.Body.{Body}
 use Rattle.sp_msg.specs.declared.body.Body.TheVariants as bodies
@@ -37,18 +40,26 @@ module _ (arts : Arts) (x : Setting) (s d : NodeId) (es : List Event) (js : List
           let dst : a.dst ≡ d = kind.1 ∙ ap (λ (g : Flow). g.dst) same in
           let signer : signer_of o.body ≡ d = ap signer_of body ∙ dst in
           let good : Good arts x es js o = is.fits.holds in
+          let fields = good_ack FORMAT_1 a (subst HasGoodFields body is.fits.fields) in
+          let sboot : a.sboot ≡ 0 = is_no_boot a.sboot fields.sboot in
+          let dboot : a.dboot ≡ 0 = is_no_boot a.dboot fields.dboot in
           record {
             ack = o;
             kept = kept;
-            body = body ∙ ap (λ (v : NodeId). bodies.Ack (record { src = v; dst = a.dst; seq = a.seq })) src
-                ∙ ap (λ (v : NodeId). bodies.Ack (record { src = s; dst = v; seq = a.seq })) dst
-                ∙ ap (λ (q : ℕ). bodies.Ack (record { src = s; dst = d; seq = q })) number;
+            body = body ∙ ap (λ (v : NodeId). bodies.Ack (record { src = v; dst = a.dst; sboot = a.sboot; dboot = a.dboot; seq = a.seq })) src
+                ∙ ap (λ (v : NodeId). bodies.Ack (record { src = s; dst = v; sboot = a.sboot; dboot = a.dboot; seq = a.seq })) dst
+                ∙ ap (λ (b : ℕ). bodies.Ack (record { src = s; dst = d; sboot = b; dboot = a.dboot; seq = a.seq })) sboot
+                ∙ ap (λ (b : ℕ). bodies.Ack (record { src = s; dst = d; sboot = 0; dboot = b; seq = a.seq })) dboot
+                ∙ ap (λ (q : ℕ). bodies.Ack (record { src = s; dst = d; sboot = 0; dboot = 0; seq = q })) number;
             signed = subst (λ (v : NodeId). is_among (arts.spell o.body) (signed es js v) ≡ true) signer
                 (good.known (subst (λ (v : NodeId). IsTrue (is_correct x v)) (sym signer) correct));
           }
       go (bodies.Prio m) body kind number = absurd kind
       go (bodies.Rel m) body kind number = absurd kind
       go (bodies.Weight m) body kind number = absurd kind
+      go (bodies.Krel m) body kind number = absurd kind
+      go (bodies.Kack m) body kind number = absurd kind
+      go (bodies.Epoch m) body kind number = absurd kind
 
 pub vouched : (arts : Arts) (x : Setting) (s d : NodeId) (es : List Event) (js : List Entry) → SettingFits arts x → is_node x s ≡ true → is_node x d ≡ true → IsTrue (is_correct x d)
     → (u : NodeId) (n : NodeState) → NodeIs x (Good arts x es js) u n → RelAck n.parts.rel → 1 ≤ (flow_at n s d).at.base → IsVouchedFor arts s d es js (flow_at n s d)

@@ -123,6 +123,9 @@ no_stored place id (bodies.Prio p) = record { last = λ edge end w. refl; each =
 no_stored place id (bodies.Rel r) = no_none
 no_stored place id (bodies.Ack a) = no_none
 no_stored place id (bodies.Weight u) = no_none
+no_stored place id (bodies.Krel u) = no_none
+no_stored place id (bodies.Kack u) = no_none
+no_stored place id (bodies.Epoch u) = no_none
 
 no_put : (place : ℕ) (s : Store) (o : Kept) → NoUpdates (rows.put_effects place s o)
 no_put place s o = no_both (rows.stored place (s.last + 1) o.body) (rows.gone place whys.Evicted (evicted s o)) (no_stored place (s.last + 1) o.body) (no_gone place whys.Evicted (evicted s o))
@@ -132,6 +135,9 @@ no_delivered (bodies.Prio p) = record { last = λ edge end w. refl; each = λ P.
 no_delivered (bodies.Rel r) = no_none
 no_delivered (bodies.Ack a) = no_none
 no_delivered (bodies.Weight u) = no_none
+no_delivered (bodies.Krel u) = no_none
+no_delivered (bodies.Kack u) = no_none
+no_delivered (bodies.Epoch u) = no_none
 
 no_prio : (p : PrioState) (o : Kept) (came : Option NodeId) → NoUpdates (prio_effects p o came)
 no_prio p o came = elim (cases_Bool (prio.is_here p o.body)) [
@@ -203,6 +209,9 @@ held_turns P s o at vouched h = record {
     same edge end w (bodies.Prio v) u e = absurd (cc)
     same edge end w (bodies.Rel v) u e = absurd (cc)
     same edge end w (bodies.Ack v) u e = absurd (cc)
+    same edge end w (bodies.Krel v) u e = absurd (cc)
+    same edge end w (bodies.Kack v) u e = absurd (cc)
+    same edge end w (bodies.Epoch v) u e = absurd (cc)
 
 offered : (me : NodeId) (s : WeightState) (body : Body) → offer_to me s body ≡ offers.New → offer_of s body ≡ offers.New
 offered me s (bodies.Weight u) e = go ((u.origin.0 == me.0) && nat_lt MAX_OWN_HEARD u.seq) e
@@ -213,6 +222,9 @@ offered me s (bodies.Weight u) e = go ((u.origin.0 == me.0) && nat_lt MAX_OWN_HE
 offered me s (bodies.Prio u) e = absurd (cc)
 offered me s (bodies.Rel u) e = absurd (cc)
 offered me s (bodies.Ack u) e = absurd (cc)
+offered me s (bodies.Krel u) e = absurd (cc)
+offered me s (bodies.Kack u) e = absurd (cc)
+offered me s (bodies.Epoch u) e = absurd (cc)
 
 -- the row of an own update is there
 own_at : (s : WeightState) (u : WeightBody) (row : ℕ) → row_for s.edges (bodies.Weight u) ≡ Some row → IsUpdateAt s (bodies.Weight u)

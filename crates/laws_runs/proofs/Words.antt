@@ -37,6 +37,7 @@ use Rattle.sp_runs.specs.Journals.{body_word, message_word, reply_word}
 use Rattle.sp_runs.specs.Runs.{InRange, is_hop, is_other}
 use Rattle.sp_runs.specs.Settings.{Setting, is_correct, is_node, is_one_of}
 use Rattle.sp_runs.specs.Worlds.{node_in}
+use Rattle.sp_schedule_crafts.specs.Objects.{body_of}
 use Rattle.sp_schedule_events.specs.declared.event.Event.{Event}
 use Rattle.sp_schedule_events.specs.declared.event.Event.TheVariants as events
 use Rattle.laws_runs.specs.Calls.{EachReplyHasWords, NeighboursAreAnswered}
@@ -183,6 +184,9 @@ inbox_words k last (e ∷ entries) all = of_kind e.kept.body (All-head (EntryHol
     of_kind (bodies.Rel r) is = absurd is
     of_kind (bodies.Ack a) is = absurd is
     of_kind (bodies.Weight w) is = absurd is
+    of_kind (bodies.Krel w) is = absurd is
+    of_kind (bodies.Kack w) is = absurd is
+    of_kind (bodies.Epoch w) is = absurd is
 
 -- ---- a datagram of a neighbour
 
@@ -262,8 +266,8 @@ each_reply_has_words arts x es js w fits carries run few e n after input output 
         arrived_words arts x n u (flipped far bit it.bytes) input output after number it.is (back u v there range.2) step
     go (events.Inject u v bytes) range there is =
         arrived_words arts x n u bytes input output after number (one_input (steps.Datagram u bytes) input is) (back u v there range.1) step
-    go (events.Craft c v key body) range there is =
-        crafted c v key body there range.1 (nat_lt (crafts es key) x.total) (crafted_frame arts n c (object_alone body (crafted_object arts x es key body))) is
+    go (events.Craft c v key object) range there is =
+        crafted c v key (body_of object) there range.1 (nat_lt (crafts es key) x.total) (crafted_frame arts n c (object_alone (body_of object) (crafted_object arts x es key (body_of object)))) is
     go (events.CraftStatus c v s d base have) range there is =
         let bytes = crafted_frame arts n c (slot_alone (record { src = s; dst = d }) base have None []) in
         arrived_words arts x n c bytes input output after number (one_input (steps.Datagram c bytes) input is) (back c v there range.1) step

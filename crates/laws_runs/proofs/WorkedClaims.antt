@@ -7,7 +7,7 @@ use Rattle.std.proofs.lemmas.List.Elements.{All-contains_itself, All-head}
 use Rattle.sp_base.specs.Reading.{number_at}
 use Rattle.sp_base.specs.declared.id.NodeId.{NodeId}
 use Rattle.sp_topology.specs.declared.topology.Edge.{Edge}
-use Rattle.sp_msg.specs.Bodies.{body_at, encoded, of_fields, read_body}
+use Rattle.sp_msg.specs.Bodies.{body_at_in, encoded, of_fields, read_body_in}
 use Rattle.sp_msg.specs.Fields.{field_at}
 use Rattle.sp_msg.specs.Views.{signer_of}
 use Rattle.sp_msg.specs.declared.kept.Kept.{Kept}
@@ -148,7 +148,7 @@ believed_said u = go (3 == u.0)
     go false = tt
 
 pub weights_are_worked : WeightsAreWorked
-unfolding ids read_body body_at number_at of_fields field_at
+unfolding ids read_body_in body_at_in number_at of_fields field_at
 weights_are_worked = record {
   all_of_it = refl;
   says = λ w n h at. h.effective_is (node 1) n 0 _ at refl;
@@ -183,7 +183,7 @@ says w u n k o h at there signer =
     elim (among_cons (encoded o.body) object [] known) [ inl same ↦ sym same | inr none ↦ wrong none ]
 
 pub signatures_are_worked : SignaturesAreWorked
-unfolding ids read_body body_at number_at of_fields field_at
+unfolding ids read_body_in body_at_in number_at of_fields field_at
 signatures_are_worked = record {
   says = says;
   is_good = refl;

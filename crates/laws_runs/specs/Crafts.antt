@@ -8,19 +8,20 @@ use Rattle.sp_runs.specs.Runs.{Clean, InRange, Turn, forged_in}
 use Rattle.sp_runs.specs.Settings.{Setting, SettingFits, is_correct, is_node}
 use Rattle.sp_runs.specs.Worlds.{World}
 use Rattle.sp_journal.specs.declared.entry.Entry.{Entry}
+use Rattle.sp_schedule_crafts.specs.Objects.{body_of}
 use Rattle.sp_schedule_events.specs.declared.event.Event.{Event}
 use Rattle.sp_schedule_events.specs.declared.event.Event.TheVariants as events
 use Rattle.laws_runs.specs.Premises.{Carries}
 
 -- a compromised node crafts a status, or an object whose signer by its own words is compromised, whatever key it is signed with
 abbrev pub NamesNoCorrectNode : Setting → Event → Type 0
-NamesNoCorrectNode x (events.Craft c v key body) = (is_correct x c ≡ false) × (is_correct x (signer_of body) ≡ false)
+NamesNoCorrectNode x (events.Craft c v key object) = (is_correct x c ≡ false) × (is_correct x (signer_of (body_of object)) ≡ false)
 NamesNoCorrectNode x (events.CraftStatus c v s d base have) = is_correct x c ≡ false
 NamesNoCorrectNode x _ = ⊥
 
 -- what is crafted is a message that the format has
 abbrev pub IsGoodCraft : Arts → Event → Type 0
-IsGoodCraft arts (events.Craft c v key body) = IsTrue (arts.is_good body)
+IsGoodCraft arts (events.Craft c v key object) = IsTrue (arts.is_good (body_of object))
 IsGoodCraft arts _ = Unit {0}
 
 -- signatures of every node's key have one length, and not only those of correct ones

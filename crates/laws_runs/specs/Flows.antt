@@ -44,7 +44,7 @@ flow_at n s d = flow_in n.parts.rel.flows (record { src = s; dst = d })
 pub record IsVouchedFor (arts : Arts) (s d : NodeId) (es : List Event) (js : List Entry) (f : FlowState) : Type 0 where
   pub ack : Kept
   pub kept : f.ack ≡ Some ack
-  pub body : ack.body ≡ bodies.Ack (record { src = s; dst = d; seq = f.at.base })
+  pub body : ack.body ≡ bodies.Ack (record { src = s; dst = d; sboot = 0; dboot = 0; seq = f.at.base })
   pub signed : is_among (arts.spell ack.body) (signed es js d) ≡ true
 
 -- d is correct

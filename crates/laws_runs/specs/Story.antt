@@ -2,7 +2,6 @@
 -- object where its signer signed it before.
 use Rattle.std.specs.Prelude.{ℕ, ◌≡◌, ◌+◌, Bool, true, false, List, [], ◌∷◌, ◌++◌, map, Option, None, Some}
 use Rattle.sp_base.specs.declared.id.NodeId.{NodeId}
-use Rattle.sp_msg.specs.declared.body.Body.TheVariants as bodies
 use Rattle.sp_rules.specs.Arrivals.{after_datagram}
 use Rattle.sp_rules.specs.Masks.{Mask, all_edges}
 use Rattle.sp_rules.specs.Node.{NodeState}
@@ -29,6 +28,7 @@ use Rattle.sp_journal.specs.declared.entry.ItemWord.TheVariants as items
 use Rattle.sp_journal.specs.declared.entry.LinkWord.TheVariants as links
 use Rattle.sp_journal.specs.declared.entry.Reply.{Reply}
 use Rattle.sp_journal.specs.declared.entry.Reply.TheVariants as replies
+use Rattle.sp_schedule_crafts.specs.declared.object.CraftedObject.TheVariants as crafted
 use Rattle.sp_schedule_events.specs.declared.event.Event.{Event}
 use Rattle.sp_schedule_events.specs.declared.event.Event.TheVariants as events
 use Rattle.laws_runs.specs.Acknowledged.{acknowledged}
@@ -145,7 +145,7 @@ told =
 
 -- compromised 2 crafts that message for 3 under the key of 1
 abbrev pub craft : Event
-craft = events.Craft (node 2) (node 3) (node 1) (bodies.Rel (record { src = node 1; dst = node 3; seq = 1; payload = 104 ∷ 105 ∷ [] }))
+craft = events.Craft (node 2) (node 3) (node 1) (crafted.Rel (record { src = node 1; dst = node 3; seq = 1; payload = 104 ∷ 105 ∷ [] }))
 
 -- its bytes
 abbrev pub object : List ℕ

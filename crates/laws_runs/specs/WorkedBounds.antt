@@ -21,7 +21,7 @@ use Rattle.laws_runs.specs.Story.{line}
 
 -- the message of this number from 1 to 3, and an entry of a store
 abbrev pub message : ℕ → Kept
-message q = record { body = bodies.Rel (record { src = node 1; dst = node 3; seq = q; payload = [] }); signature = [] }
+message q = record { body = bodies.Rel (record { src = node 1; dst = node 3; sboot = 0; dboot = 0; seq = q; payload = [] }); signature = [] }
 
 abbrev pub entry : Entry
 entry = record { id = 1; kept = message 1 }

@@ -137,7 +137,7 @@ signed_one = entry (replies.Accepted 1) (effects.Signed object ∷ []) ∷ []
 
 -- it, under this signature. That of a node is its id
 abbrev pub message : List ℕ → Kept
-message signature = record { body = bodies.Rel (record { src = node 1; dst = node 3; seq = 1; payload = hi }); signature = signature }
+message signature = record { body = bodies.Rel (record { src = node 1; dst = node 3; sboot = 0; dboot = 0; seq = 1; payload = hi }); signature = signature }
 
 abbrev pub flow : Flow
 flow = record { src = node 1; dst = node 3 }

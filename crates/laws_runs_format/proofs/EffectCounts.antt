@@ -78,6 +78,9 @@ module _ (p : Effect → Bool) (tells : TellsDeliveries p) where
   stored_none place id (bodies.Rel r) = refl
   stored_none place id (bodies.Ack a) = refl
   stored_none place id (bodies.Weight w) = refl
+  stored_none place id (bodies.Krel w) = refl
+  stored_none place id (bodies.Kack w) = refl
+  stored_none place id (bodies.Epoch w) = refl
 
   put_none : (place : ℕ) (s : Store) (o : Kept) → number (put_effects place s o) ≡ 0
   put_none place s o =
@@ -115,12 +118,18 @@ module _ (p : Effect → Bool) (tells : TellsDeliveries p) where
   weight_none (bodies.Prio q) = refl
   weight_none (bodies.Rel r) = refl
   weight_none (bodies.Ack a) = refl
+  weight_none (bodies.Krel a) = refl
+  weight_none (bodies.Kack a) = refl
+  weight_none (bodies.Epoch a) = refl
 
   delivered_one : (b : Body) → number (delivered b) ≤ 1
   delivered_one (bodies.Prio q) = one (effects.DeliveredPrio q.src q.seq q.payload)
   delivered_one (bodies.Rel r) = omega arith
   delivered_one (bodies.Ack a) = omega arith
   delivered_one (bodies.Weight w) = omega arith
+  delivered_one (bodies.Krel w) = omega arith
+  delivered_one (bodies.Kack w) = omega arith
+  delivered_one (bodies.Epoch w) = omega arith
 
   prio_one : (s : PrioState) (o : Kept) (came : Option NodeId) → number (prio_effects s o came) ≤ 1
   prio_one s o came = elim (cases_Bool (is_here s o.body)) [

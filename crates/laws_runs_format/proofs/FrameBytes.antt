@@ -13,6 +13,7 @@ use Rattle.sp_frame.specs.Sections.{Contents, sections_bytes}
 use Rattle.sp_frame.specs.Views.{as_list}
 use Rattle.sp_frame.specs.Weights.{weights_bytes}
 use Rattle.sp_frame.specs.declared.head.Head.{Head}
+use Rattle.sp_base.specs.declared.format.TheConstants.{FORMAT_1}
 use Rattle.sp_msg.specs.Bodies.{encoded, fields_of, kind_of, numbers_of, payload_of}
 use Rattle.sp_msg.specs.Fields.{Rule, size_of, spelled}
 use Rattle.sp_msg.specs.declared.body.Body.{Body}
@@ -35,16 +36,19 @@ small_kind (bodies.Prio p) = omega arith
 small_kind (bodies.Rel r) = omega arith
 small_kind (bodies.Ack a) = omega arith
 small_kind (bodies.Weight w) = omega arith
+small_kind (bodies.Krel w) = omega arith
+small_kind (bodies.Kack w) = omega arith
+small_kind (bodies.Epoch w) = omega arith
 
 body_in : (body : Body) → AreBytes (payload_of body) → AreBytes (encoded body)
 body_in body are =
-    one_first (kind_of body) (spelled (fields_of body) (numbers_of body) ++ payload_of body) (small_kind body)
-    (joined (spelled (fields_of body) (numbers_of body)) (payload_of body) (spelled_are (fields_of body) (numbers_of body)) are)
+    one_first (kind_of body) (spelled (fields_of FORMAT_1 body) (numbers_of body) ++ payload_of body) (small_kind body)
+    (joined (spelled (fields_of FORMAT_1 body) (numbers_of body)) (payload_of body) (spelled_are (fields_of FORMAT_1 body) (numbers_of body)) are)
 
 body_out : (body : Body) → AreBytes (encoded body) → AreBytes (payload_of body)
 body_out body are =
-    right (spelled (fields_of body) (numbers_of body)) (payload_of body)
-    (All-tail (λ (b : ℕ). b < 256) (kind_of body) (spelled (fields_of body) (numbers_of body) ++ payload_of body) are)
+    right (spelled (fields_of FORMAT_1 body) (numbers_of body)) (payload_of body)
+    (All-tail (λ (b : ℕ). b < 256) (kind_of body) (spelled (fields_of FORMAT_1 body) (numbers_of body) ++ payload_of body) are)
 
 object_in : (o : Kept) → IsOfBytes o → AreBytes (object_bytes o)
 unfolding object_bytes

@@ -15,16 +15,13 @@ use Rattle.sp_frame.specs.Sections.{Contents, sections_bytes}
 use Rattle.sp_frame.specs.Weights.{weights_bytes}
 use Rattle.sp_frame.specs.declared.kind.Kind.{Kind}
 use Rattle.sp_frame.specs.declared.kind.Kind.TheVariants as kinds
+use Rattle.sp_msg.proofs.GoodFields.{first_long}
 use Rattle.sp_msg.specs.Bodies.{HasGoodFields, encoded}
 use Rattle.sp_msg.specs.declared.body.Body.{Body}
-use Rattle.sp_msg.specs.declared.body.Body.TheVariants as bodies
 use Rattle.sp_msg.specs.declared.kept.Kept.{Kept}
 
 encoded_short : (body : Body) → HasGoodFields body → length (encoded body) ≤ 1100
-encoded_short (bodies.Prio p) good = let short : length p.payload ≤ 1024 = good.1.1.1.1.1.1.0.1 in omega (arith, short)
-encoded_short (bodies.Rel r) good = let short : length r.payload ≤ 1024 = good.1.1.1.0.1 in omega (arith, short)
-encoded_short (bodies.Ack a) good = omega arith
-encoded_short (bodies.Weight w) good = omega arith
+encoded_short body good = omega (arith, first_long body good)
 
 four_long : (a b c d : List ℕ) → length (a ++ b ++ c ++ d) ≡ length a + length b + length c + length d
 four_long a b c d = omega (arith, length-append (a ++ b ++ c) d, length-append (a ++ b) c, length-append a b)

@@ -7,6 +7,7 @@ use Rattle.sp_frame.proofs.SectionLemmas.{read_is_spelled, spelled_is_read}
 use Rattle.sp_frame.specs.Frames.{ends_bytes, head_bytes, numbers_bytes, sections_part, tagged_part}
 use Rattle.sp_frame.specs.Sections.{Contents, sections_bytes, sections_of}
 use Rattle.sp_frame.specs.declared.head.Head.{Head}
+use Rattle.sp_base.specs.declared.format.TheConstants.{FORMAT_1}
 use Rattle.sp_msg.proofs.EncodedIsRead.{whole_is_read}
 use Rattle.sp_hmac.proofs.Lengths.{length-hmac}
 use Rattle.sp_hmac.specs.Hmac.{hmac}
@@ -34,7 +35,7 @@ part_are bytes are = All-drop (λ (b : ℕ). b < 256) 33 (tagged_part bytes) (Al
 
 pub format_carries : FormatCarries
 format_carries = record {
-  bodies = λ body good. whole_is_read body (fields_are_good body good);
+  bodies = λ body good. whole_is_read FORMAT_1 body (fields_are_good body good);
   back = λ len h s key is good.
       let inner = head_bytes h ++ sections_bytes s in
       ap (sections_of len) (between h s (hmac key inner) (length-hmac key inner)) ∙ spelled_is_read len s is;

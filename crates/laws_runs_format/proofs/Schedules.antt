@@ -8,11 +8,14 @@ use Rattle.std.proofs.lemmas.List.{same_from_push}
 use Rattle.std.proofs.lemmas.List.Elements.{All-nil}
 use Rattle.std.proofs.lemmas.List.Sums.{length-filter, sum_by-cons}
 use Rattle.sp_base.specs.declared.id.NodeId.{NodeId}
-use Rattle.sp_msg.specs.declared.body.Body.{Body}
-use Rattle.sp_msg.specs.declared.body.Body.TheVariants as bodies
 use Rattle.sp_topology.specs.declared.topology.LmsHeight.{LmsHeight}
 use Rattle.sp_topology.specs.declared.topology.NodeKey.{NodeKey}
 use Rattle.sp_schedule.specs.Scenarios.{AreInRange, None_yet, One_more}
+use Rattle.sp_base.specs.declared.format.TheConstants.{FORMAT_1}
+use Rattle.sp_msg.proofs.GoodFields.{ack_is_good, low_mask, no_boot, prio_is_good, rel_is_good, weight_is_good}
+use Rattle.sp_msg.proofs.HalfLemmas.{of_two}
+use Rattle.sp_schedule_crafts.specs.declared.object.CraftedObject.{CraftedObject}
+use Rattle.sp_schedule_crafts.specs.declared.object.CraftedObject.TheVariants as crafted
 use Rattle.sp_schedule_events.specs.EventLines as lines
 use Rattle.sp_schedule_events.specs.Events as lined
 use Rattle.sp_schedule_events.specs.Scenarios as scenarios
@@ -115,8 +118,9 @@ polled_joins s es (One_more {before = before} e are is) a b some = elim (cases_B
 abbrev Lined : Scenario → List Event → Event → Type 0
 Lined s es e = lines.InRange s es e
 
-crafted : (s : Scenario) (es : List Event) (c v key : NodeId) (body : Body) → Lined s es (events.Craft c v key body) → InRange (setting_of s) es (events.Craft c v key body)
-crafted s es c v key (bodies.Rel r) is =
+crafted_in : (s : Scenario) (es : List Event) (c v key : NodeId) (object : CraftedObject) → Lined s es (events.Craft c v key object)
+    → InRange (setting_of s) es (events.Craft c v key object)
+crafted_in s es c v key (crafted.Rel r) is =
     let to = is.values.2 in
     let by = to.3 in
     let src = by.2 in
@@ -126,10 +130,11 @@ crafted s es c v key (bodies.Rel r) is =
       correct_is s v to.0 to.1 to.2,
       is.joined,
       node_is s key by.0 by.1,
-      ((src.0, src.1), ((dst.0, dst.1), ((seq.0, seq.1), ((omega arith, payload.1), tt)))),
+      rel_is_good FORMAT_1 (record { src = r.src; dst = r.dst; sboot = 0; dboot = 0; seq = r.seq; payload = r.payload })
+          (record { src = (src.0, src.1); dst = (dst.0, dst.1); sboot = no_boot; dboot = no_boot; seq = (seq.0, seq.1); payload = payload.1 }),
       payload.2,
     )
-crafted s es c v key (bodies.Ack a) is =
+crafted_in s es c v key (crafted.Ack a) is =
     let to = is.values.2 in
     let by = to.3 in
     let src = by.2 in
@@ -138,10 +143,11 @@ crafted s es c v key (bodies.Ack a) is =
       correct_is s v to.0 to.1 to.2,
       is.joined,
       node_is s key by.0 by.1,
-      ((src.0, src.1), ((dst.0, dst.1), ((seq.0, seq.1), tt))),
+      ack_is_good FORMAT_1 (record { src = a.src; dst = a.dst; sboot = 0; dboot = 0; seq = a.seq })
+          (record { src = (src.0, src.1); dst = (dst.0, dst.1); sboot = no_boot; dboot = no_boot; seq = (seq.0, seq.1) }),
       All-nil (λ (b : ℕ). b < 256),
     )
-crafted s es c v key (bodies.Prio p) is =
+crafted_in s es c v key (crafted.Prio p) is =
     let to = is.values.2 in
     let by = to.3 in
     let src = by.2 in
@@ -154,16 +160,20 @@ crafted s es c v key (bodies.Prio p) is =
       correct_is s v to.0 to.1 to.2,
       is.joined,
       node_is s key by.0 by.1,
-      (
-        (src.0, src.1),
-        (
-          (dst.0, dst.1),
-          ((seq.0, seq.1), ((prio.0, prio.1), (omega (arith, expiry.1), ((omega arith, omega (arith, mask.0)), ((omega arith, payload.1), tt))))),
-        ),
-      ),
+      prio_is_good FORMAT_1
+          (record { src = p.src; dst = p.dst; sboot = 0; seq = p.seq; prio = p.prio; expiry = p.expiry; mask = of_two 0 p.mask; payload = p.payload }) (record {
+            src = (src.0, src.1);
+            dst = (dst.0, dst.1);
+            sboot = no_boot;
+            seq = (seq.0, seq.1);
+            prio = (prio.0, prio.1);
+            expiry = omega (arith, expiry.1);
+            mask = low_mask p.mask mask.0;
+            payload = payload.1;
+          }),
       payload.2,
     )
-crafted s es c v key (bodies.Weight w) is =
+crafted_in s es c v key (crafted.Weight w) is =
     let to = is.values.2 in
     let by = to.3 in
     let origin = by.2 in
@@ -173,7 +183,7 @@ crafted s es c v key (bodies.Weight w) is =
       correct_is s v to.0 to.1 to.2,
       is.joined,
       node_is s key by.0 by.1,
-      ((origin.0, origin.1), ((edge.0, edge.1), ((seq.0, seq.1), ((weight.0, weight.1), tt)))),
+      weight_is_good FORMAT_1 w (record { origin = (origin.0, origin.1); edge = edge.1; seq = (seq.0, seq.1); weight = (weight.0, weight.1) }),
       All-nil (λ (b : ℕ). b < 256),
     )
 
@@ -248,7 +258,7 @@ in_range s es (events.CraftStatus c v a b base have) are is =
       omega (arith, low.1),
       omega (arith, high.1),
     )
-in_range s es (events.Craft c v key body) are is = crafted s es c v key body is
+in_range s es (events.Craft c v key object) are is = crafted_in s es c v key object is
 
 -- ---- one event of many
 

@@ -9,6 +9,7 @@ use Rattle.sp_runs.specs.Scenarios.{setting_of}
 use Rattle.sp_runs.specs.Worlds.{World}
 use Rattle.sp_runs.specs.declared.what.What.{What}
 use Rattle.sp_graph.specs.Edges.{IsGraph}
+use Rattle.sp_schedule_crafts.specs.Objects.{body_of}
 use Rattle.sp_schedule_events.specs.declared.event.Event.{Event}
 use Rattle.sp_schedule_events.specs.declared.event.Event.TheVariants as events
 use Rattle.sp_schedule_events.specs.declared.scenario.Scenario.{Scenario}
@@ -34,9 +35,9 @@ harmless : (s : Scenario) (es : List Event) (js : List Entry) (w : World) (event
     → Clean format (setting_of s) es js w → IsHarmless (setting_of s) event → IsHostile event → IsForgedAt format (setting_of s) es js w event what → ⊥
 harmless s es js w (events.Inject u v bytes) what good range run none hostile at =
     never _ what (no_frame_is_forged format (setting_of s) es js w at.new u v bytes at.entry none at.turn) at.is
-harmless s es js w (events.Craft c v key body) what good range run names hostile at =
-    never _ what (own_crafts_forge_nothing format (setting_of s) es js w (headers_fit s good) format_carries (signatures_are_long s) run (events.Craft c v key body) at.entry at.new range
-    (fields_pass body range.3) names at.turn) at.is
+harmless s es js w (events.Craft c v key object) what good range run names hostile at =
+    never _ what (own_crafts_forge_nothing format (setting_of s) es js w (headers_fit s good) format_carries (signatures_are_long s) run (events.Craft c v key object) at.entry at.new range
+    (fields_pass (body_of object) range.3) names at.turn) at.is
 harmless s es js w (events.CraftStatus c v a d base have) what good range run names hostile at =
     never _ what (own_crafts_forge_nothing format (setting_of s) es js w (headers_fit s good) format_carries (signatures_are_long s) run (events.CraftStatus c v a d base have) at.entry at.new range
     tt names at.turn) at.is

@@ -9,6 +9,7 @@ use Rattle.sp_msg.specs.Bodies.{encoded}
 use Rattle.sp_node_format.specs.Format.{format}
 use Rattle.sp_runs.specs.Inputs.{crafts, is_craft_of}
 use Rattle.sp_runs.specs.Scenarios.{node_seed, setting_of}
+use Rattle.sp_schedule_crafts.specs.Objects.{body_of}
 use Rattle.sp_schedule_events.specs.declared.event.Event.{Event}
 use Rattle.sp_schedule_events.specs.declared.event.Event.TheVariants as events
 use Rattle.sp_schedule_events.specs.declared.scenario.Scenario.{Scenario}
@@ -116,21 +117,21 @@ total_is : (s : Scenario) (es : List Event) (old : Crafters) → AreAfter s es o
 total_is s es old after = ap (λ (h : LmsHeight). total (param_of h)) after.height
 
 pub crafts_are_counted : CraftsAreCounted
-crafts_are_counted s es c v key body old new (Ok (answers.Signed o)) after crafted =
-    let e = events.Craft c v key body in
+crafts_are_counted s es c v key object old new (Ok (answers.Signed o)) after crafted =
+    let e = events.Craft c v key object in
     let all = total_is s es old after in
     let less = below (crafts es key) (most old) (subst (λ n. n < most old) (after.counted key) crafted.0) in
     let count : used old key ≡ crafts es key = after.counted key ∙ less.1 in (
       subst (λ n. crafts es key < n) all less.0,
       crafted.1
-          ∙ ap (λ (h : LmsHeight). record { body = body; signature = format.sign h (node_seed old.seed key.0) (used old key) (encoded body) }) after.height
-          ∙ ap (λ (seed : List ℕ). record { body = body; signature = format.sign s.height (node_seed seed key.0) (used old key) (encoded body) }) after.seed
-          ∙ ap (λ (n : ℕ). record { body = body; signature = format.sign s.height (node_seed s.seed key.0) n (encoded body) }) count,
+          ∙ ap (λ (h : LmsHeight). record { body = body_of object; signature = format.sign h (node_seed old.seed key.0) (used old key) (encoded (body_of object)) }) after.height
+          ∙ ap (λ (seed : List ℕ). record { body = body_of object; signature = format.sign s.height (node_seed seed key.0) (used old key) (encoded (body_of object)) }) after.seed
+          ∙ ap (λ (n : ℕ). record { body = body_of object; signature = format.sign s.height (node_seed s.seed key.0) n (encoded (body_of object)) }) count,
       subst (AreAfter s (es ++ e ∷ [])) (sym crafted.2) (signed_on s es e key old (λ k. refl) after less.0),
     )
-crafts_are_counted s es c v key body old new (Ok (answers.Spent spent)) after crafted =
-    let e = events.Craft c v key body in
+crafts_are_counted s es c v key object old new (Ok (answers.Spent spent)) after crafted =
+    let e = events.Craft c v key object in
     let all = total_is s es old after in
     let above = at_most (crafts es key) (most old) (sym (after.counted key) ∙ crafted.0) in
     (subst (λ n. n ≤ crafts es key) all above, crafted.1 ∙ all, subst (AreAfter s (es ++ e ∷ [])) (sym crafted.2) (spent_on s es e key old (λ k. refl) after above))
-crafts_are_counted s es c v key body old new (Err refused) after crafted = subst (AreAfter s es) (sym crafted) after
+crafts_are_counted s es c v key object old new (Err refused) after crafted = subst (AreAfter s es) (sym crafted) after

@@ -2,10 +2,11 @@
 use Rattle.std.specs.Prelude.{◌≡◌, ◌<◌, ◌≤◌, ◌++◌, false, List, [], ◌∷◌, Result, Ok, Err}
 use Rattle.sp_base.specs.declared.id.NodeId.{NodeId}
 use Rattle.sp_base.specs.declared.memory.Memory.{Memory}
-use Rattle.sp_msg.specs.declared.body.Body.{Body}
 use Rattle.sp_node_format.specs.Format.{format}
 use Rattle.sp_runs.specs.Inputs.{crafted_object, crafts, is_craft_of}
 use Rattle.sp_runs.specs.Scenarios.{setting_of}
+use Rattle.sp_schedule_crafts.specs.Objects.{body_of}
+use Rattle.sp_schedule_crafts.specs.declared.object.CraftedObject.{CraftedObject}
 use Rattle.sp_schedule_events.specs.declared.event.Event.{Event}
 use Rattle.sp_schedule_events.specs.declared.event.Event.TheVariants as events
 use Rattle.sp_schedule_events.specs.declared.scenario.Scenario.{Scenario}
@@ -19,20 +20,20 @@ abbrev pub NothingIsCrafted : Type 0
 NothingIsCrafted = (s : Scenario) → AreAfter s [] (no_crafts s)
 
 -- what a call answered to a craft after these events, and what it left: the object of the run, or that the run's signer is spent
-abbrev pub AnswersCraft : (s : Scenario) (es : List Event) (c v key : NodeId) (body : Body) → Result Crafted Memory → Crafters → Type 0
-AnswersCraft s es c v key body (Ok (answers.Signed object)) new =
+abbrev pub AnswersCraft : (s : Scenario) (es : List Event) (c v key : NodeId) (object : CraftedObject) → Result Crafted Memory → Crafters → Type 0
+AnswersCraft s es c v key object (Ok (answers.Signed signed)) new =
     (crafts es key < (setting_of s).total)
-    × (object ≡ crafted_object format (setting_of s) es key body)
-    × AreAfter s (es ++ events.Craft c v key body ∷ []) new
-AnswersCraft s es c v key body (Ok (answers.Spent total)) new =
+    × (signed ≡ crafted_object format (setting_of s) es key (body_of object))
+    × AreAfter s (es ++ events.Craft c v key object ∷ []) new
+AnswersCraft s es c v key object (Ok (answers.Spent total)) new =
     ((setting_of s).total ≤ crafts es key)
     × (total ≡ (setting_of s).total)
-    × AreAfter s (es ++ events.Craft c v key body ∷ []) new
-AnswersCraft s es c v key body (Err refused) new = AreAfter s es new
+    × AreAfter s (es ++ events.Craft c v key object ∷ []) new
+AnswersCraft s es c v key object (Err refused) new = AreAfter s es new
 
 abbrev pub CraftsAreCounted : Type 0
-CraftsAreCounted = (s : Scenario) (es : List Event) (c v key : NodeId) (body : Body) (old new : Crafters) (result : Result Crafted Memory)
-    → AreAfter s es old → Crafts old key body result new → AnswersCraft s es c v key body result new
+CraftsAreCounted = (s : Scenario) (es : List Event) (c v key : NodeId) (object : CraftedObject) (old new : Crafters) (result : Result Crafted Memory)
+    → AreAfter s es old → Crafts old key (body_of object) result new → AnswersCraft s es c v key object result new
 
 -- an event that crafts no object changes nothing
 abbrev pub OthersCraftNothing : Type 0

@@ -70,7 +70,7 @@ pub fn status_frame(
     Ok(frame)
 }
 
-/// The bytes of a frame with one message, with zeros in the place of its tag.
+/// The bytes of a frame with one message in its section, with zeros in the place of its tag.
 fn with_object(alloc: Global, head: &Head, object: &Kept) -> Result<Bytes, Memory>
     requires { IsWritable object.now }
     ensures { IfOk result (λ bytes. bytes ≡ frame_bytes head.now (object_alone object.now.body object.now) (replicate 32 0)) }
@@ -92,6 +92,7 @@ fn with_object(alloc: Global, head: &Head, object: &Kept) -> Result<Bytes, Memor
             };
             in_slot(alloc, head, flow, None, Four::new().with(object))
         }
+        _ => write(alloc, head, None, 0, &Four::new(), None),
     }
 }
 

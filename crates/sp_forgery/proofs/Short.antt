@@ -6,9 +6,9 @@ use Rattle.std.proofs.lemmas.Option.{same_Some}
 use Rattle.sp_base.specs.Spelling.{AreBytes}
 use Rattle.sp_base.specs.declared.id.NodeId.{NodeId}
 use Rattle.sp_journal.specs.declared.entry.Entry.{Entry}
+use Rattle.sp_msg.proofs.GoodFields.{first_long}
 use Rattle.sp_msg.specs.Bodies.{HasGoodFields, encoded}
 use Rattle.sp_msg.specs.declared.body.Body.{Body}
-use Rattle.sp_msg.specs.declared.body.Body.TheVariants as bodies
 use Rattle.sp_msg.specs.declared.kept.Kept.{Kept}
 use Rattle.sp_node_format.specs.Format.{format}
 use Rattle.sp_rules.specs.Arrivals.{handled}
@@ -21,10 +21,7 @@ use Rattle.sp_world_steps.proofs.Objects.{IsGood, handled_are}
 use Rattle.sp_forgery.specs.declared.judging.TheConstants.{MAX_MESSAGE_BYTES}
 
 body_is_short : (body : Body) → HasGoodFields body → length (encoded body) ≤ MAX_MESSAGE_BYTES
-body_is_short (bodies.Prio p) good = let short : length p.payload ≤ 1024 = good.1.1.1.1.1.1.0.1 in omega (arith, short)
-body_is_short (bodies.Rel r) good = let short : length r.payload ≤ 1024 = good.1.1.1.0.1 in omega (arith, short)
-body_is_short (bodies.Ack a) good = omega arith
-body_is_short (bodies.Weight w) good = omega arith
+body_is_short body good = omega (arith, first_long body good)
 
 module _ (x : Setting) (es : List Event) (js : List Entry) where
   found_is_short : (answered : List (Kept × Item)) (body : List ℕ) → All IsGood (map (λ a. a.0) answered) → forged_object format x es js answered ≡ Some body

@@ -1,11 +1,12 @@
 -- How long a message is.
-use Rattle.std.proofs.Common.{◌≡◌, ◌+◌, ◌<◌, ◌≤◌, ℕ, List, [], ◌∷◌, ◌∙◌, ap, drop, map, length, length-append, Option, None, Some, refl, arith}
+use Rattle.std.proofs.Common.{◌≡◌, ◌+◌, ◌<◌, ℕ, List, [], ◌∷◌, ◌∙◌, ap, drop, map, length, length-append, Option, None, Some, refl, arith}
 use Rattle.std.specs.List.{flat_map, slice_get}
 use Rattle.byteorder.specs.Endian.{big_bytes}
 use Rattle.byteorder.specs.Numbers.{length-bytes_high_first}
 use Rattle.sp_frame.specs.Grammar.{counted_bytes}
 use Rattle.sp_base.proofs.FewLemmas.{drop_first}
 use Rattle.sp_msg.specs.Bodies.{HasGoodFields, encoded}
+use Rattle.sp_msg.proofs.GoodFields.{first_long}
 use Rattle.sp_msg.specs.declared.kept.Kept.{Kept}
 use Rattle.sp_frame.specs.Frames.{ends_bytes, head_bytes, numbers_bytes}
 use Rattle.sp_frame.specs.Objects.{object_bytes}
@@ -15,14 +16,10 @@ use Rattle.sp_frame.specs.Views.{as_list}
 use Rattle.sp_frame.specs.declared.head.Head.{Head}
 use Rattle.sp_frame.specs.Weights.{weights_bytes}
 use Rattle.sp_msg.specs.declared.body.Body.{Body}
-use Rattle.sp_msg.specs.declared.body.Body.TheVariants as bodies
 
 -- the length of a message has room in two bytes
 pub encoded_fits : (body : Body) → HasGoodFields body → length (encoded body) < 65536
-encoded_fits (bodies.Prio p) good = let short : length p.payload ≤ 1024 = good.1.1.1.1.1.1.0.1 in omega (arith, short)
-encoded_fits (bodies.Rel r) good = let short : length r.payload ≤ 1024 = good.1.1.1.0.1 in omega (arith, short)
-encoded_fits (bodies.Ack a) good = omega arith
-encoded_fits (bodies.Weight w) good = omega arith
+encoded_fits body good = omega (arith, first_long body good)
 
 -- a message with its lengths and its signature
 pub object_long : (o : Kept) → length (object_bytes o) ≡ 2 + length (encoded o.body) + 2 + length o.signature

@@ -4,6 +4,7 @@ use Rattle.std.proofs.lemmas.Bool.{cases_Bool, eqb-true}
 use Rattle.std.proofs.lemmas.Bool.Decides.{nat_tests}
 use Rattle.byteorder.specs.Endian.{big_bytes}
 use Rattle.sp_base.specs.Refusals.{◌>>=◌}
+use Rattle.sp_base.specs.declared.format.TheConstants.{FORMAT_1}
 use Rattle.sp_base.specs.Spelling.{AreBytes}
 use Rattle.sp_base.proofs.RefusalLemmas.{then_ok}
 use Rattle.sp_msg.specs.Bodies.{encoded, read_body}
@@ -35,7 +36,7 @@ pieces_back kind len o rest good =
     let signed : piece len (o.signature ++ rest) ≡ Ok (o.signature, rest) = ap (λ n. piece n (o.signature ++ rest)) (sym good.long) ∙ piece_is_back o.signature rest in
     rw ((number_fit 2).back (length (encoded o.body)) (encoded o.body ++ (big_bytes 2 len ++ (o.signature ++ rest))) (encoded_fits o.body good.fields))
     (rw (piece_is_back (encoded o.body) (big_bytes 2 len ++ (o.signature ++ rest)))
-    (rw (whole_is_read o.body good.fields) (rw good.is (rw (length_back len (o.signature ++ rest) good.fits) (rw signed refl)))))
+    (rw (whole_is_read FORMAT_1 o.body good.fields) (rw good.is (rw (length_back len (o.signature ++ rest) good.fits) (rw signed refl)))))
 
 pub in_pieces : (a b c d rest : List ℕ) → (a ++ b ++ c ++ d) ++ rest ≡ a ++ (b ++ (c ++ (d ++ rest)))
 in_pieces a b c d rest = append_assoc (a ++ b ++ c) d rest ∙ append_assoc (a ++ b) c (d ++ rest) ∙ append_assoc a b (c ++ (d ++ rest))
@@ -97,7 +98,7 @@ put_together : (kind : Kind) (len size : ℕ) (bytes one two three : List ℕ) (
     → Begins piece_read.1 (big_bytes 2 len) three → len < 65536 → IsPiece len three signature
     → IsRead kind len bytes (record { body = body; signature = signature.0 }, signature.1)
 put_together kind len size bytes one two three found signature body first second read is third fits fourth =
-    let message = read_is_encoded found.0 body second.are_bytes read in
+    let message = read_is_encoded FORMAT_1 found.0 body second.are_bytes read in
     let body_is : Begins one (encoded body) found.1 = subst (λ bs. Begins one bs found.1) message.0 second.begins in
     let size_is : Begins bytes (big_bytes 2 (length (encoded body))) one =
     subst (λ n. Begins bytes (big_bytes 2 n) one) (sym second.count ∙ ap length message.0) first in

@@ -10,7 +10,7 @@ ghost use Rattle.sp_frame.specs.Weights.{weights_bytes};
 ghost use Rattle.sp_frame.specs.Writing.{IsWritable, IsWritableSlot, out_report};
 
 use crate::OutSlot;
-use sp_base::Four;
+use sp_base::{FORMAT_1, Four};
 use sp_msg::{Kept, encoded_len};
 
 /// The bytes of a count or a flag.
@@ -107,5 +107,8 @@ fn object_len(object: &Kept) -> usize
     ensures exact { result ≡ length (object_bytes object.now) }
     ensures few { result ≤ 131_074 }
 {
-    LENGTH_BYTES + encoded_len(&object.body) + LENGTH_BYTES + object.signature.as_slice().len()
+    LENGTH_BYTES
+        + encoded_len(&object.body, FORMAT_1)
+        + LENGTH_BYTES
+        + object.signature.as_slice().len()
 }

@@ -12,7 +12,9 @@ ghost use Rattle.sp_frame.specs.Writing.{IsWritable, IsWritableSlot, out_report}
 use crate::Head;
 use crate::frame::{HEAD_BYTES, NAME, TAG_BYTES, VERSION};
 use crate::lengths::{PRIO_ACK_BYTES, prios_len, slot_len, weight_len};
-use sp_base::{Bytes, Flow, Four, Memory, push_bytes, push_u8, push_u16, push_u32, push_u64};
+use sp_base::{
+    Bytes, FORMAT_1, Flow, Four, Memory, push_bytes, push_u8, push_u16, push_u32, push_u64,
+};
 use sp_msg::{Kept, encoded_len, push_body};
 use std::alloc::Global;
 
@@ -232,8 +234,8 @@ fn push_object(out: &mut Vec<u8>, object: &Kept)
     ensures len { vec_len out.new ≡ vec_len out.old + length (object_bytes object.now) }
     ensures capacity { vec_capacity out.old ≤ vec_capacity out.new }
 {
-    push_u16(out, encoded_len(&object.body) as u16);
-    let Ok(()) = push_body(out, &object.body) else {
+    push_u16(out, encoded_len(&object.body, FORMAT_1) as u16);
+    let Ok(()) = push_body(out, &object.body, FORMAT_1) else {
         unreachable!()
     };
     let signature = object.signature.as_slice();

@@ -3,7 +3,7 @@ use Rattle.std.specs.Prelude.{ℕ, List, [], ◌∷◌, ◌++◌, replicate}
 use Rattle.std.specs.List.{flat_map, range_with_len}
 use Rattle.byteorder.specs.Endian.{big_bytes}
 use Rattle.sp_base.specs.declared.id.NodeId.{NodeId}
-use Rattle.sp_msg.specs.declared.body.Body.TheVariants as bodies
+use Rattle.sp_schedule_crafts.specs.declared.object.CraftedObject.TheVariants as objects
 use Rattle.sp_topology.specs.declared.topology.Edge.{Edge}
 use Rattle.sp_topology.specs.declared.topology.LmsHeight.TheVariants.{Five}
 use Rattle.sp_schedule_events.specs.declared.event.Event.{Event}
@@ -53,7 +53,7 @@ by_priority number turn =
 -- a frame of 4 for its neighbour v with a message of 4 to 6 that a node signed
 abbrev pub crafted : ℕ → ℕ → ℕ → Event
 crafted number v key =
-    events.Craft (node 4) (node v) (node key) (bodies.Rel (record { src = node 4; dst = node 6; seq = 1; payload = payload number 1 }))
+    events.Craft (node 4) (node v) (node key) (objects.Rel (record { src = node 4; dst = node 6; seq = 1; payload = payload number 1 }))
 
 -- what the compromised nodes send: a message of 4 under its own key, the same under the key of 8, and two bytes that are no frame
 abbrev pub hostile : ℕ → List Event

@@ -6,7 +6,7 @@ ghost use Rattle.sp_generate.specs.Generated.{both_ways, by_priority, generated_
 ghost use Rattle.sp_schedule_events.specs.declared.event.Event.TheVariants as variants;
 
 use sp_base::{Bytes, Memory, NodeId, push};
-use sp_msg::{Body, Rel};
+use sp_schedule_crafts::{CraftedObject, CraftedRel};
 use sp_schedule_events::Event;
 use std::alloc::Global;
 
@@ -136,7 +136,7 @@ fn push_crafted(
 ) -> Result<(), Memory>
     ensures { OnOk result (events.new.items ≡ events.old.items ++ made.crafted number v.0 key.0 ∷ []) }
 {
-    let body = Body::Rel(Rel {
+    let object = CraftedObject::Rel(CraftedRel {
         src: NodeId(4),
         dst: NodeId(6),
         seq: 1,
@@ -146,7 +146,7 @@ fn push_crafted(
         c: NodeId(4),
         v,
         key,
-        body,
+        object,
     };
     push(events, event)
 }

@@ -1,8 +1,9 @@
 // The edges of a path as a mask, and whether a node sends along an edge of a mask.
-ghost use Rattle.std.specs.Prelude.{◌≡◌, ◌≢◌, ◌≤◌, ◌↔◌, IsTrue, Some, length, position};
-ghost use Rattle.sp_base.specs.declared.limits.TheConstants.{MAX_EDGES};
+ghost use Rattle.std.specs.Prelude.{◌≡◌, ◌≢◌, ◌<◌, ◌≤◌, ◌↔◌, IfSome, IsTrue, Some, length, position};
+ghost use Rattle.sp_base.specs.declared.limits.TheConstants.{MAX_EDGES_2};
 ghost use Rattle.sp_graph.specs.Edges.{IsGraph};
 ghost use Rattle.sp_graph.specs.Masks.{Forwards, IsMaskOf, mask_at};
+ghost use Rattle.sp_msg.specs.Masks.{bits};
 ghost use Rattle.sp_graph.specs.Walks.{is_between};
 
 use crate::Graph;
@@ -14,13 +15,13 @@ impl Graph {
     /// The edges along which the path goes, whichever way. It takes no memory.
     pub fn mask_of(&self, path: &[NodeId]) -> Mask
         requires { IsGraph self.now }
-        ensures { IsMaskOf self.now path.now result }
+        ensures { IsMaskOf self.now path.now (bits result) }
     {
         let edges = self.edges.as_slice();
-        let mut mask = 0;
+        let mut mask = Mask::none();
         let mut rest = path;
         'steps: while rest.len() >= 2 {
-            mask |= mask_between(edges, rest[0], rest[1]);
+            mask = mask.with(mask_between(edges, rest[0], rest[1]));
             rest = &rest[1..];
         }
         mask
@@ -29,18 +30,19 @@ impl Graph {
 
 /// The mask of the edge between two nodes, and of no edge where there is none.
 fn mask_between(edges: &[Edge], u: NodeId, v: NodeId) -> Mask
-    requires { length edges.now ≤ MAX_EDGES }
-    ensures { result ≡ mask_at (position (is_between u v) edges.now) }
+    requires { length edges.now ≤ MAX_EDGES_2 }
+    ensures { bits result ≡ mask_at (position (is_between u v) edges.now) }
 {
     match place_between(edges, u, v) {
-        Some(place) => 1 << place,
-        None => 0,
+        Some(place) => Mask::of(EdgeId(place as u16)),
+        None => Mask::none(),
     }
 }
 
 /// Where the edge between two nodes stands. None exactly where there is none.
 fn place_between(edges: &[Edge], u: NodeId, v: NodeId) -> Option<usize>
-    ensures { result ≡ position (is_between u v) edges.now }
+    ensures place { result ≡ position (is_between u v) edges.now }
+    ensures within { IfSome result (λ place. place < length edges.now) }
 {
     edges.iter().position(|edge| is_between(u, v, edge))
 }
@@ -55,7 +57,7 @@ fn is_between(u: NodeId, v: NodeId, edge: &Edge) -> bool
 /// Whether a node sends along an edge what came from another node, or from none: the mask has the edge, the node is an end of it, and
 /// the other end isn't where it came from. False where the number is that of no edge. It takes no memory.
 pub fn forwards(graph: &Graph, mask: Mask, node: NodeId, edge: EdgeId, came: Option<NodeId>) -> bool
-    ensures { IsTrue result ↔ Forwards graph.now mask node edge came }
+    ensures { IsTrue result ↔ Forwards graph.now (bits mask) node edge came }
 {
     let Some(joins) = graph.edges.as_slice().get(usize::from(edge.0)) else {
         return false;

@@ -1,6 +1,6 @@
 -- Every table of fields has one spelling.
-use Rattle.std.proofs.Common.{◌≡◌, ℕ, ◌<◌, ◌≤◌, ◌^◌, ◌&&◌, true, inl, inr, List, [], ◌∷◌, ◌++◌, append_assoc, Result, Ok, Err, if◌then◌else◌, refl, sym, ap, ◌∙◌, subst, arith}
-use Rattle.std.specs.Prelude.{nat_le}
+use Rattle.std.proofs.Common.{◌≡◌, ℕ, ◌<◌, ◌≤◌, ◌^◌, ◌&&◌, true, false, inl, inr, List, [], ◌∷◌, ◌++◌, length, append_assoc, Result, Ok, Err, if◌then◌else◌, refl, sym, ap, ◌∙◌, subst, arith}
+use Rattle.std.specs.Prelude.{nat_le, nat_lt}
 use Rattle.std.proofs.lemmas.Bool.{and_parts, cases_Bool}
 use Rattle.std.proofs.lemmas.Bool.Decides.{nat_tests}
 use Rattle.byteorder.specs.Endian.{big_bytes}
@@ -13,6 +13,11 @@ use Rattle.sp_msg.specs.declared.refused.Field.{Field}
 use Rattle.sp_msg.specs.declared.refused.MsgRefused.{MsgRefused}
 use Rattle.sp_msg.specs.declared.refused.MsgRefused.TheVariants as refusals
 use Rattle.sp_msg.specs.Fields.{AreInRange, HasRoom, HaveRoom, IsInRange, Rule, field_at, fields_at, free, ranged, size_of, spelled}
+
+-- a number of no bytes is 0, and takes none
+pub no_bytes : (bytes : List ℕ) → number_at 0 bytes ≡ Ok (0, bytes)
+unfolding number_at
+no_bytes bytes = let none : nat_lt (length bytes) 0 ≡ false = grind (arith, nat_tests) in rw none refl
 
 -- ---- what is spelled is read
 

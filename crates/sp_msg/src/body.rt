@@ -1,4 +1,4 @@
-// The four kinds of messages, as values of their own and as borrowed from the bytes that spell them.
+// The kinds of messages, as values of their own and as borrowed from the bytes that spell them.
 ghost use Rattle.std.specs.Prelude.{◌≡◌};
 ghost use Rattle.sp_msg.specs.Views.{as_body, signer_of};
 
@@ -14,11 +14,19 @@ pub(crate) const ACK: u8 = 3;
 
 pub(crate) const WEIGHT: u8 = 4;
 
+pub(crate) const KREL: u8 = 5;
+
+pub(crate) const KACK: u8 = 6;
+
+pub(crate) const EPOCH: u8 = 7;
+
 /// A priority message. It is dropped after its expiry, and it goes over the edges of its mask.
 #[derive(Debug, Drop)]
 pub struct Prio {
     pub src: NodeId,
     pub dst: NodeId,
+    /// The boot of the source, 0 in format 1.
+    pub sboot: u64,
     /// The source's own count of its priority messages, from 1 on.
     pub seq: u64,
     /// 1 to 10, and 10 goes first.
@@ -34,6 +42,9 @@ pub struct Prio {
 pub struct Rel {
     pub src: NodeId,
     pub dst: NodeId,
+    /// The boots of the ends, 0 in format 1.
+    pub sboot: u64,
+    pub dboot: u64,
     pub seq: u64,
     pub payload: Bytes,
 }
@@ -43,6 +54,9 @@ pub struct Rel {
 pub struct Ack {
     pub src: NodeId,
     pub dst: NodeId,
+    /// The boots of the ends, 0 in format 1.
+    pub sboot: u64,
+    pub dboot: u64,
     pub seq: u64,
 }
 
@@ -55,6 +69,36 @@ pub struct WeightBody {
     pub weight: u32,
 }
 
+/// A K-path message: the one of this number in the K-path flow from its source to its destination. It goes over the edges of its mask.
+/// Format 2 alone has it.
+#[derive(Debug, Drop)]
+pub struct Krel {
+    pub src: NodeId,
+    pub dst: NodeId,
+    pub sboot: u64,
+    pub dboot: u64,
+    pub seq: u64,
+    pub mask: Mask,
+    pub payload: Bytes,
+}
+
+/// A receipt: the destination has the K-path flow's messages up to this number. Format 2 alone has it.
+#[derive(Clone, Copy, Debug, PartialEq, Eq)]
+pub struct Kack {
+    pub src: NodeId,
+    pub dst: NodeId,
+    pub sboot: u64,
+    pub dboot: u64,
+    pub seq: u64,
+}
+
+/// What a node says of its boot. Format 2 alone has it.
+#[derive(Clone, Copy, Debug, PartialEq, Eq)]
+pub struct Epoch {
+    pub origin: NodeId,
+    pub boot: u64,
+}
+
 /// A message without its signature.
 #[derive(Debug, Drop)]
 pub enum Body {
@@ -62,6 +106,9 @@ pub enum Body {
     Rel(Rel),
     Ack(Ack),
     Weight(WeightBody),
+    Krel(Krel),
+    Kack(Kack),
+    Epoch(Epoch),
 }
 
 /// A priority message whose payload is borrowed.
@@ -69,6 +116,7 @@ pub enum Body {
 pub struct PrioRef<'a> {
     pub src: NodeId,
     pub dst: NodeId,
+    pub sboot: u64,
     pub seq: u64,
     pub prio: u8,
     pub expiry: u64,
@@ -81,7 +129,21 @@ pub struct PrioRef<'a> {
 pub struct RelRef<'a> {
     pub src: NodeId,
     pub dst: NodeId,
+    pub sboot: u64,
+    pub dboot: u64,
     pub seq: u64,
+    pub payload: &'a [u8],
+}
+
+/// A K-path message whose payload is borrowed.
+#[derive(Clone, Copy, Debug)]
+pub struct KrelRef<'a> {
+    pub src: NodeId,
+    pub dst: NodeId,
+    pub sboot: u64,
+    pub dboot: u64,
+    pub seq: u64,
+    pub mask: Mask,
     pub payload: &'a [u8],
 }
 
@@ -92,6 +154,9 @@ pub enum BodyRef<'a> {
     Rel(RelRef<'a>),
     Ack(Ack),
     Weight(WeightBody),
+    Krel(KrelRef<'a>),
+    Kack(Kack),
+    Epoch(Epoch),
 }
 
 impl Body {
@@ -103,6 +168,7 @@ impl Body {
             Body::Prio(prio) => BodyRef::Prio(PrioRef {
                 src: prio.src,
                 dst: prio.dst,
+                sboot: prio.sboot,
                 seq: prio.seq,
                 prio: prio.prio,
                 expiry: prio.expiry,
@@ -112,17 +178,30 @@ impl Body {
             Body::Rel(rel) => BodyRef::Rel(RelRef {
                 src: rel.src,
                 dst: rel.dst,
+                sboot: rel.sboot,
+                dboot: rel.dboot,
                 seq: rel.seq,
                 payload: rel.payload.as_slice(),
             }),
             Body::Ack(ack) => BodyRef::Ack(*ack),
             Body::Weight(weight) => BodyRef::Weight(*weight),
+            Body::Krel(krel) => BodyRef::Krel(KrelRef {
+                src: krel.src,
+                dst: krel.dst,
+                sboot: krel.sboot,
+                dboot: krel.dboot,
+                seq: krel.seq,
+                mask: krel.mask,
+                payload: krel.payload.as_slice(),
+            }),
+            Body::Kack(kack) => BodyRef::Kack(*kack),
+            Body::Epoch(epoch) => BodyRef::Epoch(*epoch),
         }
     }
 }
 
-/// The node whose signature a message bears: the source of a priority or reliable message, the destination
-/// of an acknowledgement, and the origin of a weight.
+/// The node whose signature a message bears: the source of a priority, reliable or K-path message, the destination
+/// of an acknowledgement or a receipt, and the origin of a weight or a boot.
 pub fn signer(body: &BodyRef<'_>) -> NodeId
     ensures { result ≡ signer_of (as_body body.now) }
 {
@@ -131,5 +210,8 @@ pub fn signer(body: &BodyRef<'_>) -> NodeId
         BodyRef::Rel(rel) => rel.src,
         BodyRef::Ack(ack) => ack.dst,
         BodyRef::Weight(weight) => weight.origin,
+        BodyRef::Krel(krel) => krel.src,
+        BodyRef::Kack(kack) => kack.dst,
+        BodyRef::Epoch(epoch) => epoch.origin,
     }
 }

@@ -2,7 +2,7 @@
 ghost use Rattle.std.specs.Prelude.{◌≡◌, IfErr, IfOk};
 ghost use Rattle.sp_msg.specs.Views.{as_body};
 
-use crate::{Body, BodyRef, MsgRefused, Prio, Rel};
+use crate::{Body, BodyRef, Krel, MsgRefused, Prio, Rel};
 use sp_base::Bytes;
 use std::alloc::Global;
 
@@ -43,6 +43,7 @@ fn copied(alloc: Global, body: &BodyRef<'_>) -> Result<Body, MsgRefused>
         BodyRef::Prio(prio) => Body::Prio(Prio {
             src: prio.src,
             dst: prio.dst,
+            sboot: prio.sboot,
             seq: prio.seq,
             prio: prio.prio,
             expiry: prio.expiry,
@@ -52,10 +53,23 @@ fn copied(alloc: Global, body: &BodyRef<'_>) -> Result<Body, MsgRefused>
         BodyRef::Rel(rel) => Body::Rel(Rel {
             src: rel.src,
             dst: rel.dst,
+            sboot: rel.sboot,
+            dboot: rel.dboot,
             seq: rel.seq,
             payload: Bytes::copy(alloc, rel.payload)?,
         }),
         BodyRef::Ack(ack) => Body::Ack(*ack),
         BodyRef::Weight(weight) => Body::Weight(*weight),
+        BodyRef::Krel(krel) => Body::Krel(Krel {
+            src: krel.src,
+            dst: krel.dst,
+            sboot: krel.sboot,
+            dboot: krel.dboot,
+            seq: krel.seq,
+            mask: krel.mask,
+            payload: Bytes::copy(alloc, krel.payload)?,
+        }),
+        BodyRef::Kack(kack) => Body::Kack(*kack),
+        BodyRef::Epoch(epoch) => Body::Epoch(*epoch),
     })
 }

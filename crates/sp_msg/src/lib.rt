@@ -10,9 +10,11 @@ mod mask;
 mod read;
 mod refused;
 
-pub use body::{Ack, Body, BodyRef, Prio, PrioRef, Rel, RelRef, WeightBody, signer};
+pub use body::{
+    Ack, Body, BodyRef, Epoch, Kack, Krel, KrelRef, Prio, PrioRef, Rel, RelRef, WeightBody, signer,
+};
 pub use effect::{Effect, Effects, Why};
-pub use encoding::{encode, encoded_len, push_body};
+pub use encoding::{encode, encode_in, encoded_len, push_body};
 pub use kept::{Kept, keep};
 pub use laws::a_body_has_one_spelling;
 pub use mask::{Mask, mask_has};

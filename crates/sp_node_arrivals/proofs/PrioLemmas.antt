@@ -117,6 +117,9 @@ judged_by_peers s peers (bodies.Prio p) now new = new
 judged_by_peers s peers (bodies.Rel m) now new = new
 judged_by_peers s peers (bodies.Ack m) now new = new
 judged_by_peers s peers (bodies.Weight m) now new = new
+judged_by_peers s peers (bodies.Krel m) now new = new
+judged_by_peers s peers (bodies.Kack m) now new = new
+judged_by_peers s peers (bodies.Epoch m) now new = new
 
 -- ---- an acknowledged link number
 
@@ -189,6 +192,9 @@ marked_judged s of from (bodies.Prio p) now new =
 marked_judged s of from (bodies.Rel m) now new = new
 marked_judged s of from (bodies.Ack m) now new = new
 marked_judged s of from (bodies.Weight m) now new = new
+marked_judged s of from (bodies.Krel m) now new = new
+marked_judged s of from (bodies.Kack m) now new = new
+marked_judged s of from (bodies.Epoch m) now new = new
 
 given_goes : (body : Body) (came : Option NodeId) (kept : Kept) (from : Option NodeId) (q : PrioPeer)
     → goes_to body came (rows.given kept from q) ≡ goes_to body came q
@@ -220,12 +226,18 @@ admitted_follows s kept from = go (is_here s kept.body)
     judged_here (bodies.Rel m) now new = new
     judged_here (bodies.Ack m) now new = new
     judged_here (bodies.Weight m) now new = new
+    judged_here (bodies.Krel m) now new = new
+    judged_here (bodies.Kack m) now new = new
+    judged_here (bodies.Epoch m) now new = new
 
     judged_there : (body : Body) (now : ℕ) → judge_prio there body now ≡ prios.New → judge_prio s body now ≡ prios.New
     judged_there (bodies.Prio p) now new = marked_judged s kept.body from (bodies.Prio p) now new
     judged_there (bodies.Rel m) now new = new
     judged_there (bodies.Ack m) now new = new
     judged_there (bodies.Weight m) now new = new
+    judged_there (bodies.Krel m) now new = new
+    judged_there (bodies.Kack m) now new = new
+    judged_there (bodies.Epoch m) now new = new
 
     go : (t : Bool) → Follows s (cond t here there)
     go true = record { places = λ body came. refl; judged = judged_here; peers = refl }

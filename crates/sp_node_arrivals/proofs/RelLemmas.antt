@@ -108,6 +108,9 @@ may_have_been moved r k flow f (bodies.Rel m) more new =
 may_have_been moved r k flow f (bodies.Prio m) more new = absurd (cc)
 may_have_been moved r k flow f (bodies.Ack m) more new = absurd (cc)
 may_have_been moved r k flow f (bodies.Weight m) more new = absurd (cc)
+may_have_been moved r k flow f (bodies.Krel m) more new = absurd (cc)
+may_have_been moved r k flow f (bodies.Kack m) more new = absurd (cc)
+may_have_been moved r k flow f (bodies.Epoch m) more new = absurd (cc)
 
 seat_after : (r : RelState) (k flow : Flow) (f : FlowState) (ready : Option (Kept × List ℕ × SeatState)) → ends f ≡ k → f.active ≡ true
     → IfSome ready (λ m. IsSeated r flow m.2) → IfSome ready (λ m. IsSeated (with_flow r k f) flow m.2)

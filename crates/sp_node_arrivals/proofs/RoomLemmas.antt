@@ -36,6 +36,9 @@ weight_few (bodies.Prio p) = omega arith
 weight_few (bodies.Rel r) = omega arith
 weight_few (bodies.Ack a) = omega arith
 weight_few (bodies.Weight w) = omega arith
+weight_few (bodies.Krel w) = omega arith
+weight_few (bodies.Kack w) = omega arith
+weight_few (bodies.Epoch w) = omega arith
 
 pub weight_room : (answer : WeightAnswer) (o : Kept) (p : Parts) → length (weight_handled answer o p).effects ≤ 1
 weight_room answer o p = where_few (is_new (items.Weight answer)) (weight_effects o.body) 1 (weight_few o.body)
@@ -49,12 +52,18 @@ stored_few place id (bodies.Prio p) = omega arith
 stored_few place id (bodies.Rel r) = omega arith
 stored_few place id (bodies.Ack a) = omega arith
 stored_few place id (bodies.Weight w) = omega arith
+stored_few place id (bodies.Krel w) = omega arith
+stored_few place id (bodies.Kack w) = omega arith
+stored_few place id (bodies.Epoch w) = omega arith
 
 delivered_few : (body : Body) → length (delivered body) ≤ 1
 delivered_few (bodies.Prio p) = omega arith
 delivered_few (bodies.Rel r) = omega arith
 delivered_few (bodies.Ack a) = omega arith
 delivered_few (bodies.Weight w) = omega arith
+delivered_few (bodies.Krel w) = omega arith
+delivered_few (bodies.Kack w) = omega arith
+delivered_few (bodies.Epoch w) = omega arith
 
 given_all : (kept : Kept) (came : Option NodeId) (peers : List PrioPeer) → length (flat_map (given_effects kept came) peers) ≤ 2 * length peers
 given_all kept came [] = omega arith

@@ -1,12 +1,12 @@
 // The acknowledgement of a slot: whether it may be new, its copy with the memory of its flow, and its taking.
-ghost use Rattle.std.specs.Prelude.{◌≡◌, ◌≤◌, ◌+◌, [], ◌∷◌, IfOk, IfSome, is_some, map, option_map};
+ghost use Rattle.std.specs.Prelude.{◌≡◌, ◌≢◌, ◌≤◌, ◌+◌, [], ◌∷◌, Bool, false, IfOk, IfSome, is_some, map, option_map};
 ghost use Rattle.sp_frame.specs.Views.{as_list, as_object};
 ghost use Rattle.sp_msg.specs.Bodies.{HasGoodFields};
 ghost use Rattle.sp_msg.specs.Caused.{Caused};
 ghost use Rattle.sp_msg.specs.Views.{as_body};
 ghost use Rattle.sp_rel.specs.Places.{IsPlace};
 ghost use Rattle.sp_rel.specs.Seated.{IsSeated};
-ghost use Rattle.sp_rules.specs.Answers.{ack_answer};
+ghost use Rattle.sp_rules.specs.Answers.{ack_answer, is_new};
 ghost use Rattle.sp_rules.specs.Handle.{ack_handled, handle_all};
 ghost use Rattle.sp_rules.specs.Pieces.{AckPiece};
 ghost use Rattle.sp_rules.specs.Rel.{judge_ack_of};
@@ -123,16 +123,27 @@ fn take(
     ensures parts { parts.new ≡ (ack_handled result (as_object object.now) parts.old).parts }
     ensures place { IsPlace parts.new.rel.flows row }
 {
-    match judge(parts, row, &object.body) {
+    let judged = judge(parts, row, &object.body);
+    let AckJudged::New = judged else {
+        return refusal(judged);
+    };
+    let Some((kept, seat)) = ready else {
+        return AckAnswer::BadSig;
+    };
+    parts.rel.admit_ack(kept, row, seat);
+    AckAnswer::New
+}
+
+/// The answer to an acknowledgement that isn't new, whether its signature is right or not.
+fn refusal(judged: AckJudged) -> AckAnswer
+    requires { judged ≢ AckJudged.New }
+    ensures answer { (right : Bool) → result ≡ ack_answer right judged }
+    ensures quiet { is_new (Item.Ack result) ≡ false }
+{
+    match judged {
         AckJudged::BadEnd => AckAnswer::BadEnd,
         AckJudged::Old => AckAnswer::Old,
         AckJudged::Ahead => AckAnswer::Ahead,
-        AckJudged::New => {
-            let Some((kept, seat)) = ready else {
-                return AckAnswer::BadSig;
-            };
-            parts.rel.admit_ack(kept, row, seat);
-            AckAnswer::New
-        }
+        AckJudged::New => unreachable!(),
     }
 }

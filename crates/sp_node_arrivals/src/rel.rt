@@ -1,12 +1,12 @@
 // The reliable messages of a slot: whether each may be new, its copy with the memory of its flow, and its taking.
-ghost use Rattle.std.specs.Prelude.{◌≡◌, ◌≤◌, ◌+◌, ◌-◌, [], ◌∷◌, false, IfOk, IfSome, drop, is_some, length, map};
+ghost use Rattle.std.specs.Prelude.{◌≡◌, ◌≢◌, ◌≤◌, ◌+◌, ◌-◌, [], ◌∷◌, Bool, false, IfOk, IfSome, drop, is_some, length, map};
 ghost use Rattle.sp_base.specs.declared.limits.TheConstants.{MAX_MESSAGES};
 ghost use Rattle.sp_frame.specs.Views.{as_object};
 ghost use Rattle.sp_msg.specs.Bodies.{HasGoodFields, payload_of};
 ghost use Rattle.sp_msg.specs.Views.{as_body};
 ghost use Rattle.sp_rel.specs.Places.{IsPlace};
 ghost use Rattle.sp_rel.specs.Seated.{IsSeated};
-ghost use Rattle.sp_rules.specs.Answers.{rel_answer};
+ghost use Rattle.sp_rules.specs.Answers.{is_new, rel_answer};
 ghost use Rattle.sp_rules.specs.Handle.{handle_all, rel_handled};
 ghost use Rattle.sp_rules.specs.Pieces.{RelPiece};
 ghost use Rattle.sp_rules.specs.Rel.{judge_rel_of};
@@ -173,7 +173,8 @@ fn payload_of(alloc: Global, body: &BodyRef<'_>) -> Result<Bytes, Memory>
     let payload = match body {
         BodyRef::Prio(prio) => prio.payload,
         BodyRef::Rel(rel) => rel.payload,
-        BodyRef::Ack(_) | BodyRef::Weight(_) => &[],
+        BodyRef::Krel(krel) => krel.payload,
+        BodyRef::Ack(_) | BodyRef::Weight(_) | BodyRef::Kack(_) | BodyRef::Epoch(_) => &[],
     };
     Bytes::copy(alloc, payload)
 }
@@ -197,19 +198,30 @@ fn take(
     ensures told { out.new ≡ told out.old (rel_handled result (as_object object.now) parts.old).effects }
     ensures place { IsPlace parts.new.rel.flows row }
 {
-    match judge(parts, row, &object.body) {
+    let judged = judge(parts, row, &object.body);
+    let RelJudged::New = judged else {
+        return refusal(judged);
+    };
+    let Some((kept, payload, seat)) = ready else {
+        return RelAnswer::BadSig;
+    };
+    parts.rel.admit_rel(kept, payload, row, seat, out);
+    RelAnswer::New
+}
+
+/// The answer to a message that isn't new, whether its signature is right or not.
+fn refusal(judged: RelJudged) -> RelAnswer
+    requires { judged ≢ RelJudged.New }
+    ensures answer { (right : Bool) → result ≡ rel_answer right judged }
+    ensures quiet { is_new (Item.Rel result) ≡ false }
+{
+    match judged {
         RelJudged::BadEnd => RelAnswer::BadEnd,
         RelJudged::Old => RelAnswer::Old,
         RelJudged::Ahead => RelAnswer::Ahead,
         RelJudged::Gap => RelAnswer::Gap,
         RelJudged::Full => RelAnswer::Full,
         RelJudged::InboxFull => RelAnswer::InboxFull,
-        RelJudged::New => {
-            let Some((kept, payload, seat)) = ready else {
-                return RelAnswer::BadSig;
-            };
-            parts.rel.admit_rel(kept, payload, row, seat, out);
-            RelAnswer::New
-        }
+        RelJudged::New => unreachable!(),
     }
 }

@@ -2,7 +2,8 @@
 use Rattle.std.proofs.Common.{◌≡◌, ℕ, Bool, true, false, List, [], ◌∷◌, refl, arith}
 use Rattle.std.specs.Prelude.{◌&&◌, nat_le, IsTrue}
 use Rattle.std.proofs.lemmas.Bool.Decides.{nat_tests}
-use Rattle.sp_msg.specs.Bodies.{HasGoodFields, fields_of, numbers_of}
+use Rattle.sp_base.specs.declared.format.TheConstants.{FORMAT_1}
+use Rattle.sp_msg.specs.Bodies.{HasGoodFields, fields_of, has_kind, numbers_of}
 use Rattle.sp_msg.specs.Fields.{AreInRange, IsInRange, Rule, free, ranged}
 use Rattle.sp_msg.specs.declared.body.Body.{Body}
 use Rattle.sp_node_format.specs.FormatLaws.{GoodIsInRange}
@@ -12,6 +13,9 @@ both : (a b : Bool) → (a && b) ≡ true → (a ≡ true) × (b ≡ true)
 both true true e = (refl, refl)
 both true false e = absurd (cc)
 both false b e = absurd (cc)
+
+both_back : (a b : Bool) → a ≡ true → b ≡ true → (a && b) ≡ true
+both_back a b p q = rw (p, q) refl
 
 passes : (r : Rule) (x : ℕ) → IsInRange r x → is_in_range r x ≡ true
 passes (ranged name size low high) x h =
@@ -42,11 +46,13 @@ are_ranged (r ∷ rs) [] e = absurd (cc)
 
 pub fields_pass : (body : Body) → HasGoodFields body → IsTrue (has_good_fields body)
 unfolding has_good_fields
-fields_pass body h = all_pass (fields_of body) (numbers_of body) h
+fields_pass body h = both_back (has_kind FORMAT_1 body) (are_in_range (fields_of FORMAT_1 body) (numbers_of body)) h.0 (all_pass (fields_of FORMAT_1 body) (numbers_of body) h.1)
 
 pub fields_are_good : (body : Body) → IsTrue (has_good_fields body) → HasGoodFields body
 unfolding has_good_fields
-fields_are_good body e = are_ranged (fields_of body) (numbers_of body) e
+fields_are_good body e =
+    let h = both (has_kind FORMAT_1 body) (are_in_range (fields_of FORMAT_1 body) (numbers_of body)) e in
+    (h.0, are_ranged (fields_of FORMAT_1 body) (numbers_of body) h.1)
 
 pub good_is_in_range : GoodIsInRange
 good_is_in_range body = (fields_are_good body, fields_pass body)

@@ -26,9 +26,9 @@ use Rattle.sp_frame.specs.declared.head.Head.{Head}
 use Rattle.sp_frame.specs.declared.kind.Kind.{Kind}
 use Rattle.sp_frame.specs.declared.kind.Kind.TheVariants as kinds
 use Rattle.sp_hmac.specs.Hmac.{block_hmac, hmac}
+use Rattle.sp_msg.proofs.GoodFields.{first_long}
 use Rattle.sp_msg.specs.Bodies.{HasGoodFields, encoded}
 use Rattle.sp_msg.specs.declared.body.Body.{Body}
-use Rattle.sp_msg.specs.declared.body.Body.TheVariants as bodies
 use Rattle.sp_msg.specs.declared.kept.Kept.{Kept}
 use Rattle.sp_rules.specs.Link.{new_link, next_head}
 use Rattle.sp_rules.specs.Node.{NodeState, is_link, is_neighbour, link_in}
@@ -45,10 +45,7 @@ signatures_are_short heights.Five = omega arith
 signatures_are_short heights.Ten = omega arith
 
 body_len : (body : Body) → HasGoodFields body → length (encoded body) ≤ 1062
-body_len (bodies.Prio p) good = let short : length p.payload ≤ 1024 = good.1.1.1.1.1.1.0.1 in omega (arith, short)
-body_len (bodies.Rel r) good = let short : length r.payload ≤ 1024 = good.1.1.1.0.1 in omega (arith, short)
-body_len (bodies.Ack a) good = omega arith
-body_len (bodies.Weight w) good = omega arith
+body_len body good = omega (arith, first_long body good)
 
 four : (a b c d : List ℕ) → length (a ++ b ++ c ++ d) ≡ length a + length b + length c + length d
 four a b c d =

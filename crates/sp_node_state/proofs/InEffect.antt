@@ -2,6 +2,8 @@
 use Rattle.std.proofs.Common.{◌≡◌, ◌≤◌, ℕ, zero, suc, ◌+◌, ◌*◌, List, [], ◌∷◌, arith}
 use Rattle.std.specs.Prelude.{Option, Some, None, IfSome, slice_get}
 use Rattle.sp_base.specs.declared.limits.TheConstants.{MAX_WEIGHT}
+use Rattle.sp_base.specs.declared.format.TheConstants.{FORMAT_1}
+use Rattle.sp_msg.proofs.GoodFields.{good_weight}
 use Rattle.sp_msg.specs.Bodies.{HasGoodFields}
 use Rattle.sp_msg.specs.declared.body.Body.{Body}
 use Rattle.sp_msg.specs.declared.body.Body.TheVariants as bodies
@@ -14,10 +16,13 @@ use Rattle.laws_node.specs.Sizes.{Sizes}
 use Rattle.laws_node.specs.Updates.{UpdateHolds, WeightsHold}
 
 said_small : (body : Body) → HasGoodFields body → weight_said body ≤ MAX_WEIGHT
-said_small (bodies.Weight u) good = omega (arith, good)
+said_small (bodies.Weight u) good = (good_weight FORMAT_1 u good).weight.1
 said_small (bodies.Prio p) good = omega arith
 said_small (bodies.Rel r) good = omega arith
 said_small (bodies.Ack a) good = omega arith
+said_small (bodies.Krel a) good = omega arith
+said_small (bodies.Kack a) good = omega arith
+said_small (bodies.Epoch a) good = omega arith
 
 held_small : (k : Sizes) (index row : ℕ) (held : Option Kept) → IfSome held (UpdateHolds k index row) → weight_of held ≤ MAX_WEIGHT
 held_small k index row None holds = omega arith

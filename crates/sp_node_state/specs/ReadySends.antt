@@ -1,5 +1,7 @@
 -- What is ready before a send changes anything.
-use Rattle.std.specs.Prelude.{ℕ, ◌≡◌, ◌<◌, ◌+◌, ◌*◌, ◌^◌, [], All, None, Result, Ok, Err, length}
+use Rattle.std.specs.Prelude.{◌≡◌, ◌<◌, ◌+◌, ◌*◌, ◌^◌, [], All, None, Result, Ok, Err, length}
+use Rattle.sp_msg.specs.Masks.{bits}
+use Rattle.sp_msg.specs.declared.mask.Mask.{Mask as EdgeSet}
 use Rattle.sp_msg.specs.declared.refused.SendRefused.{SendRefused}
 use Rattle.sp_msg.specs.declared.refused.SendRefused.TheVariants as refusals
 use Rattle.sp_prio.specs.Spare.{IsSpareOf}
@@ -35,8 +37,8 @@ pub record IsReadyUpdate (n : NodeState) (ready : ReadyUpdate) : Type 0 where
 -- ---- a priority message
 
 -- how the search for its edges ends: with those of a choice that the rules leave, with fewer paths, or for want of memory
-abbrev pub IsMaskFor : NodeState → PrioSend → Result ℕ SendRefused → Type 0
-IsMaskFor n m (Ok mask) = IsChoice (graph_of n.fixed.topology n.parts.weights) n.fixed.me m.dst m.paths (Mask mask)
+abbrev pub IsMaskFor : NodeState → PrioSend → Result EdgeSet SendRefused → Type 0
+IsMaskFor n m (Ok mask) = IsChoice (graph_of n.fixed.topology n.parts.weights) n.fixed.me m.dst m.paths (Mask (bits mask))
 IsMaskFor n m (Err (refusals.NoPaths found)) = IsChoice (graph_of n.fixed.topology n.parts.weights) n.fixed.me m.dst m.paths (OnlyPaths found)
 IsMaskFor n m (Err refused) = refused ≡ refusals.Memory
 

@@ -6,12 +6,13 @@ ghost use Rattle.laws_node.specs.Nodes.{IsKept};
 ghost use Rattle.sp_node_format.specs.Format.{format};
 ghost use Rattle.sp_routes.specs.Fewer.{SaysFewer};
 ghost use Rattle.sp_msg.specs.Bodies.{HasGoodFields};
+ghost use Rattle.sp_msg.specs.Masks.{bits, of_halves};
 ghost use Rattle.sp_node_state.specs.Sends.{Sends};
 ghost use Rattle.sp_rules.specs.Messages.{as_send};
 ghost use Rattle.sp_node_state.specs.ReadySends.{IsMaskFor, IsReadyPrio};
 ghost use Rattle.sp_paths.specs.declared.limits.TheConstants.{MAX_PATHS};
 ghost use Rattle.sp_prio.specs.Spare.{IsSpareFor};
-ghost use Rattle.sp_rules.specs.Masks.{IsChoice, Mask, graph_of};
+ghost use Rattle.sp_rules.specs.Masks.{IsChoice, Mask as Over, graph_of};
 ghost use Rattle.sp_rules.specs.Node.{signed_now, signed_once};
 ghost use Rattle.sp_rules.specs.Parts.{nodes_of};
 ghost use Rattle.sp_rules.specs.Prio.{admit_prio, is_node, places, prio_effects};
@@ -116,15 +117,30 @@ fn prio_body(
     message: &PrioSend<'_>,
     mask: Mask,
 ) -> Result<Body, Memory>
-    ensures { IfOk result (λ body. body ≡ prio_body state.entry.now (as_send message.now) mask) }
+    ensures { IfOk result (λ body. body ≡ prio_body state.entry.now (as_send message.now) (bits mask)) }
+{
+    prio_over(state, alloc, message, mask.high, mask.low)
+}
+
+/// The same, the edges by the halves of their mask.
+#[tactic(auto, using(sp_msg::proofs::HalfLemmas::mask_back))]
+fn prio_over(
+    state: &State,
+    alloc: Global,
+    message: &PrioSend<'_>,
+    high: u128,
+    low: u128,
+) -> Result<Body, Memory>
+    ensures { IfOk result (λ body. body ≡ prio_body state.entry.now (as_send message.now) (of_halves high low)) }
 {
     Ok(Body::Prio(Prio {
         src: state.fixed.me,
         dst: message.dst,
+        sboot: 0,
         seq: next_number(state),
         prio: message.prio,
         expiry: message.expiry,
-        mask,
+        mask: Mask { low, high },
         payload: Bytes::copy(alloc, message.payload)?,
     }))
 }
@@ -141,7 +157,7 @@ fn ready_prio(
     requires free { prio_refusal state.now (as_send message.now) ≡ Nothing }
     requires mask { IsMaskFor state.now (as_send message.now) (Ok mask) }
     ensures ready { IfOk result (IsReadyPrio state.entry.now) }
-    ensures body { IfOk result (λ ready. ready.blank.kept.body ≡ prio_body state.entry.now (as_send message.now) mask) }
+    ensures body { IfOk result (λ ready. ready.blank.kept.body ≡ prio_body state.entry.now (as_send message.now) (bits mask)) }
 {
     let body = prio_body(state, alloc, message, mask)?;
     let blank = state.blank(alloc, body)?;
@@ -191,7 +207,7 @@ fn choose(
     requires to { is_node (nodes_of fixed.now.topology) message.now.dst.0 ≡ true }
     requires other { fixed.now.me ≢ message.now.dst }
     requires few { message.now.paths ≤ MAX_PATHS }
-    ensures mask { IfOk result (λ mask. IsChoice (graph_of fixed.now.topology core.now.weights) fixed.now.me message.now.dst message.now.paths (Mask mask)) }
+    ensures mask { IfOk result (λ mask. IsChoice (graph_of fixed.now.topology core.now.weights) fixed.now.me message.now.dst message.now.paths (Over (bits mask))) }
     ensures fewer { IfErr result (SaysFewer (graph_of fixed.now.topology core.now.weights) fixed.now.me message.now.dst message.now.paths) }
 {
     mask_to(

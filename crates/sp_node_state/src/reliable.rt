@@ -81,6 +81,8 @@ fn rel_body(
     Ok(Body::Rel(Rel {
         src: state.fixed.me,
         dst,
+        sboot: 0,
+        dboot: 0,
         seq: number,
         payload: Bytes::copy(alloc, payload)?,
     }))

@@ -132,6 +132,9 @@ stored_few place id (bodies.Prio p) = omega arith
 stored_few place id (bodies.Rel r) = omega arith
 stored_few place id (bodies.Ack a) = omega arith
 stored_few place id (bodies.Weight w) = omega arith
+stored_few place id (bodies.Krel w) = omega arith
+stored_few place id (bodies.Kack w) = omega arith
+stored_few place id (bodies.Epoch w) = omega arith
 
 gone_few : (place : ℕ) (why : Why) (e : Option Entry) → length (gone place why e) ≤ 1
 gone_few place why None = omega arith

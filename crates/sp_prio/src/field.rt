@@ -2,6 +2,7 @@
 ghost use Rattle.std.specs.Prelude.{◌≡◌, ◌≤◌};
 ghost use Rattle.sp_base.specs.declared.limits.TheConstants.{MAX_SEQ};
 ghost use Rattle.sp_msg.specs.Bodies.{HasGoodFields};
+ghost use Rattle.sp_msg.specs.Masks.{bits};
 ghost use Rattle.sp_rules.specs.Prio.{next_after_own};
 ghost use Rattle.sp_rules.specs.Store.{said};
 
@@ -41,11 +42,11 @@ pub fn seq_of(body: &Body) -> u64
 
 /// The edges over which it may go.
 pub fn mask_of(body: &Body) -> Mask
-    ensures { result ≡ said (λ p. p.mask) body.now }
+    ensures { bits result ≡ said (λ p. bits p.mask) body.now }
 {
     match body {
         Body::Prio(prio) => prio.mask,
-        _ => 0,
+        _ => Mask::none(),
     }
 }
 

@@ -1,6 +1,7 @@
 // What the priority part keeps of one neighbour: what waits for it, and what is in flight.
 ghost use Rattle.std.specs.Prelude.{◌≡◌, ◌<◌, ◌≤◌, ◌+◌, ◌-◌, ◌^◌, IfOk, length, map};
 ghost use Rattle.sp_base.specs.declared.limits.TheConstants.{MAX_MESSAGES};
+ghost use Rattle.sp_msg.specs.Masks.{bits};
 ghost use Rattle.sp_rules.specs.Polls.{as_message};
 ghost use Rattle.sp_rules.specs.Prio.{is_peer};
 ghost use Rattle.sp_rules.specs.PrioPeer.{acked, acked_effects, carried, expired, expired_effects, filled, goes_to, heard, new_peer, next_prios, put_effects};
@@ -78,7 +79,7 @@ impl Peer {
 
     /// The same by the mask alone.
     pub fn goes_along(&self, mask: &Mask, came: Option<NodeId>) -> bool
-        ensures { result ≡ goes_along mask.now came self.now }
+        ensures { result ≡ goes_along (bits mask.now) came self.now }
     {
         let back = match came {
             Some(from) => from.0 == self.id.0,

@@ -4,6 +4,7 @@ ghost use Rattle.std.specs.Prelude.{count_by, if◌then◌else◌, length, map, 
 ghost use Rattle.std.specs.List.{flat_map};
 ghost use Rattle.sp_rules.specs.Prio.{is_peer};
 ghost use Rattle.sp_rules.specs.PrioPeer.{expired, expired_effects, given, given_effects, goes_to, new_peer};
+ghost use Rattle.sp_msg.specs.Masks.{bits};
 ghost use Rattle.sp_msg.specs.declared.kept.Kept.{Kept};
 ghost use Rattle.sp_prio.specs.Given.{IsGiven, goes_along};
 ghost use Rattle.sp_prio.specs.Parcel.{AreBeside};
@@ -75,12 +76,12 @@ fn give(
     copies: &mut Vec<Kept>,
     out: &mut Effects,
 )
-    requires enough { (if goes_along mask.now came peer.old then 1 else 0) ≤ length copies.old.items }
+    requires enough { (if goes_along (bits mask.now) came peer.old then 1 else 0) ≤ length copies.old.items }
     requires last { peer.old.store.last < 2 ^ 63 }
     requires room { 2 ≤ out.old.room }
-    ensures given { (kept : Kept) → mask.now ≡ said (λ p. p.mask) kept.body → copies.old.items ≡ replicate (length copies.old.items) kept
+    ensures given { (kept : Kept) → bits mask.now ≡ said (λ p. bits p.mask) kept.body → copies.old.items ≡ replicate (length copies.old.items) kept
         → IsGiven kept came peer.old peer.new copies.new.items out.old out.new }
-    ensures fewer { length copies.new.items + (if goes_along mask.now came peer.old then 1 else 0) ≡ length copies.old.items }
+    ensures fewer { length copies.new.items + (if goes_along (bits mask.now) came peer.old then 1 else 0) ≡ length copies.old.items }
 {
     if !peer.goes_along(mask, came) {
         return;

@@ -60,9 +60,9 @@ impl PrioTable {
         ensures { IfOk result (λ table. table ≡ start me.0 nodes.now neighbours.now store) }
     {
         let nodes = Vec::from_slice(alloc, nodes)?;
-        let inbox = Store::new(alloc, store)?;
-        let peers = peers_of(alloc, neighbours, store)?;
         let windows = windows_of(alloc, nodes.len())?;
+        let peers = peers_of(alloc, neighbours, store)?;
+        let inbox = Store::new(alloc, store)?;
         Ok(PrioTable {
             me,
             nodes,

@@ -14,6 +14,9 @@ ack_flow r flow (bodies.Ack a) new = same_flow r flow a.src a.dst (new_ack r flo
 ack_flow r flow (bodies.Prio m) new = absurd (cc)
 ack_flow r flow (bodies.Rel m) new = absurd (cc)
 ack_flow r flow (bodies.Weight m) new = absurd (cc)
+ack_flow r flow (bodies.Krel m) new = absurd (cc)
+ack_flow r flow (bodies.Kack m) new = absurd (cc)
+ack_flow r flow (bodies.Epoch m) new = absurd (cc)
 
 pub ack_again : (r : RelState) (flow : Flow) (body : Body) → judge_ack_of r flow body ≡ acks.New → judge_ack_of r (flow_said body) body ≡ acks.New
 ack_again r flow body new = subst (λ (f : Flow). judge_ack_of r f body ≡ acks.New) (ack_flow r flow body new) new
@@ -23,6 +26,9 @@ rel_flow r flow (bodies.Rel m) new = same_flow r flow m.src m.dst (new_rel r flo
 rel_flow r flow (bodies.Prio m) new = absurd (cc)
 rel_flow r flow (bodies.Ack m) new = absurd (cc)
 rel_flow r flow (bodies.Weight m) new = absurd (cc)
+rel_flow r flow (bodies.Krel m) new = absurd (cc)
+rel_flow r flow (bodies.Kack m) new = absurd (cc)
+rel_flow r flow (bodies.Epoch m) new = absurd (cc)
 
 pub rel_again : (r : RelState) (flow : Flow) (body : Body) → judge_rel_of r flow body ≡ rels.New → judge_rel_of r (flow_said body) body ≡ rels.New
 rel_again r flow body new = subst (λ (f : Flow). judge_rel_of r f body ≡ rels.New) (rel_flow r flow body new) new

@@ -105,6 +105,8 @@ impl RelTable {
         Some(Ack {
             src: flow.src,
             dst: flow.dst,
+            sboot: 0,
+            dboot: 0,
             seq: self.flows.numbers(place).have,
         })
     }

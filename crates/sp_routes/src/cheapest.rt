@@ -1,10 +1,11 @@
 // The edges of the cheapest paths that share no node.
 ghost use Rattle.std.specs.Prelude.{◌≤◌, IfErr, IfOk};
 ghost use Rattle.sp_graph.specs.Edges.{IsGraph};
+ghost use Rattle.sp_msg.specs.Masks.{bits};
 ghost use Rattle.sp_routes.specs.Fewer.{SaysFewer};
 ghost use Rattle.sp_paths.specs.Cheapest.{AreEnds};
 ghost use Rattle.sp_paths.specs.declared.limits.TheConstants.{MAX_PATHS};
-ghost use Rattle.sp_rules.specs.Masks.{IsChoice, Mask};
+ghost use Rattle.sp_rules.specs.Masks.{IsChoice, Mask as Over};
 
 use crate::PathBook;
 use crate::refused::NoMask;
@@ -27,7 +28,7 @@ pub fn cheapest_mask(
     requires graph { IsGraph graph.now }
     requires ends { AreEnds graph.now s t }
     requires count { (1 ≤ count) × (count ≤ MAX_PATHS) }
-    ensures mask { IfOk result (λ mask. IsChoice graph.now s t count (Mask mask)) }
+    ensures mask { IfOk result (λ mask. IsChoice graph.now s t count (Over (bits mask))) }
     ensures fewer { IfErr result (SaysFewer graph.now s t count) }
 {
     match book.get(alloc, graph, s, t, count) {

@@ -1,9 +1,10 @@
 // The edges that an own message takes to its destination.
 ghost use Rattle.std.specs.Prelude.{◌≡◌, ◌≢◌, ◌≤◌, ◌-◌, ◌^◌, ℕ, IfErr, IfOk, IsOk, true};
 ghost use Rattle.sp_base.specs.declared.limits.TheConstants.{MAX_EDGES, MAX_WEIGHT};
+ghost use Rattle.sp_msg.specs.Masks.{bits};
 ghost use Rattle.sp_routes.specs.Fewer.{SaysFewer};
 ghost use Rattle.sp_paths.specs.declared.limits.TheConstants.{MAX_PATHS};
-ghost use Rattle.sp_rules.specs.Masks.{IsChoice, Mask, graph_of};
+ghost use Rattle.sp_rules.specs.Masks.{IsChoice, Mask as Over, graph_of};
 ghost use Rattle.sp_rules.specs.Parts.{nodes_of};
 ghost use Rattle.sp_rules.specs.Prio.{is_node};
 ghost use Rattle.sp_rules.specs.Weights.{effective};
@@ -22,9 +23,12 @@ use std::alloc::Global;
 /// The mask of all of so many edges.
 fn all_edges(count: usize) -> Mask
     requires { count ≤ MAX_EDGES }
-    ensures { result ≡ 2 ^ count - 1 }
+    ensures { bits result ≡ 2 ^ count - 1 }
 {
-    (1 << count) - 1
+    Mask {
+        low: (1 << count) - 1,
+        high: 0,
+    }
 }
 
 /// The edges that a message from one node to another takes under the weights that are in effect: those of so many paths that share no node,
@@ -45,7 +49,7 @@ pub fn mask_to(
     requires small { (edge : ℕ) → effective weights.now edge ≤ MAX_WEIGHT }
     requires ends { (is_node (nodes_of topology.now) from.0 ≡ true) × (is_node (nodes_of topology.now) to.0 ≡ true) × (from ≢ to) }
     requires few { paths ≤ MAX_PATHS }
-    ensures mask { IfOk result (λ mask. IsChoice (graph_of topology.now weights.now) from to paths (Mask mask)) }
+    ensures mask { IfOk result (λ mask. IsChoice (graph_of topology.now weights.now) from to paths (Over (bits mask))) }
     ensures fewer { IfErr result (SaysFewer (graph_of topology.now weights.now) from to paths) }
     ensures none { paths ≡ 0 → IsOk result }
 {

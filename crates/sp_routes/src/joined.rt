@@ -4,10 +4,11 @@ ghost use Rattle.sp_base.specs.declared.limits.TheConstants.{MAX_EDGES};
 ghost use Rattle.sp_graph.specs.Masks.{is_walked};
 ghost use Rattle.sp_graph.specs.Walks.{is_between};
 ghost use Rattle.sp_routes.specs.Joined.{Adds, HasFlag, flag_place, joins, joins_at};
+ghost use Rattle.sp_msg.specs.Masks.{bits};
 ghost use Rattle.sp_msg.specs.Views.{names_edge};
 ghost use Rattle.sp_rules.specs.Masks.{is_used};
 
-use sp_base::{Listed, MAX_NODES, NodeId};
+use sp_base::{EdgeId, Listed, MAX_NODES, NodeId};
 use sp_msg::Mask;
 use sp_topology::Edge;
 
@@ -75,9 +76,9 @@ fn joins(flags: &[bool], edge: &Edge) -> bool
 /// The mask of one edge.
 fn bit(place: usize) -> Mask
     requires { place < MAX_EDGES }
-    ensures { result ≡ 2 ^ place }
+    ensures { bits result ≡ 2 ^ place }
 {
-    1 << place
+    Mask::of(EdgeId(place as u16))
 }
 
 /// The edges whose ends are joined.
@@ -85,12 +86,12 @@ pub fn mask_of_joined(edges: &[Edge], flags: &[bool]) -> Mask
     requires flags { length flags.now ≡ FLAGS }
     requires few { length edges.now ≤ MAX_EDGES }
     requires ends { All HasFlag edges.now }
-    ensures { (place : ℕ) → names_edge result place ≡ joins_at flags.now (slice_get edges.now place) }
+    ensures { (place : ℕ) → names_edge (bits result) place ≡ joins_at flags.now (slice_get edges.now place) }
 {
-    let mut mask = 0;
+    let mut mask = Mask::none();
     'edges: for place in 0..edges.len() {
         if joins(flags, &edges[place]) {
-            mask |= bit(place);
+            mask = mask.with(bit(place));
         }
     }
     mask

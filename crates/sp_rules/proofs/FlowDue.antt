@@ -8,6 +8,8 @@ use Rattle.std.proofs.lemmas.Option.{get_or_from_slice_get}
 use Rattle.sp_base.specs.Cursor.{first_active_from, next_after, or_else}
 use Rattle.sp_base.specs.declared.id.Flow.{Flow}
 use Rattle.sp_base.specs.declared.id.NodeId.{NodeId}
+use Rattle.sp_base.specs.declared.format.TheConstants.{FORMAT_1}
+use Rattle.sp_msg.proofs.GoodFields.{good_ack}
 use Rattle.sp_msg.specs.Bodies.{HasGoodFields}
 use Rattle.sp_msg.specs.declared.body.Body.{Body}
 use Rattle.sp_msg.specs.declared.body.Body.TheVariants as bodies
@@ -108,4 +110,4 @@ can_conclude r body is good standing = go (option_and_then (flow_at r.flows) (du
     go (Some flow) turn is =
         let same : bodies.Ack (ack_of r flow) ≡ body = cc in
         let fields : HasGoodFields (bodies.Ack (ack_of r flow)) = subst HasGoodFields (sym same) good in
-        subst (λ (b : Body). CanConclude r.me (flow_in r.flows (flow_said b))) same (conclude_at r flow (ends_here r flow turn) fields.1.1.0.0 standing)
+        subst (λ (b : Body). CanConclude r.me (flow_in r.flows (flow_said b))) same (conclude_at r flow (ends_here r flow turn) (good_ack FORMAT_1 (ack_of r flow) fields).seq.0 standing)

@@ -4,6 +4,8 @@ use Rattle.std.proofs.lemmas.Bool.Decides.{nat_tests}
 use Rattle.sp_base.specs.declared.id.Flow.{Flow}
 use Rattle.sp_base.specs.declared.id.NodeId.{NodeId}
 use Rattle.sp_base.specs.declared.limits.TheConstants.{MAX_SEQ}
+use Rattle.sp_base.specs.declared.format.TheConstants.{FORMAT_1}
+use Rattle.sp_msg.proofs.GoodFields.{good_ack, good_rel}
 use Rattle.sp_msg.specs.Bodies.{HasGoodFields}
 use Rattle.sp_msg.specs.declared.body.Ack.{Ack}
 use Rattle.sp_msg.specs.declared.body.Body.{Body}
@@ -143,10 +145,13 @@ can_push_own r m next good = go m.body refl next good
     go : (body : Body) → m.body ≡ body → IsNextOwn r body → HasGoodFields body → CanPush r.me r.bound (flow_in r.flows (flow_said m.body)) m
     go (bodies.Rel b) is next good =
         let flow : flow_said m.body ≡ own_flow r b.dst = ap flow_said is ∙ ap (λ (u : NodeId). record { src = u; dst = b.dst }) next.0 in
-        subst (λ (fl : Flow). CanPush r.me r.bound (flow_in r.flows fl) m) (sym flow) (own_can_push r m b is next.0 next.1 good.1.1.0.1)
+        subst (λ (fl : Flow). CanPush r.me r.bound (flow_in r.flows fl) m) (sym flow) (own_can_push r m b is next.0 next.1 (good_rel FORMAT_1 b good).seq.1)
     go (bodies.Prio b) is next good = absurd next
     go (bodies.Ack b) is next good = absurd next
     go (bodies.Weight b) is next good = absurd next
+    go (bodies.Krel b) is next good = absurd next
+    go (bodies.Kack b) is next good = absurd next
+    go (bodies.Epoch b) is next good = absurd next
 
 -- ---- a message is new
 
@@ -213,14 +218,20 @@ new_is_reliable r flow (bodies.Rel b) new = tt
 new_is_reliable r flow (bodies.Prio b) new = absurd (cc)
 new_is_reliable r flow (bodies.Ack b) new = absurd (cc)
 new_is_reliable r flow (bodies.Weight b) new = absurd (cc)
+new_is_reliable r flow (bodies.Krel b) new = absurd (cc)
+new_is_reliable r flow (bodies.Kack b) new = absurd (cc)
+new_is_reliable r flow (bodies.Epoch b) new = absurd (cc)
 
 pub can_receive : (r : RelState) (body : Body) → judge_rel_of r (flow_said body) body ≡ rels.New → HasGoodFields body
     → is_to r (flow_said body) ≡ true → CanReceive r.me r.bound (flow_in r.flows (flow_said body))
 can_receive r (bodies.Rel b) new good here = new_can_receive r (flow_said (bodies.Rel b)) b.src b.dst b.seq (new_rel r (flow_said
-    (bodies.Rel b)) b.src b.dst b.seq new) here good.1.1.0.1
+    (bodies.Rel b)) b.src b.dst b.seq new) here (good_rel FORMAT_1 b good).seq.1
 can_receive r (bodies.Prio b) new good here = absurd (cc)
 can_receive r (bodies.Ack b) new good here = absurd (cc)
 can_receive r (bodies.Weight b) new good here = absurd (cc)
+can_receive r (bodies.Krel b) new good here = absurd (cc)
+can_receive r (bodies.Kack b) new good here = absurd (cc)
+can_receive r (bodies.Epoch b) new good here = absurd (cc)
 
 pub can_push : (r : RelState) (m : Kept) → judge_rel_of r (flow_said m.body) m.body ≡ rels.New → HasGoodFields m.body
     → is_to r (flow_said m.body) ≡ false → CanPush r.me r.bound (flow_in r.flows (flow_said m.body)) m
@@ -230,10 +241,13 @@ can_push r m new good elsewhere = go m.body refl new good elsewhere
         → CanPush r.me r.bound (flow_in r.flows (flow_said m.body)) m
     go (bodies.Rel b) is new good elsewhere =
         subst (λ (fl : Flow). CanPush r.me r.bound (flow_in r.flows fl) m) (sym (ap flow_said is))
-        (new_can_push r m b is (new_rel r (flow_said (bodies.Rel b)) b.src b.dst b.seq new) elsewhere good.1.1.0.1)
+        (new_can_push r m b is (new_rel r (flow_said (bodies.Rel b)) b.src b.dst b.seq new) elsewhere (good_rel FORMAT_1 b good).seq.1)
     go (bodies.Prio b) is new good elsewhere = absurd (cc)
     go (bodies.Ack b) is new good elsewhere = absurd (cc)
     go (bodies.Weight b) is new good elsewhere = absurd (cc)
+    go (bodies.Krel b) is new good elsewhere = absurd (cc)
+    go (bodies.Kack b) is new good elsewhere = absurd (cc)
+    go (bodies.Epoch b) is new good elsewhere = absurd (cc)
 
 -- ---- an acknowledgement is new
 
@@ -261,8 +275,11 @@ can_acknowledge r ack new good = go ack.body refl new good
     go (bodies.Ack a) is new good = record {
       relay = subst (λ (fl : Flow). ((flow_in r.flows fl).dst.0 == r.me.0) ≡ false) (sym (ap flow_said is))
           (end_of r (flow_said (bodies.Ack a)) false (new_ack r (flow_said (bodies.Ack a)) a new).relay);
-      small = rw is good.1.1.0.1;
+      small = rw is (good_ack FORMAT_1 a good).seq.1;
     }
     go (bodies.Rel b) is new good = absurd (cc)
     go (bodies.Prio b) is new good = absurd (cc)
     go (bodies.Weight b) is new good = absurd (cc)
+    go (bodies.Krel b) is new good = absurd (cc)
+    go (bodies.Kack b) is new good = absurd (cc)
+    go (bodies.Epoch b) is new good = absurd (cc)

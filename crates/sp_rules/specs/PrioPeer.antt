@@ -11,6 +11,7 @@ use Rattle.std.specs.List.{flat_map, list_any}
 use Rattle.sp_base.specs.declared.id.NodeId.{NodeId}
 use Rattle.sp_base.specs.declared.limits.TheConstants.{MAX_MESSAGES}
 use Rattle.sp_frame.specs.Views.{as_list}
+use Rattle.sp_msg.specs.Masks.{bits}
 use Rattle.sp_msg.specs.Views.{names_edge}
 use Rattle.sp_msg.specs.declared.body.Body.{Body}
 use Rattle.sp_msg.specs.declared.body.Body.TheVariants as bodies
@@ -67,7 +68,7 @@ is_from (Some u) v = u.0 == v
 
 -- a message goes to the neighbour where its mask has the edge, and it didn't come from there
 abbrev pub goes_to : Body → Option NodeId → PrioPeer → Bool
-goes_to body came q = not (is_from came q.peer) && names_edge (said (λ p. p.mask) body) q.edge
+goes_to body came q = not (is_from came q.peer) && names_edge (said (λ p. bits p.mask) body) q.edge
 
 abbrev pub given : Kept → Option NodeId → PrioPeer → PrioPeer
 given kept came q = if goes_to kept.body came q then record q { store = put q.store kept } else q

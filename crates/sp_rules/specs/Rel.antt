@@ -272,7 +272,7 @@ due_place r = next_after r.signed (map (is_due r.me) r.flows)
 
 -- the acknowledgement of all that came
 abbrev pub ack_of : RelState → Flow → Ack
-ack_of r flow = record { src = flow.src; dst = flow.dst; seq = (flow_in r.flows flow).at.have }
+ack_of r flow = record { src = flow.src; dst = flow.dst; sboot = 0; dboot = 0; seq = (flow_in r.flows flow).at.have }
 
 abbrev pub due : RelState → Option Ack
 due r = option_map (ack_of r) (option_and_then (flow_at r.flows) (due_place r))

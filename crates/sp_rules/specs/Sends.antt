@@ -3,8 +3,10 @@
 use Rattle.std.specs.Prelude.{ℕ, ◌==◌, ◌+◌, nat_lt, not, ◌||◌, List, [], ◌∷◌, Option, None, Some, Result, Ok, Err, if◌then◌else◌}
 use Rattle.sp_base.specs.Cursor.{or_else}
 use Rattle.sp_base.specs.declared.id.NodeId.{NodeId}
+use Rattle.sp_msg.specs.Masks.{mask_from}
 use Rattle.sp_msg.specs.declared.body.Body.{Body}
 use Rattle.sp_msg.specs.declared.body.Body.TheVariants as bodies
+use Rattle.sp_msg.specs.declared.body.Prio.{Prio}
 use Rattle.sp_msg.specs.declared.effect.Effect.{Effect}
 use Rattle.sp_msg.specs.declared.effect.Effect.TheVariants.{Signed}
 use Rattle.sp_msg.specs.declared.effect.Why.TheVariants.{Taken}
@@ -44,7 +46,7 @@ abbrev pub rel_number : NodeState → NodeId → ℕ
 rel_number n dst = (flow_in n.parts.rel.flows (own_flow n.parts.rel dst)).at.have + 1
 
 abbrev pub rel_body : NodeState → NodeId → List ℕ → Body
-rel_body n dst payload = bodies.Rel (record { src = n.fixed.me; dst = dst; seq = rel_number n dst; payload = payload })
+rel_body n dst payload = bodies.Rel (record { src = n.fixed.me; dst = dst; sboot = 0; dboot = 0; seq = rel_number n dst; payload = payload })
 
 abbrev pub after_send_rel : Arts → NodeState → NodeId → List ℕ → NodeState
 after_send_rel arts n dst payload =
@@ -66,16 +68,20 @@ prio_refusal n m =
     else if nat_lt m.expiry n.now then Some (refusals.Expired n.now)
     else signer_refusal n.signer
 
-abbrev pub prio_body : NodeState → PrioSend → ℕ → Body
-prio_body n m mask = bodies.Prio (record {
+abbrev pub prio_of : NodeState → PrioSend → ℕ → Prio
+prio_of n m mask = record {
   src = n.fixed.me;
   dst = m.dst;
+  sboot = 0;
   seq = n.parts.prio.next;
   prio = m.prio;
   expiry = m.expiry;
-  mask = mask;
+  mask = mask_from mask;
   payload = m.payload;
-})
+}
+
+abbrev pub prio_body : NodeState → PrioSend → ℕ → Body
+prio_body n m mask = bodies.Prio (prio_of n m mask)
 
 -- the paths that were asked for aren't there
 abbrev pub no_paths : Choice → Option SendRefused

@@ -14,6 +14,7 @@ use Rattle.sp_rules.specs.Node.{NodeState, link_in}
 use Rattle.sp_rules.specs.Steps.{Input, Poll, Datagram, Tick, SendRel, SendPrio, SetWeight, TakeRel, TakePrio}
 use Rattle.sp_runs.specs.Settings.{Setting}
 use Rattle.sp_runs.specs.Worlds.{World, frame_in}
+use Rattle.sp_schedule_crafts.specs.Objects.{body_of}
 pub use Rattle.sp_schedule_events.specs.Acting.{acting}
 use Rattle.sp_schedule_events.specs.declared.event.Event.{Event}
 use Rattle.sp_schedule_events.specs.declared.event.Event.TheVariants as events
@@ -46,12 +47,13 @@ abbrev pub slot_alone : Flow → (base have : ℕ) → Option Kept → List Kept
 slot_alone flow base have ack rels =
     record { weights = []; prio_ack = 0; prios = []; slot = Some (record { flow = flow; base = base; have = have; ack = ack; rels = rels }) }
 
--- one object in its section
+-- one object in its section. What format 1 lacks has none
 abbrev pub object_alone : Body → Kept → Contents
 object_alone (bodies.Prio p) o = record { weights = []; prio_ack = 0; prios = (1, o) ∷ []; slot = None }
 object_alone (bodies.Rel r) o = slot_alone (flow_said (bodies.Rel r)) 0 0 None (o ∷ [])
 object_alone (bodies.Ack a) o = slot_alone (flow_said (bodies.Ack a)) 0 0 (Some o) []
 object_alone (bodies.Weight w) o = record { weights = o ∷ []; prio_ack = 0; prios = []; slot = None }
+object_alone _ o = record { weights = []; prio_ack = 0; prios = []; slot = None }
 
 -- a frame of this head with these sections, under the tag of this key
 abbrev pub sealed_frame : Arts → Head → (key : List ℕ) → Contents → List ℕ
@@ -65,7 +67,7 @@ crafted_frame arts n c contents = sealed_frame arts (crafted_head n c) (link_in 
 
 -- the event crafts an object with this key
 abbrev pub is_craft_of : NodeId → Event → Bool
-is_craft_of key (events.Craft c v k body) = k.0 == key.0
+is_craft_of key (events.Craft c v k object) = k.0 == key.0
 is_craft_of key _ = false
 
 -- The next index of the signer for crafted objects of this key: so many were crafted with it before. It isn't that of the node itself
@@ -91,9 +93,9 @@ input_of arts x es w n (events.Poll u v) = Some (Poll v)
 input_of arts x es w n (events.Pass u v number) = option_map (Datagram u) (frame_in w.directions u v number)
 input_of arts x es w n (events.Flip u v number back bit) = option_map (λ bytes. Datagram u (flipped back bit bytes)) (frame_in w.directions u v number)
 input_of arts x es w n (events.Inject u v bytes) = Some (Datagram u bytes)
-input_of arts x es w n (events.Craft c v key body) =
+input_of arts x es w n (events.Craft c v key object) =
     if nat_lt (crafts es key) x.total
-    then Some (Datagram c (crafted_frame arts n c (object_alone body (crafted_object arts x es key body))))
+    then Some (Datagram c (crafted_frame arts n c (object_alone (body_of object) (crafted_object arts x es key (body_of object)))))
     else None
 input_of arts x es w n (events.CraftStatus c v s d base have) =
     Some (Datagram c (crafted_frame arts n c (slot_alone (record { src = s; dst = d }) base have None [])))

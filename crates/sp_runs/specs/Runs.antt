@@ -18,6 +18,7 @@ use Rattle.sp_runs.specs.Settings.{Setting, is_correct, is_node}
 use Rattle.sp_runs.specs.Worlds.{Direction, World, at_start, frames_in, node_in, with_frame, with_node}
 use Rattle.sp_journal.specs.declared.entry.Entry.{Entry}
 use Rattle.sp_journal.specs.declared.entry.Reply.TheVariants as replies
+use Rattle.sp_schedule_crafts.specs.Objects.{body_of}
 use Rattle.sp_schedule_events.specs.declared.event.Event.{Event}
 use Rattle.sp_schedule_events.specs.declared.event.Event.TheVariants as events
 use Rattle.sp_runs.specs.declared.what.What.{What}
@@ -48,7 +49,7 @@ pub record Move (arts : Arts) (x : Setting) (es : List Event) (old : World) (eve
 
 -- the event crafts an object of this key
 abbrev pub IsCraftOf : NodeId → Event → Type 0
-IsCraftOf key (events.Craft c v k body) = k ≡ key
+IsCraftOf key (events.Craft c v k object) = k ≡ key
 IsCraftOf key _ = ⊥
 
 -- The signer for crafted objects of a key is spent, so nothing arrives, and no node moves.
@@ -98,8 +99,8 @@ InRange x es (events.Pass u v number) = IsTrue (is_correct x u) × IsTrue (is_co
 InRange x es (events.Flip u v number back bit) =
     IsTrue (is_correct x u) × IsTrue (is_correct x v) × IsTrue (is_hop x u v) × IsMade es u v number × (1 ≤ back) × (back ≤ 64) × (bit ≤ 7)
 InRange x es (events.Inject u v bytes) = IsTrue (is_correct x v) × IsTrue (is_hop x u v) × (length bytes ≤ MAX_FRAME_BYTES) × AreBytes bytes
-InRange x es (events.Craft c v key body) =
-    IsTrue (is_correct x v) × IsTrue (is_hop x c v) × IsTrue (is_node x key) × HasGoodFields body × AreBytes (payload_of body)
+InRange x es (events.Craft c v key object) =
+    IsTrue (is_correct x v) × IsTrue (is_hop x c v) × IsTrue (is_node x key) × HasGoodFields (body_of object) × AreBytes (payload_of (body_of object))
 InRange x es (events.CraftStatus c v s d base have) =
     IsTrue (is_correct x v) × IsTrue (is_hop x c v) × IsTrue (is_node x s) × IsTrue (is_other x s d) × (base < 2 ^ 64) × (have < 2 ^ 64)
 

@@ -25,7 +25,7 @@ use Rattle.sp_schedule_events.specs.EventLines.{InRange, read_event}
 use Rattle.sp_schedule_events.specs.declared.scenario.Scenario.{Scenario}
 use Rattle.sp_schedule_events.specs.declared.event.Event.{Event}
 use Rattle.sp_schedule_events.specs.declared.event.Event.TheVariants as events
-use Rattle.sp_msg.specs.declared.body.Body.TheVariants as bodies
+use Rattle.sp_schedule_crafts.specs.declared.object.CraftedObject.TheVariants as crafted
 use Rattle.sp_lines.specs.declared.fault.Fault.{Fault}
 use Rattle.sp_schedule.specs.declared.refused.Kind.TheVariants as kinds
 use Rattle.sp_schedule_events.proofs.EventLemmas.{events_have_one_line, good_event_line}
@@ -210,10 +210,10 @@ end_not z (events.Pass u v n) = refl
 end_not z (events.Flip u v n back bit) = refl
 end_not z (events.Inject u v bytes) = refl
 end_not z (events.CraftStatus c v s d base have) = refl
-end_not z (events.Craft c v key (bodies.Rel r)) = refl
-end_not z (events.Craft c v key (bodies.Ack a)) = refl
-end_not z (events.Craft c v key (bodies.Prio p)) = refl
-end_not z (events.Craft c v key (bodies.Weight w)) = refl
+end_not z (events.Craft c v key (crafted.Rel r)) = refl
+end_not z (events.Craft c v key (crafted.Ack a)) = refl
+end_not z (events.Craft c v key (crafted.Prio p)) = refl
+end_not z (events.Craft c v key (crafted.Weight w)) = refl
 
 event_line : (s : Scenario) (es : List Event) (e : Event) → s.graph.nodes ≤ MAX_NODES → length es < MAX_EVENTS → InRange s es e
     → says (stages.Events s es) (event_words s e) ≡ Ok (stages.Events s (es ++ e ∷ []))

@@ -41,10 +41,11 @@ impl Feed {
     pub fn new(alloc: Global) -> Result<Feed, Memory>
         ensures { IfOk result (λ feed. feed ≡ unfed) }
     {
+        let waiting = Vec::with_capacity(alloc, MAX_LINE_BYTES + 1)?;
         Ok(Feed {
             stage: Stage::Start,
             count: 0,
-            waiting: Vec::with_capacity(alloc, MAX_LINE_BYTES + 1)?,
+            waiting,
         })
     }
 
@@ -81,17 +82,17 @@ impl Feed {
         let stage = mem::replace(&mut self.stage, Stage::Start);
         match lead_of(alloc, line, &self.waiting, stage) {
             Lead::To(next, parsed) => {
-                self.stage = next;
+                put(&mut self.stage, next);
                 self.count = line;
                 self.waiting.clear();
                 Ok(parsed)
             }
             Lead::Bad(stage, kind) => {
-                self.stage = stage;
+                put(&mut self.stage, stage);
                 Err(ScheduleRefused::Bad { line, kind })
             }
             Lead::Unread(stage) => {
-                self.stage = stage;
+                put(&mut self.stage, stage);
                 Err(ScheduleRefused::Memory)
             }
         }
@@ -117,6 +118,13 @@ impl Feed {
             open_line(is_cut, line)
         }
     }
+}
+
+/// Puts a stage in its place.
+fn put(place: &mut Stage, stage: Stage)
+    ensures { place.new ≡ stage }
+{
+    *place = stage;
 }
 
 /// The line whose newline is the last of these bytes.

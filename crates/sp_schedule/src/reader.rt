@@ -37,10 +37,7 @@ fn read_lines(alloc: Global, text: &[u8], is_cut: bool) -> Result<Reading, Memor
                 let ending = nothing_left(is_cut, &stage, count + 1);
                 return Ok(Reading { stage, ending });
             }
-            Err(refused) => {
-                let ending = no_words(is_cut, count + 1, refused)?;
-                return Ok(Reading { stage, ending });
-            }
+            Err(refused) => return broken_off(is_cut, stage, count + 1, refused),
         };
         count += 1;
         match follow(alloc, stage, words.as_slice()) {
@@ -49,7 +46,10 @@ fn read_lines(alloc: Global, text: &[u8], is_cut: bool) -> Result<Reading, Memor
                 let ending = Ending::Refused { line: count, kind };
                 return Ok(Reading { stage, ending });
             }
-            Lead::Unread(_) => return Err(Memory),
+            Lead::Unread(stage) => {
+                drop(stage);
+                return Err(Memory);
+            }
         }
     }
 }
@@ -75,6 +75,19 @@ pub fn nothing_left(is_cut: bool, stage: &Stage, line: u32) -> Ending
             kind: Kind::Header,
         },
     }
+}
+
+/// What was read of a text whose line of this number isn't words, unless memory was wanting.
+fn broken_off(
+    is_cut: bool,
+    stage: Stage,
+    line: u32,
+    refused: TextRefused,
+) -> Result<Reading, Memory>
+    ensures { IfOk result (λ reading. (refused ≢ TextRefused.Memory) × (reading ≡ record { stage = stage; ending = no_words is_cut line refused })) }
+{
+    let ending = no_words(is_cut, line, refused)?;
+    Ok(Reading { stage, ending })
 }
 
 /// How a text ends at a line that isn't words, unless memory was wanting.

@@ -15,6 +15,8 @@ use Rattle.sp_lines.specs.Cells.{Bytes, Cell, Mask, Name, Number}
 use Rattle.sp_lines.specs.Rows.{Values}
 use Rattle.sp_schedule_crafts.specs.declared.form.ObjectForm.{ObjectForm}
 use Rattle.sp_schedule_crafts.specs.declared.form.ObjectForm.TheVariants.{Rel, Ack, Prio, Weight}
+use Rattle.sp_schedule_crafts.specs.declared.object.CraftedObject.{CraftedObject}
+use Rattle.sp_schedule_crafts.specs.declared.object.CraftedObject.TheVariants as crafted
 
 -- ---- places
 
@@ -50,11 +52,11 @@ abbrev pub id : ℕ → NodeId
 id n = record { 0 = n }
 
 -- the object of a row with these values
-abbrev pub body_of : (form : ObjectForm) → Values (cells form) → Body
-body_of Rel x = bodies.Rel (record { src = id x.0; dst = id x.1.0; seq = x.1.1.0; payload = x.1.1.1.0 })
-body_of Ack x = bodies.Ack (record { src = id x.0; dst = id x.1.0; seq = x.1.1.0 })
-body_of Prio x =
-    bodies.Prio (record {
+abbrev pub object_of : (form : ObjectForm) → Values (cells form) → CraftedObject
+object_of Rel x = crafted.Rel (record { src = id x.0; dst = id x.1.0; seq = x.1.1.0; payload = x.1.1.1.0 })
+object_of Ack x = crafted.Ack (record { src = id x.0; dst = id x.1.0; seq = x.1.1.0 })
+object_of Prio x =
+    crafted.Prio (record {
       src = id x.0;
       dst = id x.1.0;
       seq = x.1.1.0;
@@ -63,18 +65,35 @@ body_of Prio x =
       mask = x.1.1.1.1.1.0;
       payload = x.1.1.1.1.1.1.0;
     })
-body_of Weight x = bodies.Weight (record { origin = id x.0; edge = record { 0 = x.1.0 }; seq = x.1.1.0; weight = x.1.1.1.0 })
+object_of Weight x = crafted.Weight (record { origin = id x.0; edge = record { 0 = x.1.0 }; seq = x.1.1.0; weight = x.1.1.1.0 })
 
 -- the row of an object
-abbrev pub form_of : Body → ObjectForm
-form_of (bodies.Rel r) = Rel
-form_of (bodies.Ack a) = Ack
-form_of (bodies.Prio p) = Prio
-form_of (bodies.Weight w) = Weight
+abbrev pub form_of : CraftedObject → ObjectForm
+form_of (crafted.Rel r) = Rel
+form_of (crafted.Ack a) = Ack
+form_of (crafted.Prio p) = Prio
+form_of (crafted.Weight w) = Weight
 
 -- its values in that row
-abbrev pub values_of : (b : Body) → Values (cells (form_of b))
-values_of (bodies.Rel r) = (r.src.0, (r.dst.0, (r.seq, (r.payload, tt))))
-values_of (bodies.Ack a) = (a.src.0, (a.dst.0, (a.seq, tt)))
-values_of (bodies.Prio p) = (p.src.0, (p.dst.0, (p.seq, (p.prio, (p.expiry, (p.mask, (p.payload, tt)))))))
-values_of (bodies.Weight w) = (w.origin.0, (w.edge.0, (w.seq, (w.weight, tt))))
+abbrev pub values_of : (o : CraftedObject) → Values (cells (form_of o))
+values_of (crafted.Rel r) = (r.src.0, (r.dst.0, (r.seq, (r.payload, tt))))
+values_of (crafted.Ack a) = (a.src.0, (a.dst.0, (a.seq, tt)))
+values_of (crafted.Prio p) = (p.src.0, (p.dst.0, (p.seq, (p.prio, (p.expiry, (p.mask, (p.payload, tt)))))))
+values_of (crafted.Weight w) = (w.origin.0, (w.edge.0, (w.seq, (w.weight, tt))))
+
+-- the message of format 1 that it is: no end has a boot
+abbrev pub body_of : CraftedObject → Body
+body_of (crafted.Rel r) = bodies.Rel (record { src = r.src; dst = r.dst; sboot = 0; dboot = 0; seq = r.seq; payload = r.payload })
+body_of (crafted.Ack a) = bodies.Ack (record { src = a.src; dst = a.dst; sboot = 0; dboot = 0; seq = a.seq })
+body_of (crafted.Prio p) =
+    bodies.Prio (record {
+      src = p.src;
+      dst = p.dst;
+      sboot = 0;
+      seq = p.seq;
+      prio = p.prio;
+      expiry = p.expiry;
+      mask = record { low = p.mask; high = 0 };
+      payload = p.payload;
+    })
+body_of (crafted.Weight w) = bodies.Weight w

@@ -1,16 +1,16 @@
 // A copy of an object.
 ghost use Rattle.std.specs.Prelude.{◌≡◌, IfOk};
 
+use crate::{CraftedObject, CraftedPrio, CraftedRel};
 use sp_base::{Bytes, Memory};
-use sp_msg::{Body, Prio, Rel};
 use std::alloc::Global;
 
 /// The same object in memory of its own.
-pub fn copy_body(alloc: Global, body: &Body) -> Result<Body, Memory>
-    ensures { IfOk result (λ copied. copied ≡ body.now) }
+pub fn copy_object(alloc: Global, object: &CraftedObject) -> Result<CraftedObject, Memory>
+    ensures { IfOk result (λ copied. copied ≡ object.now) }
 {
-    match body {
-        Body::Prio(prio) => Ok(Body::Prio(Prio {
+    match object {
+        CraftedObject::Prio(prio) => Ok(CraftedObject::Prio(CraftedPrio {
             src: prio.src,
             dst: prio.dst,
             seq: prio.seq,
@@ -19,13 +19,13 @@ pub fn copy_body(alloc: Global, body: &Body) -> Result<Body, Memory>
             mask: prio.mask,
             payload: Bytes::copy(alloc, prio.payload.as_slice())?,
         })),
-        Body::Rel(rel) => Ok(Body::Rel(Rel {
+        CraftedObject::Rel(rel) => Ok(CraftedObject::Rel(CraftedRel {
             src: rel.src,
             dst: rel.dst,
             seq: rel.seq,
             payload: Bytes::copy(alloc, rel.payload.as_slice())?,
         })),
-        Body::Ack(ack) => Ok(Body::Ack(*ack)),
-        Body::Weight(weight) => Ok(Body::Weight(*weight)),
+        CraftedObject::Ack(ack) => Ok(CraftedObject::Ack(*ack)),
+        CraftedObject::Weight(weight) => Ok(CraftedObject::Weight(*weight)),
     }
 }

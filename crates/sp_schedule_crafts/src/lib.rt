@@ -3,10 +3,12 @@
 
 mod copying;
 mod form;
+mod object;
 mod reading;
 mod writing;
 
-pub use copying::copy_body;
+pub use copying::copy_object;
 pub use form::ObjectForm;
+pub use object::{CraftedAck, CraftedObject, CraftedPrio, CraftedRel};
 pub use reading::{object_form, read_object};
 pub use writing::push_object;

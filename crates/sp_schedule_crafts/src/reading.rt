@@ -6,12 +6,12 @@ ghost use Rattle.sp_lines.specs.Answers.{Reads};
 ghost use Rattle.sp_lines.specs.Cells.{number_at, same};
 ghost use Rattle.sp_schedule_crafts.specs.Reading.{form_named, line_for, name};
 
-use crate::ObjectForm;
+use crate::{CraftedAck, CraftedObject, CraftedPrio, CraftedRel, ObjectForm};
 use sp_base::{
     EdgeId, MAX_EDGES, MAX_NODES, MAX_PAYLOAD_BYTES, MAX_PRIORITY, MAX_SEQ, MAX_WEIGHT, NodeId,
 };
 use sp_lines::{Fault, LineRefused, bytes, mask, named, ranged};
-use sp_msg::{Ack, Body, Prio, Rel, WeightBody};
+use sp_msg::WeightBody;
 use std::alloc::Global;
 
 /// The greatest number of an edge.
@@ -43,7 +43,11 @@ fn form_in(rows: &[(&[u8], usize, ObjectForm)], name: &[u8], count: usize) -> Op
 }
 
 /// The object of this form with these words behind its name, or the first fault.
-pub fn read_object(alloc: Global, form: ObjectForm, fields: &[&[u8]]) -> Result<Body, LineRefused>
+pub fn read_object(
+    alloc: Global,
+    form: ObjectForm,
+    fields: &[&[u8]],
+) -> Result<CraftedObject, LineRefused>
     ensures { Reads result (line_for form (name form ∷ map (λ w. w.now) fields.now)) }
 {
     match form {
@@ -56,7 +60,7 @@ pub fn read_object(alloc: Global, form: ObjectForm, fields: &[&[u8]]) -> Result<
 
 /// `rel S D SEQ HEX`.
 #[tactic(auto, unfolding(crate::specs::Reading::read_form))]
-fn rel(alloc: Global, fields: &[&[u8]]) -> Result<Body, LineRefused>
+fn rel(alloc: Global, fields: &[&[u8]]) -> Result<CraftedObject, LineRefused>
     ensures { Reads result (line_for ObjectForm.Rel (codes "rel" ∷ map (λ w. w.now) fields.now)) }
 {
     let [src, dst, seq, payload] = fields else {
@@ -66,7 +70,7 @@ fn rel(alloc: Global, fields: &[&[u8]]) -> Result<Body, LineRefused>
     let dst = any_id(dst)?;
     let seq = ranged(seq, 1, MAX_SEQ)?;
     let payload = bytes(alloc, payload, 0, MAX_PAYLOAD_BYTES)?;
-    Ok(Body::Rel(Rel {
+    Ok(CraftedObject::Rel(CraftedRel {
         src,
         dst,
         seq,
@@ -76,7 +80,7 @@ fn rel(alloc: Global, fields: &[&[u8]]) -> Result<Body, LineRefused>
 
 /// `ack S D SEQ`.
 #[tactic(auto, unfolding(crate::specs::Reading::read_form))]
-fn ack(fields: &[&[u8]]) -> Result<Body, LineRefused>
+fn ack(fields: &[&[u8]]) -> Result<CraftedObject, LineRefused>
     ensures { Reads result (line_for ObjectForm.Ack (codes "ack" ∷ map (λ w. w.now) fields.now)) }
 {
     let [src, dst, seq] = fields else {
@@ -85,12 +89,12 @@ fn ack(fields: &[&[u8]]) -> Result<Body, LineRefused>
     let src = any_id(src)?;
     let dst = any_id(dst)?;
     let seq = ranged(seq, 1, MAX_SEQ)?;
-    Ok(Body::Ack(Ack { src, dst, seq }))
+    Ok(CraftedObject::Ack(CraftedAck { src, dst, seq }))
 }
 
 /// `prio S D SEQ P EXPIRY MASK HEX`.
 #[tactic(auto, unfolding(crate::specs::Reading::read_form))]
-fn prio(alloc: Global, fields: &[&[u8]]) -> Result<Body, LineRefused>
+fn prio(alloc: Global, fields: &[&[u8]]) -> Result<CraftedObject, LineRefused>
     ensures { Reads result (line_for ObjectForm.Prio (codes "prio" ∷ map (λ w. w.now) fields.now)) }
 {
     let [src, dst, seq, prio, expiry, mask_word, payload] = fields else {
@@ -103,7 +107,7 @@ fn prio(alloc: Global, fields: &[&[u8]]) -> Result<Body, LineRefused>
     let expiry = ranged(expiry, 0, u64::MAX)?;
     let mask = mask(alloc, mask_word)?;
     let payload = bytes(alloc, payload, 0, MAX_PAYLOAD_BYTES)?;
-    Ok(Body::Prio(Prio {
+    Ok(CraftedObject::Prio(CraftedPrio {
         src,
         dst,
         seq,
@@ -116,7 +120,7 @@ fn prio(alloc: Global, fields: &[&[u8]]) -> Result<Body, LineRefused>
 
 /// `weight O E SEQ W`.
 #[tactic(auto, unfolding(crate::specs::Reading::read_form))]
-fn weight(fields: &[&[u8]]) -> Result<Body, LineRefused>
+fn weight(fields: &[&[u8]]) -> Result<CraftedObject, LineRefused>
     ensures { Reads result (line_for ObjectForm.Weight (codes "weight" ∷ map (λ w. w.now) fields.now)) }
 {
     let [origin, edge, seq, weight] = fields else {
@@ -126,7 +130,7 @@ fn weight(fields: &[&[u8]]) -> Result<Body, LineRefused>
     let edge = ranged(edge, 0, LAST_EDGE)? as u16;
     let seq = ranged(seq, 1, MAX_SEQ)?;
     let weight = ranged(weight, 1, u64::from(MAX_WEIGHT))? as u32;
-    Ok(Body::Weight(WeightBody {
+    Ok(CraftedObject::Weight(WeightBody {
         origin,
         edge: EdgeId(edge),
         seq,

@@ -7,24 +7,25 @@ ghost use Rattle.sp_lines.specs.Cells.{mask_word};
 ghost use Rattle.sp_lines.specs.Rows.{after_spaces};
 ghost use Rattle.sp_schedule_crafts.specs.Written.{object_words};
 
+use crate::{CraftedAck, CraftedObject, CraftedPrio, CraftedRel};
 use sp_base::Memory;
 use sp_lines::{push_field, push_hex_field, push_mask_field, push_name_field};
-use sp_msg::{Ack, Body, Prio, Rel, WeightBody};
+use sp_msg::WeightBody;
 
 /// Appends the words of an object, each after a space. After an error the text is unspecified.
-pub fn push_object(out: &mut String, body: &Body) -> Result<(), Memory>
-    ensures { OnOk result (string_bytes out.new ≡ string_bytes out.old ++ after_spaces (object_words body.now)) }
+pub fn push_object(out: &mut String, object: &CraftedObject) -> Result<(), Memory>
+    ensures { OnOk result (string_bytes out.new ≡ string_bytes out.old ++ after_spaces (object_words object.now)) }
 {
-    match body {
-        Body::Rel(rel) => push_rel(out, rel),
-        Body::Ack(ack) => push_ack(out, ack),
-        Body::Prio(prio) => push_prio(out, prio),
-        Body::Weight(weight) => push_weight(out, weight),
+    match object {
+        CraftedObject::Rel(rel) => push_rel(out, rel),
+        CraftedObject::Ack(ack) => push_ack(out, ack),
+        CraftedObject::Prio(prio) => push_prio(out, prio),
+        CraftedObject::Weight(weight) => push_weight(out, weight),
     }
 }
 
-fn push_rel(out: &mut String, rel: &Rel) -> Result<(), Memory>
-    ensures { OnOk result (string_bytes out.new ≡ string_bytes out.old ++ after_spaces (object_words (Body.Rel rel.now))) }
+fn push_rel(out: &mut String, rel: &CraftedRel) -> Result<(), Memory>
+    ensures { OnOk result (string_bytes out.new ≡ string_bytes out.old ++ after_spaces (object_words (CraftedObject.Rel rel.now))) }
 {
     push_name_field(out, "rel")?;
     push_field(out, u64::from(rel.src.0))?;
@@ -33,8 +34,8 @@ fn push_rel(out: &mut String, rel: &Rel) -> Result<(), Memory>
     push_hex_field(out, rel.payload.as_slice())
 }
 
-fn push_ack(out: &mut String, ack: &Ack) -> Result<(), Memory>
-    ensures { OnOk result (string_bytes out.new ≡ string_bytes out.old ++ after_spaces (object_words (Body.Ack ack.now))) }
+fn push_ack(out: &mut String, ack: &CraftedAck) -> Result<(), Memory>
+    ensures { OnOk result (string_bytes out.new ≡ string_bytes out.old ++ after_spaces (object_words (CraftedObject.Ack ack.now))) }
 {
     push_name_field(out, "ack")?;
     push_field(out, u64::from(ack.src.0))?;
@@ -42,8 +43,8 @@ fn push_ack(out: &mut String, ack: &Ack) -> Result<(), Memory>
     push_field(out, ack.seq)
 }
 
-fn push_prio(out: &mut String, prio: &Prio) -> Result<(), Memory>
-    ensures { OnOk result (string_bytes out.new ≡ string_bytes out.old ++ after_spaces (object_words (Body.Prio prio.now))) }
+fn push_prio(out: &mut String, prio: &CraftedPrio) -> Result<(), Memory>
+    ensures { OnOk result (string_bytes out.new ≡ string_bytes out.old ++ after_spaces (object_words (CraftedObject.Prio prio.now))) }
 {
     push_name_field(out, "prio")?;
     push_field(out, u64::from(prio.src.0))?;
@@ -52,7 +53,7 @@ fn push_prio(out: &mut String, prio: &Prio) -> Result<(), Memory>
     push_prio_fields(out, prio)
 }
 
-fn push_prio_fields(out: &mut String, prio: &Prio) -> Result<(), Memory>
+fn push_prio_fields(out: &mut String, prio: &CraftedPrio) -> Result<(), Memory>
     ensures { OnOk result (string_bytes out.new ≡ string_bytes out.old
         ++ after_spaces (decimal prio.now.prio ∷ decimal prio.now.expiry ∷ mask_word prio.now.mask ∷ hex_word prio.now.payload ∷ [])) }
 {
@@ -63,7 +64,7 @@ fn push_prio_fields(out: &mut String, prio: &Prio) -> Result<(), Memory>
 }
 
 fn push_weight(out: &mut String, weight: &WeightBody) -> Result<(), Memory>
-    ensures { OnOk result (string_bytes out.new ≡ string_bytes out.old ++ after_spaces (object_words (Body.Weight weight.now))) }
+    ensures { OnOk result (string_bytes out.new ≡ string_bytes out.old ++ after_spaces (object_words (CraftedObject.Weight weight.now))) }
 {
     push_name_field(out, "weight")?;
     push_field(out, u64::from(weight.origin.0))?;

@@ -4,7 +4,7 @@ use Rattle.std.specs.Prelude.{codes, find, option_map}
 use Rattle.std.proofs.lemmas.Bool.{cases_Bool, and_parts}
 use Rattle.std.proofs.lemmas.Bool.Decides.{nat_tests}
 use Rattle.sp_base.specs.Refusals.{◌>>=◌}
-use Rattle.sp_msg.specs.declared.body.Body.{Body}
+use Rattle.sp_schedule_crafts.specs.declared.object.CraftedObject.{CraftedObject}
 use Rattle.sp_text.specs.Spelling.{Word}
 use Rattle.sp_lines.specs.Cells.{Bytes, Cell, Mask, Name, Number, Tested, number_at, same, tested_at}
 use Rattle.sp_lines.specs.Rows.{agrees, fits, row_at}
@@ -150,12 +150,12 @@ craft_read : (s : Scenario) (es : List Event) (o : ObjectForm) (c v key name : W
     → read_form s es (forms.Craft o) (codes "craft" ∷ c ∷ v ∷ key ∷ name ∷ fields) ≡ crafted_event s c v key o fields
 unfolding read_form reading.read_form
 craft_read s es o c v key name fields count =
-    steps (number_at 1 s.graph.nodes c) (tested_at 1 s.graph.nodes (is_correct s) v) (number_at 1 s.graph.nodes key) (row_at (objects.cells o) (name ∷ fields)) (λ xs. if_joined s es (event_of s (forms.Craft o) xs)) (objects.body_of o)
-    (λ from to signer body. if are_joined s from to then Ok (events.Craft (id from) (id to) (id signer) body) else Err faults.Range) (λ a b k n. refl)
+    steps (number_at 1 s.graph.nodes c) (tested_at 1 s.graph.nodes (is_correct s) v) (number_at 1 s.graph.nodes key) (row_at (objects.cells o) (name ∷ fields)) (λ xs. if_joined s es (event_of s (forms.Craft o) xs)) (objects.object_of o)
+    (λ from to signer object. if are_joined s from to then Ok (events.Craft (id from) (id to) (id signer) object) else Err faults.Range) (λ a b k n. refl)
     ∙ ap
-    (λ (r : Result Body Fault).
+    (λ (r : Result CraftedObject Fault).
     number_at 1 s.graph.nodes c >>= λ from. tested_at 1 s.graph.nodes (is_correct s) v >>= λ to. number_at 1 s.graph.nodes key >>= λ signer.
-    r >>= λ body. if are_joined s from to then Ok (events.Craft (id from) (id to) (id signer) body) else Err faults.Range)
+    r >>= λ object. if are_joined s from to then Ok (events.Craft (id from) (id to) (id signer) object) else Err faults.Range)
     (sym (object_read o name fields count))
 
 -- the form that was found has so many words

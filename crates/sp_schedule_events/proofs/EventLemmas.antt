@@ -9,7 +9,7 @@ use Rattle.std.proofs.lemmas.Bool.{cases_Bool}
 use Rattle.std.proofs.lemmas.Bool.Decides.{nat_tests}
 use Rattle.sp_base.specs.declared.limits.TheConstants.{MAX_NODES}
 use Rattle.sp_base.proofs.RefusalLemmas.{then_ok}
-use Rattle.sp_msg.specs.declared.body.Body.TheVariants as bodies
+use Rattle.sp_schedule_crafts.specs.declared.object.CraftedObject.TheVariants as crafted
 use Rattle.sp_text.specs.Spelling.{Word}
 use Rattle.sp_lines.specs.Cells.{same}
 use Rattle.sp_lines.specs.Rows.{AreIn, Values, fits, row_at, spelled}
@@ -44,10 +44,10 @@ event_back z (events.Pass u v n) = refl
 event_back z (events.Flip u v n back bit) = refl
 event_back z (events.Inject u v bytes) = refl
 event_back z (events.CraftStatus c v s d base have) = refl
-event_back z (events.Craft c v key (bodies.Rel r)) = refl
-event_back z (events.Craft c v key (bodies.Ack a)) = refl
-event_back z (events.Craft c v key (bodies.Prio p)) = refl
-event_back z (events.Craft c v key (bodies.Weight w)) = refl
+event_back z (events.Craft c v key (crafted.Rel r)) = refl
+event_back z (events.Craft c v key (crafted.Ack a)) = refl
+event_back z (events.Craft c v key (crafted.Prio p)) = refl
+event_back z (events.Craft c v key (crafted.Weight w)) = refl
 
 -- the words of a row's values are those of its event, which are in the same ranges
 record IsOfForm (s : Scenario) (form : Form) (xs : Values (cells s form)) : Type 0 where
@@ -100,10 +100,10 @@ form_again z (events.Pass u v n) few are = refl
 form_again z (events.Flip u v n back bit) few are = refl
 form_again z (events.Inject u v bytes) few are = refl
 form_again z (events.CraftStatus c v s d base have) few are = refl
-form_again z (events.Craft c v key (bodies.Rel r)) few are = refl
-form_again z (events.Craft c v key (bodies.Ack a)) few are = rw (not_status key.0 (key_small z few key.0 are.2.3.1)) refl
-form_again z (events.Craft c v key (bodies.Prio p)) few are = refl
-form_again z (events.Craft c v key (bodies.Weight w)) few are = refl
+form_again z (events.Craft c v key (crafted.Rel r)) few are = refl
+form_again z (events.Craft c v key (crafted.Ack a)) few are = rw (not_status key.0 (key_small z few key.0 are.2.3.1)) refl
+form_again z (events.Craft c v key (crafted.Prio p)) few are = refl
+form_again z (events.Craft c v key (crafted.Weight w)) few are = refl
 
 -- the row that was found is fitted
 found_fits : {F : Type 0} (test : F → Bool) (all : List F) (found : F) → find test all ≡ Some found → test found ≡ true

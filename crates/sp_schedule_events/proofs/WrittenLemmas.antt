@@ -1,7 +1,7 @@
 -- What is written of an event is its line.
 use Rattle.std.proofs.Common.{◌≡◌, ℕ, List, [], ◌∷◌, ◌++◌, refl, sym, ap, ◌∙◌, append_assoc, append-nil}
 use Rattle.std.specs.List.{join_with_byte}
-use Rattle.sp_msg.specs.declared.body.Body.TheVariants as bodies
+use Rattle.sp_schedule_crafts.specs.declared.object.CraftedObject.TheVariants as crafted
 use Rattle.sp_text.specs.Spelling.{Word}
 use Rattle.sp_lines.specs.Rows.{after_spaces, line_text}
 use Rattle.sp_lines.proofs.WrittenLemmas.{after_append, joined}
@@ -24,10 +24,10 @@ same_words z (events.Pass u v n) = refl
 same_words z (events.Flip u v n back bit) = refl
 same_words z (events.Inject u v bytes) = refl
 same_words z (events.CraftStatus c v s d base have) = refl
-same_words z (events.Craft c v key (bodies.Rel r)) = refl
-same_words z (events.Craft c v key (bodies.Ack a)) = refl
-same_words z (events.Craft c v key (bodies.Prio p)) = refl
-same_words z (events.Craft c v key (bodies.Weight w)) = refl
+same_words z (events.Craft c v key (crafted.Rel r)) = refl
+same_words z (events.Craft c v key (crafted.Ack a)) = refl
+same_words z (events.Craft c v key (crafted.Prio p)) = refl
+same_words z (events.Craft c v key (crafted.Weight w)) = refl
 
 -- a name and its fields, written one after the other, and a newline
 pub line_written : (s : Scenario) (e : Event) (old a b c new : List ℕ) → a ≡ old ++ event_name e → b ≡ a ++ after_spaces (front_words e) → c ≡ b ++ after_spaces (back_words e)

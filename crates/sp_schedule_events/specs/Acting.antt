@@ -15,5 +15,5 @@ acting (events.Poll u v) = u
 acting (events.Pass u v number) = v
 acting (events.Flip u v number back bit) = v
 acting (events.Inject u v bytes) = v
-acting (events.Craft c v key body) = v
+acting (events.Craft c v key object) = v
 acting (events.CraftStatus c v s d base have) = v

@@ -12,7 +12,7 @@ IsOfFrame _ = ⊥
 
 -- a compromised node crafts a frame
 abbrev pub IsCraft : Event → Type 0
-IsCraft (events.Craft c v key body) = Unit {0}
+IsCraft (events.Craft c v key object) = Unit {0}
 IsCraft (events.CraftStatus c v s d base have) = Unit {0}
 IsCraft _ = ⊥
 

@@ -24,7 +24,7 @@ event_name (events.Pass u v n) = codes "pass"
 event_name (events.Flip u v n back bit) = codes "flip"
 event_name (events.Inject u v bytes) = codes "inject"
 event_name (events.CraftStatus c v s d base have) = codes "craft"
-event_name (events.Craft c v key body) = codes "craft"
+event_name (events.Craft c v key object) = codes "craft"
 
 -- the node that acts, and the other node or the moment
 abbrev pub front_words : Event → List Word
@@ -39,7 +39,7 @@ front_words (events.Pass u v n) = pair_words u v
 front_words (events.Flip u v n back bit) = pair_words u v
 front_words (events.Inject u v bytes) = pair_words u v
 front_words (events.CraftStatus c v s d base have) = pair_words c v
-front_words (events.Craft c v key body) = pair_words c v
+front_words (events.Craft c v key object) = pair_words c v
 
 -- what comes after these
 abbrev pub back_words : Event → List Word
@@ -54,7 +54,7 @@ back_words (events.Pass u v n) = decimal n ∷ []
 back_words (events.Flip u v n back bit) = decimal n ∷ decimal back ∷ decimal bit ∷ []
 back_words (events.Inject u v bytes) = hex_word bytes ∷ []
 back_words (events.CraftStatus c v s d base have) = codes "status" ∷ decimal s.0 ∷ decimal d.0 ∷ decimal base ∷ decimal have ∷ []
-back_words (events.Craft c v key body) = decimal key.0 ∷ object_words body
+back_words (events.Craft c v key object) = decimal key.0 ∷ object_words object
 
 -- all words of an event
 abbrev pub words_of : Event → List Word

@@ -97,9 +97,9 @@ fn object(
     let c = node(line.scenario, c)?;
     let v = correct(line.scenario, v)?;
     let key = node(line.scenario, key)?;
-    let body = read_object(line.alloc, form, fields)?;
+    let object = read_object(line.alloc, form, fields)?;
     if_joined(
         are_joined(line.scenario, c, v),
-        Event::Craft { c, v, key, body },
+        Event::Craft { c, v, key, object },
     )
 }

@@ -1,6 +1,6 @@
 // What happens in a run, one event after the other.
 use sp_base::{Bytes, NodeId};
-use sp_msg::Body;
+use sp_schedule_crafts::CraftedObject;
 
 /// One event of a schedule: a step of one node.
 #[derive(Debug, Drop)]
@@ -70,7 +70,7 @@ pub enum Event {
         c: NodeId,
         v: NodeId,
         key: NodeId,
-        body: Body,
+        object: CraftedObject,
     },
     /// `c` sends `v` a frame with a report and no message.
     CraftStatus {

@@ -4,7 +4,7 @@ ghost use Rattle.sp_schedule_events.specs.Kinds.{IsAsked, IsCraft, IsOfFrame};
 
 use crate::Event;
 use sp_base::{Bytes, Memory};
-use sp_schedule_crafts::copy_body;
+use sp_schedule_crafts::copy_object;
 use std::alloc::Global;
 
 impl Event {
@@ -105,11 +105,11 @@ fn copy_craft(alloc: Global, event: &Event) -> Result<Event, Memory>
     ensures { IfOk result (λ copied. copied ≡ event.now) }
 {
     match event {
-        Event::Craft { c, v, key, body } => Ok(Event::Craft {
+        Event::Craft { c, v, key, object } => Ok(Event::Craft {
             c: *c,
             v: *v,
             key: *key,
-            body: copy_body(alloc, body)?,
+            object: copy_object(alloc, object)?,
         }),
         Event::CraftStatus {
             c,

@@ -86,9 +86,9 @@ fn push_back(out: &mut String, event: &Event) -> Result<(), Memory>
             ..
         } => push_flip(out, *number, *back, *bit),
         Event::Inject { bytes, .. } => push_hex_field(out, bytes.as_slice()),
-        Event::Craft { key, body, .. } => {
+        Event::Craft { key, object, .. } => {
             push_field(out, u64::from(key.0))?;
-            push_object(out, body)
+            push_object(out, object)
         }
         Event::CraftStatus {
             s,

@@ -2,13 +2,13 @@
 ghost use Rattle.std.specs.Prelude.{◌≡◌, ◌≢◌, ◌+◌, ◌≤◌, ◌↔◌, IfErr, IfOk, IsErr, OnErr, OnOk, length, replicate};
 ghost use Rattle.sp_hss.specs.KeyTree.{public_key, signature, signature_len, total};
 ghost use Rattle.sp_hss.specs.Validity.{IsValid};
-ghost use Rattle.sp_msg.specs.Bodies.{HasGoodFields, encoded};
-ghost use Rattle.sp_sign.specs.Blanks.{IsBlank, blank_of, with_signature};
+ghost use Rattle.sp_msg.specs.Bodies.{HasGoodFields, HasGoodFieldsIn};
+ghost use Rattle.sp_sign.specs.Blanks.{IsBlank, blank_in, blank_of, with_signature};
 
 use crate::Blank;
-use sp_base::{Listed, NodeId};
+use sp_base::{FORMAT_1, Listed, NodeId};
 use sp_hss::{HssRefused, Signer};
-use sp_msg::{Body, Kept, encode};
+use sp_msg::{Body, Kept, encode_in};
 use std::alloc::Global;
 use std::marker::Model;
 
@@ -88,13 +88,22 @@ impl NodeSigner {
         self.signer.signature_len()
     }
 
-    /// A message to be signed: its bytes, and room for the signature, whose bytes are all 0. Only want of memory refuses.
+    /// A message of format 1 to be signed: its bytes, and room for the signature, whose bytes are all 0. Only want of memory refuses.
     pub fn blank(&self, alloc: Global, body: Body) -> Result<Blank, HssRefused>
         requires { HasGoodFields body }
         ensures blank { IfOk result (λ blank. blank ≡ blank_of (signature_len self.now.signer.height) body) }
         ensures memory { IfErr result (λ refused. refused ≡ HssRefused.Memory) }
     {
-        let Ok(bytes) = encode(alloc, &body) else {
+        self.blank_in(alloc, body, FORMAT_1)
+    }
+
+    /// The same of a message of a format.
+    pub fn blank_in(&self, alloc: Global, body: Body, format: u8) -> Result<Blank, HssRefused>
+        requires { HasGoodFieldsIn format body }
+        ensures blank { IfOk result (λ blank. blank ≡ blank_in format (signature_len self.now.signer.height) body) }
+        ensures memory { IfErr result (λ refused. refused ≡ HssRefused.Memory) }
+    {
+        let Ok(bytes) = encode_in(alloc, &body, format) else {
             return Err(HssRefused::Memory);
         };
         let Ok(signature) = vec![in alloc; 0u8; self.signer.signature_len()] else {
@@ -109,14 +118,14 @@ impl NodeSigner {
         })
     }
 
-    /// Signs a blank of this node: its signature becomes that of its bytes with the signer's index, and the next index comes.
+    /// Signs a blank of this node, of either format: its signature becomes that of its bytes with the signer's index, and the next index comes.
     /// `Spent` exactly where all indexes are used, and else `NotReserved` exactly where none below the bound is left.
     /// After a refusal the signer and the blank are as before.
     pub fn sign(&mut self, blank: &mut Blank) -> Result<(), HssRefused>
         requires { IsBlank self.old blank.old }
         ensures signature { OnOk result (blank.new
             ≡ with_signature blank.old (signature self.old.signer.height self.old.signer.seed self.old.signer.index blank.old.bytes)) }
-        ensures valid { OnOk result (IsValid (public_key self.old.signer.height self.old.signer.seed) (encoded blank.new.kept.body) blank.new.kept.signature) }
+        ensures valid { OnOk result (IsValid (public_key self.old.signer.height self.old.signer.seed) blank.new.bytes blank.new.kept.signature) }
         ensures index { OnOk result (self.new ≡ record { node = self.old.node; signer = record self.old.signer { index = self.old.signer.index + 1 } }) }
         ensures spent { (result ≡ Err (HssRefused.Spent self.old.signer.index)) ↔ (self.old.signer.index ≡ total self.old.signer.height) }
         ensures not_reserved { (result ≡ Err (HssRefused.NotReserved self.old.signer.bound))

@@ -4,6 +4,8 @@ use Rattle.std.specs.Prelude.{is_some}
 use Rattle.std.proofs.lemmas.List.{length-map, length-replicate, length-set, map-set}
 use Rattle.std.proofs.lemmas.List.Elements.{All-replicate, All-set}
 use Rattle.sp_base.specs.declared.limits.TheConstants.{MAX_SEQ}
+use Rattle.sp_base.specs.declared.format.TheConstants.{FORMAT_1}
+use Rattle.sp_msg.proofs.GoodFields.{good_weight}
 use Rattle.sp_msg.specs.Bodies.{HasGoodFields}
 use Rattle.sp_msg.specs.declared.body.Body.{Body}
 use Rattle.sp_msg.specs.declared.body.Body.TheVariants as bodies
@@ -34,7 +36,10 @@ pub seq_in_range : (body : Body) → HasGoodFields body → seq_said body ≤ MA
 seq_in_range (bodies.Prio p) good = omega arith
 seq_in_range (bodies.Rel r) good = omega arith
 seq_in_range (bodies.Ack a) good = omega arith
-seq_in_range (bodies.Weight w) good = good.1.1.0.1
+seq_in_range (bodies.Weight w) good = (good_weight FORMAT_1 w good).seq.1
+seq_in_range (bodies.Krel a) good = omega arith
+seq_in_range (bodies.Kack a) good = omega arith
+seq_in_range (bodies.Epoch a) good = omega arith
 
 -- a message with good fields is put into a row
 pub sound_with : (edges : List Edge) (rows : List (Option Kept)) (active : List Bool) (weights : List ℕ) (edge row weight : ℕ) (kept : Kept)

@@ -8,7 +8,6 @@ use Rattle.sp_journal.specs.declared.entry.Entry.{Entry}
 use Rattle.sp_node_format.proofs.PolledFrames.{polled_is_read_back, signatures_are_short}
 use Rattle.sp_node_format.specs.Format.{format}
 use Rattle.sp_node_format.specs.PolledFrames.{most_signature}
-use Rattle.sp_msg.specs.declared.body.Body.{Body}
 use Rattle.sp_rules.specs.Node.{NodeState}
 use Rattle.sp_rules.specs.Parts.{Fixed}
 use Rattle.sp_rules.specs.Polls.{frame_to}
@@ -17,6 +16,7 @@ use Rattle.sp_runs.specs.Inputs.{acting, flipped}
 use Rattle.sp_runs.specs.Runs.{IsMade, is_hop}
 use Rattle.sp_runs.specs.Scenarios.{setting_of}
 use Rattle.sp_runs.specs.Worlds.{Direction, World, frame_in, frames_in}
+use Rattle.sp_schedule_crafts.specs.declared.object.CraftedObject.{CraftedObject}
 use Rattle.sp_schedule_events.specs.declared.event.Event.{Event}
 use Rattle.sp_schedule_events.specs.declared.event.Event.TheVariants as events
 use Rattle.sp_schedule_events.specs.declared.scenario.Scenario.{Scenario}
@@ -107,11 +107,11 @@ can_craft s es js w e st c v acts hop =
       keyed = links_have_their_keys format (setting_of s) es js w (fits s es js w e st) format_carries st.clean c v first.node edge.edge first.is_there edge.joined;
     }
 
-pub craft_may : (s : Scenario) (es : List Event) (js : List Entry) (nodes : List NodeState) (ds : List Direction) (e : Event) (c v key : NodeId) (body : Body)
-    → Stands s es js (world_of nodes ds) e → e ≡ events.Craft c v key body → CanCraft s nodes c v
-craft_may s es js nodes ds e c v key body st is =
+pub craft_may : (s : Scenario) (es : List Event) (js : List Entry) (nodes : List NodeState) (ds : List Direction) (e : Event) (c v key : NodeId) (object : CraftedObject)
+    → Stands s es js (world_of nodes ds) e → e ≡ events.Craft c v key object → CanCraft s nodes c v
+craft_may s es js nodes ds e c v key object st is =
     let now = subst (Stands s es js (world_of nodes ds)) is st in
-    can_craft s es js (world_of nodes ds) (events.Craft c v key body) now c v refl now.range.1
+    can_craft s es js (world_of nodes ds) (events.Craft c v key object) now c v refl now.range.1
 
 pub status_may : (s : Scenario) (es : List Event) (js : List Entry) (nodes : List NodeState) (ds : List Direction) (e : Event) (c v a b : NodeId) (base have : ℕ)
     → Stands s es js (world_of nodes ds) e → e ≡ events.CraftStatus c v a b base have → CanCraft s nodes c v

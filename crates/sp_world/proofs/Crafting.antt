@@ -32,6 +32,8 @@ use Rattle.sp_rules.specs.Steps.{Datagram, Input}
 use Rattle.sp_runs.specs.Inputs.{counter_after, crafted_frame, crafted_head, crafted_object, crafts, input_of, is_craft_of, object_alone, sealed_frame}
 use Rattle.sp_runs.specs.Scenarios.{edge_key, node_seed, setting_of}
 use Rattle.sp_runs.specs.Worlds.{Direction, World, at_start, node_in}
+use Rattle.sp_schedule_crafts.specs.Objects.{body_of}
+use Rattle.sp_schedule_crafts.specs.declared.object.CraftedObject.{CraftedObject}
 use Rattle.sp_schedule_events.specs.declared.event.Event.{Event}
 use Rattle.sp_schedule_events.specs.declared.event.Event.TheVariants as events
 use Rattle.sp_schedule_events.specs.declared.scenario.Scenario.{Scenario}
@@ -100,27 +102,27 @@ one_id a b same = ap (λ (n : ℕ). id n) same
     id n = record { 0 = n }
 
 -- the key has signed all that it may, and signs no more
-pub after_spent : (s : Scenario) (es : List Event) (c v key : NodeId) (body : Body) (cs : Crafters) → AreAfter s es cs → used cs key ≡ most cs
-    → AreAfter s (es ++ events.Craft c v key body ∷ []) cs
-after_spent s es c v key body cs are full = record { height = are.height; seed = are.seed; counted = counted_more }
+pub after_spent : (s : Scenario) (es : List Event) (c v key : NodeId) (object : CraftedObject) (cs : Crafters) → AreAfter s es cs → used cs key ≡ most cs
+    → AreAfter s (es ++ events.Craft c v key object ∷ []) cs
+after_spent s es c v key object cs are full = record { height = are.height; seed = are.seed; counted = counted_more }
   where
-    counted_more : (k : NodeId) → used cs k ≡ min (crafts (es ++ events.Craft c v key body ∷ []) k) (most cs)
+    counted_more : (k : NodeId) → used cs k ≡ min (crafts (es ++ events.Craft c v key object ∷ []) k) (most cs)
     counted_more k = elim (cases_Bool (eqb key.0 k.0)) [
       | inl t ↦
-          let more : crafts (es ++ events.Craft c v key body ∷ []) k ≡ crafts es k + 1 = rw t at (crafts_more es k (events.Craft c v key body)) in
+          let more : crafts (es ++ events.Craft c v key object ∷ []) k ≡ crafts es k + 1 = rw t at (crafts_more es k (events.Craft c v key object)) in
           let mine : used cs k ≡ most cs = subst (λ (u : NodeId). used cs u ≡ most cs) (one_id key k (eqb-true _ _ t)) full in
           let before = are.counted k in
           omega (arith, more, mine, before)
       | inr t ↦
-          let same : crafts (es ++ events.Craft c v key body ∷ []) k ≡ crafts es k + 0 = rw t at (crafts_more es k (events.Craft c v key body)) in
+          let same : crafts (es ++ events.Craft c v key object ∷ []) k ≡ crafts es k + 0 = rw t at (crafts_more es k (events.Craft c v key object)) in
           let before = are.counted k in
           omega (arith, same, before)
     ]
 
 -- one more message was signed with the key
-pub after_signed : (s : Scenario) (es : List Event) (c v key : NodeId) (body : Body) (cs : Crafters) → AreAfter s es cs → used cs key < most cs
-    → AreAfter s (es ++ events.Craft c v key body ∷ []) (one_more cs key)
-after_signed s es c v key body cs are room = record { height = are.height; seed = are.seed; counted = counted_more }
+pub after_signed : (s : Scenario) (es : List Event) (c v key : NodeId) (object : CraftedObject) (cs : Crafters) → AreAfter s es cs → used cs key < most cs
+    → AreAfter s (es ++ events.Craft c v key object ∷ []) (one_more cs key)
+after_signed s es c v key object cs are room = record { height = are.height; seed = are.seed; counted = counted_more }
   where
     row : Used
     row = record { key = key; count = used cs key + 1 }
@@ -128,16 +130,16 @@ after_signed s es c v key body cs are room = record { height = are.height; seed 
     apart : (k : NodeId) → (key.0 == k.0) ≡ false → (u : Used) → is_used key u ≡ true → is_used k u ≡ false
     apart k other u is = rw (eqb-true u.key.0 key.0 is) other
 
-    counted_more : (k : NodeId) → used (one_more cs key) k ≡ min (crafts (es ++ events.Craft c v key body ∷ []) k) (most cs)
+    counted_more : (k : NodeId) → used (one_more cs key) k ≡ min (crafts (es ++ events.Craft c v key object ∷ []) k) (most cs)
     counted_more k = elim (cases_Bool (eqb key.0 k.0)) [
       | inl t ↦
-          let more : crafts (es ++ events.Craft c v key body ∷ []) k ≡ crafts es k + 1 = rw t at (crafts_more es k (events.Craft c v key body)) in
+          let more : crafts (es ++ events.Craft c v key object ∷ []) k ≡ crafts es k + 1 = rw t at (crafts_more es k (events.Craft c v key object)) in
           let now : used (one_more cs key) k ≡ used cs key + 1 = mine k (one_id key k (eqb-true _ _ t)) in
           let same : used cs key ≡ used cs k = ap (used cs) (one_id key k (eqb-true _ _ t)) in
           let before = are.counted k in
           omega (arith, more, now, same, before, room)
       | inr t ↦
-          let same : crafts (es ++ events.Craft c v key body ∷ []) k ≡ crafts es k + 0 = rw t at (crafts_more es k (events.Craft c v key body)) in
+          let same : crafts (es ++ events.Craft c v key object ∷ []) k ≡ crafts es k + 0 = rw t at (crafts_more es k (events.Craft c v key object)) in
           let stays : used (one_more cs key) k ≡ used cs k =
           ap (λ (u : Used). u.count) (first_where-put_other (is_used key) (is_used k) (record { key = k; count = 0 }) row cs.keys (apart k t) t) in
           let before = are.counted k in
@@ -153,9 +155,9 @@ after_signed s es c v key body cs are room = record { height = are.height; seed 
 total_is : (s : Scenario) (es : List Event) (cs : Crafters) → AreAfter s es cs → most cs ≡ (setting_of s).total
 total_is s es cs are = ap (λ (h : LmsHeight). total (param_of h)) are.height
 
-pub spent_comes : (s : Scenario) (es : List Event) (w : World) (c v key : NodeId) (body : Body) (cs : Crafters) (count : ℕ) → AreAfter s es cs
-    → used cs key ≡ most cs → count ≡ most cs → IsSpent (setting_of s) es (events.Craft c v key body) count
-spent_comes s es w c v key body cs count are full is =
+pub spent_comes : (s : Scenario) (es : List Event) (w : World) (c v key : NodeId) (object : CraftedObject) (cs : Crafters) (count : ℕ) → AreAfter s es cs
+    → used cs key ≡ most cs → count ≡ most cs → IsSpent (setting_of s) es (events.Craft c v key object) count
+spent_comes s es w c v key object cs count are full is =
     let before = are.counted key in
     let whole = total_is s es cs are in
     record { key = key; is_craft = refl; spent = omega (arith, before, full, whole); total_is = is ∙ whole }
@@ -167,14 +169,14 @@ object_is s es key body cs are room =
     let count : used cs key ≡ crafts es key = omega (arith, before, room) in
     rw (are.height, are.seed, count) refl
 
-pub object_comes : (s : Scenario) (es : List Event) (w : World) (n : NodeState) (c v key : NodeId) (body : Body) (cs : Crafters) (bytes : List ℕ)
-    → AreAfter s es cs → used cs key < most cs → bytes ≡ crafted_frame format n c (object_alone body (object_of cs key body))
-    → input_of format (setting_of s) es w n (events.Craft c v key body) ≡ Some (Datagram c bytes)
-object_comes s es w n c v key body cs bytes are room is =
+pub object_comes : (s : Scenario) (es : List Event) (w : World) (n : NodeState) (c v key : NodeId) (object : CraftedObject) (cs : Crafters) (bytes : List ℕ)
+    → AreAfter s es cs → used cs key < most cs → bytes ≡ crafted_frame format n c (object_alone (body_of object) (object_of cs key (body_of object)))
+    → input_of format (setting_of s) es w n (events.Craft c v key object) ≡ Some (Datagram c bytes)
+object_comes s es w n c v key object cs bytes are room is =
     let before = are.counted key in
     let whole = total_is s es cs are in
     let within : nat_lt (crafts es key) (setting_of s).total ≡ true = grind (arith, nat_tests, before, whole, room) in
-    rw (within, is, object_is s es key body cs are room) refl
+    rw (within, is, object_is s es key (body_of object) cs are room) refl
 
 -- ---- what is signed can be written
 
@@ -198,19 +200,19 @@ object_is_writable cs key body good =
 
 -- ---- as the crafting signers answer
 
-pub signed_after : (s : Scenario) (es : List Event) (c v key : NodeId) (body : Body) (object : Kept) (old new : Crafters) → AreAfter s es old
-    → Crafts old key body (Ok (answers.Signed object)) new → AreAfter s (es ++ events.Craft c v key body ∷ []) new
-signed_after s es c v key body object old new are done =
-    subst (λ (cs : Crafters). AreAfter s (es ++ events.Craft c v key body ∷ []) cs) (sym done.2) (after_signed s es c v key body old are done.0)
+pub signed_after : (s : Scenario) (es : List Event) (c v key : NodeId) (object : CraftedObject) (signed : Kept) (old new : Crafters) → AreAfter s es old
+    → Crafts old key (body_of object) (Ok (answers.Signed signed)) new → AreAfter s (es ++ events.Craft c v key object ∷ []) new
+signed_after s es c v key object signed old new are done =
+    subst (λ (cs : Crafters). AreAfter s (es ++ events.Craft c v key object ∷ []) cs) (sym done.2) (after_signed s es c v key object old are done.0)
 
-pub spent_after : (s : Scenario) (es : List Event) (c v key : NodeId) (body : Body) (count : ℕ) (old new : Crafters) → AreAfter s es old
-    → Crafts old key body (Ok (answers.Spent count)) new → AreAfter s (es ++ events.Craft c v key body ∷ []) new
-spent_after s es c v key body count old new are done =
-    subst (λ (cs : Crafters). AreAfter s (es ++ events.Craft c v key body ∷ []) cs) (sym done.2) (after_spent s es c v key body old are done.0)
+pub spent_after : (s : Scenario) (es : List Event) (c v key : NodeId) (object : CraftedObject) (count : ℕ) (old new : Crafters) → AreAfter s es old
+    → Crafts old key (body_of object) (Ok (answers.Spent count)) new → AreAfter s (es ++ events.Craft c v key object ∷ []) new
+spent_after s es c v key object count old new are done =
+    subst (λ (cs : Crafters). AreAfter s (es ++ events.Craft c v key object ∷ []) cs) (sym done.2) (after_spent s es c v key object old are done.0)
 
-pub spent_is : (s : Scenario) (es : List Event) (c v key : NodeId) (body : Body) (count : ℕ) (old new : Crafters) → AreAfter s es old
-    → Crafts old key body (Ok (answers.Spent count)) new → IsSpent (setting_of s) es (events.Craft c v key body) count
-spent_is s es c v key body count old new are done = spent_comes s es (at_start (setting_of s)) c v key body old count are done.0 done.1
+pub spent_is : (s : Scenario) (es : List Event) (c v key : NodeId) (object : CraftedObject) (count : ℕ) (old new : Crafters) → AreAfter s es old
+    → Crafts old key (body_of object) (Ok (answers.Spent count)) new → IsSpent (setting_of s) es (events.Craft c v key object) count
+spent_is s es c v key object count old new are done = spent_comes s es (at_start (setting_of s)) c v key object old count are done.0 done.1
 
 pub object_writable : (key : NodeId) (body : Body) (object : Kept) (old new : Crafters) → HasGoodFields body
     → Crafts old key body (Ok (answers.Signed object)) new → IsWritable object
@@ -239,16 +241,16 @@ frame_is s nodes c v n head key bytes contents can there head_is key_is is =
     let mine : key ≡ (link_in n c).key = key_is can.edge.edge can.edge.joined ∙ sym keyed in
     is ∙ ap₂ (λ (h : Head) (k : List ℕ). sealed_frame format h k contents) head_is mine
 
-pub signed_comes : (s : Scenario) (es : List Event) (nodes : List NodeState) (ds : List Direction) (c v key : NodeId) (body : Body) (object : Kept) (old new : Crafters)
-    (head : Head) (tag_key bytes : List ℕ) → CanCraft s nodes c v → AreAfter s es old → Crafts old key body (Ok (answers.Signed object)) new
+pub signed_comes : (s : Scenario) (es : List Event) (nodes : List NodeState) (ds : List Direction) (c v key : NodeId) (object : CraftedObject) (signed : Kept) (old new : Crafters)
+    (head : Head) (tag_key bytes : List ℕ) → CanCraft s nodes c v → AreAfter s es old → Crafts old key (body_of object) (Ok (answers.Signed signed)) new
     → ((n : NodeState) → node_in nodes v ≡ Some n → head ≡ crafted_head n c)
     → ((edge : ℕ) → position (joins c.0 v.0) s.graph.edges ≡ Some edge → tag_key ≡ edge_key s.seed edge)
-    → bytes ≡ sealed_frame format head tag_key (object_alone object.body object)
-    → (n : NodeState) → node_in nodes v ≡ Some n → input_of format (setting_of s) es (world_of nodes ds) n (events.Craft c v key body) ≡ Some (Datagram c bytes)
-signed_comes s es nodes ds c v key body object old new head tag_key bytes can are done heads keys is n there =
-    let made = frame_is s nodes c v n head tag_key bytes (object_alone object.body object) can there (heads n there) keys is in
-    let mine : object_alone object.body object ≡ object_alone body (object_of old key body) = ap (λ (o : Kept). object_alone o.body o) done.1 in
-    object_comes s es (world_of nodes ds) n c v key body old bytes are done.0 (made ∙ ap (crafted_frame format n c) mine)
+    → bytes ≡ sealed_frame format head tag_key (object_alone signed.body signed)
+    → (n : NodeState) → node_in nodes v ≡ Some n → input_of format (setting_of s) es (world_of nodes ds) n (events.Craft c v key object) ≡ Some (Datagram c bytes)
+signed_comes s es nodes ds c v key object signed old new head tag_key bytes can are done heads keys is n there =
+    let made = frame_is s nodes c v n head tag_key bytes (object_alone signed.body signed) can there (heads n there) keys is in
+    let mine : object_alone signed.body signed ≡ object_alone (body_of object) (object_of old key (body_of object)) = ap (λ (o : Kept). object_alone o.body o) done.1 in
+    object_comes s es (world_of nodes ds) n c v key object old bytes are done.0 (made ∙ ap (crafted_frame format n c) mine)
 
 -- ---- what is asked is no craft
 

@@ -63,8 +63,8 @@ pub fn bring(
             bit,
         } => Ok(Came::Datagram(changed(alloc, directions, *u, *v, *number, *back, *bit)?)),
         Event::Inject { bytes, .. } => { Ok(Came::Datagram(Bytes::copy(alloc, bytes.as_slice())?)) }
-        Event::Craft { c, v, key, body } => {
-            crafted(alloc, known.scenario, nodes, crafters, *c, *v, *key, body)
+        Event::Craft { c, v, key, object } => {
+            crafted(alloc, known.scenario, nodes, crafters, *c, *v, *key, object)
         }
         Event::CraftStatus {
             c,

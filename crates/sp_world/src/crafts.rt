@@ -1,7 +1,7 @@
 // The bytes that a compromised neighbour crafts: fresh to the node that acts, and under the right tag.
 ghost use Rattle.sp_topology.specs.Neighbours.{joins};
 ghost use Rattle.std.specs.Prelude.{ℕ, position, ◌≡◌, ◌∷◌, ◌++◌, [], List, IfOk, None as Nothing, OnOk, Some as There};
-ghost use Rattle.sp_adversary.specs.Crafting.{AreAfter};
+ghost use Rattle.sp_adversary.specs.Crafting.{AreAfter, Crafts, HasRoom};
 ghost use Rattle.sp_msg.specs.Bodies.{HasGoodFields};
 ghost use Rattle.sp_node_format.specs.Format.{format};
 ghost use Rattle.sp_rules.specs.Node.{NodeState};
@@ -9,6 +9,7 @@ ghost use Rattle.sp_runs.specs.Inputs.{crafted_frame, crafted_head, slot_alone};
 ghost use Rattle.sp_runs.specs.Scenarios.{edge_key, setting_of};
 ghost use Rattle.sp_runs.specs.Worlds as worlds;
 ghost use Rattle.sp_runs.specs.Worlds.{node_in};
+ghost use Rattle.sp_schedule_crafts.specs.Objects.{body_of};
 ghost use Rattle.sp_schedule_events.specs.declared.event.Event as event;
 ghost use Rattle.sp_schedule_events.specs.declared.event.Event.TheVariants as events;
 ghost use Rattle.sp_world.specs.Stands.{CanCraft, Comes, IsAtFirst, IsEdgeOf};
@@ -20,7 +21,7 @@ use sp_adversary::{
 };
 use sp_base::{Bytes, Flow, Memory, NodeId};
 use sp_frame::Head;
-use sp_msg::Body;
+use sp_schedule_crafts::CraftedObject;
 use sp_schedule_events::Scenario;
 use sp_world_steps::{Member, member_of};
 use std::alloc::Global;
@@ -41,23 +42,39 @@ pub fn crafted(
     c: NodeId,
     v: NodeId,
     key: NodeId,
-    body: &Body,
+    object: &CraftedObject,
 ) -> Result<Came, Memory>
     requires can { CanCraft scenario.now nodes.now c v }
-    requires fields { HasGoodFields body.now }
+    requires fields { HasGoodFields (body_of object.now) }
     ensures comes { (es : List event.Event) (directions : List worlds.Direction) → AreAfter scenario.now es crafters.old
-        → IfOk result (λ came. Comes (setting_of scenario.now) es (world_of nodes.now directions) (events.Craft c v key body.now) came) }
+        → IfOk result (λ came. Comes (setting_of scenario.now) es (world_of nodes.now directions) (events.Craft c v key object.now) came) }
     ensures crafters { (es : List event.Event) → AreAfter scenario.now es crafters.old
-        → OnOk result (AreAfter scenario.now (es ++ events.Craft c v key body.now ∷ []) crafters.new) }
+        → OnOk result (AreAfter scenario.now (es ++ events.Craft c v key object.now ∷ []) crafters.new) }
 {
     let head = head_for(nodes, c, v);
     let tag_key = key_for(scenario, c, v);
-    match crafters.craft(alloc, key, body)? {
-        Crafted::Signed(object) => Ok(Came::Datagram(object_frame(
-            alloc, &head, &tag_key, &object,
+    match signed_with(alloc, crafters, key, object)? {
+        Crafted::Signed(signed) => Ok(Came::Datagram(object_frame(
+            alloc, &head, &tag_key, &signed,
         )?)),
         Crafted::Spent { total } => Ok(Came::Spent { total }),
     }
+}
+
+/// The message that the object is, with the next signature of this key, or that none is left. Only want of memory refuses, and then
+/// nothing has changed.
+fn signed_with(
+    alloc: Global,
+    crafters: &mut Crafters,
+    key: NodeId,
+    object: &CraftedObject,
+) -> Result<Crafted, Memory>
+    requires { HasGoodFields (body_of object.now) }
+    ensures crafted { Crafts crafters.old key (body_of object.now) result crafters.new }
+    ensures written { HasRoom result }
+{
+    let body = object.body(alloc)?;
+    crafters.craft(alloc, key, &body)
 }
 
 /// A frame of `c` for `v` with a report on a flow, and no message.

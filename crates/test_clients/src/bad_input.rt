@@ -60,17 +60,21 @@ fn is_no_request(rt: &impl Abort, talk: &mut Talk, bytes: &[u8], row: &str) -> R
     Ok(())
 }
 
-#[test]
-fn what_is_no_request_is_told_so_and_touches_no_session(rt: HostRuntime) -> Result<(), Fail> {
-    let mut talk = Talk::new(rt.alloc())?;
-    is_no_request(&rt, &mut talk, b"", "no bytes")?;
-    talk.rows(&rt, "49000 1 open = 1 opened")?;
+/// None of the rows is a request, with a session and without.
+fn are_no_requests(rt: &(impl Abort + AllocGlobal), talk: &mut Talk) -> Result<(), Fail> {
+    is_no_request(rt, talk, b"", "no bytes")?;
+    talk.rows(rt, "49000 1 open = 1 opened")?;
     for row in NO_REQUESTS.lines() {
         let request = row.replace(rt.alloc(), "|", "\n")?;
-        is_no_request(&rt, &mut talk, request.as_bytes(), row)?;
+        is_no_request(rt, talk, request.as_bytes(), row)?;
     }
     assert_eq!(rt; talk.node.calls, 0);
-    talk.rows(&rt, NO_ENDS)
+    talk.rows(rt, NO_ENDS)
+}
+
+#[test]
+fn what_is_no_request_is_told_so_and_touches_no_session(rt: HostRuntime) -> Result<(), Fail> {
+    are_no_requests(&rt, &mut Talk::new(rt.alloc())?)
 }
 
 /// A request `2 send 3` of so many bytes of payload.
@@ -82,32 +86,39 @@ fn send_of(alloc: Global, payload: usize) -> Result<String, Fail> {
     Ok(request)
 }
 
-#[test]
-fn a_payload_has_at_most_1024_bytes(rt: HostRuntime) -> Result<(), Fail> {
-    let alloc = rt.alloc();
-    let mut talk = Talk::new(alloc)?;
-    talk.rows(&rt, "49000 1 open = 1 opened")?;
-    is_no_request(
-        &rt,
-        &mut talk,
-        send_of(alloc, 1_025)?.as_bytes(),
-        "1,025 bytes",
-    )?;
-    let longest = send_of(alloc, 1_024)?;
-    assert_eq!(rt;
-        talk.reply(49000, longest.as_bytes())?.as_str(),
-        "2 accepted 1"
-    );
+/// A payload of 1,025 bytes is none, and one of 1,024 bytes is.
+fn has_a_longest(rt: &(impl Abort + AllocGlobal), talk: &mut Talk) -> Result<(), Fail> {
+    talk.rows(rt, "49000 1 open = 1 opened")?;
+    let longer = send_of(rt.alloc(), 1_025)?;
+    is_no_request(rt, talk, longer.as_bytes(), "1,025 bytes")?;
+    let longest = send_of(rt.alloc(), 1_024)?;
+    let reply = talk.reply(49000, longest.as_bytes())?;
+    assert_eq!(rt; reply.as_str(), "2 accepted 1");
     Ok(())
 }
 
 #[test]
+fn a_payload_has_at_most_1024_bytes(rt: HostRuntime) -> Result<(), Fail> {
+    has_a_longest(&rt, &mut Talk::new(rt.alloc())?)
+}
+
+/// So many bytes, all alike, are no request.
+fn is_none_of(
+    rt: &(impl Abort + AllocGlobal),
+    talk: &mut Talk,
+    byte: u8,
+    count: usize,
+) -> Result<(), Fail> {
+    let bytes = vec![in rt.alloc(); byte; count]?;
+    is_no_request(rt, talk, &bytes, "bytes that are alike")
+}
+
+#[test]
 fn a_datagram_of_many_bytes_is_no_request(rt: HostRuntime) -> Result<(), Fail> {
-    let alloc = rt.alloc();
-    let mut talk = Talk::new(alloc)?;
+    let mut talk = Talk::new(rt.alloc())?;
     for count in [4_096usize, 4_097, 65_507] {
-        is_no_request(&rt, &mut talk, &vec![in alloc; b' '; count]?, "spaces")?;
-        is_no_request(&rt, &mut talk, &vec![in alloc; b'1'; count]?, "digits")?;
+        is_none_of(&rt, &mut talk, b' ', count)?;
+        is_none_of(&rt, &mut talk, b'1', count)?;
     }
     Ok(())
 }

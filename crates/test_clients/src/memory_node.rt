@@ -3,7 +3,7 @@ ghost use Rattle.std.specs.Prelude.{⊤};
 
 use sp_base::{Bytes, MAX_PAYLOAD_BYTES, MAX_SEQ, NodeId};
 use sp_client::{BadEnd, Local, SendRefused};
-use sp_msg::{Body, Kept, Prio};
+use sp_msg::{Body, Kept, Mask, Prio};
 use sp_rules::{Entry, PrioSend};
 use std::alloc::Global;
 
@@ -109,10 +109,11 @@ impl Local for MemoryNode {
         let body = Body::Prio(Prio {
             src: NodeId(3),
             dst: NodeId(1),
+            sboot: 0,
             seq: MAX_SEQ,
             prio: 5,
             expiry: 9,
-            mask: 0,
+            mask: Mask::none(),
             payload,
         });
         let signature = Bytes::from_vec(Vec::new(self.alloc));

@@ -2,8 +2,6 @@
 use sp_outside::{Coming, MemoryWire, WirePlan};
 use sp_service_ask::{AskRefused, Question, ask};
 use std::alloc::Global;
-use std::process::Abort;
-use std::str;
 use std::test::Fail;
 
 /// On each line the call that fails first, the turns, the request to port 47101, what comes turn by turn (a dash for nothing), and the
@@ -67,32 +65,56 @@ fn word_of(refused: AskRefused) -> &'static str {
     }
 }
 
-fn is_answered(rt: &impl Abort, alloc: Global, row: &str) -> Result<(), Fail> {
-    let mut fields = row.split('|');
-    let mut next = || fields.next().ok_or("a field is missing");
-    let (failing, turns, request, comes, wanted) = (next()?, next()?, next()?, next()?, next()?);
-    let mut client = Vec::new(alloc);
-    for text in comes.split(';') {
-        client.push(coming(text)?)?;
+/// A row's fields.
+#[derive(Drop)]
+struct Row<'a> {
+    failing: &'a str,
+    turns: u32,
+    request: &'a str,
+    comes: &'a str,
+    wanted: &'a str,
+}
+
+fn row_of(line: &str) -> Result<Row<'_>, Fail> {
+    let mut fields = line.split('|');
+    Ok(Row {
+        failing: fields.next().unwrap_or(""),
+        turns: fields.next().unwrap_or("").parse()?,
+        request: fields.next().unwrap_or(""),
+        comes: fields.next().unwrap_or(""),
+        wanted: fields.next().unwrap_or(""),
+    })
+}
+
+/// What comes turn by turn.
+fn all_coming(alloc: Global, texts: &str) -> Result<Vec<Option<Coming<'_>>>, Fail> {
+    let mut all = Vec::new(alloc);
+    for text in texts.split(';') {
+        all.push(coming(text)?)?;
     }
-    let mut wire = MemoryWire::new(alloc, &[], client.as_slice(), plan_of(failing));
+    Ok(all)
+}
+
+/// Whether the question of a row has its reply, or none for the reason that the row says.
+fn is_answered(alloc: Global, row: &Row<'_>) -> Result<bool, Fail> {
+    let client = all_coming(alloc, row.comes)?;
+    let mut wire = MemoryWire::new(alloc, &[], client.as_slice(), plan_of(row.failing));
     let question = Question {
         port: 47_101,
         local: 47_201,
-        turns: turns.parse()?,
-        request: request.as_bytes(),
+        turns: row.turns,
+        request: row.request.as_bytes(),
     };
-    match ask(alloc, &question, &mut wire) {
-        Ok(reply) => assert_eq!(rt; str::from_utf8(reply.as_slice())?, wanted, "{row}"),
-        Err(refused) => assert_eq!(rt; word_of(refused), wanted, "{row}"),
-    }
-    Ok(())
+    Ok(match ask(alloc, &question, &mut wire) {
+        Ok(reply) => reply.as_slice() == row.wanted.as_bytes(),
+        Err(refused) => word_of(refused) == row.wanted,
+    })
 }
 
 #[test]
 fn the_first_reply_of_the_number_and_the_port_is_given(rt: HostRuntime) -> Result<(), Fail> {
-    for row in ROWS.lines() {
-        is_answered(&rt, rt.alloc(), row)?;
+    for line in ROWS.lines() {
+        assert!(rt; is_answered(rt.alloc(), &row_of(line)?)?, "{line}");
     }
     Ok(())
 }

@@ -3,6 +3,7 @@ use crate::dialogues::{BY_HAND, FIRST_TALK, SECOND_TALK};
 use crate::talk::Talk;
 use sp_base::Bytes;
 use std::alloc::Global;
+use std::process::Abort;
 use std::test::Fail;
 
 #[test]
@@ -90,22 +91,33 @@ fn long_reply(alloc: Global, front: &str) -> Result<String, Fail> {
 const LISTENS: &str = "9000 1 open = 1 opened
 9000 2 listen = 2 listening";
 
-#[test]
-fn messages_are_taken_once_and_told_again(rt: HostRuntime) -> Result<(), Fail> {
-    let alloc = rt.alloc();
-    let mut talk = Talk::new(alloc)?;
-    talk.rows(&rt, LISTENS)?;
-    talk.node.mail = Some(alike(alloc, 1_024)?);
-    talk.node.urgent_mail = Some(alike(alloc, 1_024)?);
-    let reliable = long_reply(alloc, "3 payload ")?;
-    let urgent = long_reply(alloc, "4 payload 3 9223372036854775807 ")?;
+/// The reply to this request is these words and 1,024 bytes of payload, and the same once more.
+fn is_told_twice(
+    rt: &(impl Abort + AllocGlobal),
+    talk: &mut Talk,
+    request: &[u8],
+    front: &str,
+) -> Result<(), Fail> {
+    let reply = long_reply(rt.alloc(), front)?;
     for _ in 0..2 {
-        assert_eq!(rt; talk.reply(9000, b"3 take 3")?, reliable);
+        assert_eq!(rt; talk.reply(9000, request)?, reply);
     }
-    for _ in 0..2 {
-        assert_eq!(rt; talk.reply(9000, b"4 takeprio")?, urgent);
-    }
-    talk.rows(&rt, "9000 5 take 3 = 5 empty\n9000 6 takeprio = 6 empty")?;
+    Ok(())
+}
+
+/// The two messages that wait are taken, and then none waits.
+fn are_taken_once(rt: &(impl Abort + AllocGlobal), talk: &mut Talk) -> Result<(), Fail> {
+    talk.rows(rt, LISTENS)?;
+    talk.node.mail = Some(alike(rt.alloc(), 1_024)?);
+    talk.node.urgent_mail = Some(alike(rt.alloc(), 1_024)?);
+    is_told_twice(rt, talk, b"3 take 3", "3 payload ")?;
+    is_told_twice(rt, talk, b"4 takeprio", "4 payload 3 9223372036854775807 ")?;
+    talk.rows(rt, "9000 5 take 3 = 5 empty\n9000 6 takeprio = 6 empty")?;
     assert_eq!(rt; talk.node.calls, 4);
     Ok(())
+}
+
+#[test]
+fn messages_are_taken_once_and_told_again(rt: HostRuntime) -> Result<(), Fail> {
+    are_taken_once(&rt, &mut Talk::new(rt.alloc())?)
 }

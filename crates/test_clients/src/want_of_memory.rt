@@ -55,7 +55,7 @@ fn a_send_and_a_take_run_once_whatever_memory_is_left(rt: HostRuntime) -> Result
     let mut clients = clients_of(alloc)?;
     let mut node = MemoryNode::new(alloc);
     for row in ROWS.lines() {
-        let (request, wanted) = row.split_once(" = ").ok_or("no reply")?;
+        let (request, wanted) = row.split_once(" = ").unwrap_or((row, ""));
         told(&rt, alloc, &mut clients, &mut node, request, wanted)?;
     }
     assert_eq!(rt; node.calls, 5);

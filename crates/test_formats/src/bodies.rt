@@ -2,15 +2,14 @@
 ghost use Rattle.sp_msg.specs.Bodies.{HasGoodFields};
 ghost use Rattle.sp_msg.specs.Views.{as_body};
 
+use crate::told::{answer_of, assert_cuts, bytes_of, fields_of, push_long};
 use hex::decode;
 use sha2::{Digest, Sha256};
-use sp_base::EdgeId;
+use sp_base::{EdgeId, FORMAT_1};
 use sp_msg::{
-    BodyRef, Effect, Effects, Mask, MsgRefused, Why, encode, encoded_len, keep, mask_has,
-    push_body, signer,
+    BodyRef, Effect, Effects, Mask, Why, encode, encoded_len, keep, mask_has, push_body, signer,
 };
 use std::alloc::Global;
-use std::fmt::Write;
 use std::process::Abort;
 use std::test::Fail;
 
@@ -154,73 +153,6 @@ const CUTS: &str = "\
 0301030000000000000001|1 0, 1 0, 1 0, 8 0, 8 1, 8 2, 8 3, 8 4, 8 5, 8 6, 8 7
 04010000000000000000000100000019|1 0, 1 0, 2 0, 2 1, 8 0, 8 1, 8 2, 8 3, 8 4, 8 5, 8 6, 8 7, 4 0, 4 1, 4 2, 4 3";
 
-/// The bytes of a word: a dash is none, and so many bytes 00 may follow.
-fn bytes_of(alloc: Global, word: &str) -> Result<Vec<u8>, Fail> {
-    let (digits, zeros) = word.split_once(" and ").unwrap_or((word, "0 bytes 00"));
-    let zeros: usize = zeros.strip_suffix(" bytes 00").ok_or("no count")?.parse()?;
-    let mut bytes = decode(alloc, digits.trim_start_matches('-'))?;
-    for _ in 0..zeros {
-        bytes.push(0)?;
-    }
-    Ok(bytes)
-}
-
-/// The fields of a message as a row has them.
-fn fields_of(alloc: Global, body: &BodyRef<'_>) -> Result<String, Fail> {
-    match body {
-        BodyRef::Prio(p) => {
-            let numbers = [
-                p.src.0.into(),
-                p.dst.0.into(),
-                p.seq,
-                p.prio.into(),
-                p.expiry,
-            ];
-            let mut text = joined(alloc, "prio", &numbers)?;
-            write!(text, " {:032x}", p.mask)?;
-            with_payload(text, p.payload)
-        }
-        BodyRef::Rel(r) => {
-            let text = joined(alloc, "rel", &[r.src.0.into(), r.dst.0.into(), r.seq])?;
-            with_payload(text, r.payload)
-        }
-        BodyRef::Ack(a) => joined(alloc, "ack", &[a.src.0.into(), a.dst.0.into(), a.seq]),
-        BodyRef::Weight(w) => {
-            let numbers = [w.origin.0.into(), w.edge.0.into(), w.seq, w.weight.into()];
-            joined(alloc, "weight", &numbers)
-        }
-    }
-}
-
-/// A kind and the numbers after it.
-fn joined(alloc: Global, kind: &str, numbers: &[u64]) -> Result<String, Fail> {
-    let mut text = kind.to_string(alloc)?;
-    for number in numbers {
-        write!(text, " {number}")?;
-    }
-    Ok(text)
-}
-
-fn with_payload(mut text: String, payload: &[u8]) -> Result<String, Fail> {
-    text.push_str(if payload.is_empty() { " -" } else { " " })?;
-    for byte in payload {
-        write!(text, "{byte:02x}")?;
-    }
-    Ok(text)
-}
-
-/// What these bytes are refused for.
-fn refusal_of(alloc: Global, bytes: &[u8]) -> Result<String, Fail> {
-    match BodyRef::read(bytes) {
-        Ok(body) => fields_of(alloc, &body),
-        Err(MsgRefused::Short(short)) => {
-            joined(alloc, "Short", &[short.need as u64, short.left as u64])
-        }
-        Err(MsgRefused::Range(field)) => Ok(format!(in alloc; "Range {field:?}")?),
-        Err(other) => Ok(format!(in alloc; "{other:?}")?),
-    }
-}
-
 /// The bytes are read as these fields of this signer.
 fn assert_reads(
     rt: &impl Abort,
@@ -230,7 +162,7 @@ fn assert_reads(
     by: &str,
 ) -> Result<(), Fail> {
     let body = BodyRef::read(bytes)?;
-    assert_eq!(rt; fields_of(alloc, &body)?.as_str(), fields);
+    assert_eq!(rt; fields_of(alloc, &body, FORMAT_1)?.as_str(), fields);
     assert_eq!(rt; Ok(signer(&body).0), by.parse());
     assert_encodes(rt, alloc, &body, bytes)
 }
@@ -246,10 +178,10 @@ fn assert_encodes(
 {
     let copy = keep(alloc, body, b"signature")?.copy(alloc)?;
     assert_eq!(rt; copy.signature.as_slice(), b"signature".as_slice());
-    assert_eq!(rt; encoded_len(&copy.body), bytes.len());
+    assert_eq!(rt; encoded_len(&copy.body, FORMAT_1), bytes.len());
     let mut out = encode(alloc, &copy.body)?.into_vec();
     assert_eq!(rt; out.as_slice(), bytes);
-    push_body(&mut out, &copy.body)?;
+    push_body(&mut out, &copy.body, FORMAT_1)?;
     assert_eq!(rt; out.strip_prefix(bytes), Some(bytes));
     Ok(())
 }
@@ -269,11 +201,7 @@ fn a_good_message_is_read_and_encoded(rt: HostRuntime) -> Result<(), Fail> {
 fn a_message_of_1024_bytes_is_read_and_encoded(rt: HostRuntime) -> Result<(), Fail> {
     let alloc = rt.alloc();
     let mut bytes = decode(alloc, LONG)?;
-    for _ in 0..4 {
-        for byte in 0..=255 {
-            bytes.push(byte)?;
-        }
-    }
+    push_long(&mut bytes)?;
     assert_eq!(rt;
         hex::encode(alloc, Sha256::digest(&bytes))?.as_str(),
         LONG_HASH
@@ -290,7 +218,7 @@ fn a_bad_message_is_refused_at_its_first_wrong_field(rt: HostRuntime) -> Result<
         let (refusal, why) = rest.split_once('|').ok_or("no reason")?;
         let bytes = bytes_of(alloc, word)?;
         assert_eq!(rt;
-            refusal_of(alloc, &bytes)?.as_str(),
+            answer_of(alloc, &bytes, FORMAT_1)?.as_str(),
             refusal,
             "{why}: {word}"
         );
@@ -302,25 +230,15 @@ fn a_bad_message_is_refused_at_its_first_wrong_field(rt: HostRuntime) -> Result<
 fn each_cut_of_a_good_message_is_short(rt: HostRuntime) -> Result<(), Fail> {
     let alloc = rt.alloc();
     for row in CUTS.lines() {
-        let (word, cuts) = row.split_once('|').ok_or("no cuts")?;
-        let bytes = decode(alloc, word)?;
-        assert_eq!(rt; cuts.split(", ").count(), bytes.len());
-        for (len, cut) in cuts.split(", ").enumerate() {
-            let front = bytes.get(..len).ok_or("too many cuts")?;
-            assert_eq!(rt;
-                refusal_of(alloc, front)?,
-                format!(in alloc; "Short {cut}")?,
-                "{len} of {word}"
-            );
-        }
+        assert_cuts(&rt, alloc, row, FORMAT_1)?;
     }
     Ok(())
 }
 
 #[test]
 fn a_mask_has_the_edges_of_its_bits(rt: HostRuntime) {
-    for edge in 0..128 {
-        let mask: Mask = 1 << edge;
+    for edge in 0..256 {
+        let mask = Mask::of(EdgeId(edge));
         for other in 0..400 {
             assert_eq!(rt;
                 mask_has(&mask, EdgeId(other)),
@@ -329,9 +247,16 @@ fn a_mask_has_the_edges_of_its_bits(rt: HostRuntime) {
             );
         }
     }
-    assert!(rt; mask_has(&Mask::MAX, EdgeId(127)));
-    assert!(rt; !mask_has(&Mask::MAX, EdgeId(128)));
-    assert!(rt; !mask_has(&Mask::MAX, EdgeId(u16::MAX)));
+    let all = Mask {
+        low: u128::MAX,
+        high: u128::MAX,
+    };
+    assert!(rt; mask_has(&all, EdgeId(255)));
+    assert!(rt; !mask_has(&all, EdgeId(256)));
+    assert!(rt; !mask_has(&all, EdgeId(u16::MAX)));
+    let both = Mask::of(EdgeId(127)).with(Mask::of(EdgeId(128)));
+    assert_eq!(rt; (both.low, both.high), (1 << 127, 1));
+    assert_eq!(rt; both.with(Mask::none()), both);
 }
 
 #[test]

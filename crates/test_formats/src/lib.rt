@@ -3,3 +3,9 @@
 
 #[cfg(test)]
 mod bodies;
+#[cfg(test)]
+mod format_2;
+#[cfg(test)]
+mod format_2_rows;
+#[cfg(test)]
+mod told;

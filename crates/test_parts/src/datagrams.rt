@@ -67,9 +67,10 @@ fn signature(
     let body = BodyRef::read(&bytes)?;
     assert!(rt; index < 1024);
     let seed = <[u8; 32] as FromHex>::from_hex(seed)?;
+    let unsigned = keep(alloc, &body, b"")?;
     let own = Signer::make(alloc, LmsParam::H5, seed, index, index + 1)?;
     let mut node = NodeSigner::new(signer(&body), own);
-    let mut blank = node.blank(alloc, keep(alloc, &body, b"")?.body)?;
+    let mut blank = node.blank(alloc, unsigned.body)?;
     node.sign(&mut blank)?;
     Ok(blank.kept.signature.into_vec())
 }

@@ -38,10 +38,9 @@ fn the_greatest_link_number_that_came_is_acknowledged(rt: HostRuntime) -> Result
 
 #[test]
 fn a_message_of_another_kind_has_no_right_end(rt: HostRuntime) -> Result<(), Fail> {
-    let alloc = rt.alloc();
-    let table = node_of_rows(alloc)?;
-    let bytes = hex::decode(alloc, "02010500000000000000010000")?;
+    let bytes = hex::decode(rt.alloc(), "02010500000000000000010000")?;
     let body = BodyRef::read(&bytes)?;
+    let table = node_of_rows(rt.alloc())?;
     assert_eq!(rt; table.judge_ref(&body, 0), PrioJudged::BadEnd);
     Ok(())
 }

@@ -14,9 +14,12 @@ fn runs(rt: &impl Abort, row: &str) -> Result<(), Fail> {
         let (number, word) = pair.split_once(' ').ok_or("no answer")?;
         let number: u64 = number.parse()?;
         let is_new = word == "yes";
-        assert_eq!(rt; window.seen(number), !is_new, "{number}");
-        assert_eq!(rt; window.first(number), is_new, "{number}");
-        assert_eq!(rt; window.seen(number), true, "{number}");
+        let found = (
+            window.seen(number),
+            window.first(number),
+            window.seen(number),
+        );
+        assert!(rt; found == (!is_new, is_new, true), "{number}");
     }
     Ok(())
 }

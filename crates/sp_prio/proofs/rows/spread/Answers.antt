@@ -1,5 +1,6 @@
 use Rattle.std.proofs.Common.{ℕ, ◌≡◌, ◌<◌, ◌^◌, arith, cond, ◌∙◌, ap, refl, vec_capacity}
 use Rattle.std.specs.Prelude.{count_by}
+use Rattle.sp_msg.specs.Masks.{bits}
 use Rattle.sp_rules.specs.PrioPeer.{given, given_effects, goes_to}
 use Rattle.sp_prio.proofs.MappedLemmas.{mapped_all, mapped_holds, mapped_read, mapped_set}
 use Rattle.sp_prio.specs.Given.{goes_along}
@@ -11,7 +12,7 @@ pub give-requires-clause-enough : goal.give-requires-clause-enough
 give-requires-clause-enough c =
     let old = mapped_read (given c.args.kept c.args.came) c.peers.place c.args.peers.now.items c.peers.peers.items c.index_mut.result.now
     c.peers.invariant.peers c.index_mut.ensures.value in
-    let along : ◌≡◌ {A = ℕ} (cond (goes_along c.mask_of-mask.result c.args.came c.index_mut.result.now) 1 0) (cond (goes_to c.args.kept.body c.args.came c.index_mut.result.now) 1 0) =
+    let along : ◌≡◌ {A = ℕ} (cond (goes_along (bits c.mask_of-mask.result) c.args.came c.index_mut.result.now) 1 0) (cond (goes_to c.args.kept.body c.args.came c.index_mut.result.now) 1 0) =
     ap (λ (m : ℕ). cond (goes_along m c.args.came c.index_mut.result.now) 1 0) c.mask_of-mask.ensures in
     omega (
       arith,
@@ -31,7 +32,7 @@ pub peers-preserved : goal.peers-preserved
 peers-preserved c =
     let old = mapped_read (given c.args.kept c.args.came) c.peers.place c.args.peers.now.items c.peers.peers.items c.index_mut.result.now
     c.peers.invariant.peers c.index_mut.ensures.value in
-    let along : ◌≡◌ {A = ℕ} (cond (goes_along c.mask_of-mask.result c.args.came c.index_mut.result.now) 1 0) (cond (goes_to c.args.kept.body c.args.came c.index_mut.result.now) 1 0) =
+    let along : ◌≡◌ {A = ℕ} (cond (goes_along (bits c.mask_of-mask.result) c.args.came c.index_mut.result.now) 1 0) (cond (goes_to c.args.kept.body c.args.came c.index_mut.result.now) 1 0) =
     ap (λ (m : ℕ). cond (goes_along m c.args.came c.index_mut.result.now) 1 0) c.mask_of-mask.ensures in
     let done = c.give.ensures.given c.args.kept c.mask_of-mask.ensures c.peers.invariant.alike in
     record {

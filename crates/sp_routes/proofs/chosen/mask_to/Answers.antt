@@ -1,5 +1,6 @@
 use Rattle.std.proofs.Common.{sym, subst}
 use Rattle.sp_graph.specs.declared.graph.Graph.{Graph}
+use Rattle.sp_msg.specs.Masks.{bits}
 use Rattle.sp_paths.specs.Cheapest.{AreEnds}
 use Rattle.sp_rules.specs.Masks.{graph_of}
 use Rattle.sp_routes.proofs.ChoiceLemmas.{all_chosen}
@@ -8,7 +9,7 @@ use Rattle.sp_routes.proofs.chosen.mask_to.Goals as goal
 
 pub returns-then-paths-eq0-clause-mask : goal.returns-then-paths-eq0-clause-mask
 returns-then-paths-eq0-clause-mask c =
-    all_chosen c.args.topology.now c.args.weights.now c.args.from c.args.to c.args.paths c.all_edges.result c.if-paths-eq0.true (rw c.as_slice.ensures at c.all_edges.ensures)
+    all_chosen c.args.topology.now c.args.weights.now c.args.from c.args.to c.args.paths (bits c.all_edges.result) c.if-paths-eq0.true (rw c.as_slice.ensures at c.all_edges.ensures)
 
 pub cheapest_mask-requires-clause-graph : goal.cheapest_mask-requires-clause-graph
 cheapest_mask-requires-clause-graph c =

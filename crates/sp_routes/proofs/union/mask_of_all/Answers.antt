@@ -1,6 +1,7 @@
 use Rattle.std.proofs.Common.{◌∙◌, ◌||◌, Bool, Some, false, ap, arith}
 use Rattle.std.proofs.lemmas.List.{get_or-replicate}
 use Rattle.sp_graph.proofs.MaskLemmas.{few_edges}
+use Rattle.sp_msg.specs.Masks.{bits}
 use Rattle.sp_routes.specs.Joined.{flag_place}
 use Rattle.sp_routes.specs.declared.joined.TheConstants.{FLAGS}
 use Rattle.sp_rules.specs.Masks.{is_used}
@@ -14,7 +15,7 @@ pub returns : goal.returns
 returns c =
     let g = c.args.graph.now in
     let paths = c.args.paths.now in
-    mask_is c.join_paths.new.flags g.edges paths c.mask_of_joined.result
+    mask_is c.join_paths.new.flags g.edges paths (bits c.mask_of_joined.result)
     (λ k d inside. let is = c.requires.edges k d inside in (omega (arith, is.1, is.2, c.requires.nodes.1), omega (arith, is.2, c.requires.nodes.1)))
     (λ e has. c.join_paths.ensures.adds e has
     ∙ ap (λ (b : Bool). b || is_used paths (Some e)) (get_or-replicate FLAGS (flag_place e.low e.high) false false (omega (arith, has.0, has.1))))

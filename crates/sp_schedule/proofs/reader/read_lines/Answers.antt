@@ -1,4 +1,6 @@
-use Rattle.std.proofs.Common.{◌∙◌, ap, arith, ◌+◌, ℕ}
+use Rattle.std.proofs.Common.{◌∙◌, ap, arith, ◌+◌, ℕ, refl, subst, sym}
+use Rattle.std.proofs.lemmas.Result.{IfOk-weaker}
+use Rattle.sp_schedule.specs.Readings.{IsReading, no_words}
 use Rattle.sp_schedule.proofs.ReadingLemmas.{ends_at_end, ends_at_line, ends_at_words, leads_on_from}
 use Rattle.sp_schedule.proofs.reader.read_lines.Goals as goal
 
@@ -9,8 +11,11 @@ returns-in-Ok-None c =
 
 pub returns-in-Err : goal.returns-in-Err
 returns-in-Err c =
-    ends_at_line c.args.text.now c.args.is_cut c.lines.stage c.lines.count c.lines.lines c.in-Err.refused c.in_ok-ending-in-Err.ending c.lines.invariant.goes_on
-    c.lines.invariant.given c.in-Err.ensures c.in_ok-ending-in-Err.ensures
+    IfOk-weaker c.broken_off.result _ _
+    (λ reading is. subst (IsReading c.args.text.now c.args.is_cut) (sym is.1)
+    (ends_at_line c.args.text.now c.args.is_cut c.lines.stage c.lines.count c.lines.lines c.in-Err.refused (no_words c.args.is_cut (c.lines.count + 1) c.in-Err.refused)
+    c.lines.invariant.goes_on c.lines.invariant.given c.in-Err.ensures (is.0, refl)))
+    c.broken_off.ensures
 
 pub returns-in-Bad : goal.returns-in-Bad
 returns-in-Bad c =

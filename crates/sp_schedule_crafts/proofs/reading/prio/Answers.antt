@@ -1,14 +1,14 @@
 use Rattle.std.proofs.Common.{◌≡◌, [], ◌∷◌, List, ℕ, Ok, codes, refl}
-use Rattle.sp_msg.specs.declared.body.Body.TheVariants as bodies
 use Rattle.sp_schedule_crafts.specs.Reading.{line_for, read_form}
 use Rattle.sp_schedule_crafts.specs.declared.form.ObjectForm.TheVariants as forms
+use Rattle.sp_schedule_crafts.specs.declared.object.CraftedObject.TheVariants as crafted
 use Rattle.sp_schedule_crafts.proofs.WordLists.{seven}
 use Rattle.sp_schedule_crafts.proofs.reading.prio.Goals as goal
 
 pub returns : goal.returns
 unfolding read_form
 returns c =
-    seven (λ (ws : List (List ℕ)). line_for forms.Prio (codes "prio" ∷ ws) ≡ Ok (bodies.Prio (record {
+    seven (λ (ws : List (List ℕ)). line_for forms.Prio (codes "prio" ∷ ws) ≡ Ok (crafted.Prio (record {
       src = c.in_ok-src.src;
       dst = c.in_ok-dst.dst;
       seq = c.in_ok-seq.seq;

@@ -1,13 +1,13 @@
 use Rattle.std.proofs.Common.{◌≡◌, [], ◌∷◌, List, ℕ, Ok, codes, refl}
-use Rattle.sp_msg.specs.declared.body.Body.TheVariants as bodies
 use Rattle.sp_schedule_crafts.specs.Reading.{line_for, read_form}
 use Rattle.sp_schedule_crafts.specs.declared.form.ObjectForm.TheVariants as forms
+use Rattle.sp_schedule_crafts.specs.declared.object.CraftedObject.TheVariants as crafted
 use Rattle.sp_schedule_crafts.proofs.WordLists.{four}
 use Rattle.sp_schedule_crafts.proofs.reading.rel.Goals as goal
 
 pub returns : goal.returns
 unfolding read_form
 returns c =
-    four (λ (ws : List (List ℕ)). line_for forms.Rel (codes "rel" ∷ ws) ≡ Ok (bodies.Rel (record { src = c.in_ok-src.src; dst = c.in_ok-dst.dst; seq = c.in_ok-seq.seq; payload = c.in_ok-payload.payload })))
+    four (λ (ws : List (List ℕ)). line_for forms.Rel (codes "rel" ∷ ws) ≡ Ok (crafted.Rel (record { src = c.in_ok-src.src; dst = c.in_ok-dst.dst; seq = c.in_ok-seq.seq; payload = c.in_ok-payload.payload })))
     c.args.fields.now (record { ref_ptr = (0, 0); now = [] }) c.in-len4.len_at_least c.in-len4.len_below
     (rw (c.in_ok-src.ensures, c.in_ok-dst.ensures, c.in_ok-seq.ensures.read, c.in_ok-payload.ensures.read) refl)

@@ -13,10 +13,10 @@ read : (c : goal.After-clear) → WasRead (before c) (after c) c.in-To.parsed
 read c = was_read (before c) (after c) c.in-To.parsed c.lead_of.result c.self.invariant.0 (rw (c.deref.ensures.value, c.replace-stage.ensures.value) at c.lead_of.ensures) c.in-To.is refl c.clear.ensures.items
 
 pub invariant_of-self : goal.invariant_of-self
-invariant_of-self c = ((read c).feed, omega (arith, c.self.invariant.1, c.clear.ensures.capacity))
+invariant_of-self c = rw c.put.ensures ((read c).feed, omega (arith, c.self.invariant.1, c.clear.ensures.capacity))
 
 pub returns-in-To-clause-line : goal.returns-in-To-clause-line
-returns-in-To-clause-line c = rw (← c.self.view_is) ((read c).takes, (read c).text)
+returns-in-To-clause-line c = rw (← c.self.view_is, c.put.ensures) ((read c).takes, (read c).text)
 
 pub returns-in-To-clause-good_stage : goal.returns-in-To-clause-good_stage
-returns-in-To-clause-good_stage c = (read c).good
+returns-in-To-clause-good_stage c = rw c.put.ensures (read c).good

@@ -1,0 +1,12 @@
+use Rattle.std.proofs.Common.{refl, rules}
+use Rattle.std.specs.Prelude.{is_some}
+use Rattle.sp_node_arrivals.proofs.rel.take.Goals as goal
+
+pub returns-in_default-clause-answer : goal.returns-in_default-clause-answer
+returns-in_default-clause-answer c = rw c.judge-judged.ensures at (c.refusal.ensures.answer (is_some c.args.ready))
+
+pub returns-in_default-clause-parts : goal.returns-in_default-clause-parts
+returns-in_default-clause-parts c = rw c.refusal.ensures.quiet refl
+
+pub returns-in_default-clause-told : goal.returns-in_default-clause-told
+returns-in_default-clause-told c = rw c.refusal.ensures.quiet (search rules)
