@@ -72,7 +72,10 @@ impl Node {
         let state = State::boot(alloc, config, signer, boot)?;
         let checker = match checker_for(alloc, &state) {
             Ok(checker) => checker,
-            Err(refused) => return Err(refused),
+            Err(refused) => {
+                drop(state);
+                return Err(refused);
+            }
         };
         Ok(Node {
             state,

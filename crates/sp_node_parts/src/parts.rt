@@ -1,6 +1,10 @@
 // The three parts of a node in memory.
-ghost use Rattle.std.specs.Prelude.{◌≡◌, IfOk, map};
+ghost use Rattle.std.specs.Prelude.{◌≡◌, ◌≤◌, IfOk, length, map};
 ghost use Rattle.sp_rules.specs.Parts.{as_neighbour, empty_parts};
+ghost use Rattle.sp_rules.specs.Prio as prio;
+ghost use Rattle.sp_rules.specs.Rel as rel;
+ghost use Rattle.sp_rules.specs.Weights as weights;
+ghost use Rattle.sp_rules.specs.declared.store.TheConstants.{IDS};
 ghost use Rattle.sp_topology.specs.Ranges.{IsTopology};
 
 use sp_base::{EdgeId, Limits, Memory, NodeId};
@@ -46,13 +50,34 @@ impl Parts {
         let nodes = ids_of(alloc, topology.nodes.as_slice())?;
         let neighbours = neighbours_of(alloc, &joined)?;
         let peers = peers_of(alloc, &joined)?;
-        let weights = Weights::new(alloc, topology)?;
-        let prio = PrioTable::new(alloc, me, &nodes, &neighbours, limits.store)?;
-        let Ok(rel) = RelTable::new(alloc, me, &nodes, &peers, limits.buffer) else {
-            return Err(Memory);
-        };
-        Ok(Parts { weights, prio, rel })
+        tables_of(alloc, me, topology, limits, &nodes, &neighbours, &peers)
     }
+}
+
+/// The three tables, with nothing in them.
+fn tables_of(
+    alloc: Global,
+    me: NodeId,
+    topology: &Topology,
+    limits: Limits,
+    nodes: &[NodeId],
+    neighbours: &[Neighbour],
+    peers: &[NodeId],
+) -> Result<Parts, Memory>
+    requires topology { IsTopology topology.now }
+    requires few { length neighbours.now ≤ IDS }
+    ensures { IfOk result (λ parts. parts ≡ record {
+      weights = weights.start topology.now;
+      prio = prio.start me.0 nodes.now neighbours.now limits.store;
+      rel = rel.start me nodes.now peers.now limits.buffer;
+    }) }
+{
+    let weights = Weights::new(alloc, topology)?;
+    let prio = PrioTable::new(alloc, me, nodes, neighbours, limits.store)?;
+    let Ok(rel) = RelTable::new(alloc, me, nodes, peers, limits.buffer) else {
+        return Err(Memory);
+    };
+    Ok(Parts { weights, prio, rel })
 }
 
 fn ids_of(alloc: Global, nodes: &[NodeKey]) -> Result<Vec<NodeId>, Memory>

@@ -39,6 +39,11 @@ use Rattle.sp_replay.proofs.Ways.{all_but_last, journal_more, of_stage, ways}
 
 -- ---- one line more
 
+-- what holds in any case holds where there is a value
+pub in_any_case : {T E P : Type 0} (result : Result T E) → P → OnOk result P
+in_any_case (Ok value) is = is
+in_any_case (Err error) is = tt
+
 good_lines : (f : Fed) → LeadsFrom f → AreGood f.stage
 good_lines f leads =
     let led = led_by says (leads [] f.stage (f.count + 1) Nothing_left At_end) in

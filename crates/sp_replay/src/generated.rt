@@ -32,6 +32,7 @@ pub fn generate<K: Sink>(alloc: Global, number: u32, sink: &mut K) -> Outcome
         return Outcome::ended(Status::Memory);
     };
     let Ok(text) = told(alloc, &world) else {
+        drop(world);
         return Outcome::ended(Status::Memory);
     };
     match write_all(sink, text.as_bytes()) {

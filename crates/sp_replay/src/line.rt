@@ -78,7 +78,7 @@ fn begin<K: Sink>(
     ensures counts { SinkCountsIn result (K.faults sink.old) (K.faults sink.new) }
 {
     match World::make(alloc, scenario) {
-        Ok(made) => *world = Some(made),
+        Ok(made) => drop(world.replace(made)),
         Err(_) => return Err(Halt::Memory),
     }
     match write_all(sink, b"journal 1\n") {

@@ -27,6 +27,8 @@ impl Outcome {
     pub fn into_code(self) -> u8
         ensures { result ≡ code_of self.status }
     {
-        self.status.code()
+        let Outcome { status, world } = self;
+        drop(world);
+        status.code()
     }
 }

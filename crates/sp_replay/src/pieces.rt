@@ -1,8 +1,7 @@
 // A schedule that is replayed while it comes: piece by piece from its source, and each line once its newline is there.
-ghost use Rattle.std.specs.Prelude.{◌≡◌, ◌<◌, ◌≤◌, ◌+◌, ◌++◌, false, length, take, IfErr, IfOk, None as Nothing, OnOk};
+ghost use Rattle.std.specs.Prelude.{◌≡◌, ◌<◌, ◌≤◌, ◌+◌, ◌++◌, false, length, IfOk, None as Nothing, OnOk};
 ghost use Rattle.sp_base.specs.declared.limits.TheConstants.{MAX_INPUT_BYTES};
-ghost use Rattle.std.specs.Io.KnownBytes.{IsAtEnd, ReadConsumes};
-ghost use Rattle.sp_outside.specs.Causes.{HasCause};
+ghost use Rattle.std.specs.Io.KnownBytes.{IsAtEnd};
 ghost use Rattle.sp_schedule.specs.Feeds.{is_ready, text_of, unfed};
 ghost use Rattle.sp_replay.specs.Playing.{HaltsAt, Plays, SinkCounts, SinkCountsIn, SoFar, SourceCounts};
 
@@ -10,7 +9,7 @@ use crate::World;
 use crate::halt::Halt;
 use crate::line::{are_runs, play_line};
 use sp_base::MAX_INPUT_BYTES;
-use sp_outside::{Failed, Sink, Source};
+use sp_outside::{Sink, Source};
 use sp_schedule::{Ending, Feed};
 use std::alloc::{AllocError, Global};
 
@@ -47,13 +46,11 @@ fn play_piece<K: Sink>(
 /// Reads and plays a source from its start, and says why it reads no further.
 pub fn play_input<S: Source, K: Sink>(
     alloc: Global,
-    feed: &mut Feed,
     world: &mut Option<World>,
     source: &mut S,
     sink: &mut K,
 ) -> Halt
-    requires unfed { feed.old ≡ unfed }
-    requires worldless { world.old ≡ Nothing }
+    requires { world.old ≡ Nothing }
     ensures halts { HaltsAt (S.left source.old) (S.left source.new) world.new (K.contents sink.old) (K.contents sink.new) result }
     ensures ended { result ≡ Halt.Read Ending.Whole → IsAtEnd (S.left source.new) }
     ensures counts { SinkCounts result (K.faults sink.old) (K.faults sink.new) }
@@ -62,11 +59,34 @@ pub fn play_input<S: Source, K: Sink>(
     let Ok(mut buffer) = empty_buffer(alloc) else {
         return Halt::Memory;
     };
+    let Ok(mut feed) = Feed::new(alloc) else {
+        return Halt::Memory;
+    };
+    play_pieces(alloc, &mut feed, world, source, sink, buffer.as_mut_slice())
+}
+
+/// The same piece by piece, each read into the buffer.
+fn play_pieces<S: Source, K: Sink>(
+    alloc: Global,
+    feed: &mut Feed,
+    world: &mut Option<World>,
+    source: &mut S,
+    sink: &mut K,
+    buffer: &mut [u8],
+) -> Halt
+    requires unfed { feed.old ≡ unfed }
+    requires worldless { world.old ≡ Nothing }
+    requires room { 0 < length buffer.old }
+    ensures halts { HaltsAt (S.left source.old) (S.left source.new) world.new (K.contents sink.old) (K.contents sink.new) result }
+    ensures ended { result ≡ Halt.Read Ending.Whole → IsAtEnd (S.left source.new) }
+    ensures counts { SinkCounts result (K.faults sink.old) (K.faults sink.new) }
+    ensures read { SourceCounts result (S.faults source.old) (S.faults source.new) }
+{
     let mut total = 0;
     'pieces: loop {
         feed.reads_on();
         are_runs(world);
-        let Ok(count) = read_piece(source, &mut buffer) else {
+        let Ok(count) = source.read(buffer) else {
             return Halt::Source;
         };
         if count == 0 {
@@ -81,16 +101,6 @@ pub fn play_input<S: Source, K: Sink>(
             return Halt::Read(feed.finish(true));
         }
     }
-}
-
-/// Reads the next bytes of a source into the buffer, and says how many they are.
-fn read_piece<S: Source>(source: &mut S, buffer: &mut Vec<u8>) -> Result<usize, Failed>
-    ensures bytes { ReadConsumes (S.left source.old) (S.left source.new) result buffer.new.items }
-    ensures within { IfOk result (λ count. count ≤ length buffer.new.items) }
-    ensures room { length buffer.new.items ≡ length buffer.old.items }
-    ensures cause { HasCause (S.faults source.old) (S.faults source.new) result }
-{
-    source.read(buffer.as_mut_slice())
 }
 
 /// Memory for one piece.

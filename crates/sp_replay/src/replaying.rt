@@ -17,8 +17,7 @@ use laws_runs_format::every_run;
 use sp_base::Memory;
 use sp_outside::{Sink, Source, write_all};
 use sp_schedule::{
-    Ending, Feed, a_good_text_is_read, a_reading_is_of_its_text, a_text_has_one_reading,
-    push_refused,
+    Ending, a_good_text_is_read, a_reading_is_of_its_text, a_text_has_one_reading, push_refused,
 };
 use sp_world::WorldRefused;
 use std::alloc::Global;
@@ -42,11 +41,8 @@ pub fn replay<S: Source, K: Sink>(alloc: Global, source: &mut S, sink: &mut K) -
     a_reading_is_of_its_text();
     a_good_text_is_read();
     a_text_has_one_reading();
-    let Ok(mut feed) = Feed::new(alloc) else {
-        return Outcome::ended(Status::Memory);
-    };
     let mut world = None;
-    match play_input(alloc, &mut feed, &mut world, source, sink) {
+    match play_input(alloc, &mut world, source, sink) {
         Halt::Read(ending) => tell_end(alloc, Halt::Read(ending), world, sink),
         Halt::Forged => tell_end(alloc, Halt::Forged, world, sink),
         Halt::Source => broken_off(Status::Source, world),
@@ -66,6 +62,7 @@ fn tell_end<K: Sink>(alloc: Global, halt: Halt, world: Option<World>, sink: &mut
 {
     claim(&world);
     let Ok(line) = last_line(alloc, halt, &world) else {
+        drop(world);
         return Outcome::ended(Status::Memory);
     };
     let status = match write_all(sink, line.as_bytes()) {

@@ -84,7 +84,6 @@ fn verify_text(
 }
 
 /// Verifies what was read after the first line: the node starts as the line says, and is asked the others.
-#[tactic(auto, using(crate::proofs::Judging::opened))]
 fn verify_opened(
     alloc: Global,
     config: &Config,
@@ -101,8 +100,9 @@ fn verify_opened(
     ensures { IfOk result (λ judged. ComesFrom config.now fitted.topology opening before reading.now judged.verdict judged.line) }
 {
     let mut station = station_at(alloc, config, fitted, opening)?;
-    let judged = verify_lines(alloc, &mut station, before, reading)?;
-    Ok(judged)
+    let judged = verify_lines(alloc, &mut station, before, reading);
+    drop(station);
+    judged
 }
 
 /// The ids of the neighbours, ascending.

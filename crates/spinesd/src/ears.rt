@@ -178,7 +178,9 @@ impl Ears {
 
     /// Waits so many milliseconds at most, and notes where something came.
     fn look(&mut self, most_ms: u64) -> Result<(), Failed> {
-        self.waiter.wait(most_ms).map_err(|_| Failed)?;
+        if self.waiter.wait(most_ms).is_err() {
+            return Err(Failed);
+        }
         for event in self.waiter.events() {
             let name = event.token().0;
             if name < CLIENTS {
@@ -240,10 +242,10 @@ impl Ears {
     }
 
     fn put_neighbour(&mut self, port: u16, bytes: &[u8]) -> Result<(), Failed> {
-        if self.neighbours.put(port, bytes).map_err(|_| Failed)? {
+        if self.neighbours.put(port, bytes)? {
             return Ok(());
         }
-        self.neighbours.put_first(port, bytes).map_err(|_| Failed)
+        self.neighbours.put_first(port, bytes)
     }
 
     /// Of datagrams longer than any request one is heard in a cycle of the neighbours, and all others are lost.
@@ -254,10 +256,10 @@ impl Ears {
         }
         if is_long {
             self.hears_long = false;
-        } else if self.clients.put(port, bytes).map_err(|_| Failed)? {
+        } else if self.clients.put(port, bytes)? {
             return Ok(());
         }
-        self.clients.put_newest(port, bytes).map_err(|_| Failed)
+        self.clients.put_newest(port, bytes)
     }
 }
 

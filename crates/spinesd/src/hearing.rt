@@ -11,7 +11,7 @@ use crate::sockets::{Given, beside};
 use crate::waiter::Waiter;
 use sp_base::MAX_NODES_2;
 use sp_outside::Failed;
-use std::alloc::{AllocError, Global};
+use std::alloc::Global;
 use std::io;
 use std::net::UdpSocket;
 
@@ -184,7 +184,7 @@ impl Hearing {
     }
 
     /// A datagram came. Of a sender that is known the newest few wait.
-    pub fn put(&mut self, port: u16, bytes: &[u8]) -> Result<bool, AllocError> {
+    pub fn put(&mut self, port: u16, bytes: &[u8]) -> Result<bool, Failed> {
         for known in self.known.iter_mut() {
             if known.port == port {
                 let is_news = known.news.hears(bytes);
@@ -196,12 +196,12 @@ impl Hearing {
     }
 
     /// A datagram of another one came. The newest few wait.
-    pub fn put_newest(&mut self, port: u16, bytes: &[u8]) -> Result<(), AllocError> {
+    pub fn put_newest(&mut self, port: u16, bytes: &[u8]) -> Result<(), Failed> {
         self.others.put(port, bytes, false)
     }
 
     /// The same, of which the first few wait.
-    pub fn put_first(&mut self, port: u16, bytes: &[u8]) -> Result<(), AllocError> {
+    pub fn put_first(&mut self, port: u16, bytes: &[u8]) -> Result<(), Failed> {
         self.others.put_if_room(port, bytes)
     }
 

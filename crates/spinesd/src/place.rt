@@ -1,6 +1,7 @@
 // The datagrams that wait at one place until they are heard: the newest few, or the first few, of so many bytes together.
 
-use std::alloc::{AllocError, Global};
+use sp_outside::Failed;
+use std::alloc::Global;
 use std::collections::VecDeque;
 
 /// The datagrams of a place have at most so many bytes together, or are one.
@@ -41,24 +42,29 @@ impl Place {
         self.waiting.iter().any(|datagram| datagram.is_news)
     }
 
-    /// One datagram more. The oldest go where there is no room for it.
-    pub fn put(&mut self, port: u16, bytes: &[u8], is_news: bool) -> Result<(), AllocError> {
+    /// One datagram more. The oldest go where there is no room for it. It fails for want of memory alone.
+    pub fn put(&mut self, port: u16, bytes: &[u8], is_news: bool) -> Result<(), Failed> {
         for _ in 0..self.most {
             if self.is_full(bytes.len()) {
                 self.waiting.pop_front();
             }
         }
-        let bytes = Vec::from_slice(self.alloc, bytes)?;
+        let Ok(bytes) = Vec::from_slice(self.alloc, bytes) else {
+            return Err(Failed);
+        };
         let datagram = Waiting {
             port,
             bytes,
             is_news,
         };
-        self.waiting.push_back(datagram).map_err(|_| AllocError)
+        match self.waiting.push_back(datagram) {
+            Ok(()) => Ok(()),
+            Err(_) => Err(Failed),
+        }
     }
 
     /// The same where there is room for it. Else it is lost.
-    pub fn put_if_room(&mut self, port: u16, bytes: &[u8]) -> Result<(), AllocError> {
+    pub fn put_if_room(&mut self, port: u16, bytes: &[u8]) -> Result<(), Failed> {
         if self.is_full(bytes.len()) {
             return Ok(());
         }

@@ -94,7 +94,13 @@ fn first_broken(alloc: Global, row: &str) -> Result<u32, Fail> {
     if events.len() != journal.as_slice().len() {
         return Err("not an entry for each event".into());
     }
-    match audit(alloc, &scenario, events.as_slice(), journal.as_slice()) {
+    let found = audit(alloc, &scenario, events.as_slice(), journal.as_slice());
+    event_of(found)
+}
+
+/// The event of a finding, or 0 for none.
+fn event_of(found: Result<(), AuditRefused>) -> Result<u32, Fail> {
+    match found {
         Ok(()) => Ok(0),
         Err(AuditRefused::Broken { event }) => Ok(event),
         Err(_) => Err("no memory".into()),

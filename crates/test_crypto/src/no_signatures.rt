@@ -62,23 +62,35 @@ struct Good {
     signature: Vec<u8>,
 }
 
+/// The key of a tree and its first signature.
+fn signed_by_tree(alloc: Global) -> Result<([u8; 56], Vec<u8>), Fail> {
+    let mut tree = LmsKey::make(alloc, LmsParam::H5, OtsParam::W4, ID, SEED)?;
+    let signature = next(alloc, &mut tree)??;
+    Ok((tree.public(), signature))
+}
+
 /// Those of a tree, each with these bytes before it.
 fn good_tree(alloc: Global, before_key: &[u8], before: &[u8]) -> Result<Good, Fail> {
-    let mut tree = LmsKey::make(alloc, LmsParam::H5, OtsParam::W4, ID, SEED)?;
+    let (public, signed) = signed_by_tree(alloc)?;
     let mut key = before_key.to_vec(alloc)?;
-    key.extend_from_slice(&tree.public())?;
+    key.extend_from_slice(&public)?;
     let mut signature = before.to_vec(alloc)?;
-    signature.extend_from_slice(&next(alloc, &mut tree)??)?;
+    signature.extend_from_slice(&signed)?;
+    Ok(Good { key, signature })
+}
+
+/// The first signature of a key of two levels.
+fn first_of(alloc: Global, signer: &mut Signer) -> Result<Good, Fail> {
+    let mut signature = vec![in alloc; 0; signer.signature_len()]?;
+    signer.sign(&MESSAGE, &mut signature)?;
+    let key = signer.public().to_vec(alloc)?;
     Ok(Good { key, signature })
 }
 
 /// Those of two levels.
 fn good_levels(alloc: Global) -> Result<Good, Fail> {
     let mut signer = Signer::make(alloc, LmsParam::H5, [0; 32], 0, 1024)?;
-    let mut signature = vec![in alloc; 0; signer.signature_len()]?;
-    signer.sign(&MESSAGE, &mut signature)?;
-    let key = signer.public().to_vec(alloc)?;
-    Ok(Good { key, signature })
+    first_of(alloc, &mut signer)
 }
 
 fn make_good(alloc: Global, whose: u8) -> Result<Good, Fail> {

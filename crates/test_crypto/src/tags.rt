@@ -44,9 +44,9 @@ fn comes_out_everywhere(key: &[u8], data: &[u8], tag: &[u8; 32]) -> bool {
 /// Whether a row holds.
 fn holds(alloc: Global, row: &str) -> Result<bool, Fail> {
     let mut fields = row.split('|');
-    let key = decode(alloc, fields.next().ok_or("no key")?)?;
-    let data = decode(alloc, fields.next().ok_or("no message")?)?;
-    let tag = <[u8; 32] as FromHex>::from_hex(fields.next().ok_or("no tag")?)?;
+    let key = decode(alloc, fields.next().unwrap_or(""))?;
+    let data = decode(alloc, fields.next().unwrap_or(""))?;
+    let tag = <[u8; 32] as FromHex>::from_hex(fields.next().unwrap_or(""))?;
     Ok(comes_out_everywhere(&key, &data, &tag))
 }
 

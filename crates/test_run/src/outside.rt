@@ -82,11 +82,8 @@ const BROKEN: [(&str, u8, &str); 7] = [
 #[test]
 fn what_came_before_a_read_that_fails_is_answered(rt: HostRuntime) -> Result<(), Fail> {
     for (after, status, written) in BROKEN {
-        let mut text = SCHEDULE
-            .get(..HEADER)
-            .unwrap_or(SCHEDULE)
-            .to_string(rt.alloc())?;
-        text.push_str(after)?;
+        let front = SCHEDULE.get(..HEADER).unwrap_or(SCHEDULE);
+        let text = format!(in rt.alloc(); "{front}{after}")?;
         let reads = [text.as_bytes().len() as u64];
         let mut source = PlannedSource::new(text.as_bytes(), 1, &reads);
         let mut sink = PlannedSink::new(rt.alloc(), WHOLE, &[]);

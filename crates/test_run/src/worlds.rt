@@ -10,8 +10,8 @@ use std::test::Fail;
 
 /// What so many bytes of the first message's schedule and these after them leave.
 fn left_of(alloc: Global, front: usize, after: &str) -> Result<Left, Fail> {
-    let mut text = SCHEDULE.get(..front).unwrap_or(SCHEDULE).to_string(alloc)?;
-    text.push_str(after)?;
+    let front = SCHEDULE.get(..front).unwrap_or(SCHEDULE);
+    let text = format!(in alloc; "{front}{after}")?;
     let mut source = PlannedSource::new(text.as_bytes(), 1_000, &[]);
     let mut sink = PlannedSink::new(alloc, 1_000, &[]);
     Ok(run_over(alloc, "replay", &mut source, &mut sink)?)

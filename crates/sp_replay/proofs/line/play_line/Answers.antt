@@ -1,5 +1,7 @@
+use Rattle.std.proofs.Common.{ap}
+use Rattle.sp_schedule.specs.Feeds.{is_ready}
 use Rattle.sp_replay.proofs.Begun.{whole_begins}
-use Rattle.sp_replay.proofs.Lines.{forgotten_there, plays_begun, plays_event, so_far_begun, so_far_end, so_far_event, so_far_header}
+use Rattle.sp_replay.proofs.Lines.{forgotten_there, in_any_case, no_event_without_world, plays_begun, plays_event, so_far_begun, so_far_end, so_far_event, so_far_header}
 use Rattle.sp_replay.proofs.line.play_line.Goals as goal
 
 pub returns-in-Ok-Header-clause-so_far : goal.returns-in-Ok-Header-clause-so_far
@@ -40,3 +42,40 @@ returns-in-Some-clause-plays g c =
     (plays_event c.args.feed.now c.line.new.self c.in-Some.world c.play_event.new.world c.in-Ok-Event.event _ _ (rw c.in-Some.is at c.requires.so_far) line.0
     c.in-Ok-Event.ensures.good_stage line.1 c.reads_on.ensures.more c.reads_on-in-Ok-Event.ensures.more (rw c.in-Some.is at c.are_runs.ensures) c.play_event.ensures.run c.play_event.result
     c.play_event.ensures.notes)
+
+pub returns-in-Ok-Header-clause-next : goal.returns-in-Ok-Header-clause-next
+returns-in-Ok-Header-clause-next g c = ap is_ready (rw c.in-Ok-Header.field-0-is at c.in-Ok-Header.ensures.line).0.waiting
+
+pub returns-in-Ok-Header-clause-text : goal.returns-in-Ok-Header-clause-text
+returns-in-Ok-Header-clause-text g c = (rw c.in-Ok-Header.field-0-is at c.in-Ok-Header.ensures.line).1
+
+pub returns-in-Ok-Header-clause-plays : goal.returns-in-Ok-Header-clause-plays
+returns-in-Ok-Header-clause-plays g c = λ start written. written
+
+pub returns-in-Ok-Ended-clause-next : goal.returns-in-Ok-Ended-clause-next
+returns-in-Ok-Ended-clause-next g c = ap is_ready (rw c.in-Ok-Ended.field-0-is at c.in-Ok-Ended.ensures.line).0.waiting
+
+pub returns-in-Ok-Ended-clause-text : goal.returns-in-Ok-Ended-clause-text
+returns-in-Ok-Ended-clause-text g c = (rw c.in-Ok-Ended.field-0-is at c.in-Ok-Ended.ensures.line).1
+
+pub returns-in-Ok-Ended-clause-plays : goal.returns-in-Ok-Ended-clause-plays
+returns-in-Ok-Ended-clause-plays g c = λ start written. written
+
+pub returns-in-Ok-Began-clause-next : goal.returns-in-Ok-Began-clause-next
+returns-in-Ok-Began-clause-next g c =
+    in_any_case c.begin.result (ap is_ready (rw c.in-Ok-Began.field-0-is at c.in-Ok-Began.ensures.line).0.waiting)
+
+pub returns-in-Ok-Began-clause-text : goal.returns-in-Ok-Began-clause-text
+returns-in-Ok-Began-clause-text g c = in_any_case c.begin.result (rw c.in-Ok-Began.field-0-is at c.in-Ok-Began.ensures.line).1
+
+pub returns-in-Some-clause-next : goal.returns-in-Some-clause-next
+returns-in-Some-clause-next g c =
+    in_any_case c.play_event.result (ap is_ready (rw c.in-Ok-Event.field-0-is at c.in-Ok-Event.ensures.line).0.waiting)
+
+pub returns-in-Some-clause-text : goal.returns-in-Some-clause-text
+returns-in-Some-clause-text g c = in_any_case c.play_event.result (rw c.in-Ok-Event.field-0-is at c.in-Ok-Event.ensures.line).1
+
+pub unreachable-requires : goal.unreachable-requires
+unreachable-requires g c =
+    let line = rw c.in-Ok-Event.field-0-is at c.in-Ok-Event.ensures.line in
+    no_event_without_world c.args.feed.now.stage c.line.new.self.stage c.in-Ok-Event.event line.0.leads.parsed (rw c.in-None.is at c.requires.so_far.done)

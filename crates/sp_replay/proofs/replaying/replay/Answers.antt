@@ -1,9 +1,5 @@
-use Rattle.sp_replay.proofs.Begun.{nothing_begun}
 use Rattle.sp_replay.proofs.Ends.{end_complete, end_wrote, forged_output, forged_written, read_output}
 use Rattle.sp_replay.proofs.replaying.replay.Goals as goal
-
-pub returns-in_default-clause-wrote : goal.returns-in_default-clause-wrote
-returns-in_default-clause-wrote g c = rw c.ended.ensures (nothing_begun (g.S.Source.left c.args.source.now) (g.K.Sink.contents c.args.sink.now))
 
 pub returns-in-Read-clause-wrote : goal.returns-in-Read-clause-wrote
 returns-in-Read-clause-wrote g c =

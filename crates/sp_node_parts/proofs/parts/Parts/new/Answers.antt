@@ -1,4 +1,5 @@
 use Rattle.std.proofs.Common.{◌≡◌, List, map, ap, ◌∙◌}
+use Rattle.std.proofs.lemmas.Result.{IfOk-weaker}
 use Rattle.sp_base.specs.declared.id.EdgeId.{EdgeId}
 use Rattle.sp_base.specs.declared.id.NodeId.{NodeId}
 use Rattle.sp_rules.specs.Parts.{as_neighbour, nodes_of}
@@ -7,15 +8,14 @@ use Rattle.sp_rules.specs.Prio.{PrioState}
 use Rattle.sp_rules.specs.Rel as rel
 use Rattle.sp_rules.specs.Rel.{RelState}
 use Rattle.sp_rules.specs.Weights as weights
-use Rattle.sp_rules.specs.Weights.{WeightState}
 use Rattle.sp_topology.specs.Neighbours.{neighbours_from}
 use Rattle.sp_rules.specs.declared.prio.Neighbour.{Neighbour}
 use Rattle.sp_topology.specs.declared.topology.NodeKey.{NodeKey}
 use Rattle.sp_node_parts.proofs.Starts.{few_neighbours}
 use Rattle.sp_node_parts.proofs.parts.Parts.new.Goals as goal
 
-pub new-requires-2 : goal.new-requires-2
-new-requires-2 c =
+pub tables_of-requires-clause-few : goal.tables_of-requires-clause-few
+tables_of-requires-clause-few c =
     few_neighbours c.deref-4.result.now c.in-Ok.joined.items c.args.me.0 c.args.topology.now.edges
     (c.deref-4.ensures.value ∙ c.in_ok-neighbours.ensures ∙ ap (map as_neighbour) c.deref.ensures.value)
     c.in-Ok.ensures.neighbours c.requires.graph.edge_count
@@ -24,25 +24,27 @@ pub returns : goal.returns
 returns c =
     let t = c.args.topology.now in
     let ids : c.in_ok-nodes.nodes.items ≡ map (λ (n : NodeKey). n.id) t.nodes = c.in_ok-nodes.ensures ∙ ap (map (λ (n : NodeKey). n.id)) c.as_slice.ensures in
-    let joined : c.deref.result.now ≡ c.in-Ok.joined.items = c.deref.ensures.value in
     let nodes : c.deref-3.result.now ≡ map (λ (n : NodeKey). n.id) t.nodes = c.deref-3.ensures.value ∙ ids in
     let neighbours : c.deref-4.result.now ≡ map as_neighbour c.in-Ok.joined.items =
-    c.deref-4.ensures.value ∙ c.in_ok-neighbours.ensures ∙ ap (map as_neighbour) joined in
+    c.deref-4.ensures.value ∙ c.in_ok-neighbours.ensures ∙ ap (map as_neighbour) c.deref.ensures.value in
     let all = ap (map as_neighbour) c.in-Ok.ensures.neighbours in
-    let again : c.deref-5.result.now ≡ map (λ (n : NodeKey). n.id) t.nodes = c.deref-5.ensures.value ∙ ids in
-    let peers : c.deref-6.result.now ≡ map (λ (n : NodeId × EdgeId). n.0) c.in-Ok.joined.items =
-    c.deref-6.ensures.value ∙ c.in_ok-peers.ensures ∙ ap (map (λ (n : NodeId × EdgeId). n.0)) c.deref-2.ensures.value in
+    let peers : c.deref-5.result.now ≡ map (λ (n : NodeId × EdgeId). n.0) c.in-Ok.joined.items =
+    c.deref-5.ensures.value ∙ c.in_ok-peers.ensures ∙ ap (map (λ (n : NodeId × EdgeId). n.0)) c.deref-2.ensures.value in
     let them = ap (map (λ (n : NodeId × EdgeId). n.0)) c.in-Ok.ensures.neighbours in
-    let prios = c.in_ok-prio.ensures
-    ∙ ap (λ (xs : List NodeId). prio.start c.args.me.0 xs c.deref-4.result.now c.args.limits.store) nodes
+    let prios = ap (λ (xs : List NodeId). prio.start c.args.me.0 xs c.deref-4.result.now c.args.limits.store) nodes
     ∙ ap (λ (ns : List Neighbour). prio.start c.args.me.0 (map (λ (n : NodeKey). n.id) t.nodes) ns c.args.limits.store) (neighbours ∙ all) in
-    let rels = c.in-Ok-new.ensures.table
-    ∙ ap (λ (xs : List NodeId). rel.start c.args.me xs c.deref-6.result.now c.args.limits.buffer) again
+    let rels = ap (λ (xs : List NodeId). rel.start c.args.me xs c.deref-5.result.now c.args.limits.buffer) nodes
     ∙ ap (λ (ns : List NodeId). rel.start c.args.me (map (λ (n : NodeKey). n.id) t.nodes) ns c.args.limits.buffer) (peers ∙ them) in
-    ap (λ (w : WeightState). record { weights = w; prio = c.in_ok-prio.prio; rel = c.in-Ok-new.rel }) c.in_ok-weights.ensures
-    ∙ ap (λ (p : PrioState). record { weights = weights.start t; prio = p; rel = c.in-Ok-new.rel }) prios
+    IfOk-weaker c.tables_of.result _ _
+    (λ parts is. is
+    ∙ ap (λ (p : PrioState). record {
+      weights = weights.start t;
+      prio = p;
+      rel = rel.start c.args.me c.deref-3.result.now c.deref-5.result.now c.args.limits.buffer;
+    }) prios
     ∙ ap (λ (r : RelState). record {
       weights = weights.start t;
       prio = prio.start c.args.me.0 (nodes_of t) (map as_neighbour (neighbours_from c.args.me.0 0 t.edges)) c.args.limits.store;
       rel = r;
-    }) rels
+    }) rels)
+    c.tables_of.ensures
