@@ -11,7 +11,7 @@ ghost use Rattle.sp_service.specs.Served.{Begins, BeginsConfigured, Ends, ports_
 ghost use Rattle.sp_service.specs.Starts.{IsOpening};
 ghost use Rattle.sp_service.specs.Fits.{Fits};
 ghost use Rattle.sp_service.specs.NodeParts.{IsKeyOf, peers_of};
-ghost use Rattle.sp_service_turns.specs.Outside.{KeptFile};
+ghost use Rattle.sp_service_turns.specs.Outside.{KeptFile, known};
 ghost use Rattle.sp_service_turns.specs.Served.{opening_of};
 ghost use Rattle.sp_service_turns.specs.Told.{IsTold};
 ghost use Rattle.sp_topology.specs.Ranges.{IsTopology};
@@ -43,18 +43,8 @@ pub fn serve<W: Wire, C: Clock, P: Keeper, K: Sink>(
 ) -> Served
     requires { turns ≤ MAX_TURNS }
     ensures ends { Ends text.now is_cut turns
-        (record {
-          wire = W.told wire.old;
-          clock = C.told clock.old;
-          text = K.contents sink.old;
-          file = record { disk = P.disk keeper.old; past = P.past keeper.old; faults = P.faults keeper.old };
-        })
-        (record {
-          wire = W.told wire.new;
-          clock = C.told clock.new;
-          text = K.contents sink.new;
-          file = record { disk = P.disk keeper.new; past = P.past keeper.new; faults = P.faults keeper.new };
-        }) result }
+        (known (W.told wire.old) (C.told clock.old) (K.contents sink.old) (P.disk keeper.old) (P.past keeper.old) (P.faults keeper.old))
+        (known (W.told wire.new) (C.told clock.new) (K.contents sink.new) (P.disk keeper.new) (P.past keeper.new) (P.faults keeper.new)) result }
     ensures kept { KeepsAll (P.disk keeper.old) (P.past keeper.old) (P.past keeper.new) }
     ensures open { result ≡ Served.Wire → Rose (W.failed_opens wire.old) (W.failed_opens wire.new) }
     ensures opens { result ≢ Served.Wire → result ≢ Served.Sink → W.failed_opens wire.new ≡ W.failed_opens wire.old }
@@ -82,31 +72,11 @@ pub fn start<W: Wire, P: Keeper, K: Sink>(
     sink: &mut K,
 ) -> Result<Daemon<Station>, Served>
     ensures begins { (clock : Option (List ℕ)) → IfOk result (Begins text.now is_cut
-        (record {
-          wire = W.told wire.old;
-          clock = clock;
-          text = K.contents sink.old;
-          file = record { disk = P.disk keeper.old; past = P.past keeper.old; faults = P.faults keeper.old };
-        })
-        (record {
-          wire = W.told wire.new;
-          clock = clock;
-          text = K.contents sink.new;
-          file = record { disk = P.disk keeper.new; past = P.past keeper.new; faults = P.faults keeper.new };
-        })) }
+        (known (W.told wire.old) clock (K.contents sink.old) (P.disk keeper.old) (P.past keeper.old) (P.faults keeper.old))
+        (known (W.told wire.new) clock (K.contents sink.new) (P.disk keeper.new) (P.past keeper.new) (P.faults keeper.new))) }
     ensures ended { (clock : Option (List ℕ)) (turns : ℕ) → IfErr result (Ends text.now is_cut turns
-        (record {
-          wire = W.told wire.old;
-          clock = clock;
-          text = K.contents sink.old;
-          file = record { disk = P.disk keeper.old; past = P.past keeper.old; faults = P.faults keeper.old };
-        })
-        (record {
-          wire = W.told wire.new;
-          clock = clock;
-          text = K.contents sink.new;
-          file = record { disk = P.disk keeper.new; past = P.past keeper.new; faults = P.faults keeper.new };
-        })) }
+        (known (W.told wire.old) clock (K.contents sink.old) (P.disk keeper.old) (P.past keeper.old) (P.faults keeper.old))
+        (known (W.told wire.new) clock (K.contents sink.new) (P.disk keeper.new) (P.past keeper.new) (P.faults keeper.new))) }
     ensures kept { KeepsAll (P.disk keeper.old) (P.past keeper.old) (P.past keeper.new) }
     ensures faultless { OnOk result (P.faults keeper.new ≡ P.faults keeper.old) }
     ensures open { result ≡ Err Served.Wire → Rose (W.failed_opens wire.old) (W.failed_opens wire.new) }
@@ -154,31 +124,11 @@ fn start_configured<W: Wire, P: Keeper, K: Sink>(
     requires topology { IsTopology fitted.topology }
     requires key { IsKeyOf config.now fitted.topology.height fitted.key }
     ensures begins { (clock : Option (List ℕ)) → IfOk result (BeginsConfigured config.now fitted.topology
-        (record {
-          wire = W.told wire.old;
-          clock = clock;
-          text = K.contents sink.old;
-          file = record { disk = P.disk keeper.old; past = P.past keeper.old; faults = P.faults keeper.old };
-        })
-        (record {
-          wire = W.told wire.new;
-          clock = clock;
-          text = K.contents sink.new;
-          file = record { disk = P.disk keeper.new; past = P.past keeper.new; faults = P.faults keeper.new };
-        })) }
+        (known (W.told wire.old) clock (K.contents sink.old) (P.disk keeper.old) (P.past keeper.old) (P.faults keeper.old))
+        (known (W.told wire.new) clock (K.contents sink.new) (P.disk keeper.new) (P.past keeper.new) (P.faults keeper.new))) }
     ensures ended { (clock : Option (List ℕ)) (turns : ℕ) → IfErr result (EndsConfigured config.now fitted.topology turns
-        (record {
-          wire = W.told wire.old;
-          clock = clock;
-          text = K.contents sink.old;
-          file = record { disk = P.disk keeper.old; past = P.past keeper.old; faults = P.faults keeper.old };
-        })
-        (record {
-          wire = W.told wire.new;
-          clock = clock;
-          text = K.contents sink.new;
-          file = record { disk = P.disk keeper.new; past = P.past keeper.new; faults = P.faults keeper.new };
-        })) }
+        (known (W.told wire.old) clock (K.contents sink.old) (P.disk keeper.old) (P.past keeper.old) (P.faults keeper.old))
+        (known (W.told wire.new) clock (K.contents sink.new) (P.disk keeper.new) (P.past keeper.new) (P.faults keeper.new))) }
     ensures kept { KeepsAll (P.disk keeper.old) (P.past keeper.old) (P.past keeper.new) }
     ensures faultless { OnOk result (P.faults keeper.new ≡ P.faults keeper.old) }
     ensures open { result ≡ Err Served.Wire → Rose (W.failed_opens wire.old) (W.failed_opens wire.new) }

@@ -19,6 +19,10 @@ pub record Outside : Type 0 where
   pub text : Text
   pub file : KeptFile
 
+-- what is known by what each of them tells: wire, clock and recording, and of the key file its disk, its moments and its failed calls
+abbrev pub known : Option (List Call) → Option (List ℕ) → Text → Option Disk → Option (List Disk) → ℕ → Outside
+known wire clock text disk past faults = record { wire = wire; clock = clock; text = text; file = record { disk = disk; past = past; faults = faults } }
+
 -- nothing was called, but for the recording
 abbrev pub IsQuiet : Outside → Outside → Type 0
 IsQuiet before after = (after.wire ≡ before.wire) × (after.clock ≡ before.clock) × (after.file ≡ before.file)

@@ -4,6 +4,7 @@ ghost use Rattle.sp_keystate.specs.declared.refused.KeyRefused.TheVariants.{Keep
 ghost use Rattle.sp_outside.specs.declared.wire.TheConstants.{DATAGRAM_BYTES};
 ghost use Rattle.sp_outside.specs.Causes.{Rose};
 ghost use Rattle.sp_recording.specs.declared.line.TheConstants.{MAX_TURNS};
+ghost use Rattle.sp_service_turns.specs.Outside.{known};
 ghost use Rattle.sp_service_turns.specs.Keys.{HoldsKeys, KeepsKeys, KeysGoOn};
 
 use crate::lines::{first_line, last_line};
@@ -93,32 +94,12 @@ impl<N: Core + Drop> Daemon<N> {
         requires turns { self.old.turns < MAX_TURNS }
         requires held { HoldsKeys (P.disk keeper.old) self.old.keys (N.indexes self.old.node) }
         ensures made { OnOk result (MakesTurn N.steps N.indexes self.old self.new
-            (record {
-              wire = W.told wire.old;
-              clock = C.told clock.old;
-              text = K.contents sink.old;
-              file = record { disk = P.disk keeper.old; past = P.past keeper.old; faults = P.faults keeper.old };
-            })
-            (record {
-              wire = W.told wire.new;
-              clock = C.told clock.new;
-              text = K.contents sink.new;
-              file = record { disk = P.disk keeper.new; past = P.past keeper.new; faults = P.faults keeper.new };
-            })) }
+            (known (W.told wire.old) (C.told clock.old) (K.contents sink.old) (P.disk keeper.old) (P.past keeper.old) (P.faults keeper.old))
+            (known (W.told wire.new) (C.told clock.new) (K.contents sink.new) (P.disk keeper.new) (P.past keeper.new) (P.faults keeper.new))) }
         ensures ended { IfErr result (EndsTurn N.steps N.indexes self.old.peers.items (polled_by self.old.peers.items self.old.turns)
             self.old.node self.old.keys
-            (record {
-              wire = W.told wire.old;
-              clock = C.told clock.old;
-              text = K.contents sink.old;
-              file = record { disk = P.disk keeper.old; past = P.past keeper.old; faults = P.faults keeper.old };
-            })
-            (record {
-              wire = W.told wire.new;
-              clock = C.told clock.new;
-              text = K.contents sink.new;
-              file = record { disk = P.disk keeper.new; past = P.past keeper.new; faults = P.faults keeper.new };
-            })) }
+            (known (W.told wire.old) (C.told clock.old) (K.contents sink.old) (P.disk keeper.old) (P.past keeper.old) (P.faults keeper.old))
+            (known (W.told wire.new) (C.told clock.new) (K.contents sink.new) (P.disk keeper.new) (P.past keeper.new) (P.faults keeper.new))) }
         ensures held { OnOk result (HoldsKeys (P.disk keeper.new) self.new.keys (N.indexes self.new.node)) }
         ensures on { OnOk result (KeysGoOn self.old.keys self.new.keys (P.disk keeper.old) (P.disk keeper.new)) }
         ensures faultless { OnOk result (P.faults keeper.new ≡ P.faults keeper.old) }

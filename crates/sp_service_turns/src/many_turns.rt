@@ -3,6 +3,7 @@ ghost use Rattle.std.specs.Prelude.{◌≡◌, ◌≢◌, ◌≤◌, Err, IfErr,
 ghost use Rattle.sp_keystate.specs.declared.refused.KeyRefused.TheVariants.{KeeperFault};
 ghost use Rattle.sp_outside.specs.Causes.{Rose};
 ghost use Rattle.sp_recording.specs.declared.line.TheConstants.{MAX_TURNS};
+ghost use Rattle.sp_service_turns.specs.Outside.{known};
 ghost use Rattle.sp_service_turns.specs.Daemons.{EndsAfter, HasMade};
 ghost use Rattle.sp_service_turns.specs.Keys.{HoldsKeys, KeepsKeys};
 
@@ -27,18 +28,8 @@ pub fn serve<N: Core + Drop, W: Wire, C: Clock, P: Keeper, K: Sink>(
     requires fresh { (daemon.turns ≡ 0) × (daemon.lost ≡ 0) }
     requires held { HoldsKeys (P.disk keeper.old) daemon.keys (N.indexes daemon.node) }
     ensures ends { EndsAfter N.steps N.indexes daemon.peers.items turns daemon.node daemon.keys
-        (record {
-          wire = W.told wire.old;
-          clock = C.told clock.old;
-          text = K.contents sink.old;
-          file = record { disk = P.disk keeper.old; past = P.past keeper.old; faults = P.faults keeper.old };
-        })
-        (record {
-          wire = W.told wire.new;
-          clock = C.told clock.new;
-          text = K.contents sink.new;
-          file = record { disk = P.disk keeper.new; past = P.past keeper.new; faults = P.faults keeper.new };
-        }) result }
+        (known (W.told wire.old) (C.told clock.old) (K.contents sink.old) (P.disk keeper.old) (P.past keeper.old) (P.faults keeper.old))
+        (known (W.told wire.new) (C.told clock.new) (K.contents sink.new) (P.disk keeper.new) (P.past keeper.new) (P.faults keeper.new)) result }
     ensures kept { KeepsKeys daemon.keys (P.disk keeper.old) (P.past keeper.old) (P.past keeper.new) }
     ensures unopened { result ≢ Served.Wire }
     ensures opens { W.failed_opens wire.new ≡ W.failed_opens wire.old }
@@ -66,31 +57,11 @@ fn make_turns<N: Core + Drop, W: Wire, C: Clock, P: Keeper, K: Sink>(
     requires fresh { (daemon.old.turns ≡ 0) × (daemon.old.lost ≡ 0) }
     requires held { HoldsKeys (P.disk keeper.old) daemon.old.keys (N.indexes daemon.old.node) }
     ensures made { OnOk result (HasMade N.steps N.indexes turns daemon.old daemon.new
-        (record {
-          wire = W.told wire.old;
-          clock = C.told clock.old;
-          text = K.contents sink.old;
-          file = record { disk = P.disk keeper.old; past = P.past keeper.old; faults = P.faults keeper.old };
-        })
-        (record {
-          wire = W.told wire.new;
-          clock = C.told clock.new;
-          text = K.contents sink.new;
-          file = record { disk = P.disk keeper.new; past = P.past keeper.new; faults = P.faults keeper.new };
-        })) }
+        (known (W.told wire.old) (C.told clock.old) (K.contents sink.old) (P.disk keeper.old) (P.past keeper.old) (P.faults keeper.old))
+        (known (W.told wire.new) (C.told clock.new) (K.contents sink.new) (P.disk keeper.new) (P.past keeper.new) (P.faults keeper.new))) }
     ensures ended { IfErr result (EndsAfter N.steps N.indexes daemon.old.peers.items turns daemon.old.node daemon.old.keys
-        (record {
-          wire = W.told wire.old;
-          clock = C.told clock.old;
-          text = K.contents sink.old;
-          file = record { disk = P.disk keeper.old; past = P.past keeper.old; faults = P.faults keeper.old };
-        })
-        (record {
-          wire = W.told wire.new;
-          clock = C.told clock.new;
-          text = K.contents sink.new;
-          file = record { disk = P.disk keeper.new; past = P.past keeper.new; faults = P.faults keeper.new };
-        })) }
+        (known (W.told wire.old) (C.told clock.old) (K.contents sink.old) (P.disk keeper.old) (P.past keeper.old) (P.faults keeper.old))
+        (known (W.told wire.new) (C.told clock.new) (K.contents sink.new) (P.disk keeper.new) (P.past keeper.new) (P.faults keeper.new))) }
     ensures kept { KeepsKeys daemon.old.keys (P.disk keeper.old) (P.past keeper.old) (P.past keeper.new) }
     ensures later { K.faults sink.old ≤ K.faults sink.new }
     ensures unopened { result ≢ Err Served.Wire }

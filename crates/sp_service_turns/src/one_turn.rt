@@ -3,6 +3,7 @@ ghost use Rattle.std.specs.Prelude.{◌≡◌, ◌≤◌, IfOk, IsErrOf, OnOk, l
 ghost use Rattle.sp_keystate.specs.declared.refused.KeyRefused.TheVariants.{KeeperFault};
 ghost use Rattle.sp_outside.specs.declared.wire.TheConstants.{DATAGRAM_BYTES};
 ghost use Rattle.sp_outside.specs.Causes.{Rose};
+ghost use Rattle.sp_service_turns.specs.Outside.{known};
 ghost use Rattle.sp_service_turns.specs.Done.{Done};
 ghost use Rattle.sp_service_turns.specs.Early.{Early, IfBroken};
 ghost use Rattle.sp_service_turns.specs.Keys.{HoldsKeys, IfKeysEnd, IfKeysEndBy, KeepsKeys, KeysGoOn, NoMore};
@@ -37,31 +38,11 @@ pub fn turn<N: Core, W: Wire, C: Clock, P: Keeper, K: Sink>(
     requires buffer { DATAGRAM_BYTES ≤ length buf.old }
     requires held { HoldsKeys (P.disk keeper.old) keys.old (N.indexes node.old) }
     ensures done { IfOk result (λ lost. Done N.steps N.indexes peers.now polled node.old node.new keys.old keys.new
-        (record {
-          wire = W.told wire.old;
-          clock = C.told clock.old;
-          text = K.contents sink.old;
-          file = record { disk = P.disk keeper.old; past = P.past keeper.old; faults = P.faults keeper.old };
-        })
-        (record {
-          wire = W.told wire.new;
-          clock = C.told clock.new;
-          text = K.contents sink.new;
-          file = record { disk = P.disk keeper.new; past = P.past keeper.new; faults = P.faults keeper.new };
-        }) lost) }
+        (known (W.told wire.old) (C.told clock.old) (K.contents sink.old) (P.disk keeper.old) (P.past keeper.old) (P.faults keeper.old))
+        (known (W.told wire.new) (C.told clock.new) (K.contents sink.new) (P.disk keeper.new) (P.past keeper.new) (P.faults keeper.new)) lost) }
     ensures early { IfBroken result (Early N.steps N.indexes peers.now polled node.old keys.old
-        (record {
-          wire = W.told wire.old;
-          clock = C.told clock.old;
-          text = K.contents sink.old;
-          file = record { disk = P.disk keeper.old; past = P.past keeper.old; faults = P.faults keeper.old };
-        })
-        (record {
-          wire = W.told wire.new;
-          clock = C.told clock.new;
-          text = K.contents sink.new;
-          file = record { disk = P.disk keeper.new; past = P.past keeper.new; faults = P.faults keeper.new };
-        })) }
+        (known (W.told wire.old) (C.told clock.old) (K.contents sink.old) (P.disk keeper.old) (P.past keeper.old) (P.faults keeper.old))
+        (known (W.told wire.new) (C.told clock.new) (K.contents sink.new) (P.disk keeper.new) (P.past keeper.new) (P.faults keeper.new))) }
     ensures held { OnOk result (HoldsKeys (P.disk keeper.new) keys.new (N.indexes node.new)) }
     ensures on { OnOk result (KeysGoOn keys.old keys.new (P.disk keeper.old) (P.disk keeper.new)) }
     ensures faultless { OnOk result (P.faults keeper.new ≡ P.faults keeper.old) }

@@ -2,6 +2,7 @@
 ghost use Rattle.std.specs.Prelude.{◌≢◌, ◌≡◌, Err, IfErr, IfOk, List, OnOk, Option, ℕ};
 ghost use Rattle.sp_outside.specs.Causes.{Rose};
 ghost use Rattle.sp_keystate.specs.Starting.{KeepsAll, StartsSafely};
+ghost use Rattle.sp_service_turns.specs.Outside.{known};
 ghost use Rattle.sp_service_turns.specs.Served.{FailsToOpen, IsOpened, opening_of};
 
 use crate::indexes::RESERVED;
@@ -38,31 +39,11 @@ pub fn open<W: Wire, P: Keeper, K: Sink>(
     sink: &mut K,
 ) -> Result<Started, Served>
     ensures opened { (clock : Option (List ℕ)) → IfOk result (λ started. IsOpened ports total started
-        (record {
-          wire = W.told wire.old;
-          clock = clock;
-          text = K.contents sink.old;
-          file = record { disk = P.disk keeper.old; past = P.past keeper.old; faults = P.faults keeper.old };
-        })
-        (record {
-          wire = W.told wire.new;
-          clock = clock;
-          text = K.contents sink.new;
-          file = record { disk = P.disk keeper.new; past = P.past keeper.new; faults = P.faults keeper.new };
-        })) }
+        (known (W.told wire.old) clock (K.contents sink.old) (P.disk keeper.old) (P.past keeper.old) (P.faults keeper.old))
+        (known (W.told wire.new) clock (K.contents sink.new) (P.disk keeper.new) (P.past keeper.new) (P.faults keeper.new))) }
     ensures failed { (clock : Option (List ℕ)) → IfErr result (FailsToOpen ports total
-        (record {
-          wire = W.told wire.old;
-          clock = clock;
-          text = K.contents sink.old;
-          file = record { disk = P.disk keeper.old; past = P.past keeper.old; faults = P.faults keeper.old };
-        })
-        (record {
-          wire = W.told wire.new;
-          clock = clock;
-          text = K.contents sink.new;
-          file = record { disk = P.disk keeper.new; past = P.past keeper.new; faults = P.faults keeper.new };
-        })) }
+        (known (W.told wire.old) clock (K.contents sink.old) (P.disk keeper.old) (P.past keeper.old) (P.faults keeper.old))
+        (known (W.told wire.new) clock (K.contents sink.new) (P.disk keeper.new) (P.past keeper.new) (P.faults keeper.new))) }
     ensures safe { IfOk result (StartsSafely (P.disk keeper.old) (P.disk keeper.new)) }
     ensures kept { KeepsAll (P.disk keeper.old) (P.past keeper.old) (P.past keeper.new) }
     ensures faultless { OnOk result (P.faults keeper.new ≡ P.faults keeper.old) }

@@ -6,6 +6,7 @@ ghost use Rattle.sp_outside.specs.Causes.{Rose};
 ghost use Rattle.sp_top.specs.Daemons.{DaemonEnds};
 ghost use Rattle.sp_top.specs.Statuses.{served_status};
 ghost use Rattle.sp_words.specs.CommandLines.{IsTurns};
+ghost use Rattle.sp_service_turns.specs.Outside.{known};
 
 use crate::key_file::key_status;
 use crate::{Outcome, Status};
@@ -28,18 +29,8 @@ pub fn daemon<S: Source, W: Wire, C: Clock, P: Keeper, K: Sink>(
 ) -> Outcome
     requires { IsTurns turns }
     ensures ends { DaemonEnds (S.left source.old) turns result.status
-        (record {
-          wire = W.told wire.old;
-          clock = C.told clock.old;
-          text = K.contents sink.old;
-          file = record { disk = P.disk keeper.old; past = P.past keeper.old; faults = P.faults keeper.old };
-        })
-        (record {
-          wire = W.told wire.new;
-          clock = C.told clock.new;
-          text = K.contents sink.new;
-          file = record { disk = P.disk keeper.new; past = P.past keeper.new; faults = P.faults keeper.new };
-        }) }
+        (known (W.told wire.old) (C.told clock.old) (K.contents sink.old) (P.disk keeper.old) (P.past keeper.old) (P.faults keeper.old))
+        (known (W.told wire.new) (C.told clock.new) (K.contents sink.new) (P.disk keeper.new) (P.past keeper.new) (P.faults keeper.new)) }
     ensures kept { KeepsAll (P.disk keeper.old) (P.past keeper.old) (P.past keeper.new) }
     ensures worldless { result.world ≡ Nothing }
     ensures ended { result.status ≡ Status.Done → IsAtEnd (S.left source.new) }

@@ -5,6 +5,7 @@ ghost use Rattle.sp_outside.specs.Calls.{Call};
 ghost use Rattle.sp_outside.specs.Causes.{Rose};
 ghost use Rattle.sp_top.specs.Services.{FormatEnds};
 ghost use Rattle.sp_top.specs.Statuses.{key_status};
+ghost use Rattle.sp_service_turns.specs.Outside.{known};
 
 use crate::told::tell;
 use crate::{Outcome, Status};
@@ -14,18 +15,8 @@ use sp_outside::{Keeper, Sink};
 /// Makes of an empty key file one of which no index is reserved and no start is counted, and writes that, or why it can't be made.
 pub fn format_key_file<P: Keeper, K: Sink>(keeper: &mut P, sink: &mut K) -> Outcome
     ensures ends { (wire : Option (List Call)) (clock : Option (List ℕ)) → FormatEnds result.status
-        (record {
-          wire = wire;
-          clock = clock;
-          text = K.contents sink.old;
-          file = record { disk = P.disk keeper.old; past = P.past keeper.old; faults = P.faults keeper.old };
-        })
-        (record {
-          wire = wire;
-          clock = clock;
-          text = K.contents sink.new;
-          file = record { disk = P.disk keeper.new; past = P.past keeper.new; faults = P.faults keeper.new };
-        }) }
+        (known wire clock (K.contents sink.old) (P.disk keeper.old) (P.past keeper.old) (P.faults keeper.old))
+        (known wire clock (K.contents sink.new) (P.disk keeper.new) (P.past keeper.new) (P.faults keeper.new)) }
     ensures moments { FormatMoments (P.disk keeper.old) (P.past keeper.old) (P.past keeper.new) }
     ensures worldless { result.world ≡ Nothing }
     ensures keeper { result.status ≡ Status.Keeper → Rose (P.faults keeper.old) (P.faults keeper.new) }

@@ -11,6 +11,7 @@ ghost use Rattle.sp_top.specs.Commands.{BySaid, IsInRange};
 ghost use Rattle.sp_top.specs.Complete.{calls_clock, calls_keeper, calls_wire, reads, writes_at_end};
 ghost use Rattle.sp_replay.specs.Fronts.{IsBrokenOff};
 ghost use Rattle.sp_top.specs.Services.{KeepsFile};
+ghost use Rattle.sp_service_turns.specs.Outside.{known};
 
 use crate::command::{Command, command_of};
 use crate::daemon::daemon;
@@ -45,18 +46,8 @@ pub fn run<S: Source, K: Sink, W: Wire, C: Clock, P: Keeper>(
 ) -> Outcome
     // What the program does is what its words say: the output, the daemon's calls and recording, and which runs must be done.
     ensures said { BySaid (map string_bytes words.now) (λ said. SaidClaims said (S.left source.old) result.world result.status
-        (record {
-          wire = W.told wire.old;
-          clock = C.told clock.old;
-          text = K.contents sink.old;
-          file = record { disk = P.disk keeper.old; past = P.past keeper.old; faults = P.faults keeper.old };
-        })
-        (record {
-          wire = W.told wire.new;
-          clock = C.told clock.new;
-          text = K.contents sink.new;
-          file = record { disk = P.disk keeper.new; past = P.past keeper.new; faults = P.faults keeper.new };
-        })) }
+        (known (W.told wire.old) (C.told clock.old) (K.contents sink.old) (P.disk keeper.old) (P.past keeper.old) (P.faults keeper.old))
+        (known (W.told wire.new) (C.told clock.new) (K.contents sink.new) (P.disk keeper.new) (P.past keeper.new) (P.faults keeper.new))) }
 
     // A crash at any moment leaves a key file that takes nothing back.
     ensures kept { BySaid (map string_bytes words.now) (λ said. KeepsFile said (P.disk keeper.old) (P.past keeper.old) (P.past keeper.new)) }
@@ -109,18 +100,8 @@ fn run_said<S: Source, K: Sink, W: Wire, C: Clock, P: Keeper>(
 ) -> Outcome
     requires { IfSome said IsInRange }
     ensures said { SaidClaims said.entry (S.left source.old) result.world result.status
-        (record {
-          wire = W.told wire.old;
-          clock = C.told clock.old;
-          text = K.contents sink.old;
-          file = record { disk = P.disk keeper.old; past = P.past keeper.old; faults = P.faults keeper.old };
-        })
-        (record {
-          wire = W.told wire.new;
-          clock = C.told clock.new;
-          text = K.contents sink.new;
-          file = record { disk = P.disk keeper.new; past = P.past keeper.new; faults = P.faults keeper.new };
-        }) }
+        (known (W.told wire.old) (C.told clock.old) (K.contents sink.old) (P.disk keeper.old) (P.past keeper.old) (P.faults keeper.old))
+        (known (W.told wire.new) (C.told clock.new) (K.contents sink.new) (P.disk keeper.new) (P.past keeper.new) (P.faults keeper.new)) }
     ensures claims { IfSome result.world WorldClaims }
     ensures unread { reads said.entry ≡ false → source.new ≡ source.old }
     ensures uncalled { calls_wire said.entry ≡ false → wire.new ≡ wire.old }
