@@ -1,4 +1,4 @@
--- Each moment of a daemon's run, turn by turn, is one of a run so far.
+-- Each moment of a daemon, turn by turn, is one of a run so far, which signed what its node had signed.
 use Rattle.std.proofs.Common.{◌≡◌, ℕ, ◌+◌, ◌<◌, ◌≤◌, inl, inr, List, [], ◌∷◌, ◌++◌, length, Option, None, Some, refl, sym, ap, subst, ◌∙◌, append_assoc, append-nil, arith}
 use Rattle.std.specs.List.{AllByRecursion}
 use Rattle.std.specs.Prelude.{◌^◌, slice_get}
@@ -8,14 +8,14 @@ use Rattle.sp_keystate.specs.Soundness.{Keeps}
 use Rattle.sp_keystate.specs.Starting.{KeepsAll, Starts}
 use Rattle.sp_keystate.specs.declared.key_state.KeyState.{KeyState}
 use Rattle.sp_keystate.specs.declared.starts.Started.{Started}
-use Rattle.sp_keystate.proofs.Since.{since_none, since_on, since_weaker}
+use Rattle.sp_keystate.proofs.Since.{since_none, since_weaker}
 use Rattle.sp_outside.specs.Disk.{Disk, IsImage, still}
 use Rattle.sp_outside.specs.Moments.{AllSince}
 use Rattle.sp_service_turns.specs.Daemons.{Broken, EndsAfter, EndsTurn, Spent, Stopped, Whole}
 use Rattle.sp_service_turns.specs.Indexes.{reserved_by}
 use Rattle.sp_service_turns.specs.Inputs.{Steps, Tick}
 use Rattle.sp_service_turns.specs.Keys.{FileMoves, KeepsKeys, keys_after}
-use Rattle.sp_service_turns.specs.Outside.{KeptFile, Outside}
+use Rattle.sp_service_turns.specs.Outside.{KeptFile, Outside, Text}
 use Rattle.sp_service_turns.specs.Runs.{FileMovesOn, MovesOn, Ran, keys_on, polled_by}
 use Rattle.sp_service_turns.specs.Served.{Begun as Is_begun, EndsTurns, Unbegun, opening_of}
 use Rattle.sp_service_turns.specs.Turns.{Moves, Turn}
@@ -26,6 +26,7 @@ use Rattle.sp_service_turns.specs.declared.served.Served.{Served}
 use Rattle.sp_lms.specs.declared.param.LmsParam.TheVariants.{H5}
 use Rattle.laws_keystate.specs.Histories.{IsSomeSound}
 use Rattle.laws_keystate.specs.RunLaws.{EachMomentIsOfARun}
+use Rattle.laws_keystate.specs.RunMoments.{LeavesAfter, LeavesBetween, LeavesOn, LeavesTurns}
 use Rattle.laws_keystate.specs.Runs.{At_start, HasRun, In_its_reserve, In_turns, IsStopped, MayBeLeft, Nothing_signed, One_signed, SignsInOrder, SignsInTurn, SignsOn, SignsOne, TakesNext, TurnLeaves, Without_reserve}
 use Rattle.laws_keystate.proofs.RunLemmas.{heard, polled_next, replied, serials}
 use Rattle.laws_keystate.proofs.StoppedLemmas.{run_sound}
@@ -106,9 +107,9 @@ module _ {N : Type 0} (steps : Steps N) (indexes : N → Indexes) where
     signs_some i j (inl same) = ([], Nothing_signed (ap (λ (x : Indexes). x.index) same))
     signs_some i j (inr took) = (record { index = i.index; message = [] } ∷ [], One_signed [] (ap (λ (x : Indexes). x.index) took.1))
 
-    signs_in_turn : (peers : List Peer) (polled : Option Peer) (t : Turn) (old new : N) (m : Moves steps indexes peers polled t old new)
+    pub turns_sign : (peers : List Peer) (polled : Option Peer) (t : Turn) (old new : N) (m : Moves steps indexes peers polled t old new)
         → (signed : List Signing) × SignsInTurn steps indexes peers polled t old new m signed
-    signs_in_turn peers polled t old new m =
+    turns_sign peers polled t old new m =
         let a = signs_some (indexes m.after_reserve) (indexes m.after_tick) (orderly m.after_reserve m.after_tick (Tick t.now) t.ticked m.tick) in
         let b = signs_some (indexes m.after_tick) (indexes m.after_overlay) (heard steps indexes orderly peers t.arrived m.after_tick t.overlay m.after_overlay m.overlay) in
         let c = signs_some (indexes m.after_overlay) (indexes m.after_client) (replied steps indexes orderly t.reply m.after_overlay t.client m.after_client m.client) in
@@ -118,24 +119,23 @@ module _ {N : Type 0} (steps : Steps N) (indexes : N → Indexes) where
         )
 
     -- from this start on
-    module _ (total : ℕ) (few : total < 2 ^ 64) (found : List ℕ) (sound : IsSomeSound found) (started : Started) (begun : KeptFile)
-        (starts : Starts (Some (still found)) begun.disk RESERVED total started) (start : N)
+    module _ (total : ℕ) (few : total < 2 ^ 64) (found : List ℕ) (sound : IsSomeSound found) (started : Started) (between : Outside)
+        (starts : Starts (Some (still found)) between.file.disk RESERVED total started) (start : N)
         (begins : indexes start ≡ record { index = started.first; bound = started.state.bound; total = total }) (peers : List Peer) where
-      -- these turns were made, and led here
-      record SoFar (last : N) (keys : KeyState) (now : KeptFile) : Type 0 where
+      -- these turns were made, led here, and this was signed in them
+      record SoFar (signed : List Signing) (last : N) (keys : KeyState) (now : KeptFile) : Type 0 where
         pub turns : List Turn
-        pub signed : List Signing
         pub moves : MovesOn steps indexes peers 0 turns start last
         pub signs : SignsOn steps indexes peers 0 turns start last moves signed
-        pub file : FileMovesOn started.state turns begun now
+        pub file : FileMovesOn started.state turns between.file now
         pub keys_are : keys ≡ keys_on started.state turns
 
-      run_of : (last : N) (keys : KeyState) (now : KeptFile) → keys.serial < 2 ^ 64 → (so_far : SoFar last keys now) → HasRun steps indexes found so_far.signed last keys now
-      run_of last keys now serial so_far = record {
+      run_of : (signed : List Signing) (last : N) (keys : KeyState) (now : KeptFile) → keys.serial < 2 ^ 64 → SoFar signed last keys now → HasRun steps indexes found signed last keys now
+      run_of signed last keys now serial so_far = record {
         total = total;
         few = few;
         started = started;
-        begun = begun;
+        begun = between.file;
         starts = starts;
         start = start;
         begins = begins;
@@ -148,107 +148,105 @@ module _ {N : Type 0} (steps : Steps N) (indexes : N → Indexes) where
         serial = serial;
       }
 
-      -- a run so far leaves this
-      abbrev IsOfARun : List ℕ → Type 0
-      IsOfARun image = (signed : List Signing) × IsStopped steps indexes found signed image
-
       -- the moments of a call that kept the keys
-      kept_of : (last : N) (keys : KeyState) (now : KeptFile) (after : Option (List Disk)) → keys.serial < 2 ^ 64 → SoFar last keys now → KeepsKeys keys now.disk now.past after
-          → ((image : List ℕ) → MayBeLeft now.past after image → TurnLeaves (indexes last) keys now image) → AllSince now.past after IsOfARun
-      kept_of last keys now after serial so_far keeps leaves =
-          let run = run_of last keys now serial so_far in
-          let sound_there = run_sound steps indexes orderly H5 [] found so_far.signed last keys now sound run in
-          since_weaker now.past after (MayBeLeft now.past after) IsOfARun (λ image may. (so_far.signed, In_turns so_far.signed image last keys now run (leaves image may)))
-          (since_may now.past after (Keeps keys.bound keys.boot) (keeps sound_there))
+      kept_of : (signed : List Signing) (last : N) (keys : KeyState) (now after : KeptFile) → keys.serial < 2 ^ 64 → SoFar signed last keys now → KeepsKeys keys now.disk now.past after.past
+          → ((image : List ℕ) → MayBeLeft now.past after.past image → TurnLeaves (indexes last) keys now image) → LeavesBetween steps indexes found signed now after
+      kept_of signed last keys now after serial so_far keeps leaves =
+          let run = run_of signed last keys now serial so_far in
+          let sound_there = run_sound steps indexes orderly H5 [] found signed last keys now sound run in
+          since_weaker now.past after.past (MayBeLeft now.past after.past) (IsStopped steps indexes found signed) (λ image may. In_turns signed image last keys now run (leaves image may))
+          (since_may now.past after.past (Keeps keys.bound keys.boot) (keeps sound_there))
+
+      -- where the file is as before there are none
+      none_of : (signed : List Signing) (now after : KeptFile) → after ≡ now → LeavesBetween steps indexes found signed now after
+      none_of signed now after same = subst (λ (f : KeptFile). LeavesBetween steps indexes found signed now f) (sym same) (since_none now.past (IsStopped steps indexes found signed))
 
       -- the moments of a turn
-      turn_of : (reserved : Option ℕ) (last : N) (keys : KeyState) (now after : KeptFile) → keys.serial < 2 ^ 64 → SoFar last keys now → reserved ≡ reserved_by (indexes last)
-          → FileMoves reserved keys now after → AllSince now.past after.past IsOfARun
-      turn_of None last keys now after serial so_far due moves = subst (λ (f : KeptFile). AllSince now.past f.past IsOfARun) (sym moves) (since_none now.past IsOfARun)
-      turn_of (Some upto) last keys now after serial so_far due moves =
-          kept_of last keys now after.past serial so_far moves.kept (λ image may. In_its_reserve upto after due moves may)
+      turn_of : (reserved : Option ℕ) (signed : List Signing) (last : N) (keys : KeyState) (now after : KeptFile) → keys.serial < 2 ^ 64 → SoFar signed last keys now
+          → reserved ≡ reserved_by (indexes last) → FileMoves reserved keys now after → LeavesBetween steps indexes found signed now after
+      turn_of None signed last keys now after serial so_far due moves = none_of signed now after moves
+      turn_of (Some upto) signed last keys now after serial so_far due moves =
+          kept_of signed last keys now after serial so_far moves.kept (λ image may. In_its_reserve upto after due moves may)
 
-      one_more : (t : Turn) (old new : N) (keys : KeyState) (now after : KeptFile) (so_far : SoFar old keys now)
-          → Moves steps indexes peers (polled_by peers (0 + length so_far.turns)) t old new → FileMoves t.reserved keys now after
-          → (next : SoFar new (keys_after keys t.reserved) after) × (next.turns ≡ so_far.turns ++ t ∷ [])
-      one_more t old new keys now after so_far m moves =
+      one_more : (t : Turn) (signed more : List Signing) (old new : N) (keys : KeyState) (now after : KeptFile) (so_far : SoFar signed old keys now) (turn : ℕ) → turn ≡ length so_far.turns
+          → (m : Moves steps indexes peers (polled_by peers turn) t old new) → SignsInTurn steps indexes peers (polled_by peers turn) t old new m more → FileMoves t.reserved keys now after
+          → (next : SoFar (signed ++ more) new (keys_after keys t.reserved) after) × (turn + 1 ≡ length next.turns)
+      one_more t signed more old new keys now after so_far turn place m signs moves =
           let ts = so_far.turns in
-          let here = signs_in_turn peers (polled_by peers (0 + length ts)) t old new m in
-          let on = moves_more peers 0 ts t start old new so_far.moves m so_far.signed here.0 so_far.signs here.1 in (
+          let here = shift turn (0 + length ts) (let e : turn ≡ 0 + length ts = omega (arith, place) in e) t old new m more signs in
+          let on = moves_more peers 0 ts t start old new so_far.moves here.0 signed more so_far.signs here.1 in (
             record {
               turns = ts ++ t ∷ [];
-              signed = so_far.signed ++ here.0;
               moves = on.0;
               signs = on.1;
-              file = files_more started.state ts t begun now after so_far.file (subst (λ (k : KeyState). FileMoves t.reserved k now after) so_far.keys_are moves);
+              file = files_more started.state ts t between.file now after so_far.file (subst (λ (k : KeyState). FileMoves t.reserved k now after) so_far.keys_are moves);
               keys_are = ap (λ (k : KeyState). keys_after k t.reserved) so_far.keys_are ∙ sym (keys_more started.state ts t);
             },
-            refl,
+            (let pushed = length_push ts t in omega (arith, place, pushed)),
+          )
+        where
+          shift : (n k : ℕ) → n ≡ k → (t : Turn) (old new : N) (m : Moves steps indexes peers (polled_by peers n) t old new) (more : List Signing)
+              → SignsInTurn steps indexes peers (polled_by peers n) t old new m more
+              → (on : Moves steps indexes peers (polled_by peers k) t old new) × SignsInTurn steps indexes peers (polled_by peers k) t old new on more
+          shift n k is t old new m more here =
+              subst (λ (i : ℕ). (on : Moves steps indexes peers (polled_by peers i) t old new) × SignsInTurn steps indexes peers (polled_by peers i) t old new on more) is (m, here)
+
+      -- the moments of turns, and those after them
+      turns_of : (ts : List Turn) (old last : N) (keys : KeyState) (now mid after : KeptFile) (signed : List Signing) (turn : ℕ) (so_far : SoFar signed old keys now)
+          → turn ≡ length so_far.turns → (keys_on keys ts).serial < 2 ^ 64 → (moves : MovesOn steps indexes peers turn ts old last) (file : FileMovesOn keys ts now mid)
+          → ((all : List Signing) → SoFar all last (keys_on keys ts) mid → LeavesBetween steps indexes found all mid after)
+          → LeavesOn steps indexes found peers turn ts old last moves keys now mid after file signed
+      turns_of [] old last keys now mid after signed turn so_far place serial moves file then =
+          then signed (subst (λ (f : KeptFile). SoFar signed last keys f) (sym file) (subst (λ (n : N). SoFar signed n keys now) (sym moves) so_far))
+      turns_of (t ∷ ts) old last keys now mid after signed turn so_far place serial moves file then =
+          let low = serials steps indexes orderly keys (t ∷ ts) in (
+            turn_of t.reserved signed old keys now file.0 (omega (arith, low, serial)) so_far moves.1.due file.1,
+            (λ more signs.
+                let next = one_more t signed more old moves.0 keys now file.0 so_far turn place moves.1 signs file.1 in
+                turns_of ts moves.0 last (keys_after keys t.reserved) file.0 mid after (signed ++ more) (turn + 1) next.0 next.1 serial moves.2 file.2 then),
           )
 
-      -- the moments of turns
-      turns_of : (ts : List Turn) (old last : N) (keys : KeyState) (now after : KeptFile) (so_far : SoFar old keys now) → (keys_on keys ts).serial < 2 ^ 64
-          → MovesOn steps indexes peers (0 + length so_far.turns) ts old last → FileMovesOn keys ts now after
-          → AllSince now.past after.past IsOfARun × SoFar last (keys_on keys ts) after
-      turns_of [] old last keys now after so_far serial moves file = (
-        subst (λ (f : KeptFile). AllSince now.past f.past IsOfARun) (sym file) (since_none now.past IsOfARun),
-        subst (λ (f : KeptFile). SoFar last keys f) (sym file) (subst (λ (n : N). SoFar n keys now) (sym moves) so_far),
-      )
-      turns_of (t ∷ ts) old last keys now after so_far serial moves file =
-          let low = serials steps indexes orderly keys (t ∷ ts) in
-          let here = turn_of t.reserved old keys now file.0 (omega (arith, low, serial)) so_far moves.1.due file.1 in
-          let next = one_more t old moves.0 keys now file.0 so_far moves.1 file.1 in
-          let place : 0 + length so_far.turns + 1 ≡ 0 + length next.0.turns =
-          (let grown = ap (λ (l : List Turn). length l) next.1 in let pushed = length_push so_far.turns t in omega (arith, grown, pushed)) in
-          let more = turns_of ts moves.0 last (keys_after keys t.reserved) file.0 after next.0 serial
-          (subst (λ (n : ℕ). MovesOn steps indexes peers n ts moves.0 last) place moves.2) file.2 in
-          (since_on now.past file.0.past after.past IsOfARun here more.0, more.1)
-
-      abbrev at_first : SoFar start started.state begun
-      at_first = record { turns = []; signed = []; moves = refl; signs = refl; file = refl; keys_are = refl }
-
       -- all turns, and what comes after them
-      ran_of : (ts : List Turn) (last : N) (before after : Outside) → Ran steps indexes peers ts start last started.state before after → before.file ≡ begun
-          → AllSince begun.past after.file.past IsOfARun × SoFar last (keys_on started.state ts) after.file
-      ran_of ts last before after ran same =
-          turns_of ts start last started.state begun after.file at_first ran.held.serial ran.moves (subst (λ (f : KeptFile). FileMovesOn started.state ts f after.file) same ran.file)
+      ran_of : (ts : List Turn) (last : N) (text : Text) (mid after : Outside) (ran : Ran steps indexes peers ts start last started.state (record between { text = text }) mid)
+          → ((all : List Signing) → SoFar all last (keys_on started.state ts) mid.file → LeavesBetween steps indexes found all mid.file after.file)
+          → LeavesOn steps indexes found peers 0 ts start last ran.moves started.state between.file mid.file after.file ran.file []
+      ran_of ts last text mid after ran =
+          turns_of ts start last started.state between.file mid.file after.file [] 0 (record { turns = []; moves = refl; signs = refl; file = refl; keys_are = refl }) refl ran.held.serial
+          ran.moves ran.file
 
-      last_of : (polled : Option Peer) (last : N) (keys : KeyState) (before after : Outside) (ended : Served) → keys.serial < 2 ^ 64 → SoFar last keys before.file
-          → EndsTurn steps indexes peers polled last keys before after ended → AllSince before.file.past after.file.past IsOfARun
-      last_of polled last keys before after ended serial so_far (Spent refused no_more wire clock told) =
-          kept_of last keys before.file after.file.past serial so_far no_more.kept (λ image may. Without_reserve refused after.file no_more may)
-      last_of polled last keys before after ended serial so_far (Broken why early) = turn_of early.t.reserved last keys before.file after.file serial so_far early.due early.file
+      last_of : (signed : List Signing) (polled : Option Peer) (last : N) (keys : KeyState) (before after : Outside) (ended : Served) → keys.serial < 2 ^ 64 → SoFar signed last keys before.file
+          → EndsTurn steps indexes peers polled last keys before after ended → LeavesBetween steps indexes found signed before.file after.file
+      last_of signed polled last keys before after ended serial so_far (Spent refused no_more wire clock told) =
+          kept_of signed last keys before.file after.file serial so_far no_more.kept (λ image may. Without_reserve refused after.file no_more may)
+      last_of signed polled last keys before after ended serial so_far (Broken why early) =
+          turn_of early.t.reserved signed last keys before.file after.file serial so_far early.due early.file
 
-      after_of : (count : ℕ) (before after : Outside) (ended : Served) → before.file ≡ begun → EndsAfter steps indexes peers count start started.state before after ended
-          → AllSince begun.past after.file.past IsOfARun
-      after_of count before after ended same (Whole turns last mid made ran quiet finishes) =
-          let all = ran_of turns last before mid ran same in
-          subst (λ (f : KeptFile). AllSince begun.past f.past IsOfARun) (sym quiet.2) all.0
-      after_of count before after ended same (Stopped turns last mid made ran ends) =
-          let all = ran_of turns last before mid ran same in
-          since_on begun.past mid.file.past after.file.past IsOfARun all.0
-          (last_of (polled_by peers (length turns)) last (keys_on started.state turns) mid after ended ran.held.serial all.1 ends)
+      after_of : (count : ℕ) (text : Text) (after : Outside) (ended : Served) (ends : EndsAfter steps indexes peers count start started.state (record between { text = text }) after ended)
+          → LeavesAfter steps indexes found peers count start started.state (record between { text = text }) after ended ends
+      after_of count text after ended (Whole turns last mid made ran quiet finishes) =
+          ran_of turns last text mid after ran (λ all so_far. none_of all mid.file after.file quiet.2)
+      after_of count text after ended (Stopped turns last mid made ran ends) =
+          ran_of turns last text mid after ran
+          (λ all so_far. last_of all (polled_by peers (length turns)) last (keys_on started.state turns) mid after ended ran.held.serial so_far ends)
 
-      turns_end : (count : ℕ) (before after : Outside) (ended : Served) → before.file ≡ begun
-          → EndsTurns steps indexes peers (opening_of started) count start started.state before after ended → AllSince begun.past after.file.past IsOfARun
-      turns_end count before after ended same (Unbegun quiet fails) =
-          subst (λ (f : KeptFile). AllSince begun.past f.past IsOfARun) (sym (quiet.2 ∙ same)) (since_none begun.past IsOfARun)
-      turns_end count before after ended same (Is_begun text first ends) = after_of count (record before { text = text }) after ended same ends
+      turns_end : (count : ℕ) (after : Outside) (ended : Served) (ends : EndsTurns steps indexes peers (opening_of started) count start started.state between after ended)
+          → LeavesTurns steps indexes found peers (opening_of started) count start started.state between after ended ends
+      turns_end count after ended (Unbegun quiet fails) = none_of [] between.file after.file quiet.2
+      turns_end count after ended (Is_begun text first ends) = after_of count text after ended ends
 
 -- the moments of a start, or of one that the file didn't give
-pub start_moments : {N : Type 0} (steps : Steps N) (indexes : N → Indexes) (found : List ℕ) (past now : Option (List Disk)) → IsSomeSound found → KeepsAll (Some (still found)) past now
-    → AllSince past now (λ image. (signed : List Signing) × IsStopped steps indexes found signed image)
-start_moments steps indexes found past now sound kept =
-    since_weaker past now (MayBeLeft past now) (λ image. (signed : List Signing) × IsStopped steps indexes found signed image)
-    (λ image may. ([], At_start image past now kept may))
-    (since_may past now (Keeps sound.numbers.bound sound.numbers.boot) (kept found sound.slot sound.numbers refl sound.sound))
+pub start_moments : {N : Type 0} (steps : Steps N) (indexes : N → Indexes) (found : List ℕ) (before after : KeptFile) → IsSomeSound found
+    → KeepsAll (Some (still found)) before.past after.past → LeavesBetween steps indexes found [] before after
+start_moments steps indexes found before after sound kept =
+    since_weaker before.past after.past (MayBeLeft before.past after.past) (IsStopped steps indexes found []) (λ image may. At_start image before.past after.past kept may)
+    (since_may before.past after.past (Keeps sound.numbers.bound sound.numbers.boot) (kept found sound.slot sound.numbers refl sound.sound))
 
 -- and then those of the turns
 pub each_moment : {N : Type 0} (steps : Steps N) (indexes : N → Indexes) → EachMomentIsOfARun steps indexes
 each_moment steps indexes orderly ports total found started peers count start ended before between after few still_found sound opened begins ends =
     let starts : Starts (Some (still found)) between.file.disk RESERVED total started =
     subst (λ (d : Option Disk). Starts d between.file.disk RESERVED total started) still_found opened.starts in
-    let kept : KeepsAll (Some (still found)) before.file.past between.file.past = subst (λ (d : Option Disk). KeepsAll d before.file.past between.file.past) still_found opened.kept in
-    since_on before.file.past between.file.past after.file.past (λ image. (signed : List Signing) × IsStopped steps indexes found signed image)
-    (start_moments steps indexes found before.file.past between.file.past sound kept)
-    (turns_end steps indexes orderly total few found sound started between.file starts start begins peers count between after ended refl ends)
+    let kept : KeepsAll (Some (still found)) before.file.past between.file.past = subst (λ (d : Option Disk). KeepsAll d before.file.past between.file.past) still_found opened.kept in (
+      start_moments steps indexes found before.file between.file sound kept,
+      turns_end steps indexes orderly total few found sound started between starts start begins peers count after ended ends,
+    )

@@ -4,4 +4,5 @@ pub mod Histories
 pub mod Laws
 pub mod Calls
 pub mod Runs
+pub mod RunMoments
 pub mod RunLaws

@@ -1,20 +1,21 @@
 -- The laws of runs of daemons on one key file, of any node that signs in order.
-use Rattle.std.specs.Prelude.{ℕ, ◌≡◌, ◌<◌, ◌^◌, List, [], ◌∷◌, Some}
+use Rattle.std.specs.Prelude.{ℕ, ◌≡◌, ◌<◌, ◌^◌, List, [], ◌∷◌, Option, Some}
 use Rattle.std.specs.List.{Contains}
 use Rattle.sp_hss.specs.Uses.{Rising, Signing}
 use Rattle.sp_keystate.specs.declared.starts.Started.{Started}
 use Rattle.sp_lms.specs.declared.param.LmsParam.{LmsParam}
 use Rattle.sp_outside.specs.Disk.{still}
-use Rattle.sp_outside.specs.Moments.{AllSince}
 use Rattle.sp_service_turns.specs.Inputs.{Reserve, Steps, Tick}
 use Rattle.sp_service_turns.specs.Outside.{Outside}
 use Rattle.sp_service_turns.specs.Served.{EndsTurns, IsOpened, opening_of}
+use Rattle.sp_service_turns.specs.Turns.{Moves, Turn}
 use Rattle.sp_service_turns.specs.declared.indexes.Indexes.{Indexes}
 use Rattle.sp_service_turns.specs.declared.opened.Ports.{Ports}
 use Rattle.sp_service_turns.specs.declared.peer.Peer.{Peer}
 use Rattle.sp_service_turns.specs.declared.served.Served.{Served}
 use Rattle.laws_keystate.specs.Histories.{IsHistory, IsSomeSound, IsStart, Start, formatted, signings_in}
-use Rattle.laws_keystate.specs.Runs.{IsStopped, Run, RunsFollow, SignsInOrder, TakesNext, signed_in}
+use Rattle.laws_keystate.specs.RunMoments.{LeavesBetween, LeavesTurns}
+use Rattle.laws_keystate.specs.Runs.{IsStopped, Run, RunsFollow, SignsInOrder, SignsInTurn, TakesNext, signed_in}
 use Rattle.laws_keystate.specs.Starts.{signings_of}
 
 -- a run on a sound file, stopped at any moment, is one start of a history: its node signed what the start signs, and it left what the start leaves
@@ -50,12 +51,18 @@ ARunSigns = SignsInOrder sign_at_ticks indexes_of
 
 -- ---- what a daemon promises
 
--- a daemon whose node signs in order, on a sound file that is all on the disk: whatever a crash may leave at any moment, from the opening of its wire to its
--- end, a run so far leaves
+-- A daemon whose node signs in order, on a sound file that is all on the disk. Whatever a crash may leave until its start is taken, a run leaves that signed
+-- nothing; and at each later moment to its end, one that signed what its node had signed in its whole turns
 abbrev pub EachMomentIsOfARun : {N : Type 0} → Steps N → (N → Indexes) → Type 0
 EachMomentIsOfARun {N} steps indexes =
     SignsInOrder steps indexes → (ports : Ports) (total : ℕ) (found : List ℕ) (started : Started) (peers : List Peer) (count : ℕ) (start : N) (ended : Served)
     (before between after : Outside) → total < 2 ^ 64 → before.file.disk ≡ Some (still found) → IsSomeSound found → IsOpened ports total started before between
     → indexes start ≡ record { index = started.first; bound = started.state.bound; total = total }
-    → EndsTurns steps indexes peers (opening_of started) count start started.state between after ended
-    → AllSince before.file.past after.file.past (λ image. (signed : List Signing) × IsStopped steps indexes found signed image)
+    → (ends : EndsTurns steps indexes peers (opening_of started) count start started.state between after ended)
+    → LeavesBetween steps indexes found [] before.file between.file
+    × LeavesTurns steps indexes found peers (opening_of started) count start started.state between after ended ends
+
+-- in each turn of such a node something is signed, or nothing
+abbrev pub TurnsSign : {N : Type 0} → Steps N → (N → Indexes) → Type 0
+TurnsSign {N} steps indexes = SignsInOrder steps indexes → (peers : List Peer) (polled : Option Peer) (t : Turn) (old new : N)
+    (moves : Moves steps indexes peers polled t old new) → (signed : List Signing) × SignsInTurn steps indexes peers polled t old new moves signed

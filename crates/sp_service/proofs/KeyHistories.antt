@@ -1,20 +1,19 @@
 -- The runs of daemons as starts of a history of their key.
-use Rattle.std.proofs.Common.{◌≡◌, ℕ, ◌<◌, List, Option, Some, sym, ap, subst, lit<}
+use Rattle.std.proofs.Common.{◌≡◌, ℕ, ◌<◌, List, [], Option, Some, sym, ap, subst, lit<}
 use Rattle.std.specs.Prelude.{◌^◌}
 use Rattle.laws_keystate.specs.Histories.{IsSomeSound}
+use Rattle.laws_keystate.specs.RunMoments.{LeavesBetween}
 use Rattle.laws_keystate.specs.Runs.{IsStopped}
 use Rattle.laws_keystate.proofs.MomentLemmas.{each_moment, start_moments}
 use Rattle.laws_keystate.proofs.StoppedLemmas.{no_run_signs_again}
 use Rattle.sp_config.specs.declared.config.Config.{Config}
 use Rattle.sp_hss.specs.KeyTree.{total}
-use Rattle.sp_hss.specs.Uses.{Signing}
 use Rattle.sp_keystate.proofs.Since.{since_none}
 use Rattle.sp_keystate.specs.Starting.{KeepsAll}
 use Rattle.sp_outside.specs.Disk.{Disk, still}
-use Rattle.sp_outside.specs.Moments.{AllSince}
 use Rattle.sp_service.specs.KeyLaws.{DaemonsAreRuns, NoDaemonSignsAgain}
 use Rattle.sp_service.specs.NodeParts.{peers_of}
-use Rattle.sp_service.specs.Served.{EndsOpened, Is_served, No_memory, No_node, Refusal, Unopened, ports_of}
+use Rattle.sp_service.specs.Served.{Is_served, No_memory, No_node, Refusal, Unopened, ports_of}
 use Rattle.sp_service.specs.Starts.{total_of}
 use Rattle.sp_service_station.specs.Stations.{StationStep, indexes_in, indexes_of}
 use Rattle.sp_service_station.proofs.Order.{in_order}
@@ -31,32 +30,28 @@ few_indexes heights.Five = lit< tt
 few_indexes heights.Ten = lit< tt
 
 module _ (found : List ℕ) (sound : IsSomeSound found) where
-  abbrev IsOfARun : List ℕ → Type 0
-  IsOfARun image = (signed : List Signing) × IsStopped StationStep indexes_in found signed image
+  abbrev Leaves : KeptFile → KeptFile → Type 0
+  Leaves before after = LeavesBetween StationStep indexes_in found [] before after
 
-  untouched : (before after : KeptFile) → after ≡ before → AllSince before.past after.past IsOfARun
-  untouched before after same = subst (λ (f : KeptFile). AllSince before.past f.past IsOfARun) (sym same) (since_none before.past IsOfARun)
+  untouched : (before after : KeptFile) → after ≡ before → Leaves before after
+  untouched before after same = subst (λ (f : KeptFile). Leaves before f) (sym same) (since_none before.past (IsStopped StationStep indexes_in found []))
 
-  started : (before after : KeptFile) → before.disk ≡ Some (still found) → KeepsAll before.disk before.past after.past → AllSince before.past after.past IsOfARun
+  started : (before after : KeptFile) → before.disk ≡ Some (still found) → KeepsAll before.disk before.past after.past → Leaves before after
   started before after is kept =
-      start_moments StationStep indexes_in found before.past after.past sound (subst (λ (d : Option Disk). KeepsAll d before.past after.past) is kept)
+      start_moments StationStep indexes_in found before after sound (subst (λ (d : Option Disk). KeepsAll d before.past after.past) is kept)
 
   fails : (c : Config) (t : Topology) (before after : Outside) (ended : Served) → before.file.disk ≡ Some (still found)
-      → FailsToOpen (ports_of c) (total_of t) before after ended → AllSince before.file.past after.file.past IsOfARun
+      → FailsToOpen (ports_of c) (total_of t) before after ended → Leaves before.file after.file
   fails c t before after ended is (No_wire unopened told) = untouched before.file after.file unopened.untouched
   fails c t before after ended is (No_start refused unstarted told) = started before.file after.file is unstarted.kept
-
-  serves : (c : Config) (t : Topology) (count : ℕ) (before after : Outside) (ended : Served) → before.file.disk ≡ Some (still found)
-      → EndsOpened c t count ended before after → AllSince before.file.past after.file.past IsOfARun
-  serves c t count before after ended is opened =
-      each_moment StationStep indexes_in in_order (ports_of c) (total_of t) found opened.started (peers_of c) count opened.start ended before opened.between after
-      (few_indexes t.height) is sound opened.opened (ap indexes_of opened.is_start.node) opened.ends
 
 pub they_are_runs : DaemonsAreRuns
 they_are_runs text is_cut count before after ended (Refusal out refusal quiet told) found is sound = untouched found sound before.file after.file quiet.2
 they_are_runs text is_cut count before after ended (Unopened c t whole configured fails_so) found is sound = fails found sound c t before after ended is fails_so
 they_are_runs text is_cut count before after ended (No_node c t taken whole configured opened memory) found is sound = started found sound before.file after.file is opened.kept
-they_are_runs text is_cut count before after ended (Is_served c t whole configured opened) found is sound = serves found sound c t count before after ended is opened
+they_are_runs text is_cut count before after ended (Is_served c t whole configured opened) found is sound =
+    each_moment StationStep indexes_in in_order (ports_of c) (total_of t) found opened.started (peers_of c) count opened.start ended before opened.between after
+    (few_indexes t.height) is sound opened.opened (ap indexes_of opened.is_start.node) opened.ends
 they_are_runs text is_cut count before after ended (No_memory quiet unwritten memory) found is sound = untouched found sound before.file after.file quiet.2
 
 pub none_signs_again : NoDaemonSignsAgain
