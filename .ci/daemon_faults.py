@@ -28,6 +28,8 @@ FLOOD_SECONDS, FLOOD_RATE = 5, 10_000
 # a hub that rests takes 0.3 seconds for a cycle of its three neighbours, and hears a stranger once in it: 16 times in those of the flood, and oftener while
 # messages cross it. Fewer says that strangers aren't heard at all, or not in turn
 LEAST_HEARD = 10
+# a stray is heard in six turns of a hub of three neighbours at most while one of them waits, and a few when none does
+TURNS_A_STRAY, MORE_STRAYS = 5, 12
 # the longest datagram, which goes so often, and the longest request
 LONGEST, LONG_RATE, FEW_RATE, REQUEST_BYTES = 65_507, 500, 20, 4_096
 GARBAGE = [b"", b"\x53\x49\x01" + bytes(73), bytes(64), os.urandom(200), os.urandom(1_400)]
@@ -203,7 +205,9 @@ def floods(faults):
     lines = overlay.recording(2).split(b"\n")
     strays, impostors = (sum(line.startswith(front) for line in lines) for front in (b"stray ", b"overlay 4 "))
     is_heard = strays > LEAST_HEARD and impostors > LEAST_HEARD
-    faults.holds("the flood was heard, a stranger once in a cycle", is_heard, f"{strays} strays, {impostors} from the impostor")
+    faults.holds("the flood was heard", is_heard, f"{strays} strays, {impostors} from the impostor")
+    turns = sum(line.startswith(b"tick ") for line in lines)
+    faults.holds("a stranger was heard in every second cycle at most", TURNS_A_STRAY * (strays - MORE_STRAYS) <= turns, f"{strays} strays in {turns} turns")
     faults.equal("the recording of the hub", overlay.verify(2)[0], 0)
     print(f"the hub heard {strays} datagrams of a stranger and {impostors} of an impostor, and holds {more} KB more")
 

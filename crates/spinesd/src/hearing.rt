@@ -1,5 +1,5 @@
 // Who is heard next at a port of a daemon: each sender that is known has a socket and a place, all others have one together, and the places take turns.
-// So who sends more than others takes its own turn and no other.
+// So who sends more than others takes its own turn and no other, and one who is not known seldom takes the turn of one who is.
 //
 //     port of a neighbour    port of another one    all other ports             the next of them that has something is heard,
 //     3 wait                 1 waits                1 waits, 9,000 were lost    and the one after it then
@@ -26,6 +26,9 @@ const TAKEN: usize = 16;
 
 const TAKEN_OF_OTHERS: usize = 16;
 
+/// While something of a sender that is known waits, one of all others is heard in so many cycles.
+const SELDOM: u8 = 2;
+
 /// A sender with its socket, its place, and the frames that it sent last. Without a socket of its own it comes in at the one of all others.
 #[derive(Drop)]
 struct Known {
@@ -51,6 +54,8 @@ pub struct Hearing {
     next: usize,
     /// Whether the others may be heard before the next cycle.
     hears_others: bool,
+    /// How many cycles began since one of the others was heard.
+    cycles: u8,
 }
 
 impl Hearing {
@@ -76,6 +81,7 @@ impl Hearing {
             others: Place::new(alloc, others),
             next: 0,
             hears_others: true,
+            cycles: SELDOM,
         })
     }
 
@@ -87,6 +93,7 @@ impl Hearing {
     /// A cycle begins, in which one of the others may be heard.
     pub fn begin_cycle(&mut self, waiter: &Waiter) {
         self.hears_others = true;
+        self.cycles = self.cycles.saturating_add(1);
         if let Some(inlet) = &mut self.inlet {
             inlet.begin(waiter);
         }
@@ -240,11 +247,14 @@ impl Hearing {
         if let Some(known) = self.known.get_mut(place) {
             return known.place.take();
         }
-        if !self.hears_others {
+        if !self.hears_others || (self.cycles < SELDOM && self.has_known()) {
             return None;
         }
         let waiting = self.others.take();
         self.hears_others = waiting.is_none();
+        if waiting.is_some() {
+            self.cycles = 0;
+        }
         waiting
     }
 }
