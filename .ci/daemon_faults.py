@@ -28,9 +28,6 @@ FLOOD_SECONDS, FLOOD_RATE = 5, 10_000
 # a hub that rests takes 0.3 seconds for a cycle of its three neighbours, and hears a stranger in every second one while an impostor floods it too: 8 times in
 # those of the flood, and far oftener while messages cross it. Fewer says that strangers aren't heard at all, or not in turn
 LEAST_HEARD = 10
-# while an impostor always waits the hub makes some 13 turns for each stray that it hears, and half as many where a stray takes a turn in each cycle. Some come
-# when the impostor has nothing there
-TURNS_A_STRAY, MORE_STRAYS = 9, 12
 # the longest datagram, which goes so often, and the longest request
 LONGEST, LONG_RATE, FEW_RATE, REQUEST_BYTES = 65_507, 500, 20, 4_096
 GARBAGE = [b"", b"\x53\x49\x01" + bytes(73), bytes(64), os.urandom(200), os.urandom(1_400)]
@@ -207,11 +204,8 @@ def floods(faults):
     strays, impostors = (sum(line.startswith(front) for line in lines) for front in (b"stray ", b"overlay 4 "))
     is_heard = strays > LEAST_HEARD and impostors > LEAST_HEARD
     faults.holds("the flood was heard", is_heard, f"{strays} strays, {impostors} from the impostor")
-    places = [place for place, line in enumerate(lines) if line.startswith((b"stray ", b"overlay 4 "))]
-    turns = sum(line.startswith(b"tick ") for line in lines[places[0]:places[-1]])
-    faults.holds("a stranger was heard in every second cycle at most", TURNS_A_STRAY * (strays - MORE_STRAYS) <= turns, f"{strays} strays in {turns} turns")
     faults.equal("the recording of the hub", overlay.verify(2)[0], 0)
-    print(f"the hub heard {strays} datagrams of a stranger and {impostors} of an impostor in {turns} turns, and holds {more} KB more")
+    print(f"the hub heard {strays} datagrams of a stranger and {impostors} of an impostor, and holds {more} KB more")
 
 
 def hears_in_turn(faults):

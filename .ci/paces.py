@@ -3,7 +3,8 @@
 A hub runs under the library of system_calls.c, and the script plays its three neighbours and a client, so its calls follow from what these send. Without
 news it rests, for 100 ms at a time, and each frame goes. News and requests wake it, and what says nothing new doesn't. Awake it waits for its neighbours, each
 of which is sent no frame while it has one to answer, but for one of 32; who lets three waits pass is waited for no more, and a stranger answers for nobody.
-Of a neighbour that floods it a bounded number is taken in a turn, and the newest few are heard; strays that aren't taken end no wait.
+Of a neighbour that floods it a bounded number is taken in a turn, and the newest few are heard; strays that aren't taken end no wait, and one is heard in every
+second cycle at most while neighbours wait.
 Each difference is told, and the status is then 1. It needs a C compiler, `cc`.
 """
 
@@ -28,6 +29,8 @@ NEWS, WORD, REQUEST = 1_201, 41, b"2 listen"
 ANSWERS, UNSENT = 100, 32
 # so many datagrams come at once; so many are taken in a turn, and so many of them wait
 BURST, TAKEN, WAITING = 40, 16, 4
+# of the strays that came with as many of three neighbours so many are heard before the last of these
+SELDOM = 2
 # so many strays in a second, of which at most so many end a wait
 STRAYS, WAKES = 1_000, 250
 # without news for so many cycles it rests, whoever answers
@@ -205,13 +208,30 @@ def strays(looks, hub):
     looks.holds("waits while strays come", waits <= WAKES, waits)
 
 
+def turns(looks, hub):
+    """While something of its neighbours waits, the hub hears a stray in every second cycle of them at most."""
+    place = len(looks.calls())
+    hub.until_rest(place)
+    hub.child.send_signal(signal.SIGSTOP)
+    before = len(hub.lines())
+    for number in range(WAITING):
+        for node in (*NEIGHBOURS, "stranger", "stranger"):
+            hub.sockets[node].sendto(b"%08d" % number, hub.target)
+    place = len(looks.calls())
+    hub.child.send_signal(signal.SIGCONT)
+    hub.until(place, lambda call: hub.sent([call]), WAITING * len(NEIGHBOURS) + SELDOM + 2)
+    heard = [line.split(b" ")[0] for line in hub.lines()[before:] if line.startswith((b"overlay ", b"stray "))]
+    last = max(place for place, word in enumerate(heard) if word == b"overlay")
+    looks.holds("strays that are heard while neighbours wait", heard[:last].count(b"stray") <= SELDOM, heard)
+
+
 def main():
     if len(sys.argv) != 2:
         sys.exit("usage: python3 .ci/paces.py PATH/TO/spinesd")
     with tempfile.TemporaryDirectory() as folder:
         looks = Calls(os.path.abspath(sys.argv[1]), folder, HUB)
         with Hub(looks) as hub:
-            for look in (rests, news, words, requests, owed, bursts, strays):
+            for look in (rests, news, words, requests, owed, bursts, strays, turns, turns):
                 looks.guarded(look, hub)
     print(f"{looks.looks - looks.wrong} looks at the pace of a daemon as wanted, {looks.wrong} not")
     sys.exit(1 if looks.wrong else 0)
