@@ -178,6 +178,28 @@ def bodies(kit):
     kit.equal("a kind that format 1 lacks", frames.body_of(bytes([5]) + bytes(100)), None)
 
 
+def told_rows(name):
+    """The rows of a table of test_formats."""
+    with open(os.path.join(ROOT, "crates", "test_formats", "src", "frames_rows.rt"), encoding="utf-8") as file:
+        table = re.search(rf'pub const {name}: &str = "([^"]*)"', file.read().replace("\\\n", ""))
+    return [row.split("|") for row in table.group(1).split("\n")]
+
+
+def sections(kit):
+    """Sections of format 2 are read as the rows of test_formats say."""
+    sys.path.insert(0, os.path.join(KIT, "lib"))
+    import frames
+    objects = {word: digits + int(zeros) * "00" + "1294" + 4756 * "00" for word, digits, zeros in told_rows("OBJECTS")}
+    for answer, what, words in told_rows("ROWS"):
+        data = bytes.fromhex("53490202" + 29 * "00" + "".join(objects.get(word, word) for word in words.split()) + 32 * "00")
+        try:
+            told = " ".join(["fresh", *(item.kind for item in frames.sections_of(data, 4756).items if item.kind in ("weight", "prio", "ack", "rel"))])
+        except frames.Bad as bad:
+            told = f"section {bad}"
+        kit.equal(f"sections: {what}", told, answer)
+    kit.equal("a frame of another format", frames.fault_of(data), "version")
+
+
 def several_messages(kit):
     """Frames with several messages of a kind are read, and their answers are found."""
     configuration = kit.write("several.conf", kit_recording.CONFIGURATION)
@@ -377,7 +399,7 @@ def main():
         sys.exit("usage: python3 .ci/kit.py PATH/TO/spinesd")
     with tempfile.TemporaryDirectory() as folder:
         kit = Kit(os.path.abspath(sys.argv[1]), folder)
-        for look in (explains, endings_of_conformance, statuses, bodies, several_messages, many_folders, cut_recordings, follows, broken_off, views, keys,
+        for look in (explains, endings_of_conformance, statuses, bodies, sections, several_messages, many_folders, cut_recordings, follows, broken_off, views, keys,
                      kit_next.look, kit_house.look, kit_daemons.daemons, kit_busy.look):
             look(kit)
     print(f"{kit.looks - kit.wrong} looks at the operator's kit as wanted, {kit.wrong} not")

@@ -4,6 +4,7 @@ use Rattle.std.specs.Prelude.{IfSome}
 use Rattle.std.specs.List.{All}
 use Rattle.std.proofs.lemmas.List.Elements.{All-cons, All-head, All-tail}
 use Rattle.sp_base.specs.Spelling.{AreBytes}
+use Rattle.sp_base.specs.declared.format.TheConstants.{FORMAT_1}
 use Rattle.sp_base.specs.declared.id.NodeId.{NodeId}
 use Rattle.sp_base.specs.declared.limits.TheConstants.{MAX_MESSAGES}
 use Rattle.sp_frame.specs.Objects.{IsObject}
@@ -44,33 +45,34 @@ list_of : (k : Sizes) (o : Option Kept) → IfSome o (InRange k) → All (InRang
 list_of k None fits = λ i d within. absurd (omega (arith, within))
 list_of k (Some o) fits = All-cons (InRange k) o [] fits (λ i d within. absurd (omega (arith, within)))
 
-in_range : (k : Sizes) (kind : Kind) (len : ℕ) → len ≡ k.signature_len → (o : Kept) → IsObject kind len o → InRange k o
+in_range : (k : Sizes) (kind : Kind) (len : ℕ) → len ≡ k.signature_len → (o : Kept) → IsObject FORMAT_1 kind len o → InRange k o
 in_range k kind len same o is = record { fields = is.fields; long = is.long ∙ same }
 
-prio_pieces : (k : Sizes) (len : ℕ) → len ≡ k.signature_len → (ms : List (ℕ × Kept)) → All (IsNumbered len) ms → AllFit k (map prio_piece ms)
+prio_pieces : (k : Sizes) (len : ℕ) → len ≡ k.signature_len → (ms : List (ℕ × Kept)) → All (IsNumbered FORMAT_1 len) ms → AllFit k (map prio_piece ms)
 prio_pieces k len same [] all = tt
 prio_pieces k len same (m ∷ ms) all =
-    let first = All-head (IsNumbered len) m ms all in
-    ((first.number, in_range k kinds.Prio len same m.1 first.object), prio_pieces k len same ms (All-tail (IsNumbered len) m ms all))
+    let first = All-head (IsNumbered FORMAT_1 len) m ms all in
+    ((first.number, in_range k kinds.Prio len same m.1 first.object), prio_pieces k len same ms (All-tail (IsNumbered FORMAT_1 len) m ms all))
 
-report_pieces : (k : Sizes) (len : ℕ) → len ≡ k.signature_len → (slot : Option Report) → IfSome slot (IsReport len) → AllFit k (slot_pieces slot)
+report_pieces : (k : Sizes) (len : ℕ) → len ≡ k.signature_len → (slot : Option Report) → IfSome slot (IsReport FORMAT_1 kinds.Ack kinds.Rel len)
+    → AllFit k (slot_pieces slot)
 report_pieces k len same None is = tt
 report_pieces k len same (Some r) is = (
   tt,
   join_fits k (map (AckPiece r.flow) (as_list r.ack)) (map (RelPiece r.flow) r.rels)
       (all_pieces k (AckPiece r.flow) (λ o fits. fits) (as_list r.ack) (list_of k r.ack (in_some r.ack is.ack)))
       (all_pieces k (RelPiece r.flow) (λ o fits. fits) r.rels
-      (all_weaker (IsObject kinds.Rel len) (InRange k) r.rels (in_range k kinds.Rel len same) is.rels)),
+      (all_weaker (IsObject FORMAT_1 kinds.Rel len) (InRange k) r.rels (in_range k kinds.Rel len same) is.rels)),
 )
   where
-    in_some : (o : Option Kept) → IfSome o (IsObject kinds.Ack len) → IfSome o (InRange k)
+    in_some : (o : Option Kept) → IfSome o (IsObject FORMAT_1 kinds.Ack len) → IfSome o (InRange k)
     in_some None is = tt
     in_some (Some o) is = in_range k kinds.Ack len same o is
 
 contents_fit : (k : Sizes) (len : ℕ) → len ≡ k.signature_len → (s : Contents) → IsContents len s → AllFit k (pieces_of s)
 contents_fit k len same s is =
     join_fits k (map WeightPiece s.weights) _
-    (all_pieces k WeightPiece (λ o fits. fits) s.weights (all_weaker (IsObject kinds.Weight len) (InRange k) s.weights (in_range k kinds.Weight len same) is.weights))
+    (all_pieces k WeightPiece (λ o fits. fits) s.weights (all_weaker (IsObject FORMAT_1 kinds.Weight len) (InRange k) s.weights (in_range k kinds.Weight len same) is.weights))
     (tt, join_fits k (map prio_piece s.prios) (slot_pieces s.slot) (prio_pieces k len same s.prios is.prios) (report_pieces k len same s.slot is.slot))
 
 -- how many priority messages are among them

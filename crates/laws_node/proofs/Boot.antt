@@ -6,6 +6,7 @@ use Rattle.std.proofs.lemmas.Bool.Decides.{nat_tests}
 use Rattle.std.proofs.lemmas.List.Concat.{flat_map-cons}
 use Rattle.std.proofs.lemmas.List.Elements.{All-cons, All-head, All-nil, All-tail}
 use Rattle.std.proofs.lemmas.List.Kept.{AllPairs-cons, AllPairs-filter}
+use Rattle.sp_base.specs.declared.format.TheConstants.{FORMAT_1}
 use Rattle.sp_base.specs.declared.id.EdgeId.{EdgeId}
 use Rattle.sp_base.specs.declared.id.Flow.{Flow}
 use Rattle.sp_base.specs.declared.id.NodeId.{NodeId}
@@ -40,19 +41,20 @@ use Rattle.laws_node.proofs.Tables.{all_weaker, cond_either, or_where}
 abbrev Other : NodeId → NodeId → Type 0
 Other u v = ¬ (u ≡ v)
 
-pub nodes_hold : (height : LmsHeight) (before : ℕ) (nodes : List NodeKey) → AreNodes height before nodes → All IsNode (map (λ n. n.id) nodes)
+pub nodes_hold : (height : LmsHeight) (before : ℕ) (nodes : List NodeKey) → AreNodes FORMAT_1 height before nodes → All IsNode (map (λ n. n.id) nodes)
 nodes_hold height before [] are = All-nil IsNode
 nodes_hold height before (n ∷ nodes) are =
     All-cons IsNode n.id (map (λ m. m.id) nodes) (omega (arith, are.0.0), are.0.1) (nodes_hold height n.id.0 nodes are.2)
 
-above : (height : LmsHeight) (before : ℕ) (nodes : List NodeKey) → AreNodes height before nodes → All (λ (u : NodeId). before < u.0) (map (λ n. n.id) nodes)
+above : (height : LmsHeight) (before : ℕ) (nodes : List NodeKey) → AreNodes FORMAT_1 height before nodes
+    → All (λ (u : NodeId). before < u.0) (map (λ n. n.id) nodes)
 above height before [] are = All-nil (λ (u : NodeId). before < u.0)
 above height before (n ∷ nodes) are =
     All-cons (λ (u : NodeId). before < u.0) n.id (map (λ m. m.id) nodes) are.0.0
     (all_weaker (λ (u : NodeId). n.id.0 < u.0) (λ (u : NodeId). before < u.0) (map (λ m. m.id) nodes) (λ u far. omega (arith, far, are.0.0))
     (above height n.id.0 nodes are.2))
 
-pub nodes_once : (height : LmsHeight) (before : ℕ) (nodes : List NodeKey) → AreNodes height before nodes → AllPairs Other (map (λ n. n.id) nodes)
+pub nodes_once : (height : LmsHeight) (before : ℕ) (nodes : List NodeKey) → AreNodes FORMAT_1 height before nodes → AllPairs Other (map (λ n. n.id) nodes)
 nodes_once height before [] are = λ i j d below within. absurd (omega (arith, within))
 nodes_once height before (n ∷ nodes) are =
     AllPairs-cons Other n.id (map (λ m. m.id) nodes)
@@ -134,7 +136,8 @@ same_ends (f ∷ flows) = ap (λ (fs : List Flow). f ∷ fs) (same_ends flows)
 
 -- ---- the links
 
-small_id : (height : LmsHeight) (before : ℕ) (nodes : List NodeKey) (id : ℕ) → AreNodes height before nodes → has_id id (ids_of nodes) ≡ true → id ≤ MAX_NODES
+small_id : (height : LmsHeight) (before : ℕ) (nodes : List NodeKey) (id : ℕ) → AreNodes FORMAT_1 height before nodes → has_id id (ids_of nodes) ≡ true
+    → id ≤ MAX_NODES
 small_id height before [] id are e = absurd (cc)
 small_id height before (n ∷ nodes) id are e =
     or_where (n.id.0 == id) (has_id id (ids_of nodes)) (λ is. let same : n.id.0 ≡ id = grind (arith, nat_tests, is) in omega (arith, same, are.0.1))
@@ -144,7 +147,7 @@ abbrev SmallId : NodeId × EdgeId → Type 0
 SmallId n = n.0.0 ≤ MAX_NODES
 
 neighbours_small : (ids : List ℕ) → ((id : ℕ) → has_id id ids ≡ true → id ≤ MAX_NODES) → (me place : ℕ) (before : ℕ × ℕ) (edges : List Edge)
-    → AreEdges ids before edges → All SmallId (neighbours_from me place edges)
+    → AreEdges FORMAT_1 ids before edges → All SmallId (neighbours_from me place edges)
 neighbours_small ids small me place before [] are = All-nil SmallId
 neighbours_small ids small me place before (e ∷ edges) are =
     all_join SmallId (neighbour place (other_end me e)) (neighbours_from me (place + 1) edges) (one (other_end me e) (end_small me))

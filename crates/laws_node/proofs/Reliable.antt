@@ -8,7 +8,7 @@ use Rattle.sp_base.specs.declared.id.Flow.{Flow}
 use Rattle.sp_base.specs.declared.id.NodeId.{NodeId}
 use Rattle.sp_base.specs.declared.limits.TheConstants.{MAX_NODES}
 use Rattle.sp_base.specs.declared.format.TheConstants.{FORMAT_1}
-use Rattle.sp_msg.proofs.GoodFields.{ack_is_good, good_rel, no_boot}
+use Rattle.sp_msg.proofs.GoodFields.{ack_is_good, good_krel, good_rel, no_boot, no_kack}
 use Rattle.sp_msg.specs.Bodies.{HasGoodFields, payload_of}
 use Rattle.sp_msg.specs.declared.body.Ack.{Ack}
 use Rattle.sp_msg.specs.declared.body.Body.{Body}
@@ -18,7 +18,7 @@ use Rattle.sp_rules.proofs.FlowDue.{can_conclude, is_due_at}
 use Rattle.sp_rules.proofs.FlowJudged.{can_acknowledge, can_push, can_push_own, can_receive, found_ends, new_ack, new_rel, same_ends, same_flow}
 use Rattle.sp_rules.specs.Changes.{CanAcknowledge, CanConclude, CanPush, CanReceive}
 use Rattle.sp_rules.specs.Flow.{FlowState, IsReliable, IsStanding, ends, flow_said, concluded, is_flow, number_said, pushed, received}
-use Rattle.sp_rules.specs.Rel.{AreStanding, IsNextOwn, RelPeer, RelState, ack_of, admit_ack, admit_rel, due, due_place, flow_at, flow_in, flow_to_me, is_from, is_to, judge_ack_of, judge_rel_of, next_place, pushed_in, put_flow, reported, served, served_at, settled, settled_at, took, told, with_flow, with_peer, peer_in}
+use Rattle.sp_rules.specs.Rel.{AreStanding, IsNextOwn, RelPeer, RelState, ack_of, admit_ack, admit_rel, due, due_place, flow_at, flow_in, flow_to_me, is_from, is_to, judge_ack_of, judge_rel, judge_rel_of, next_place, plain, pushed_in, put_flow, reported, served, served_at, settled, settled_at, took, told, with_flow, with_peer, peer_in}
 use Rattle.sp_rules.specs.declared.rel.AckJudged.TheVariants as acks
 use Rattle.sp_rules.specs.declared.rel.RelJudged.TheVariants as rels
 use Rattle.laws_node.specs.Flows.{Differ, FlowHolds, IsAckOf, IsShort, RelHolds}
@@ -74,10 +74,10 @@ are_standing k index r h =
 
 short : (body : Body) → IsReliable body → HasGoodFields body → IsShort (payload_of body)
 short (bodies.Rel b) is good = (good_rel FORMAT_1 b good).payload
+short (bodies.Krel b) is good = (good_krel FORMAT_1 b good).payload
 short (bodies.Prio b) is good = absurd is
 short (bodies.Ack b) is good = absurd is
 short (bodies.Weight b) is good = absurd is
-short (bodies.Krel b) is good = absurd is
 short (bodies.Kack b) is good = absurd is
 short (bodies.Epoch b) is good = absurd is
 
@@ -103,11 +103,13 @@ arrives k index r m new other is fits h =
     let mine = not_mine k index r flow h other in
     cond_where (λ (g : FlowState). RelHolds k index (with_flow r flow g)) (is_to r flow) (received f payload) (pushed f m)
     (λ here.
-    let can = subst (λ (b : ℕ). CanReceive k.me b f) h.bound (subst (λ (u : NodeId). CanReceive u r.bound f) h.me (can_receive r m.body new fits.fields here)) in
+    let can = subst (λ (b : ℕ). CanReceive k.me b f) h.bound
+    (subst (λ (u : NodeId). CanReceive u r.bound f) h.me (can_receive r m.body new (FORMAT_1, fits.fields) here)) in
     with_flow_holds k index index r flow (received f payload) (omega arith) (found_ends r.flows flow)
     (λ there. received_holds k index f payload mine can (short m.body is fits.fields) there) h)
     (λ elsewhere.
-    let can = subst (λ (b : ℕ). CanPush k.me b f m) h.bound (subst (λ (u : NodeId). CanPush u r.bound f m) h.me (can_push r m new fits.fields elsewhere)) in
+    let can = subst (λ (b : ℕ). CanPush k.me b f m) h.bound
+    (subst (λ (u : NodeId). CanPush u r.bound f m) h.me (can_push r m new (FORMAT_1, fits.fields) elsewhere)) in
     with_flow_holds k index index r flow (pushed f m) (omega arith) (found_ends r.flows flow)
     (λ there. pushed_holds k index index f m (omega arith) (λ own. absurd (let e = rw mine at own in cc)) can fits there) h)
 
@@ -115,17 +117,21 @@ pub admit_rel_holds : (k : Sizes) (index : ℕ) (r : RelState) (flow : Flow) (m 
     → RelHolds k index r → RelHolds k index (admit_rel r m)
 admit_rel_holds k index r flow m new fits h = go m.body refl new
   where
+    of_flow : (body : Body) (src dst : NodeId) (seq : ℕ) → m.body ≡ body → flow_said body ≡ record { src = src; dst = dst } → IsReliable body
+        → judge_rel r flow src dst seq ≡ rels.New → judge_rel_of r flow body ≡ rels.New → RelHolds k index (admit_rel r m)
+    of_flow body src dst seq is said reliable new judged =
+        let facts = new_rel r flow src dst seq new in
+        let same : flow ≡ flow_said m.body = same_flow r flow src dst facts.ends ∙ sym said ∙ ap flow_said (sym is) in
+        let again : judge_rel_of r (flow_said m.body) m.body ≡ rels.New =
+        ap (λ (fl : Flow). judge_rel_of r fl m.body) (sym same) ∙ ap (judge_rel_of r flow) is ∙ judged in
+        arrives k index r m again (ap (is_from r) (sym same) ∙ facts.other) (subst IsReliable (sym is) reliable) fits h
+
     go : (body : Body) → m.body ≡ body → judge_rel_of r flow body ≡ rels.New → RelHolds k index (admit_rel r m)
-    go (bodies.Rel b) is new =
-        let facts = new_rel r flow b.src b.dst b.seq new in
-        let same : flow ≡ flow_said m.body = same_flow r flow b.src b.dst facts.ends ∙ ap flow_said (sym is) in
-        let judged : judge_rel_of r (flow_said m.body) m.body ≡ rels.New =
-        ap (λ (fl : Flow). judge_rel_of r fl m.body) (sym same) ∙ ap (judge_rel_of r flow) is ∙ new in
-        arrives k index r m judged (ap (is_from r) (sym same) ∙ facts.other) (subst IsReliable (sym is) tt) fits h
+    go (bodies.Rel b) is new = of_flow (bodies.Rel b) b.src b.dst b.seq is refl tt new new
+    go (bodies.Krel b) is new = of_flow (bodies.Krel b) b.src b.dst b.seq is refl tt new new
     go (bodies.Prio b) is new = absurd (cc)
     go (bodies.Ack b) is new = absurd (cc)
     go (bodies.Weight b) is new = absurd (cc)
-    go (bodies.Krel b) is new = absurd (cc)
     go (bodies.Kack b) is new = absurd (cc)
     go (bodies.Epoch b) is new = absurd (cc)
 
@@ -157,7 +163,7 @@ admit_ack_holds k index r flow o new fits h = go o.body refl new
         let judged : judge_ack_of r (flow_said o.body) o.body ≡ acks.New =
         ap (λ (fl : Flow). judge_ack_of r fl o.body) (sym same) ∙ ap (judge_ack_of r flow) is ∙ new in
         let f = flow_in r.flows (flow_said o.body) in
-        let can = subst (λ (u : NodeId). CanAcknowledge u f o) h.me (can_acknowledge r o judged fits.fields) in
+        let can = subst (λ (u : NodeId). CanAcknowledge u f o) h.me (can_acknowledge r o judged (FORMAT_1, fits.fields)) in
         let number : number_said o.body ≡ a.seq = ap number_said is in
         let sent : (is_from r (flow_said o.body) && nat_lt f.at.have a.seq) ≡ false =
         subst (λ (fl : Flow). (is_from r fl && nat_lt (flow_in r.flows fl).at.have a.seq) ≡ false) same facts.sent in
@@ -173,7 +179,7 @@ admit_ack_holds k index r flow o new fits h = go o.body refl new
     go (bodies.Rel b) is new = absurd (cc)
     go (bodies.Weight b) is new = absurd (cc)
     go (bodies.Krel b) is new = absurd (cc)
-    go (bodies.Kack b) is new = absurd (cc)
+    go (bodies.Kack b) is new = absurd (no_kack b (subst HasGoodFields is fits.fields))
     go (bodies.Epoch b) is new = absurd (cc)
 
 -- ---- a client sends
@@ -191,7 +197,8 @@ pub pushed_in_holds : (k : Sizes) (index : ℕ) (r : RelState) (m : Kept) → Is
 pushed_in_holds k index r m next fits h =
     let flow = flow_said m.body in
     let f = flow_in r.flows flow in
-    let can = subst (λ (b : ℕ). CanPush k.me b f m) h.bound (subst (λ (u : NodeId). CanPush u r.bound f m) h.me (can_push_own r m next fits.fields)) in
+    let can = subst (λ (b : ℕ). CanPush k.me b f m) h.bound
+    (subst (λ (u : NodeId). CanPush u r.bound f m) h.me (can_push_own r m next (FORMAT_1, fits.fields))) in
     with_flow_holds k index (index + 1) r flow (pushed f m) (omega arith) (found_ends r.flows flow)
     (λ there. pushed_holds k index (index + 1) f m (omega arith) (λ mine. let own = there.own mine in omega (arith, own)) can fits there) h
 
@@ -317,8 +324,8 @@ pub settled_holds : (k : Sizes) (index : ℕ) (r : RelState) (ack : Ack) (o : Ke
 settled_holds k index r ack o e is fits h =
     let flow = flow_said o.body in
     let f = flow_in r.flows flow in
-    let due_body : option_map bodies.Ack (due r) ≡ Some o.body = rw e (ap Some (sym is)) in
-    let can = subst (λ (u : NodeId). CanConclude u f) h.me (can_conclude r o.body due_body fits.fields (are_standing k index r h)) in
+    let due_body : option_map bodies.Ack (due r) ≡ Some (plain o.body) = rw e (ap (λ (body : Body). Some (plain body)) (sym is)) in
+    let can = subst (λ (u : NodeId). CanConclude u f) h.me (can_conclude r o.body due_body (FORMAT_1, fits.fields) (are_standing k index r h)) in
     let done = with_flow_holds k index index r flow _ (omega arith) (found_ends r.flows flow)
     (λ there. concluded_holds k index f o can (record { kind = ack_kept r ack o is; fits = fits }) there) h in
     go (due_place r) done

@@ -3,6 +3,7 @@ use Rattle.std.proofs.Common.{◌≡◌, ◌<◌, ◌+◌, ◌*◌, ℕ, zero, s
 use Rattle.std.specs.Prelude.{◌⊎◌, ◌==◌}
 use Rattle.std.specs.List.{slice_get}
 use Rattle.std.proofs.lemmas.Bool.{eqb-true}
+use Rattle.sp_base.specs.declared.format.TheConstants.{FORMAT_1}
 use Rattle.sp_topology.specs.declared.topology.Edge.{Edge}
 use Rattle.sp_topology.specs.Ranges.{AreEdges}
 use Rattle.sp_rules.specs.Weights.{held_in, row_of, weight_of}
@@ -58,7 +59,8 @@ nothing_held (suc n) zero = refl
 nothing_held (suc n) (suc row) = nothing_held n row
 
 -- the lower end of an edge is another node than the higher one
-pub ends_differ : (ids : List ℕ) (before : ℕ × ℕ) (edges : List Edge) (edge : ℕ) (e : Edge) → AreEdges ids before edges → slice_get edges edge ≡ Some e → e.low.0 < e.high.0
+pub ends_differ : (ids : List ℕ) (before : ℕ × ℕ) (edges : List Edge) (edge : ℕ) (e : Edge) → AreEdges FORMAT_1 ids before edges
+    → slice_get edges edge ≡ Some e → e.low.0 < e.high.0
 ends_differ ids before [] edge e good at = absurd cc
 ends_differ ids before (f ∷ edges) zero e good at = let same : f ≡ e = cc in subst (λ (g : Edge). g.low.0 < g.high.0) same good.0.ascend
 ends_differ ids before (f ∷ edges) (suc edge) e good at = ends_differ ids _ edges edge e good.2 at

@@ -12,7 +12,8 @@ use Rattle.sp_rules.specs.Parts.{Fixed}
 use Rattle.sp_rules.specs.Sends.{PrioSend}
 use Rattle.sp_rules.specs.Steps.{Input, Poll, Datagram, Tick, SendRel, SendPrio, SetWeight, TakeRel, TakePrio}
 use Rattle.sp_topology.specs.Keys.{key_of}
-use Rattle.sp_topology.specs.Ranges.{IsTopology}
+use Rattle.sp_base.specs.declared.format.TheConstants.{FORMAT_1}
+use Rattle.sp_topology.specs.InFormat.{IsTopologyIn}
 use Rattle.laws_node.specs.About.{IsAbout}
 use Rattle.laws_node.specs.Nodes.{SignerHolds}
 use Rattle.laws_node.specs.Sizes.{IsNode}
@@ -50,6 +51,6 @@ InputFits TakePrio = Unit {0}
 pub record Boots (f : Fixed) (s : Signer) : Type 0 where
   pub me : IsNode f.me
   pub boot : f.boot < 2 ^ 64
-  pub topology : IsTopology f.topology
+  pub topology : IsTopologyIn FORMAT_1 f.topology
   pub short : f.signature_len < 65536
   pub signer : SignerHolds s

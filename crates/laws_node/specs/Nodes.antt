@@ -7,7 +7,8 @@ use Rattle.sp_rules.specs.Link.{Link}
 use Rattle.sp_rules.specs.Node.{NodeState, Signer}
 use Rattle.sp_rules.specs.Parts.{Fixed, Parts, is_signed, nodes_of}
 use Rattle.sp_rules.specs.declared.node.TheConstants.{MAX_CALLS}
-use Rattle.sp_topology.specs.Ranges.{IsTopology}
+use Rattle.sp_base.specs.declared.format.TheConstants.{FORMAT_1}
+use Rattle.sp_topology.specs.InFormat.{IsTopologyIn}
 use Rattle.laws_node.specs.Flows.{RelHolds}
 use Rattle.laws_node.specs.Sizes.{IsNode, Sizes, ids_after, most_indexes, numbers_after}
 use Rattle.laws_node.specs.Stores.{PrioHolds}
@@ -27,7 +28,7 @@ pub record FixedHolds (k : Sizes) (f : Fixed) : Type 0 where
   pub edges : f.topology.edges ≡ k.edges
   pub is_node : IsNode f.me
   pub boot : f.boot < 2 ^ 64
-  pub topology : IsTopology f.topology
+  pub topology : IsTopologyIn FORMAT_1 f.topology
   pub signature_len : f.signature_len ≡ k.signature_len
   pub short : f.signature_len < 65536
 

@@ -59,6 +59,7 @@ toy_head bytes = record {
   echo = slice_index bytes 6;
   counter = slice_index bytes 7;
   topology = slice_index bytes 8;
+  format = 1;
 }
 
 abbrev pub toy_ack : List ℕ → Option Kept
@@ -76,6 +77,8 @@ toy_rels b = if slice_index b 16 == 1 then (record {
 abbrev pub toy_slot : List ℕ → Option Report
 toy_slot b = if slice_index b 9 == 1 then Some (record {
   flow = record { src = node (slice_index b 10); dst = node (slice_index b 11) };
+  sboot = 0;
+  dboot = 0;
   base = slice_index b 12;
   have = slice_index b 13;
   ack = toy_ack b;
@@ -86,7 +89,16 @@ abbrev pub toys : Arts
 toys = record {
   opened = opened;
   head = toy_head;
-  sections = λ len b. Ok (record { weights = []; prio_ack = 0; prios = []; slot = toy_slot b });
+  sections = λ len b. Ok (record {
+    document = None;
+    weights = [];
+    prio_ack = 0;
+    prios = [];
+    slot = toy_slot b;
+    paths = None;
+    probe = None;
+    epoch = None;
+  });
   frame = toy_frame;
   tag = λ key bytes. replicate 32 (slice_index key 0);
   is_good = λ body. true;
@@ -105,7 +117,7 @@ abbrev pub edge : ℕ → ℕ → Edge
 edge low high = record { low = node low; high = node high; weight = 10 }
 
 abbrev pub row : Topology
-row = record { version = 1; height = Five; nodes = key_of 1 ∷ key_of 2 ∷ key_of 3 ∷ []; edges = edge 1 2 ∷ edge 2 3 ∷ [] }
+row = record { format = 1; version = 1; height = Five; nodes = key_of 1 ∷ key_of 2 ∷ key_of 3 ∷ []; edges = edge 1 2 ∷ edge 2 3 ∷ [] }
 
 abbrev pub start : ℕ → List (List ℕ) → NodeState
 start me keys =

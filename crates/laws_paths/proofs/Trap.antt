@@ -24,6 +24,7 @@ no_pairs R i j d less inside = absurd (omega (arith, inside))
 in_range : IsGraph trap
 in_range = record {
   nodes = (omega arith, omega arith);
+  few = omega arith;
   edges = All-from_recursion (IsEdge 4) trap.edges (
     (omega arith, omega arith, omega arith, (omega arith, omega arith)),
     (

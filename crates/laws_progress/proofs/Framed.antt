@@ -2,6 +2,7 @@
 use Rattle.std.proofs.Common.{◌≡◌, ℕ, ◌+◌, ◌==◌, Bool, true, false, List, max, Some, Ok, refl, sym, ap, subst, ◌∙◌, inl, inr, Option, None}
 use Rattle.std.specs.Prelude.{IsTrue, unwrap_or}
 use Rattle.std.proofs.lemmas.Bool.{cases_Bool, eq-eqb}
+use Rattle.sp_base.specs.declared.format.TheConstants.{FORMAT_1}
 use Rattle.sp_base.specs.declared.id.NodeId.{NodeId}
 use Rattle.sp_frame.specs.Ranges.{IsContents}
 use Rattle.sp_frame.specs.declared.head.Head.{Head}
@@ -54,7 +55,7 @@ frame_at arts x es js w fits reads run u v hop n at =
     let link = links_at arts x es js w fits reads.carries run u v hop n at in
     let l = link_in n v in
     let version = n.fixed.topology.version in
-    let h = next_head l version in
+    let h = next_head l version FORMAT_1 in
     let s = contents_to n.fixed n.parts v in
     let len : n.fixed.signature_len ≡ x.signature_len = ap (λ (f : Fixed). f.signature_len) is.fixed in
     let few : IsContents x.signature_len s = subst (λ k. IsContents k s) len (contents_fit (sizes_at x (Good arts x es js) u) n v is.holds) in
@@ -67,7 +68,7 @@ frame_at arts x es js w fits reads run u v hop n at =
       topology = ap (λ (g : Head). g.topology) read ∙ ap (λ (f : Fixed). f.topology.version) is.fixed;
       echo = ap (λ (g : Head). g.echo) read;
       sections = reads.carries.back x.signature_len h s l.key few goods;
-      opens = reads.opens h s l.key range few goods;
+      opens = reads.opens h s l.key range refl few goods;
       right = subst (λ k. is_right arts k (frame_to arts n v) ≡ true) (keys_are arts x es js w fits reads.carries run u v hop n at) (reads.tags_are_right h s l.key);
     }
 

@@ -6,6 +6,7 @@ use Rattle.std.proofs.lemmas.Bool.{cases_Bool}
 use Rattle.std.proofs.lemmas.List.Elements.{All-head, All-tail}
 use Rattle.sp_base.proofs.ListLemmas.{get_push}
 use Rattle.sp_base.specs.Rows.{first_where}
+use Rattle.sp_base.specs.declared.format.TheConstants.{FORMAT_1}
 use Rattle.sp_base.specs.declared.id.NodeId.{NodeId}
 use Rattle.sp_frame.specs.Ranges.{IsHead}
 use Rattle.sp_frame.specs.declared.head.Head.{Head}
@@ -43,10 +44,11 @@ pub record HeadIs (u v : NodeId) (number : ℕ) (h : Head) : Type 0 where
   pub boot : h.boot ≡ 1
   pub counter : h.counter ≡ number
 
-pub made_head : (arts : Arts) (n : NodeState) (u v : NodeId) (es : List Event) → HeadsReadBack arts → IsHead (next_head (link_in n v) n.fixed.topology.version) → LinkAt es u v (link_in n v)
+pub made_head : (arts : Arts) (n : NodeState) (u v : NodeId) (es : List Event) → HeadsReadBack arts
+    → IsHead (next_head (link_in n v) n.fixed.topology.version FORMAT_1) → LinkAt es u v (link_in n v)
     → HeadIs u v (polls es u v + 1) (arts.head (frame_to arts n v))
 made_head arts n u v es heads range l =
-    subst (HeadIs u v (polls es u v + 1)) (sym (heads (next_head (link_in n v) n.fixed.topology.version) (contents_to n.fixed n.parts v) (link_in n v).key range)) (record {
+    subst (HeadIs u v (polls es u v + 1)) (sym (heads (next_head (link_in n v) n.fixed.topology.version FORMAT_1) (contents_to n.fixed n.parts v) (link_in n v).key range)) (record {
       from = l.me;
       to = link_is n v;
       boot = l.boot;
@@ -60,10 +62,12 @@ first_there P p none (x ∷ xs) all there = elim (cases_Bool (p x)) [
   | inr t ↦ rw t (first_there P p none xs (All-tail P x xs all) (rw t at there))
 ]
 
-pub head_range : (x : Setting) (P : Kept → Type 0) (u : NodeId) (n : NodeState) (v : NodeId) → NodeHolds (sizes_at x P u) n → list_any (is_link v) n.links ≡ true → IsHead (next_head (link_in n v) n.fixed.topology.version)
+pub head_range : (x : Setting) (P : Kept → Type 0) (u : NodeId) (n : NodeState) (v : NodeId) → NodeHolds (sizes_at x P u) n
+    → list_any (is_link v) n.links ≡ true → IsHead (next_head (link_in n v) n.fixed.topology.version FORMAT_1)
 head_range x P u n v h there =
     let l = first_there (LinkHolds n.calls) (is_link v) (new_link n.fixed.me v 0 []) n.links h.links there in
     record {
+      format = omega arith;
       from = l.me;
       to = l.peer;
       boot = l.boot;

@@ -16,7 +16,7 @@ use Rattle.sp_rules.specs.Answers.{ack_answer, is_new, rel_answer}
 use Rattle.sp_rules.specs.Arts.{Arts}
 use Rattle.sp_rules.specs.Flow.{FlowState, IsMessage, acknowledged_by, ends, flow_said, is_flow, is_full, no_flow, number_said, pushed, received}
 use Rattle.sp_rules.specs.Parts.{Fixed, is_signed}
-use Rattle.sp_rules.specs.Rel.{RelState, admit_ack, admit_rel, are_ends, flow_in, is_from, is_to, judge_ack_of, judge_rel_of, with_flow}
+use Rattle.sp_rules.specs.Rel.{RelState, admit_ack, admit_rel, are_ends, flow_in, is_from, is_to, judge_ack_of, judge_rel, judge_rel_of, with_flow}
 use Rattle.sp_rules.specs.declared.answers.Item.TheVariants as items
 use Rattle.sp_rules.specs.declared.rel.AckJudged.TheVariants as acks
 use Rattle.sp_rules.specs.declared.rel.RelJudged.TheVariants as rels
@@ -137,25 +137,32 @@ rel_heard arts fx nodes bound v flow r o q ready are message signed near window 
       )
 ]
   where
-    go : (body : Body) → o.body ≡ body → IsMessage flow q body → (flow_in r.flows flow).at.have < q → (is_to r flow && (length (flow_in r.flows flow).inbox == r.bound)) ≡ false
-        → (judge_rel_of r flow body ≡ rels.New) × (flow_said body ≡ flow)
-    go (bodies.Rel m) e message above space =
+    of_ends : (src dst : NodeId) (seq : ℕ) → (src ≡ flow.src) × (dst ≡ flow.dst) × (seq ≡ q) → (flow_in r.flows flow).at.have < q
+        → (is_to r flow && (length (flow_in r.flows flow).inbox == r.bound)) ≡ false
+        → (judge_rel r flow src dst seq ≡ rels.New) × (record { src = src; dst = dst } ≡ flow)
+    of_ends src dst seq message above space =
         let f = flow_in r.flows flow in
         let number = message.2 in
         let bound_is = ready.bound_is in
-        let end : are_ends r flow m.src m.dst ≡ true = ap (λ s. are_ends r flow s m.dst) message.0 ∙ ap (are_ends r flow flow.src) message.1 ∙ are_its_ends nodes bound v flow r ready are in
-        let high : nat_le m.seq f.at.have ≡ false = grind (arith, nat_tests) in
+        let end : are_ends r flow src dst ≡ true =
+        ap (λ s. are_ends r flow s dst) message.0 ∙ ap (are_ends r flow flow.src) message.1 ∙ are_its_ends nodes bound v flow r ready are in
+        let high : nat_le seq f.at.have ≡ false = grind (arith, nat_tests) in
         let away : is_from r flow ≡ false = none_true (is_from r flow) (λ t. let low = at_source t in omega (arith, low, above)) in
-        let next : nat_lt (f.at.have + 1) m.seq ≡ false = grind (arith, nat_tests) in
+        let next : nat_lt (f.at.have + 1) seq ≡ false = grind (arith, nat_tests) in
         let sound = (flow_ack r flow ready.acks).sound in
         let room : is_full r.bound f ≡ false = ne_eqb _ _ (λ z. omega (arith, z, bound_is, window, above, sound)) in (
-          judged_rel (are_ends r flow m.src m.dst) (nat_le m.seq f.at.have) (is_from r flow) (nat_lt (f.at.have + 1) m.seq) (is_full r.bound f) (is_to r flow && (length f.inbox == r.bound)) end high away next room space,
-          ap (λ s. let g : Flow = record { src = s; dst = m.dst } in g) message.0 ∙ ap (λ d. let g : Flow = record { src = flow.src; dst = d } in g) message.1,
+          judged_rel (are_ends r flow src dst) (nat_le seq f.at.have) (is_from r flow) (nat_lt (f.at.have + 1) seq) (is_full r.bound f)
+              (is_to r flow && (length f.inbox == r.bound)) end high away next room space,
+          ap (λ s. let g : Flow = record { src = s; dst = dst } in g) message.0 ∙ ap (λ d. let g : Flow = record { src = flow.src; dst = d } in g) message.1,
         )
+
+    go : (body : Body) → o.body ≡ body → IsMessage flow q body → (flow_in r.flows flow).at.have < q → (is_to r flow && (length (flow_in r.flows flow).inbox == r.bound)) ≡ false
+        → (judge_rel_of r flow body ≡ rels.New) × (flow_said body ≡ flow)
+    go (bodies.Rel m) e message above space = of_ends m.src m.dst m.seq message above space
+    go (bodies.Krel m) e message above space = of_ends m.src m.dst m.seq message above space
     go (bodies.Ack m) e message above space = absurd message
     go (bodies.Prio m) e message above space = absurd message
     go (bodies.Weight m) e message above space = absurd message
-    go (bodies.Krel m) e message above space = absurd message
     go (bodies.Kack m) e message above space = absurd message
     go (bodies.Epoch m) e message above space = absurd message
 

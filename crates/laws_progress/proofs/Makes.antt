@@ -64,7 +64,7 @@ said flow q (bodies.Rel r) is = is.2
 said flow q (bodies.Ack a) is = absurd is
 said flow q (bodies.Prio a) is = absurd is
 said flow q (bodies.Weight a) is = absurd is
-said flow q (bodies.Krel a) is = absurd is
+said flow q (bodies.Krel r) is = is.2
 said flow q (bodies.Kack a) is = absurd is
 said flow q (bodies.Epoch a) is = absurd is
 

@@ -33,7 +33,7 @@ edge low high = record { low = node low; high = node high; weight = 10 }
 -- a setting of these nodes, edges and compromised nodes. Rounds ask for nothing else
 abbrev pub setting : List ℕ → List Edge → List ℕ → Setting
 setting ids edges bad = record {
-  topology = record { version = 1; height = Five; nodes = map no_key ids; edges = edges };
+  topology = record { format = 1; version = 1; height = Five; nodes = map no_key ids; edges = edges };
   buffer = 2;
   store = 4;
   bad = map node bad;

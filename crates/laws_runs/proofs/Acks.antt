@@ -22,7 +22,7 @@ use Rattle.sp_rules.specs.Handle.{Arrival, handle, handle_all, offer_to, prio_ha
 use Rattle.sp_rules.specs.Node.{NodeState, call_refusal, kept_or, signed_now}
 use Rattle.sp_rules.specs.Parts.{Parts, is_signed}
 use Rattle.sp_rules.specs.Pieces.{Piece, AckPiece, PrioAckPiece, PrioPiece, RelPiece, ReportPiece, WeightPiece}
-use Rattle.sp_rules.specs.Rel.{RelState, admit_ack, admit_rel, ack_of, are_ends, due, due_place, flow_at, flow_in, flow_to_me, is_to, judge_ack_of, judge_rel_of, next_place, peer_in, pushed_in, reported, served, served_at, settled, settled_at, told, took, with_flow, with_peer}
+use Rattle.sp_rules.specs.Rel.{RelState, admit_ack, admit_rel, ack_of, are_ends, due, due_place, flow_at, flow_in, flow_to_me, is_to, judge_ack, judge_ack_of, judge_rel_of, next_place, peer_in, plain_ack, pushed_in, reported, served, served_at, settled, settled_at, told, took, with_flow, with_peer}
 use Rattle.sp_rules.specs.Sends.{rel_body, rel_refusal, send_prio_refusal, signer_refusal, weight_refusal}
 use Rattle.sp_rules.specs.Steps.{Input, NodeStep, Output, Poll, Datagram, Tick, SendRel, SendPrio, SetWeight, TakeRel, TakePrio}
 use Rattle.sp_rules.specs.Ticks.{at_time, settled_by}
@@ -82,17 +82,20 @@ passes_old true false x is new = refl
 passes_old true true x is new = absurd (let f : acks.Old ≡ acks.New = new in cc)
 passes_old false t x is new = absurd (let f : false ≡ true = is in cc)
 
--- what is said of a body that is a new acknowledgement
-above_new : (r : RelState) (flow : Flow) (body : Body) → judge_ack_of r flow body ≡ acks.New → (flow_in r.flows (flow_said body)).at.base < number_said body
-above_new r flow (bodies.Ack a) new =
+above_ack : (r : RelState) (flow : Flow) (a : Ack) → judge_ack r flow a ≡ acks.New → (flow_in r.flows (record { src = a.src; dst = a.dst })).at.base < a.seq
+above_ack r flow a new =
     let n = new_ack r flow a new in
     let low = passes_old (are_ends r flow a.src a.dst) (nat_le a.seq (flow_in r.flows flow).at.base) _ n.ends new in
     subst (λ (fl : Flow). (flow_in r.flows fl).at.base < a.seq) (same_flow r flow a.src a.dst n.ends) (leb-false a.seq (flow_in r.flows flow).at.base low)
+
+-- what is said of a body that is a new acknowledgement
+above_new : (r : RelState) (flow : Flow) (body : Body) → judge_ack_of r flow body ≡ acks.New → (flow_in r.flows (flow_said body)).at.base < number_said body
+above_new r flow (bodies.Ack a) new = above_ack r flow a new
+above_new r flow (bodies.Kack a) new = above_ack r flow (plain_ack a) new
 above_new r flow (bodies.Rel a) new = absurd (let e : acks.BadEnd ≡ acks.New = new in cc)
 above_new r flow (bodies.Prio a) new = absurd (let e : acks.BadEnd ≡ acks.New = new in cc)
 above_new r flow (bodies.Weight a) new = absurd (let e : acks.BadEnd ≡ acks.New = new in cc)
 above_new r flow (bodies.Krel a) new = absurd (let e : acks.BadEnd ≡ acks.New = new in cc)
-above_new r flow (bodies.Kack a) new = absurd (let e : acks.BadEnd ≡ acks.New = new in cc)
 above_new r flow (bodies.Epoch a) new = absurd (let e : acks.BadEnd ≡ acks.New = new in cc)
 
 was_new : (right : Bool) (j : AckJudged) → is_new (items.Ack (ack_answer right j)) ≡ true → j ≡ acks.New

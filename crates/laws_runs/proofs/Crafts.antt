@@ -144,66 +144,100 @@ node_small arts x fits u there = small u (in_range (nodes_of x.topology) u (node
 
 status_fits : (len base have : ℕ) (flow : Flow) → flow.src.0 < 256 → flow.dst.0 < 256 → base < 2 ^ 64 → have < 2 ^ 64 → IsContents len (slot_alone flow base have None [])
 status_fits len base have flow src dst b h = record {
+  document = tt;
   few_weights = omega arith;
-  weights = All-nil (IsObject kinds.Weight len);
+  weights = All-nil (IsObject FORMAT_1 kinds.Weight len);
   prio_ack = omega arith;
   few_prios = omega arith;
-  prios = All-nil (IsNumbered len);
-  slot = record { src = src; dst = dst; base = b; have = h; ack = tt; few = omega arith; rels = All-nil (IsObject kinds.Rel len) };
+  prios = All-nil (IsNumbered FORMAT_1 len);
+  slot = record {
+    src = src;
+    dst = dst;
+    sboot = omega arith;
+    dboot = omega arith;
+    base = b;
+    have = h;
+    ack = tt;
+    few = omega arith;
+    rels = All-nil (IsObject FORMAT_1 kinds.Rel len);
+  };
+  paths = tt;
+  probe = tt;
+  epoch = tt;
 }
 
 object_fits : (len : ℕ) (body : Body) (signature : List ℕ) → HasGoodFields body → length signature ≡ len → len < 65536
     → IsContents len (object_alone body (record { body = body; signature = signature }))
 object_fits len (bodies.Prio p) signature good long short = record {
+  document = tt;
   few_weights = omega arith;
-  weights = All-nil (IsObject kinds.Weight len);
+  weights = All-nil (IsObject FORMAT_1 kinds.Weight len);
   prio_ack = omega arith;
   few_prios = omega arith;
-  prios = All-cons (IsNumbered len) (1, record { body = bodies.Prio p; signature = signature }) []
-      (record { number = omega arith; object = record { fields = good; is = refl; long = long; fits = short } }) (All-nil (IsNumbered len));
+  prios = All-cons (IsNumbered FORMAT_1 len) (1, record { body = bodies.Prio p; signature = signature }) []
+      (record { number = omega arith; object = record { fields = good; is = refl; long = long; fits = short } }) (All-nil (IsNumbered FORMAT_1 len));
   slot = tt;
+  paths = tt;
+  probe = tt;
+  epoch = tt;
 }
 object_fits len (bodies.Rel r) signature good long short = record {
+  document = tt;
   few_weights = omega arith;
-  weights = All-nil (IsObject kinds.Weight len);
+  weights = All-nil (IsObject FORMAT_1 kinds.Weight len);
   prio_ack = omega arith;
   few_prios = omega arith;
-  prios = All-nil (IsNumbered len);
+  prios = All-nil (IsNumbered FORMAT_1 len);
   slot = record {
     src = omega (arith, (good_rel FORMAT_1 r good).src.1);
     dst = omega (arith, (good_rel FORMAT_1 r good).dst.1);
+    sboot = omega arith;
+    dboot = omega arith;
     base = omega arith;
     have = omega arith;
     ack = tt;
     few = omega arith;
-    rels = All-cons (IsObject kinds.Rel len) (record { body = bodies.Rel r; signature = signature }) [] (record { fields = good; is = refl; long = long; fits = short })
-        (All-nil (IsObject kinds.Rel len));
+    rels = All-cons (IsObject FORMAT_1 kinds.Rel len) (record { body = bodies.Rel r; signature = signature }) [] (record { fields = good; is = refl; long = long; fits = short })
+        (All-nil (IsObject FORMAT_1 kinds.Rel len));
   };
+  paths = tt;
+  probe = tt;
+  epoch = tt;
 }
 object_fits len (bodies.Ack a) signature good long short = record {
+  document = tt;
   few_weights = omega arith;
-  weights = All-nil (IsObject kinds.Weight len);
+  weights = All-nil (IsObject FORMAT_1 kinds.Weight len);
   prio_ack = omega arith;
   few_prios = omega arith;
-  prios = All-nil (IsNumbered len);
+  prios = All-nil (IsNumbered FORMAT_1 len);
   slot = record {
     src = omega (arith, (good_ack FORMAT_1 a good).src.1);
     dst = omega (arith, (good_ack FORMAT_1 a good).dst.1);
+    sboot = omega arith;
+    dboot = omega arith;
     base = omega arith;
     have = omega arith;
     ack = record { fields = good; is = refl; long = long; fits = short };
     few = omega arith;
-    rels = All-nil (IsObject kinds.Rel len);
+    rels = All-nil (IsObject FORMAT_1 kinds.Rel len);
   };
+  paths = tt;
+  probe = tt;
+  epoch = tt;
 }
 object_fits len (bodies.Weight w) signature good long short = record {
+  document = tt;
   few_weights = omega arith;
-  weights = All-cons (IsObject kinds.Weight len) (record { body = bodies.Weight w; signature = signature }) [] (record { fields = good; is = refl; long = long; fits = short })
-      (All-nil (IsObject kinds.Weight len));
+  weights = All-cons (IsObject FORMAT_1 kinds.Weight len) (record { body = bodies.Weight w; signature = signature }) [] (record { fields = good; is = refl; long = long; fits = short })
+      (All-nil (IsObject FORMAT_1 kinds.Weight len));
   prio_ack = omega arith;
   few_prios = omega arith;
-  prios = All-nil (IsNumbered len);
+  prios = All-nil (IsNumbered FORMAT_1 len);
   slot = tt;
+  paths = tt;
+  probe = tt;
+  epoch = tt;
 }
 object_fits len (bodies.Krel r) signature good long short = absurd (no_krel r good)
 object_fits len (bodies.Kack a) signature good long short = absurd (no_kack a good)

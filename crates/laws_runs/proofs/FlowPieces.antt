@@ -9,7 +9,8 @@ use Rattle.std.proofs.lemmas.List.Concat.{flat_map-append}
 use Rattle.sp_base.specs.Lists.{IsPrefix}
 use Rattle.sp_base.specs.declared.id.Flow.{Flow}
 use Rattle.sp_base.specs.declared.id.NodeId.{NodeId}
-use Rattle.sp_msg.specs.Bodies.{payload_of}
+use Rattle.sp_msg.proofs.GoodFields.{no_kack, no_krel}
+use Rattle.sp_msg.specs.Bodies.{HasGoodFields, payload_of}
 use Rattle.sp_msg.specs.declared.body.Ack.{Ack}
 use Rattle.sp_msg.specs.declared.body.Body.{Body}
 use Rattle.sp_msg.specs.declared.body.Body.TheVariants as bodies
@@ -154,8 +155,9 @@ pub record Handles (C : Type 0) (s d : NodeId) (S D : List Message) (c : ℕ) (u
   pub low : c ≤ length (D ++ told_here u s d es)
   pub unsigned : flat_map signed_by es ≡ []
 
--- a new object says of the flow what was sent and acknowledged
+-- a new object of format 1 says of the flow what was sent and acknowledged
 pub record Vouched (C : Type 0) (s d : NodeId) (S : List Message) (c : ℕ) (o : Kept) : Type 0 where
+  pub fields : HasGoodFields o.body
   pub message : C → (m : Rel) → o.body ≡ bodies.Rel m → m.src ≡ s → m.dst ≡ d → IsIn S m.seq m.payload
   pub ack : (a : Ack) → o.body ≡ bodies.Ack a → a.src ≡ s → a.dst ≡ d → a.seq ≤ c
 
@@ -186,8 +188,8 @@ module _ (C : Type 0) (s d : NodeId) (S : List Message) (c : ℕ) (u : NodeId) (
     not_to : r.me ≡ a.dst → ⊥
     at_source : r.me ≡ a.src → a.seq ≤ (flow_in r.flows (flow_of a.src a.dst)).at.have
 
-  got_ack : (r : RelState) (flow : Flow) (body : Body) → judge_ack_of r flow body ≡ acks.New → GotAck r body
-  got_ack r flow (bodies.Ack a) new =
+  got_ack : (r : RelState) (flow : Flow) (body : Body) → HasGoodFields body → judge_ack_of r flow body ≡ acks.New → GotAck r body
+  got_ack r flow (bodies.Ack a) good new =
       let facts = new_ack r flow a new in
       let same : flow ≡ flow_of a.src a.dst = same_flow r flow a.src a.dst facts.ends in
       let relay : is_to r (flow_of a.src a.dst) ≡ false = subst (λ fl. is_to r fl ≡ false) same facts.relay in
@@ -203,17 +205,17 @@ module _ (C : Type 0) (s d : NodeId) (S : List Message) (c : ℕ) (u : NodeId) (
       at_most : (t : Bool) (have seq : ℕ) → (t && nat_lt have seq) ≡ false → t ≡ true → seq ≤ have
       at_most true have seq e is = grind (arith, nat_tests)
       at_most false have seq e is = absurd (cc)
-  got_ack r flow (bodies.Rel b) new = absurd (cc)
-  got_ack r flow (bodies.Prio b) new = absurd (cc)
-  got_ack r flow (bodies.Weight b) new = absurd (cc)
-  got_ack r flow (bodies.Krel b) new = absurd (cc)
-  got_ack r flow (bodies.Kack b) new = absurd (cc)
-  got_ack r flow (bodies.Epoch b) new = absurd (cc)
+  got_ack r flow (bodies.Rel b) good new = absurd (cc)
+  got_ack r flow (bodies.Prio b) good new = absurd (cc)
+  got_ack r flow (bodies.Weight b) good new = absurd (cc)
+  got_ack r flow (bodies.Krel b) good new = absurd (cc)
+  got_ack r flow (bodies.Kack b) good new = absurd (no_kack b good)
+  got_ack r flow (bodies.Epoch b) good new = absurd (cc)
 
   ack_taken : (D : List Message) (r : RelState) (flow : Flow) (o : Kept) → judge_ack_of r flow o.body ≡ acks.New → Vouched C s d S c o → RelIs C s d S D c u r → (C → IsPrefix D S) → c ≤ length D
       → Handles C s d S D c u (admit_ack r o) []
   ack_taken D r flow o new vouched h prefix low =
-      let got = got_ack r flow o.body new in
+      let got = got_ack r flow o.body vouched.fields new in
       let a = got.a in
       let said : flow_said o.body ≡ flow_of a.src a.dst = ap flow_said got.is in
       let number : number_said o.body ≡ a.seq = ap number_said got.is in
@@ -246,8 +248,8 @@ module _ (C : Type 0) (s d : NodeId) (S : List Message) (c : ℕ) (u : NodeId) (
     not_from : r.me ≡ m.src → ⊥
     next : m.seq ≡ (flow_in r.flows (flow_of m.src m.dst)).at.have + 1
 
-  got_rel : (r : RelState) (flow : Flow) (body : Body) → judge_rel_of r flow body ≡ rels.New → GotRel r body
-  got_rel r flow (bodies.Rel m) new =
+  got_rel : (r : RelState) (flow : Flow) (body : Body) → HasGoodFields body → judge_rel_of r flow body ≡ rels.New → GotRel r body
+  got_rel r flow (bodies.Rel m) good new =
       let facts = new_rel r flow m.src m.dst m.seq new in
       let same : flow ≡ flow_of m.src m.dst = same_flow r flow m.src m.dst facts.ends in
       let other : is_from r (flow_of m.src m.dst) ≡ false = subst (λ fl. is_from r fl ≡ false) same facts.other in
@@ -257,12 +259,12 @@ module _ (C : Type 0) (s d : NodeId) (S : List Message) (c : ℕ) (u : NodeId) (
         not_from = λ e. absurd (let yes : is_from r (flow_of m.src m.dst) ≡ true = eq-eqb _ _ (ap (λ (v : NodeId). v.0) e) in let f : true ≡ false = sym yes ∙ other in cc);
         next = facts.next ∙ ap (λ fl. (flow_in r.flows fl).at.have + 1) same;
       }
-  got_rel r flow (bodies.Ack b) new = absurd (cc)
-  got_rel r flow (bodies.Prio b) new = absurd (cc)
-  got_rel r flow (bodies.Weight b) new = absurd (cc)
-  got_rel r flow (bodies.Krel b) new = absurd (cc)
-  got_rel r flow (bodies.Kack b) new = absurd (cc)
-  got_rel r flow (bodies.Epoch b) new = absurd (cc)
+  got_rel r flow (bodies.Ack b) good new = absurd (cc)
+  got_rel r flow (bodies.Prio b) good new = absurd (cc)
+  got_rel r flow (bodies.Weight b) good new = absurd (cc)
+  got_rel r flow (bodies.Krel b) good new = absurd (no_krel b good)
+  got_rel r flow (bodies.Kack b) good new = absurd (cc)
+  got_rel r flow (bodies.Epoch b) good new = absurd (cc)
 
   -- its delivery is told where it is of the flow
   told_mine : (body : Body) → flow_said body ≡ flow_of s d → u ≡ d → told_here u s d (delivery body ∷ []) ≡ (number_said body, payload_of body) ∷ []
@@ -353,7 +355,7 @@ module _ (C : Type 0) (s d : NodeId) (S : List Message) (c : ℕ) (u : NodeId) (
   rel_taken : (D : List Message) (r : RelState) (flow : Flow) (o : Kept) → judge_rel_of r flow o.body ≡ rels.New → Vouched C s d S c o → RelIs C s d S D c u r → (C → IsPrefix D S) → c ≤ length D
       → Handles C s d S D c u (admit_rel r o) (rel_effects r o)
   rel_taken D r flow o new vouched h prefix low =
-      let got = got_rel r flow o.body new in
+      let got = got_rel r flow o.body vouched.fields new in
       elim (cases_Bool (is_to r (flow_said o.body))) [
         | inl t ↦ let done = delivered_here D r o got t vouched h prefix low in rw t done
         | inr t ↦ let done = kept_here D r o got t vouched h prefix low in rw t done

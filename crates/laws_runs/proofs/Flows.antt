@@ -6,6 +6,7 @@ use Rattle.std.proofs.lemmas.List.{append-nil}
 use Rattle.std.proofs.lemmas.List.Concat.{flat_map-append}
 use Rattle.sp_base.specs.Lists.{IsPrefix}
 use Rattle.sp_base.specs.declared.id.NodeId.{NodeId}
+use Rattle.sp_msg.specs.Bodies.{HasGoodFields}
 use Rattle.sp_msg.specs.Views.{signer_of}
 use Rattle.sp_msg.specs.declared.body.Ack.{Ack}
 use Rattle.sp_msg.specs.declared.body.Body.TheVariants as bodies
@@ -36,6 +37,8 @@ use Rattle.sp_rules.specs.declared.answers.Item.{Item}
 use Rattle.sp_rules.specs.declared.node.NodeRefused.{NodeRefused}
 use Rattle.laws_node.specs.Inputs.{InputFits, ReadsBack}
 use Rattle.laws_node.specs.Asked.{NewKeep}
+use Rattle.laws_node.proofs.Arrived.{step_fields}
+use Rattle.laws_node.proofs.Carried.{pieces_new}
 use Rattle.laws_node.proofs.About.{ack_good, prio_good, rel_good, weight_good}
 use Rattle.laws_node.proofs.Own.{either}
 use Rattle.laws_node.proofs.Reliable.{due_fits}
@@ -105,9 +108,29 @@ pub new_both : (P Q R : Kept → Type 0) → ((o : Kept) → P o → Q o → R o
 new_both P Q R join [] one two = tt
 new_both P Q R join (a ∷ others) one two = (λ new. join a.0 (one.0 new) (two.0 new), new_both P Q R join others one.1 two.1)
 
+new_three : (P Q R S : Kept → Type 0) → ((o : Kept) → P o → Q o → R o → S o) → (answered : List (Kept × Item)) → NewKeep P answered → NewKeep Q answered
+    → NewKeep R answered → NewKeep S answered
+new_three P Q R S join [] one two three = tt
+new_three P Q R S join (a ∷ others) one two three =
+    (λ new. join a.0 (one.0 new) (two.0 new) (three.0 new), new_three P Q R S join others one.1 two.1 three.1)
+
+-- what a node takes from a datagram is of format 1
+new_fields : (arts : Arts) (x : Setting) (P : Kept → Type 0) (v : NodeId) (n : NodeState) (u : NodeId) (bytes : List ℕ) (output : Output)
+    (after : NodeState) → SettingFits arts x → NodeStep arts n (steps.Datagram u bytes) output after → InputFits (steps.Datagram u bytes) → NodeIs x P v n
+    → NewKeep (λ o. HasGoodFields o.body) output.answered
+new_fields arts x P v n u bytes output after fits step input is =
+    subst (λ (o : Output). NewKeep (λ y. HasGoodFields y.body) o.answered) (sym step.0) (go (call_refusal n u))
+  where
+    go : (r : Option NodeRefused) → NewKeep (λ o. HasGoodFields o.body) (refused_call r (arrived arts n u bytes)).answered
+    go None = pieces_new (λ y. HasGoodFields y.body) arts (arrival_at n u) n.parts
+        (pieces_where (reply_at arts n u bytes) (pieces_in (sections_in arts n.fixed bytes)))
+        (step_fields (sizes_at x P v) arts n u bytes (arts_fit arts x P v n fits is) input is.holds)
+    go (Some refused) = tt
+
 vouched : (arts : Arts) → ReadsBack arts → (x : Setting) (s d : NodeId) (es : List Event) (js : List Entry) (w : World) → IsTrue (is_correct x d) → FlowsHold arts x s d es js w → (o : Kept) → Known arts x es js o → IsTrue (arts.is_good o.body)
-    → Vouched (IsTrue (is_correct x s)) s d (sent es js s d) (acknowledged arts es js s d) o
-vouched arts reads x s d es js w d_correct h o known good = record {
+    → HasGoodFields o.body → Vouched (IsTrue (is_correct x s)) s d (sent es js s d) (acknowledged arts es js s d) o
+vouched arts reads x s d es js w d_correct h o known good fields = record {
+  fields = fields;
   message = λ correct m is src dst.
       let signer : signer_of o.body ≡ s = ap signer_of is ∙ src in
       let among : is_among (arts.spell o.body) (signed es js (signer_of o.body)) ≡ true = known (subst (λ v. IsTrue (is_correct x v)) (sym signer) correct) in
@@ -306,13 +329,16 @@ module _ (arts : Arts) (x : Setting) (s d : NodeId) (different : s ≡ d → ⊥
   abbrev After : Event → Output → NodeState → Type 0
   After e output after = Stepped arts C s d S (accepted_in s d e j.reply) D c (acting e) output.effects after.parts.rel
 
-  arrived_at : (v u : NodeId) (n : NodeState) (i : Input) (output : Output) (after : NodeState) → NodeStep arts n i output after → InputFits i → NewKeep (Known arts x es js) output.answered
+  arrived_at : (v u : NodeId) (n : NodeState) (i : Input) (output : Output) (after : NodeState) → NodeStep arts n i output after → InputFits i
+      → NodeIs x (Good arts x es js) v n → NewKeep (Known arts x es js) output.answered
       → FlowsHold arts x s d es js w → RelIs C s d S D c v n.parts.rel → (bytes : List ℕ) × (i ≡ steps.Datagram u bytes) → Stepped arts C s d S [] D c v output.effects after.parts.rel
-  arrived_at v u n i output after step input known h rel (bytes, same) =
+  arrived_at v u n i output after step input is known h rel (bytes, same) =
       let moves : NodeStep arts n (steps.Datagram u bytes) output after = subst (λ y. NodeStep arts n y output after) same step in
       let good = new_have (λ o. IsTrue (arts.is_good o.body)) arts n i output after carries.goods input step in
+      let fields = new_fields arts x (Good arts x es js) v n u bytes output after fits moves (subst InputFits same input) is in
       datagram_done C x (Good arts x es js) arts s d S D c v different fits carries.bodies n u bytes output after moves
-      (new_both (Known arts x es js) (λ o. IsTrue (arts.is_good o.body)) (Vouched C s d S c) (vouched arts carries.bodies x s d es js w d_correct h) output.answered known good) rel h.prefix h.low
+      (new_three (Known arts x es js) (λ o. IsTrue (arts.is_good o.body)) (λ o. HasGoodFields o.body) (Vouched C s d S c)
+      (vouched arts carries.bodies x s d es js w d_correct h) output.answered known good fields) rel h.prefix h.low
 
   pub stepped : (e : Event) (n : NodeState) (number : ℕ) (i : Input) (output : Output) (after : NodeState) → input_of arts x es w n e ≡ Some i → InputFits i → NodeStep arts n i output after → Says x number output j
       → NodeIs x (Good arts x es js) (acting e) n → NewKeep (Known arts x es js) output.answered → FlowsHold arts x s d es js w → RelIs C s d S D c (acting e) n.parts.rel → After e output after
@@ -342,12 +368,12 @@ module _ (arts : Arts) (x : Setting) (s d : NodeId) (different : s ≡ d → ⊥
       let same : i ≡ steps.Poll v = cc in
       poll_done C x (Good arts x es js) arts s d S D c u different fits carries.bodies n v output after (subst (λ y. NodeStep arts n y output after) same step) rel h.prefix h.low
   stepped (events.Pass u v k) n number i output after reaches input step says is known h rel =
-      arrived_at v u n i output after step input known h rel (came_bytes u (λ y. y) _ i reaches)
+      arrived_at v u n i output after step input is known h rel (came_bytes u (λ y. y) _ i reaches)
   stepped (events.Flip u v k back bit) n number i output after reaches input step says is known h rel =
-      arrived_at v u n i output after step input known h rel (came_bytes u (flipped back bit) _ i reaches)
+      arrived_at v u n i output after step input is known h rel (came_bytes u (flipped back bit) _ i reaches)
   stepped (events.Inject u v bytes) n number i output after reaches input step says is known h rel =
-      arrived_at v u n i output after step input known h rel (bytes, cc)
+      arrived_at v u n i output after step input is known h rel (bytes, cc)
   stepped (events.Craft u v key body) n number i output after reaches input step says is known h rel =
-      arrived_at v u n i output after step input known h rel (crafted_bytes _ u _ i reaches)
+      arrived_at v u n i output after step input is known h rel (crafted_bytes _ u _ i reaches)
   stepped (events.CraftStatus u v a b base have) n number i output after reaches input step says is known h rel =
-      arrived_at v u n i output after step input known h rel (crafted_frame arts n u (slot_alone (flow_of a b) base have None []), cc)
+      arrived_at v u n i output after step input is known h rel (crafted_frame arts n u (slot_alone (flow_of a b) base have None []), cc)

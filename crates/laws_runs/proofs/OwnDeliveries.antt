@@ -23,7 +23,7 @@ use Rattle.sp_rules.specs.Parts.{Parts, is_signed}
 use Rattle.sp_rules.specs.Pieces.{Piece, WeightPiece, PrioAckPiece, PrioPiece, ReportPiece, AckPiece, RelPiece}
 use Rattle.sp_rules.specs.Polls.{frame_to}
 use Rattle.sp_rules.specs.Prio.{admit_prio, expired_effects, judge_prio, prio_effects}
-use Rattle.sp_rules.specs.Rel.{RelState, admit_ack, admit_rel, delivery, due, flow_in, is_from, is_to, judge_ack_of, judge_rel_of, peer_in, rel_effects, told, with_peer}
+use Rattle.sp_rules.specs.Rel.{RelState, admit_ack, admit_rel, delivery, due, flow_in, is_from, is_to, judge_ack_of, judge_rel, judge_rel_of, peer_in, rel_effects, told, with_peer}
 use Rattle.sp_rules.specs.Sends.{own_prio, prio_sent, rel_number, rel_refusal, rel_sent, send_prio_refusal, signer_refusal, weight_body, weight_number, weight_refusal, weight_sent}
 use Rattle.sp_rules.specs.Steps as steps
 use Rattle.sp_rules.specs.Steps.{Input, NodeStep, Output, accepted, refused_call, refused_send}
@@ -83,17 +83,22 @@ module _ (u : NodeId) where
   either_me true r s same = same
   either_me false r s same = refl
 
+  other_end : (r : RelState) (flow : Flow) (src dst : NodeId) (seq : ℕ) → r.me ≡ u → judge_rel r flow src dst seq ≡ rels.New → (src.0 == u.0) ≡ false
+  other_end r flow src dst seq me new =
+      let facts = new_rel r flow src dst seq new in
+      let same : flow ≡ flow_of src dst = same_flow r flow src dst facts.ends in
+      let other : is_from r (flow_of src dst) ≡ false = subst (λ fl. is_from r fl ≡ false) same facts.other in
+      ne_eqb src.0 u.0 (λ e.
+      let yes : is_from r (flow_of src dst) ≡ true = eq-eqb r.me.0 src.0 (ap (λ (v : NodeId). v.0) me ∙ sym e) in
+      let f : true ≡ false = sym yes ∙ other in absurd cc)
+
   -- a new message is of another source
   other_source : (r : RelState) (flow : Flow) (body : Body) → r.me ≡ u → judge_rel_of r flow body ≡ rels.New → ((flow_said body).src.0 == u.0) ≡ false
-  other_source r flow (bodies.Rel m) me new =
-      let facts = new_rel r flow m.src m.dst m.seq new in
-      let same : flow ≡ flow_of m.src m.dst = same_flow r flow m.src m.dst facts.ends in
-      let other : is_from r (flow_of m.src m.dst) ≡ false = subst (λ fl. is_from r fl ≡ false) same facts.other in
-      ne_eqb m.src.0 u.0 (λ e. let yes : is_from r (flow_of m.src m.dst) ≡ true = eq-eqb r.me.0 m.src.0 (ap (λ (v : NodeId). v.0) me ∙ sym e) in let f : true ≡ false = sym yes ∙ other in absurd cc)
+  other_source r flow (bodies.Rel m) me new = other_end r flow m.src m.dst m.seq me new
+  other_source r flow (bodies.Krel m) me new = other_end r flow m.src m.dst m.seq me new
   other_source r flow (bodies.Ack b) me new = absurd (cc)
   other_source r flow (bodies.Prio b) me new = absurd (cc)
   other_source r flow (bodies.Weight b) me new = absurd (cc)
-  other_source r flow (bodies.Krel b) me new = absurd (cc)
   other_source r flow (bodies.Kack b) me new = absurd (cc)
   other_source r flow (bodies.Epoch b) me new = absurd (cc)
 

@@ -6,6 +6,7 @@ use Rattle.std.proofs.lemmas.Bool.{cases_Bool, eq-eqb, eqb-true, ne_eqb}
 use Rattle.std.proofs.Math.ListN.{drop_of_length-le}
 use Rattle.std.proofs.lemmas.List.{append-nil}
 use Rattle.std.proofs.lemmas.List.Elements.{All-cons, All-nil}
+use Rattle.sp_base.specs.declared.format.TheConstants.{FORMAT_1}
 use Rattle.sp_base.specs.declared.id.EdgeId.{EdgeId}
 use Rattle.sp_base.specs.declared.id.NodeId.{NodeId}
 use Rattle.sp_rules.specs.Arts.{Arts}
@@ -121,7 +122,7 @@ starts arts x fits = record {
     ascends u =
         let edges = x.topology.edges in
         let found = neighbours_from u.0 0 edges in
-        found_ascend u.0 (length edges) x.topology.height x.topology.nodes edges found fits.topology.nodes fits.topology.graph.are_edges (omega arith)
+        found_ascend FORMAT_1 u.0 (length edges) x.topology.height x.topology.nodes edges found fits.topology.nodes fits.topology.graph.are_edges (omega arith)
         (ap (λ (es : List Edge). found ++ neighbours_from u.0 (length edges) es) (drop_of_length-le edges (omega arith)) ∙ append-nil found)
 
     empty : (u : NodeId) (place : ℕ) → no_shelf ≡ shelf (store_at (node_at_boot x u).parts.prio place)

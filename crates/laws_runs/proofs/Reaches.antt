@@ -77,10 +77,20 @@ one_object o (bodies.Krel r) is of = All-nil IsOfBytes
 one_object o (bodies.Kack a) is of = All-nil IsOfBytes
 one_object o (bodies.Epoch e) is of = All-nil IsOfBytes
 
-crafted_bytes : (arts : Arts) (n : NodeState) (c : NodeId) (s : Contents) → Carries arts → AreOfBytes s → AreBytes (crafted_frame arts n c s)
-crafted_bytes arts n c s carries of =
+no_document : (body : Body) (o : Kept) → (object_alone body o).document ≡ None
+no_document (bodies.Prio p) o = refl
+no_document (bodies.Rel r) o = refl
+no_document (bodies.Ack a) o = refl
+no_document (bodies.Weight w) o = refl
+no_document (bodies.Krel r) o = refl
+no_document (bodies.Kack a) o = refl
+no_document (bodies.Epoch e) o = refl
+
+crafted_bytes : (arts : Arts) (n : NodeState) (c : NodeId) (s : Contents) → Carries arts → s.document ≡ None → AreOfBytes s
+    → AreBytes (crafted_frame arts n c s)
+crafted_bytes arts n c s carries none of =
     All-append (λ (b : ℕ). b < 256) (arts.frame (crafted_head n c) s) (arts.tag (link_in n c).key (arts.frame (crafted_head n c) s))
-    (carries.frames (crafted_head n c) s of) (carries.tags (link_in n c).key (arts.frame (crafted_head n c) s))
+    (carries.frames (crafted_head n c) s none of) (carries.tags (link_in n c).key (arts.frame (crafted_head n c) s))
 
 -- ---- all events
 
@@ -119,7 +129,7 @@ input_fits arts x es w n (events.Craft c v key object) input carries are range r
     frame = crafted_frame arts n c (object_alone (body_of object) o)
 
     bytes : AreBytes frame
-    bytes = crafted_bytes arts n c (object_alone (body_of object) o) carries (one_object o (body_of object) refl (range.4, carries.signatures x.topology.height _ _ _))
+    bytes = crafted_bytes arts n c (object_alone (body_of object) o) carries (no_document (body_of object) o) (one_object o (body_of object) refl (range.4, carries.signatures x.topology.height _ _ _))
 
     go : (t : Bool) → cond t (Some (steps.Datagram c frame)) None ≡ Some input → InputFits input
     go true e = subst InputFits (same_input (steps.Datagram c frame) input e) bytes
@@ -127,7 +137,7 @@ input_fits arts x es w n (events.Craft c v key object) input carries are range r
 input_fits arts x es w n (events.CraftStatus c v s d base have) input carries are range reaches =
     let contents = slot_alone (record { src = s; dst = d }) base have None [] in
     subst InputFits (same_input (steps.Datagram c (crafted_frame arts n c contents)) input reaches)
-    (crafted_bytes arts n c contents carries (All-nil IsOfBytes))
+    (crafted_bytes arts n c contents carries refl (All-nil IsOfBytes))
 
 -- the payload that a client asks to be sent is bytes
 pub payload_fits : (arts : Arts) (x : Setting) (es : List Event) (w : World) (n : NodeState) (e : Event) (input : Input) → InRange x es e

@@ -5,7 +5,8 @@ use Rattle.std.specs.List.{All}
 use Rattle.std.proofs.lemmas.List.Elements.{All-head, All-tail}
 use Rattle.sp_base.specs.declared.id.Flow.{Flow}
 use Rattle.sp_base.specs.declared.id.NodeId.{NodeId}
-use Rattle.sp_msg.specs.Bodies.{payload_of}
+use Rattle.sp_msg.proofs.GoodFields.{no_krel}
+use Rattle.sp_msg.specs.Bodies.{HasGoodFields, payload_of}
 use Rattle.sp_msg.specs.Views.{signer_of}
 use Rattle.sp_msg.specs.declared.body.Body.{Body}
 use Rattle.sp_msg.specs.declared.body.Body.TheVariants as bodies
@@ -31,9 +32,9 @@ use Rattle.laws_runs.proofs.Flows.{FlowsHold}
 
 module _ (arts : Arts) (x : Setting) (s d : NodeId) (es : List Event) (js : List Entry) (w : World) (h : FlowsHold arts x s d es js w) (correct : IsTrue (is_correct x s)) where
   -- a message that is kept was sent under its number
-  one_sent : (flow : Flow) (number : ℕ) (o : Kept) → flow ≡ flow_of s d → IsMessage flow number o.body → Good arts x es js o
+  one_sent : (flow : Flow) (number : ℕ) (o : Kept) → flow ≡ flow_of s d → IsMessage flow number o.body → HasGoodFields o.body → Good arts x es js o
       → IsIn (sent es js s d) number (payload_of o.body)
-  one_sent flow number o same is good = go o.body refl is
+  one_sent flow number o same is fields good = go o.body refl is
     where
       go : (body : Body) → o.body ≡ body → IsMessage flow number body → IsIn (sent es js s d) number (payload_of body)
       go (bodies.Rel m) body is =
@@ -48,7 +49,7 @@ module _ (arts : Arts) (x : Setting) (s d : NodeId) (es : List Event) (js : List
       go (bodies.Prio m) body is = absurd is
       go (bodies.Ack m) body is = absurd is
       go (bodies.Weight m) body is = absurd is
-      go (bodies.Krel m) body is = absurd is
+      go (bodies.Krel m) body is = absurd (no_krel m (subst HasGoodFields body fields))
       go (bodies.Kack m) body is = absurd is
       go (bodies.Epoch m) body is = absurd is
 
@@ -57,7 +58,7 @@ module _ (arts : Arts) (x : Setting) (s d : NodeId) (es : List Event) (js : List
   list_sent u flow after [] same are all = tt
   list_sent u flow after (o ∷ os) same are all =
       let fits = All-head (Fits (sizes_at x (Good arts x es js) u)) o os all in (
-        one_sent flow (after + 1) o same are.0 fits.holds,
+        one_sent flow (after + 1) o same are.0 fits.fields fits.holds,
         list_sent u flow (after + 1) os same are.1 (All-tail (Fits (sizes_at x (Good arts x es js) u)) o os all),
       )
 

@@ -5,6 +5,7 @@ use Rattle.std.specs.List.{All}
 use Rattle.std.proofs.lemmas.List.{length_push}
 use Rattle.std.proofs.lemmas.List.Elements.{All-append}
 use Rattle.sp_base.specs.Spelling.{AreBytes}
+use Rattle.sp_base.specs.declared.format.TheConstants.{FORMAT_1}
 use Rattle.sp_base.specs.declared.id.NodeId.{NodeId}
 use Rattle.sp_frame.specs.Sections.{Contents}
 use Rattle.sp_frame.specs.declared.refused.SectionRefused.{SectionRefused}
@@ -129,7 +130,7 @@ polled_frame arts x P good n u v output bytes s reads is out reply read =
     let kept : AllKeep P (pieces_of c) = contents_kept (sizes_at x P u) n v is.holds in
     let goods : HasGoodMessages arts c = all_of (λ o. IsTrue (arts.is_good o.body)) (pieces_of c) (all_less P (λ o. IsTrue (arts.is_good o.body)) good (pieces_of c) kept) in
     let back : arts.sections n.fixed.signature_len (frame_to arts n v) ≡ Ok c =
-    reads.back n.fixed.signature_len (next_head (link_in n v) n.fixed.topology.version) c (link_in n v).key (contents_fit (sizes_at x P u) n v is.holds) goods in
+    reads.back n.fixed.signature_len (next_head (link_in n v) n.fixed.topology.version FORMAT_1) c (link_in n v).key (contents_fit (sizes_at x P u) n v is.holds) goods in
     let bytes_are : frame_to arts n v ≡ bytes = gives (call_refusal n v) (ap (λ (o : Output). o.reply) (sym out) ∙ reply) in
     let here : Ok s ≡ Ok c = sym read ∙ ap (λ (l : ℕ). arts.sections l bytes) (sym len) ∙ ap (arts.sections n.fixed.signature_len) (sym bytes_are) ∙ back in
     let same : s ≡ c = cc in
@@ -181,11 +182,11 @@ polled arts x es w n a b input output after made reaches step reply =
 made_bytes : (arts : Arts) (n : NodeState) (v : NodeId) (output : Output) (made : List ℕ) → Carries arts → AllKeep IsOfBytes (pieces_of (contents_to n.fixed n.parts v))
     → output ≡ poll_output arts n v → output.reply ≡ steps.Frame made → AreBytes made
 made_bytes arts n v output made carries of out reply =
-    let h = next_head (link_in n v) n.fixed.topology.version in
+    let h = next_head (link_in n v) n.fixed.topology.version FORMAT_1 in
     let c = contents_to n.fixed n.parts v in
     let is : frame_to arts n v ≡ made = gives (call_refusal n v) (ap (λ (o : Output). o.reply) (sym out) ∙ reply) in
     subst AreBytes is (All-append (λ (b : ℕ). b < 256) (arts.frame h c) (arts.tag (link_in n v).key (arts.frame h c))
-    (carries.frames h c (all_of IsOfBytes (pieces_of c) of)) (carries.tags (link_in n v).key (arts.frame h c)))
+    (carries.frames h c refl (all_of IsOfBytes (pieces_of c) of)) (carries.tags (link_in n v).key (arts.frame h c)))
   where
     gives : (r : Option NodeRefused) → (refused_call r (replied (steps.Frame (frame_to arts n v)))).reply ≡ steps.Frame made → frame_to arts n v ≡ made
     gives None e = cc

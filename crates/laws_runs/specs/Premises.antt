@@ -1,8 +1,9 @@
 -- What laws of runs ask of arts beside that they fit the nodes: what is written is read back, and is bytes; what is read is good; and of those that
 -- count, that it comes through.
-use Rattle.std.specs.Prelude.{ℕ, ◌≡◌, true, IsTrue, List, ◌++◌, Ok}
+use Rattle.std.specs.Prelude.{ℕ, ◌≡◌, true, IsTrue, List, ◌++◌, None, Ok}
 use Rattle.std.specs.List.{All}
 use Rattle.sp_base.specs.Spelling.{AreBytes}
+use Rattle.sp_base.specs.declared.format.TheConstants.{FORMAT_1}
 use Rattle.sp_frame.specs.Ranges.{IsContents, IsHead}
 use Rattle.sp_frame.specs.Sections.{Contents}
 use Rattle.sp_frame.specs.declared.head.Head.{Head}
@@ -35,7 +36,8 @@ pub record Carries (arts : Arts) : Type 0 where
   pub bodies : ReadsBack arts
   -- under any head and tag
   pub back : (len : ℕ) (h : Head) (s : Contents) (key : List ℕ) → IsContents len s → HasGoodMessages arts s → arts.sections len (written arts h s key) ≡ Ok s
-  pub frames : (h : Head) (s : Contents) → AreOfBytes s → AreBytes (arts.frame h s)
+  -- where it has no document
+  pub frames : (h : Head) (s : Contents) → s.document ≡ None → AreOfBytes s → AreBytes (arts.frame h s)
   pub tags : (key bytes : List ℕ) → AreBytes (arts.tag key bytes)
   pub signatures : (height : LmsHeight) (seed : List ℕ) (index : ℕ) (message : List ℕ) → AreBytes (arts.sign height seed index message)
   pub reads : (len : ℕ) (bytes : List ℕ) (s : Contents) → AreBytes bytes → arts.sections len bytes ≡ Ok s → AreOfBytes s
@@ -45,7 +47,7 @@ pub record Carries (arts : Arts) : Type 0 where
 pub record ComesThrough (arts : Arts) (len : ℕ) : Type 0 where
   pub carries : Carries arts
   -- its length, its name and its version are right
-  pub opens : (h : Head) (s : Contents) (key : List ℕ) → IsHead h → IsContents len s → HasGoodMessages arts s
+  pub opens : (h : Head) (s : Contents) (key : List ℕ) → IsHead h → h.format ≡ FORMAT_1 → IsContents len s → HasGoodMessages arts s
       → arts.opened (written arts h s key) ≡ Ok (written arts h s key)
   -- its head is read back, its tag is right under the key, and its sections are read back by `back`
   pub heads : (h : Head) (s : Contents) (key : List ℕ) → IsHead h → arts.head (written arts h s key) ≡ h

@@ -149,7 +149,7 @@ keeps o =
     world (with_flows at_boot (put_flow at_boot.parts.rel.flows flow kept) ∷ [])
 
 abbrev pub head : Head
-head = record { from = node 2; to = node 3; boot = 1; echo = 1; counter = 1; topology = 1 }
+head = record { from = node 2; to = node 3; boot = 1; echo = 1; counter = 1; topology = 1; format = 1 }
 
 -- 2 made a frame with that message
 abbrev pub sends : Kept → World

@@ -11,7 +11,9 @@ use Rattle.laws_node.specs.Inputs.{InputFits}
 use Rattle.laws_node.specs.Objects.{objects_in}
 use Rattle.laws_runs.proofs.Signed.{even, reached}
 use Rattle.sp_base.specs.Spelling.{AreBytes}
+use Rattle.sp_base.specs.declared.format.TheConstants.{FORMAT_1}
 use Rattle.sp_base.specs.declared.id.NodeId.{NodeId}
+use Rattle.sp_frame.proofs.FirstFormat.{no_document, sections_are}
 use Rattle.sp_frame.proofs.SectionLemmas.{read_is_spelled}
 use Rattle.sp_frame.specs.Frames.{opened, sections_part, tagged_part}
 use Rattle.sp_frame.specs.Objects.{object_bytes}
@@ -53,11 +55,11 @@ use Rattle.laws_runs_format.proofs.ReadBack.{format_carries, part_are}
 
 -- ---- sections have at least a byte for each object
 
-a_byte : (o : Kept) → 1 ≤ length (object_bytes o)
+a_byte : (o : Kept) → 1 ≤ length (object_bytes FORMAT_1 o)
 unfolding object_bytes
 a_byte o = omega arith
 
-a_byte_more : (m : ℕ × Kept) → 1 ≤ length (numbered_bytes m)
+a_byte_more : (m : ℕ × Kept) → 1 ≤ length (numbered_bytes FORMAT_1 m)
 unfolding numbered_bytes
 a_byte_more m = omega arith
 
@@ -65,29 +67,31 @@ one_each : {X : Type 0} (spell : X → List ℕ) → ((x : X) → 1 ≤ length (
 one_each spell each [] = omega arith
 one_each spell each (x ∷ xs) = omega (arith, length-append (spell x) (flat_map spell xs), each x, one_each spell each xs)
 
-weights_long : (os : List Kept) → length os ≤ length (weights_bytes os)
+weights_long : (os : List Kept) → length os ≤ length (weights_bytes FORMAT_1 os)
 unfolding weights_bytes
-weights_long os = omega (arith, one_each object_bytes a_byte os)
+weights_long os = omega (arith, one_each (object_bytes FORMAT_1) a_byte os)
 
-prios_long : (ms : List (ℕ × Kept)) → length ms ≤ length (prios_bytes ms)
+prios_long : (ms : List (ℕ × Kept)) → length ms ≤ length (prios_bytes FORMAT_1 ms)
 unfolding prios_bytes
-prios_long ms = omega (arith, one_each numbered_bytes a_byte_more ms)
+prios_long ms = omega (arith, one_each (numbered_bytes FORMAT_1) a_byte_more ms)
 
-rels_long : (os : List Kept) → length os ≤ length (rels_bytes os)
+rels_long : (os : List Kept) → length os ≤ length (rels_bytes FORMAT_1 os)
 unfolding rels_bytes
-rels_long os = omega (arith, one_each object_bytes a_byte os)
+rels_long os = omega (arith, one_each (object_bytes FORMAT_1) a_byte os)
 
-ack_long : (o : Option Kept) → length (as_list o) ≤ length (ack_bytes o)
+ack_long : (o : Option Kept) → length (as_list o) ≤ length (ack_bytes FORMAT_1 o)
 unfolding ack_bytes
 ack_long None = omega arith
 ack_long (Some o) = omega (arith, a_byte o)
 
-report_long : (r : Report) → length (ack_bytes r.ack) + length (rels_bytes r.rels) ≤ length (report_bytes r)
+report_long : (r : Report) → length (ack_bytes FORMAT_1 r.ack) + length (rels_bytes FORMAT_1 r.rels) ≤ length (report_bytes FORMAT_1 r)
 unfolding report_bytes
 report_long r =
-    omega (arith, length-append (place_bytes r ++ ack_bytes r.ack) (rels_bytes r.rels), length-append (place_bytes r) (ack_bytes r.ack))
+    let place = place_bytes FORMAT_1 r in
+    let ack = ack_bytes FORMAT_1 r.ack in
+    omega (arith, length-append (place ++ ack) (rels_bytes FORMAT_1 r.rels), length-append place ack)
 
-slot_long : (o : Option Report) → length (slot_objects o) ≤ length (slot_bytes o)
+slot_long : (o : Option Report) → length (slot_objects o) ≤ length (slot_bytes FORMAT_1 o)
 unfolding slot_bytes
 slot_long None = omega arith
 slot_long (Some r) = omega (arith, length-append (as_list r.ack) r.rels, ack_long r.ack, rels_long r.rels, report_long r)
@@ -96,17 +100,17 @@ map_long : (ms : List (ℕ × Kept)) → length (prio_objects ms) ≡ length ms
 map_long [] = refl
 map_long (m ∷ ms) = ap suc (map_long ms)
 
-sections_long : (s : Contents) → length (objects_in (pieces_of s)) ≤ length (sections_bytes s)
-unfolding sections_bytes
-sections_long s =
-    let front = weights_bytes s.weights ++ big_bytes 8 s.prio_ack in
-    let whole = length-append (front ++ prios_bytes s.prios) (slot_bytes s.slot) in
-    let most = length-append front (prios_bytes s.prios) in
-    let first = length-append (weights_bytes s.weights) (big_bytes 8 s.prio_ack) in
+sections_long : (s : Contents) → s.document ≡ None → length (objects_in (pieces_of s)) ≤ length (sections_bytes s)
+sections_long s none =
+    let front = weights_bytes FORMAT_1 s.weights ++ big_bytes 8 s.prio_ack in
+    let whole = length-append (front ++ prios_bytes FORMAT_1 s.prios) (slot_bytes FORMAT_1 s.slot) in
+    let most = length-append front (prios_bytes FORMAT_1 s.prios) in
+    let first = length-append (weights_bytes FORMAT_1 s.weights) (big_bytes 8 s.prio_ack) in
     let objects = length-append s.weights (prio_objects s.prios ++ slot_objects s.slot) in
     let rest = length-append (prio_objects s.prios) (slot_objects s.slot) in
     let are = ap length (objects_are s) in
-    omega (arith, whole, most, first, objects, rest, are, map_long s.prios, weights_long s.weights, prios_long s.prios, slot_long s.slot)
+    let spelled = ap length (sections_are s none) in
+    omega (arith, spelled, whole, most, first, objects, rest, are, map_long s.prios, weights_long s.weights, prios_long s.prios, slot_long s.slot)
 
 -- ---- so a datagram has fewer objects than a frame may have bytes
 
@@ -129,8 +133,8 @@ nothing_more (links.Section refused) ps = omega arith
 read_few : (len : ℕ) (bytes : List ℕ) (r : Result Contents SectionRefused) → AreBytes bytes → sections_of len (sections_part bytes) ≡ r
     → length (objects_in (pieces_in r)) ≤ length bytes - 33
 read_few len bytes (Ok s) are is =
-    let spelling = (read_is_spelled len (sections_part bytes) s (part_are bytes are) is).0 in
-    omega (arith, sections_long s, ap length spelling, part_short bytes)
+    let spelling = read_is_spelled FORMAT_1 len (sections_part bytes) s (part_are bytes are) is in
+    omega (arith, sections_long s (no_document len s spelling.1), ap length spelling.0, part_short bytes)
 read_few len bytes (Err refused) are is = omega arith
 
 few_objects : (n : NodeState) (u : NodeId) (bytes : List ℕ) → AreBytes bytes

@@ -4,6 +4,7 @@ use Rattle.std.specs.List.{All, flat_map}
 use Rattle.std.proofs.lemmas.List.Elements.{All-append, All-cons, All-head, All-nil, All-tail}
 use Rattle.byteorder.specs.Endian.{big_bytes}
 use Rattle.sp_base.specs.Spelling.{AreBytes}
+use Rattle.sp_frame.proofs.FirstFormat.{sections_are}
 use Rattle.sp_frame.specs.Frames.{ends_bytes, head_bytes, numbers_bytes}
 use Rattle.sp_frame.specs.Grammar.{counted_bytes}
 use Rattle.sp_frame.specs.Objects.{object_bytes}
@@ -50,13 +51,13 @@ body_out body are =
     right (spelled (fields_of FORMAT_1 body) (numbers_of body)) (payload_of body)
     (All-tail (λ (b : ℕ). b < 256) (kind_of body) (spelled (fields_of FORMAT_1 body) (numbers_of body) ++ payload_of body) are)
 
-object_in : (o : Kept) → IsOfBytes o → AreBytes (object_bytes o)
+object_in : (o : Kept) → IsOfBytes o → AreBytes (object_bytes FORMAT_1 o)
 unfolding object_bytes
 object_in o h =
     joined4 (big_bytes 2 (length (encoded o.body))) (encoded o.body) (big_bytes 2 (length o.signature)) o.signature
     (of_number 2 (length (encoded o.body))) (body_in o.body h.0) (of_number 2 (length o.signature)) h.1
 
-object_out : (o : Kept) → AreBytes (object_bytes o) → IsOfBytes o
+object_out : (o : Kept) → AreBytes (object_bytes FORMAT_1 o) → IsOfBytes o
 unfolding object_bytes
 object_out o are =
     let parts = parts4 (big_bytes 2 (length (encoded o.body))) (encoded o.body) (big_bytes 2 (length o.signature)) o.signature are in
@@ -83,39 +84,43 @@ module _ {X : Type 0} (P : X → Type 0) (spell : X → List ℕ) where
 IsNumberedOf : ℕ × Kept → Type 0
 IsNumberedOf m = IsOfBytes m.1
 
-numbered_in : (m : ℕ × Kept) → IsNumberedOf m → AreBytes (numbered_bytes m)
+numbered_in : (m : ℕ × Kept) → IsNumberedOf m → AreBytes (numbered_bytes FORMAT_1 m)
 unfolding numbered_bytes IsNumberedOf
-numbered_in m h = joined (big_bytes 8 m.0) (object_bytes m.1) (of_number 8 m.0) (object_in m.1 h)
+numbered_in m h = joined (big_bytes 8 m.0) (object_bytes FORMAT_1 m.1) (of_number 8 m.0) (object_in m.1 h)
 
-numbered_out : (m : ℕ × Kept) → AreBytes (numbered_bytes m) → IsNumberedOf m
+numbered_out : (m : ℕ × Kept) → AreBytes (numbered_bytes FORMAT_1 m) → IsNumberedOf m
 unfolding numbered_bytes IsNumberedOf
-numbered_out m are = object_out m.1 (right (big_bytes 8 m.0) (object_bytes m.1) are)
+numbered_out m are = object_out m.1 (right (big_bytes 8 m.0) (object_bytes FORMAT_1 m.1) are)
 
 -- ---- the slot
 
-ack_in : (o : Option Kept) → All IsOfBytes (as_list o) → AreBytes (ack_bytes o)
+ack_in : (o : Option Kept) → All IsOfBytes (as_list o) → AreBytes (ack_bytes FORMAT_1 o)
 unfolding ack_bytes
 ack_in None all = of_number 1 0
-ack_in (Some o) all = joined (big_bytes 1 1) (object_bytes o) (of_number 1 1) (object_in o (All-head IsOfBytes o [] all))
+ack_in (Some o) all = joined (big_bytes 1 1) (object_bytes FORMAT_1 o) (of_number 1 1) (object_in o (All-head IsOfBytes o [] all))
 
-ack_out : (o : Option Kept) → AreBytes (ack_bytes o) → All IsOfBytes (as_list o)
+ack_out : (o : Option Kept) → AreBytes (ack_bytes FORMAT_1 o) → All IsOfBytes (as_list o)
 unfolding ack_bytes
 ack_out None are = All-nil IsOfBytes
-ack_out (Some o) are = All-cons IsOfBytes o [] (object_out o (right (big_bytes 1 1) (object_bytes o) are)) (All-nil IsOfBytes)
+ack_out (Some o) are = All-cons IsOfBytes o [] (object_out o (right (big_bytes 1 1) (object_bytes FORMAT_1 o) are)) (All-nil IsOfBytes)
 
-place_are : (r : Report) → AreBytes (place_bytes r)
+place_are : (r : Report) → AreBytes (place_bytes FORMAT_1 r)
 unfolding place_bytes
 place_are r =
-    joined4 (big_bytes 1 r.flow.src.0) (big_bytes 1 r.flow.dst.0) (big_bytes 8 r.base) (big_bytes 8 r.have)
-    (of_number 1 r.flow.src.0) (of_number 1 r.flow.dst.0) (of_number 8 r.base) (of_number 8 r.have)
+    let ends = big_bytes 1 r.flow.src.0 ++ big_bytes 1 r.flow.dst.0 in
+    let source = ends ++ big_bytes 0 r.sboot in
+    let boots = source ++ big_bytes 0 r.dboot in
+    let ends_are = joined (big_bytes 1 r.flow.src.0) (big_bytes 1 r.flow.dst.0) (of_number 1 r.flow.src.0) (of_number 1 r.flow.dst.0) in
+    let boots_are = joined source (big_bytes 0 r.dboot) (joined ends (big_bytes 0 r.sboot) ends_are (of_number 0 r.sboot)) (of_number 0 r.dboot) in
+    joined (boots ++ big_bytes 8 r.base) (big_bytes 8 r.have) (joined boots (big_bytes 8 r.base) boots_are (of_number 8 r.base)) (of_number 8 r.have)
 
-rels_in : (rs : List Kept) → All IsOfBytes rs → AreBytes (rels_bytes rs)
+rels_in : (rs : List Kept) → All IsOfBytes rs → AreBytes (rels_bytes FORMAT_1 rs)
 unfolding rels_bytes
-rels_in rs all = counted_in IsOfBytes object_bytes object_in rs all
+rels_in rs all = counted_in IsOfBytes (object_bytes FORMAT_1) object_in rs all
 
-rels_out : (rs : List Kept) → AreBytes (rels_bytes rs) → All IsOfBytes rs
+rels_out : (rs : List Kept) → AreBytes (rels_bytes FORMAT_1 rs) → All IsOfBytes rs
 unfolding rels_bytes
-rels_out rs are = counted_out IsOfBytes object_bytes object_out rs are
+rels_out rs are = counted_out IsOfBytes (object_bytes FORMAT_1) object_out rs are
 
 -- the objects of a slot
 abbrev pub slot_objects : Option Report → List Kept
@@ -130,27 +135,27 @@ all_right : (xs ys : List Kept) → All IsOfBytes (xs ++ ys) → All IsOfBytes y
 all_right [] ys all = all
 all_right (x ∷ xs) ys all = all_right xs ys (All-tail IsOfBytes x (xs ++ ys) all)
 
-report_in : (r : Report) → All IsOfBytes (as_list r.ack ++ r.rels) → AreBytes (report_bytes r)
+report_in : (r : Report) → All IsOfBytes (as_list r.ack ++ r.rels) → AreBytes (report_bytes FORMAT_1 r)
 unfolding report_bytes
 report_in r all =
-    joined3 (place_bytes r) (ack_bytes r.ack) (rels_bytes r.rels) (place_are r) (ack_in r.ack (all_left (as_list r.ack) r.rels all))
+    joined3 (place_bytes FORMAT_1 r) (ack_bytes FORMAT_1 r.ack) (rels_bytes FORMAT_1 r.rels) (place_are r) (ack_in r.ack (all_left (as_list r.ack) r.rels all))
     (rels_in r.rels (all_right (as_list r.ack) r.rels all))
 
-report_out : (r : Report) → AreBytes (report_bytes r) → All IsOfBytes (as_list r.ack ++ r.rels)
+report_out : (r : Report) → AreBytes (report_bytes FORMAT_1 r) → All IsOfBytes (as_list r.ack ++ r.rels)
 unfolding report_bytes
 report_out r are =
-    let parts = parts3 (place_bytes r) (ack_bytes r.ack) (rels_bytes r.rels) are in
+    let parts = parts3 (place_bytes FORMAT_1 r) (ack_bytes FORMAT_1 r.ack) (rels_bytes FORMAT_1 r.rels) are in
     All-append IsOfBytes (as_list r.ack) r.rels (ack_out r.ack parts.1) (rels_out r.rels parts.2)
 
-slot_in : (s : Option Report) → All IsOfBytes (slot_objects s) → AreBytes (slot_bytes s)
+slot_in : (s : Option Report) → All IsOfBytes (slot_objects s) → AreBytes (slot_bytes FORMAT_1 s)
 unfolding slot_bytes
 slot_in None all = of_number 1 0
-slot_in (Some r) all = joined (big_bytes 1 1) (report_bytes r) (of_number 1 1) (report_in r all)
+slot_in (Some r) all = joined (big_bytes 1 1) (report_bytes FORMAT_1 r) (of_number 1 1) (report_in r all)
 
-slot_out : (s : Option Report) → AreBytes (slot_bytes s) → All IsOfBytes (slot_objects s)
+slot_out : (s : Option Report) → AreBytes (slot_bytes FORMAT_1 s) → All IsOfBytes (slot_objects s)
 unfolding slot_bytes
 slot_out None are = All-nil IsOfBytes
-slot_out (Some r) are = report_out r (right (big_bytes 1 1) (report_bytes r) are)
+slot_out (Some r) are = report_out r (right (big_bytes 1 1) (report_bytes FORMAT_1 r) are)
 
 -- ---- all objects, in their order
 
@@ -195,39 +200,39 @@ prios_out (m ∷ ms) all = All-cons IsOfBytes m.1 (prio_objects ms) (All-head Is
 
 -- ---- all sections
 
-pub sections_in : (s : Contents) → AreOfBytes s → AreBytes (sections_bytes s)
-unfolding sections_bytes weights_bytes prios_bytes
-sections_in s of =
+pub sections_in : (s : Contents) → s.document ≡ None → AreOfBytes s → AreBytes (sections_bytes s)
+unfolding weights_bytes prios_bytes
+sections_in s first of =
     let all = subst (All IsOfBytes) (objects_are s) of in
     let rest = all_right s.weights (prio_objects s.prios ++ slot_objects s.slot) all in
-    joined4 (weights_bytes s.weights) (big_bytes 8 s.prio_ack) (prios_bytes s.prios) (slot_bytes s.slot)
-    (counted_in IsOfBytes object_bytes object_in s.weights (all_left s.weights (prio_objects s.prios ++ slot_objects s.slot) all))
+    subst AreBytes (sym (sections_are s first))
+    (joined4 (weights_bytes FORMAT_1 s.weights) (big_bytes 8 s.prio_ack) (prios_bytes FORMAT_1 s.prios) (slot_bytes FORMAT_1 s.slot)
+    (counted_in IsOfBytes (object_bytes FORMAT_1) object_in s.weights (all_left s.weights (prio_objects s.prios ++ slot_objects s.slot) all))
     (of_number 8 s.prio_ack)
-    (counted_in IsNumberedOf numbered_bytes numbered_in s.prios (prios_in s.prios (all_left (prio_objects s.prios) (slot_objects s.slot) rest)))
-    (slot_in s.slot (all_right (prio_objects s.prios) (slot_objects s.slot) rest))
+    (counted_in IsNumberedOf (numbered_bytes FORMAT_1) numbered_in s.prios (prios_in s.prios (all_left (prio_objects s.prios) (slot_objects s.slot) rest)))
+    (slot_in s.slot (all_right (prio_objects s.prios) (slot_objects s.slot) rest)))
 
-pub sections_out : (s : Contents) → AreBytes (sections_bytes s) → AreOfBytes s
-unfolding sections_bytes weights_bytes prios_bytes
-sections_out s are =
-    let parts = parts4 (weights_bytes s.weights) (big_bytes 8 s.prio_ack) (prios_bytes s.prios) (slot_bytes s.slot) are in
+pub sections_out : (s : Contents) → s.document ≡ None → AreBytes (sections_bytes s) → AreOfBytes s
+unfolding weights_bytes prios_bytes
+sections_out s first are =
+    let parts = parts4 (weights_bytes FORMAT_1 s.weights) (big_bytes 8 s.prio_ack) (prios_bytes FORMAT_1 s.prios) (slot_bytes FORMAT_1 s.slot)
+    (subst AreBytes (sections_are s first) are) in
     subst (All IsOfBytes) (sym (objects_are s))
-    (All-append IsOfBytes s.weights (prio_objects s.prios ++ slot_objects s.slot) (counted_out IsOfBytes object_bytes object_out s.weights parts.0)
+    (All-append IsOfBytes s.weights (prio_objects s.prios ++ slot_objects s.slot) (counted_out IsOfBytes (object_bytes FORMAT_1) object_out s.weights parts.0)
     (All-append IsOfBytes (prio_objects s.prios) (slot_objects s.slot)
-    (prios_out s.prios (counted_out IsNumberedOf numbered_bytes numbered_out s.prios parts.2)) (slot_out s.slot parts.3)))
+    (prios_out s.prios (counted_out IsNumberedOf (numbered_bytes FORMAT_1) numbered_out s.prios parts.2)) (slot_out s.slot parts.3)))
 
 -- ---- heads
 
--- a frame's name, and its version
+-- a frame's name
 name : List ℕ
 name = big_bytes 2 21321
 
-version : List ℕ
-version = big_bytes 1 1
-
 pub head_are : (h : Head) → AreBytes (head_bytes h)
-unfolding head_bytes ends_bytes numbers_bytes name version
+unfolding head_bytes ends_bytes numbers_bytes name
 head_are h =
     joined (ends_bytes h) (numbers_bytes h)
-    (joined4 name version (big_bytes 1 h.from.0) (big_bytes 1 h.to.0) (of_number 2 21321) (of_number 1 1) (of_number 1 h.from.0) (of_number 1 h.to.0))
+    (joined4 name (big_bytes 1 h.format) (big_bytes 1 h.from.0) (big_bytes 1 h.to.0)
+    (of_number 2 21321) (of_number 1 h.format) (of_number 1 h.from.0) (of_number 1 h.to.0))
     (joined4 (big_bytes 8 h.boot) (big_bytes 8 h.echo) (big_bytes 8 h.counter) (big_bytes 4 h.topology)
     (of_number 8 h.boot) (of_number 8 h.echo) (of_number 8 h.counter) (of_number 4 h.topology))

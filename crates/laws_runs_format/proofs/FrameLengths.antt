@@ -1,9 +1,12 @@
 -- Each frame of a run has a head, three sections and a tag, and fits a datagram.
-use Rattle.std.proofs.Common.{◌≡◌, ◌≤◌, ℕ, ◌+◌, Bool, true, false, cond, nat_lt, List, ◌++◌, length, length-append, Option, Some, None, Result, Ok, Err, refl, sym, ap, subst, arith}
+use Rattle.std.proofs.Common.{◌≡◌, ◌≤◌, ℕ, ◌+◌, Bool, true, false, cond, nat_lt, List, ◌++◌, length, length-append, Option, Some, None, Result, Ok, Err, refl}
+use Rattle.std.proofs.Common.{sym, ap, subst, ◌∙◌, arith}
 use Rattle.std.specs.Prelude.{flat_map}
 use Rattle.std.proofs.lemmas.Bool.Decides.{nat_tests}
 use Rattle.byteorder.specs.Endian.{big_bytes}
+use Rattle.sp_base.specs.declared.format.TheConstants.{FORMAT_1}
 use Rattle.sp_base.specs.declared.id.NodeId.{NodeId}
+use Rattle.sp_frame.proofs.FirstFormat.{sections_are}
 use Rattle.sp_frame.specs.Frames.{ends_bytes, head_bytes, numbers_bytes, opened}
 use Rattle.sp_frame.specs.Grammar.{counted_bytes, flagged_bytes}
 use Rattle.sp_frame.specs.Objects.{object_bytes}
@@ -61,14 +64,15 @@ four a b c d =
     let right_three = length-append c d in
     omega (arith, one, two, three, right_one, right_two, right_three)
 
-sections_long : (s : Contents) → 11 ≤ length (sections_bytes s)
-unfolding sections_bytes weights_bytes prios_bytes slot_bytes
-sections_long s =
-    let all = four (weights_bytes s.weights) (big_bytes 8 s.prio_ack) (prios_bytes s.prios) (slot_bytes s.slot) in
-    let weights = counted_long object_bytes s.weights in
+sections_long : (s : Contents) → s.document ≡ None → 11 ≤ length (sections_bytes s)
+unfolding weights_bytes prios_bytes slot_bytes
+sections_long s first =
+    let all = ap length (sections_are s first)
+    ∙ four (weights_bytes FORMAT_1 s.weights) (big_bytes 8 s.prio_ack) (prios_bytes FORMAT_1 s.prios) (slot_bytes FORMAT_1 s.slot) in
+    let weights = counted_long (object_bytes FORMAT_1) s.weights in
     let heard = eight_bytes s.prio_ack in
-    let prios = counted_long numbered_bytes s.prios in
-    let slot = flagged_long report_bytes s.slot in
+    let prios = counted_long (numbered_bytes FORMAT_1) s.prios in
+    let slot = flagged_long (report_bytes FORMAT_1) s.slot in
     omega (arith, all, weights, heard, prios, slot)
 
 head_long : (h : Head) → length (head_bytes h) ≡ 33
@@ -77,13 +81,13 @@ head_long h = omega arith
 
 frame_long : (n : NodeState) (v : NodeId) → least_frame ≤ length (frame_to format n v)
 frame_long n v =
-    let h = next_head (link_in n v) n.fixed.topology.version in
+    let h = next_head (link_in n v) n.fixed.topology.version FORMAT_1 in
     let s = contents_to n.fixed n.parts v in
     let inner = head_bytes h ++ sections_bytes s in
     let tag = length-hmac (link_in n v).key inner in
     let whole = length-append inner (hmac (link_in n v).key inner) in
     let parts = length-append (head_bytes h) (sections_bytes s) in
-    omega (arith, tag, whole, parts, head_long h, sections_long s)
+    omega (arith, tag, whole, parts, head_long h, sections_long s refl)
 
 -- ---- at most
 

@@ -3,6 +3,7 @@ use Rattle.std.proofs.Common.{ℕ, List, [], ◌++◌, Option, Some, None, sym, 
 use Rattle.std.specs.List.{All}
 use Rattle.std.specs.Prelude.{IfSome, IsTrue}
 use Rattle.std.proofs.lemmas.List.Elements.{All-append, All-cons, All-nil}
+use Rattle.sp_base.specs.declared.format.TheConstants.{FORMAT_1}
 use Rattle.sp_frame.specs.Objects.{IsObject}
 use Rattle.sp_frame.specs.Ranges.{IsContents, IsNumbered, IsReport}
 use Rattle.sp_frame.specs.Reliable.{Report}
@@ -23,17 +24,17 @@ abbrev IsGood : Kept → Type 0
 IsGood o = IsTrue (format.is_good o.body)
 
 module _ (len : ℕ) where
-  one : (kind : Kind) (o : Kept) → IsObject kind len o → IsGood o
+  one : (kind : Kind) (o : Kept) → IsObject FORMAT_1 kind len o → IsGood o
   one kind o is = fields_pass o.body is.fields
 
-  each : (kind : Kind) (os : List Kept) → All (IsObject kind len) os → All IsGood os
-  each kind os all = all_weaker (IsObject kind len) IsGood os (one kind) all
+  each : (kind : Kind) (os : List Kept) → All (IsObject FORMAT_1 kind len) os → All IsGood os
+  each kind os all = all_weaker (IsObject FORMAT_1 kind len) IsGood os (one kind) all
 
-  at_most_one : (o : Option Kept) → IfSome o (IsObject kinds.Ack len) → All IsGood (as_list o)
+  at_most_one : (o : Option Kept) → IfSome o (IsObject FORMAT_1 kinds.Ack len) → All IsGood (as_list o)
   at_most_one None is = All-nil IsGood
   at_most_one (Some o) is = All-cons IsGood o [] (one kinds.Ack o is) (All-nil IsGood)
 
-  in_slot : (s : Option Report) → IfSome s (IsReport len) → All IsGood (slot_objects s)
+  in_slot : (s : Option Report) → IfSome s (IsReport FORMAT_1 kinds.Ack kinds.Rel len) → All IsGood (slot_objects s)
   in_slot None is = All-nil IsGood
   in_slot (Some r) is = All-append IsGood (as_list r.ack) r.rels (at_most_one r.ack is.ack) (each kinds.Rel r.rels is.rels)
 
@@ -42,4 +43,4 @@ module _ (len : ℕ) where
       subst (All IsGood) (sym (objects_are s))
       (All-append IsGood s.weights (prio_objects s.prios ++ slot_objects s.slot) (each kinds.Weight s.weights is.weights)
       (All-append IsGood (prio_objects s.prios) (slot_objects s.slot)
-      (all_map (IsNumbered len) IsGood (λ m. m.1) (λ m numbered. one kinds.Prio m.1 numbered.object) s.prios is.prios) (in_slot s.slot is.slot)))
+      (all_map (IsNumbered FORMAT_1 len) IsGood (λ m. m.1) (λ m numbered. one kinds.Prio m.1 numbered.object) s.prios is.prios) (in_slot s.slot is.slot)))

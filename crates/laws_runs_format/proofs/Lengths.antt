@@ -1,12 +1,15 @@
 -- How long the sections of a frame are.
-use Rattle.std.proofs.Common.{◌≡◌, ◌≤◌, ℕ, ◌+◌, ◌*◌, List, [], ◌∷◌, ◌++◌, length, Option, Some, None, ◌∙◌, arith}
+use Rattle.std.proofs.Common.{◌≡◌, ◌≤◌, ℕ, ◌+◌, ◌*◌, List, [], ◌∷◌, ◌++◌, length, Option, Some, None, ap, ◌∙◌, arith}
 use Rattle.std.specs.Prelude.{All, IfSome, flat_map}
 use Rattle.std.proofs.lemmas.List.{length-append}
 use Rattle.std.proofs.lemmas.List.Elements.{All-head, All-tail}
 use Rattle.byteorder.specs.Endian.{big_bytes}
 use Rattle.byteorder.specs.Numbers.{length-bytes_high_first}
+use Rattle.sp_base.specs.declared.format.TheConstants.{FORMAT_1}
 use Rattle.sp_base.specs.declared.limits.TheConstants.{MAX_MESSAGES}
 use Rattle.sp_frame.specs.Grammar.{counted_bytes}
+use Rattle.sp_frame.proofs.FirstFormat.{no_document, sections_are}
+use Rattle.sp_frame.proofs.LengthLemmas.{place_long}
 use Rattle.sp_frame.specs.Objects.{IsObject, object_bytes}
 use Rattle.sp_frame.specs.Prioritized.{numbered_bytes, prios_bytes}
 use Rattle.sp_frame.specs.Ranges.{IsContents, IsNumbered, IsReport}
@@ -44,60 +47,64 @@ few_long P spell most size each xs few all =
     let scaled : length xs * size ≤ most * size = grind (arith, few) in
     omega (arith, long, scaled, length-append (big_bytes 1 (length xs)) (flat_map spell xs), length-bytes_high_first 1 (length xs))
 
-object_long : (kind : Kind) (len : ℕ) (o : Kept) → IsObject kind len o → length (object_bytes o) ≤ 1104 + len
+object_long : (kind : Kind) (len : ℕ) (o : Kept) → IsObject FORMAT_1 kind len o → length (object_bytes FORMAT_1 o) ≤ 1104 + len
 unfolding object_bytes
-object_long kind len o is = bound (length (object_bytes o)) (length (encoded o.body)) (length o.signature) (four_long (big_bytes 2 (length (encoded o.body))) (encoded o.body) (big_bytes 2 (length o.signature)) o.signature)
+object_long kind len o is = bound (length (object_bytes FORMAT_1 o)) (length (encoded o.body)) (length o.signature) (four_long (big_bytes 2 (length (encoded o.body))) (encoded o.body) (big_bytes 2 (length o.signature)) o.signature)
     (length-bytes_high_first 2 (length (encoded o.body))) (length-bytes_high_first 2 (length o.signature)) (encoded_short o.body is.fields) is.long
   where
     bound : (n m k : ℕ) {p q : ℕ} → n ≡ p + m + q + k → p ≡ 2 → q ≡ 2 → m ≤ 1100 → k ≡ len → n ≤ 1104 + len
     bound n m k is p q short long = omega (arith, is, p, q, short, long)
 
-weights_long : (len : ℕ) (os : List Kept) → length os ≤ 1 → All (IsObject kinds.Weight len) os → length (weights_bytes os) ≤ 1105 + len
+weights_long : (len : ℕ) (os : List Kept) → length os ≤ 1 → All (IsObject FORMAT_1 kinds.Weight len) os → length (weights_bytes FORMAT_1 os) ≤ 1105 + len
 unfolding weights_bytes
 weights_long len os few all =
-    let h = few_long (IsObject kinds.Weight len) object_bytes 1 (1104 + len) (object_long kinds.Weight len) os few all in omega (arith, h)
+    let h = few_long (IsObject FORMAT_1 kinds.Weight len) (object_bytes FORMAT_1) 1 (1104 + len) (object_long kinds.Weight len) os few all in omega (arith, h)
 
-rels_long : (len : ℕ) (os : List Kept) → length os ≤ MAX_MESSAGES → All (IsObject kinds.Rel len) os → length (rels_bytes os) ≤ 4417 + 4 * len
+rels_long : (len : ℕ) (os : List Kept) → length os ≤ MAX_MESSAGES → All (IsObject FORMAT_1 kinds.Rel len) os → length (rels_bytes FORMAT_1 os) ≤ 4417 + 4 * len
 unfolding rels_bytes
 rels_long len os few all =
-    let h = few_long (IsObject kinds.Rel len) object_bytes MAX_MESSAGES (1104 + len) (object_long kinds.Rel len) os few all in omega (arith, h)
+    let each = object_long kinds.Rel len in
+    let h = few_long (IsObject FORMAT_1 kinds.Rel len) (object_bytes FORMAT_1) MAX_MESSAGES (1104 + len) each os few all in omega (arith, h)
 
-numbered_long : (len : ℕ) (m : ℕ × Kept) → IsNumbered len m → length (numbered_bytes m) ≤ 1112 + len
+numbered_long : (len : ℕ) (m : ℕ × Kept) → IsNumbered FORMAT_1 len m → length (numbered_bytes FORMAT_1 m) ≤ 1112 + len
 unfolding numbered_bytes
-numbered_long len m is = let one = object_long kinds.Prio len m.1 is.object in omega (arith, one, length-append (big_bytes 8 m.0) (object_bytes m.1), length-bytes_high_first 8 m.0)
+numbered_long len m is =
+    let one = object_long kinds.Prio len m.1 is.object in
+    omega (arith, one, length-append (big_bytes 8 m.0) (object_bytes FORMAT_1 m.1), length-bytes_high_first 8 m.0)
 
-prios_long : (len : ℕ) (ms : List (ℕ × Kept)) → length ms ≤ MAX_MESSAGES → All (IsNumbered len) ms → length (prios_bytes ms) ≤ 4449 + 4 * len
+prios_long : (len : ℕ) (ms : List (ℕ × Kept)) → length ms ≤ MAX_MESSAGES → All (IsNumbered FORMAT_1 len) ms → length (prios_bytes FORMAT_1 ms) ≤ 4449 + 4 * len
 unfolding prios_bytes
 prios_long len ms few all =
-    let h = few_long (IsNumbered len) numbered_bytes MAX_MESSAGES (1112 + len) (numbered_long len) ms few all in omega (arith, h)
+    let h = few_long (IsNumbered FORMAT_1 len) (numbered_bytes FORMAT_1) MAX_MESSAGES (1112 + len) (numbered_long len) ms few all in omega (arith, h)
 
-ack_long : (len : ℕ) (o : Option Kept) → IfSome o (IsObject kinds.Ack len) → length (ack_bytes o) ≤ 1105 + len
+ack_long : (len : ℕ) (o : Option Kept) → IfSome o (IsObject FORMAT_1 kinds.Ack len) → length (ack_bytes FORMAT_1 o) ≤ 1105 + len
 unfolding ack_bytes
 ack_long len None h = omega arith
 ack_long len (Some o) h = let one = object_long kinds.Ack len o h in omega (arith, one)
 
-place_long : (r : Report) → length (place_bytes r) ≡ 18
+place_is : (r : Report) → length (place_bytes FORMAT_1 r) ≡ 18
 unfolding place_bytes
-place_long r =
-    four_long (big_bytes 1 r.flow.src.0) (big_bytes 1 r.flow.dst.0) (big_bytes 8 r.base) (big_bytes 8 r.have)
-    ∙ omega (arith, length-bytes_high_first 1 r.flow.src.0, length-bytes_high_first 1 r.flow.dst.0, length-bytes_high_first 8 r.base, length-bytes_high_first 8 r.have)
+place_is r = omega (arith, place_long FORMAT_1 r)
 
-report_long : (len : ℕ) (r : Report) → IsReport len r → length (report_bytes r) ≤ 5540 + 5 * len
+report_long : (len : ℕ) (r : Report) → IsReport FORMAT_1 kinds.Ack kinds.Rel len r → length (report_bytes FORMAT_1 r) ≤ 5540 + 5 * len
 unfolding report_bytes
 report_long len r is =
     let a = ack_long len r.ack is.ack in
     let b = rels_long len r.rels is.few is.rels in
-    omega (arith, a, b, place_long r, length-append (place_bytes r ++ ack_bytes r.ack) (rels_bytes r.rels), length-append (place_bytes r) (ack_bytes r.ack))
+    let place = place_bytes FORMAT_1 r in
+    let ack = ack_bytes FORMAT_1 r.ack in
+    omega (arith, a, b, place_is r, length-append (place ++ ack) (rels_bytes FORMAT_1 r.rels), length-append place ack)
 
-slot_long : (len : ℕ) (o : Option Report) → IfSome o (IsReport len) → length (slot_bytes o) ≤ 5541 + 5 * len
+slot_long : (len : ℕ) (o : Option Report) → IfSome o (IsReport FORMAT_1 kinds.Ack kinds.Rel len) → length (slot_bytes FORMAT_1 o) ≤ 5541 + 5 * len
 unfolding slot_bytes
 slot_long len None h = omega arith
 slot_long len (Some r) h = let one = report_long len r h in omega (arith, one)
 
 pub contents_long : (len : ℕ) (s : Contents) → IsContents len s → length (sections_bytes s) ≤ 11103 + 10 * len
-unfolding sections_bytes
 contents_long len s is =
     let a = weights_long len s.weights is.few_weights is.weights in
     let b = prios_long len s.prios is.few_prios is.prios in
     let c = slot_long len s.slot is.slot in
-    omega (arith, a, b, c, four_long (weights_bytes s.weights) (big_bytes 8 s.prio_ack) (prios_bytes s.prios) (slot_bytes s.slot), length-bytes_high_first 8 s.prio_ack)
+    let whole = ap length (sections_are s (no_document len s is))
+    ∙ four_long (weights_bytes FORMAT_1 s.weights) (big_bytes 8 s.prio_ack) (prios_bytes FORMAT_1 s.prios) (slot_bytes FORMAT_1 s.slot) in
+    omega (arith, a, b, c, whole, length-bytes_high_first 8 s.prio_ack)

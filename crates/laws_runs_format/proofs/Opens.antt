@@ -6,6 +6,7 @@ use Rattle.std.proofs.Math.Seq.{drop-append_seam, take-append_seam}
 use Rattle.std.proofs.lemmas.Bool.Decides.{nat_tests}
 use Rattle.std.proofs.lemmas.List.{length-append}
 use Rattle.byteorder.specs.Endian.{big_number}
+use Rattle.sp_base.specs.declared.format.TheConstants.{FORMAT_1}
 use Rattle.sp_frame.proofs.HeadLemmas.{head_is_read}
 use Rattle.sp_frame.specs.Frames.{ends_bytes, head_bytes, head_of, numbers_bytes, opened, tagged_part, tag_part}
 use Rattle.sp_frame.specs.Ranges.{IsContents}
@@ -37,17 +38,17 @@ ends_named : (h : Head) (rest : List ℕ) → (big_number 2 (ends_bytes h ++ res
 unfolding ends_bytes
 ends_named h rest = refl
 
-ends_version : (h : Head) (rest : List ℕ) → (slice_index (ends_bytes h ++ rest) 2 == 1) ≡ true
+ends_version : (h : Head) (rest : List ℕ) → h.format ≡ FORMAT_1 → (slice_index (ends_bytes h ++ rest) 2 == 1) ≡ true
 unfolding ends_bytes
-ends_version h rest = refl
+ends_version h rest first = rw first refl
 
 in_ends : (h : Head) (rest tag : List ℕ) → (head_bytes h ++ rest) ++ tag ≡ ends_bytes h ++ (numbers_bytes h ++ (rest ++ tag))
 unfolding head_bytes
 in_ends h rest tag = append_assoc (ends_bytes h ++ numbers_bytes h) rest tag ∙ append_assoc (ends_bytes h) (numbers_bytes h) (rest ++ tag)
 
-opens : (len : ℕ) → len ≤ most_signature → (h : Head) (s : Contents) (key : List ℕ) → IsContents len s
+opens : (len : ℕ) → len ≤ most_signature → (h : Head) (s : Contents) (key : List ℕ) → h.format ≡ FORMAT_1 → IsContents len s
     → opened ((head_bytes h ++ sections_bytes s) ++ hmac key (head_bytes h ++ sections_bytes s)) ≡ Ok ((head_bytes h ++ sections_bytes s) ++ hmac key (head_bytes h ++ sections_bytes s))
-opens len small h s key is =
+opens len small h s key first is =
     let body = head_bytes h ++ sections_bytes s in
     let bytes = body ++ hmac key body in
     let long = contents_long len s is in
@@ -58,7 +59,8 @@ opens len small h s key is =
     let b : nat_lt (length bytes) 65 ≡ false = grind (arith, nat_tests) in
     let e = in_ends h (sections_bytes s) (hmac key body) in
     let c : (big_number 2 bytes == 21321) ≡ true = ap (λ bs. big_number 2 bs == 21321) e ∙ ends_named h (numbers_bytes h ++ (sections_bytes s ++ hmac key body)) in
-    let d : (slice_index bytes 2 == 1) ≡ true = ap (λ bs. slice_index bs 2 == 1) e ∙ ends_version h (numbers_bytes h ++ (sections_bytes s ++ hmac key body)) in
+    let rest = numbers_bytes h ++ (sections_bytes s ++ hmac key body) in
+    let d : (slice_index bytes 2 == 1) ≡ true = ap (λ bs. slice_index bs 2 == 1) e ∙ ends_version h rest first in
     pass4 (nat_lt 65507 (length bytes)) (nat_lt (length bytes) 65) (big_number 2 bytes == 21321) (slice_index bytes 2 == 1) _ _ _ _ (Ok bytes) a b c d
 
 -- ---- its tag
@@ -78,7 +80,7 @@ back body tag long =
 pub format_comes_through : FormatComesThrough
 format_comes_through height = record {
   carries = format_carries;
-  opens = λ h s key range is good. opens (signature_len (param_of height)) (signatures_are_short height) h s key is;
+  opens = λ h s key range first is good. opens (signature_len (param_of height)) (signatures_are_short height) h s key first is;
   heads = λ h s key is.
       let tag = hmac key (head_bytes h ++ sections_bytes s) in
       ap head_of (append_assoc (head_bytes h) (sections_bytes s) tag) ∙ head_is_read h (sections_bytes s ++ tag) is;

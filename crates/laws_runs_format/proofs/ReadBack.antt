@@ -3,6 +3,7 @@ use Rattle.std.proofs.Common.{◌≡◌, ◌<◌, ℕ, ◌-◌, List, ◌++◌, 
 use Rattle.std.proofs.Math.Seq.{drop-append_seam, take-append_seam}
 use Rattle.std.proofs.lemmas.List.Elements.{All-drop, All-take}
 use Rattle.sp_base.specs.Spelling.{AreBytes}
+use Rattle.sp_frame.proofs.FirstFormat.{no_document}
 use Rattle.sp_frame.proofs.SectionLemmas.{read_is_spelled, spelled_is_read}
 use Rattle.sp_frame.specs.Frames.{ends_bytes, head_bytes, numbers_bytes, sections_part, tagged_part}
 use Rattle.sp_frame.specs.Sections.{Contents, sections_bytes, sections_of}
@@ -38,12 +39,12 @@ format_carries = record {
   bodies = λ body good. whole_is_read FORMAT_1 body (fields_are_good body good);
   back = λ len h s key is good.
       let inner = head_bytes h ++ sections_bytes s in
-      ap (sections_of len) (between h s (hmac key inner) (length-hmac key inner)) ∙ spelled_is_read len s is;
-  frames = λ h s of. joined (head_bytes h) (sections_bytes s) (head_are h) (sections_in s of);
+      ap (sections_of len) (between h s (hmac key inner) (length-hmac key inner)) ∙ spelled_is_read FORMAT_1 len s is;
+  frames = λ h s first of. joined (head_bytes h) (sections_bytes s) (head_are h) (sections_in s first of);
   tags = λ key bytes. of_tag key bytes;
   signatures = λ height seed index message. signature_are (param_of height) seed index message;
   reads = λ len bytes s are is.
-      let spelling = (read_is_spelled len (sections_part bytes) s (part_are bytes are) is).0 in
-      sections_out s (subst AreBytes spelling (part_are bytes are));
-  goods = λ len bytes s are is. objects_are_good len s (read_is_spelled len (sections_part bytes) s (part_are bytes are) is).1;
+      let spelling = read_is_spelled FORMAT_1 len (sections_part bytes) s (part_are bytes are) is in
+      sections_out s (no_document len s spelling.1) (subst AreBytes spelling.0 (part_are bytes are));
+  goods = λ len bytes s are is. objects_are_good len s (read_is_spelled FORMAT_1 len (sections_part bytes) s (part_are bytes are) is).1;
 }

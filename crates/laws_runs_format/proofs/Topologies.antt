@@ -7,8 +7,8 @@ use Rattle.std.proofs.lemmas.List.Elements.{All-cons, All-head, All-nil, All-tai
 use Rattle.std.proofs.lemmas.List.FromFn.{length-range_with_len}
 use Rattle.byteorder.specs.Endian.{big_number}
 use Rattle.sha2.proofs.Facts256.{length-sha256}
+use Rattle.sp_base.specs.declared.format.TheConstants.{FORMAT_1}
 use Rattle.sp_base.specs.declared.limits.TheConstants.{MAX_NODES}
-use Rattle.sp_graph.proofs.MaskLemmas.{few_edges}
 use Rattle.sp_graph.specs.Edges as graphs
 use Rattle.sp_hmac.proofs.Lengths.{length-hmac}
 use Rattle.sp_hmac.specs.Hmac.{hmac}
@@ -102,7 +102,8 @@ is_key h seed = record {
 
 -- ---- the nodes
 
-nodes_are : (h : LmsHeight) (seed : List ℕ) (before count : ℕ) → before + count ≤ MAX_NODES → AreNodes h before (map (node_key h seed) (range_with_len (before + 1) count))
+nodes_are : (h : LmsHeight) (seed : List ℕ) (before count : ℕ) → before + count ≤ MAX_NODES
+    → AreNodes FORMAT_1 h before (map (node_key h seed) (range_with_len (before + 1) count))
 nodes_are h seed before zero most = tt
 nodes_are h seed before (suc count) most =
     ((omega arith, omega (arith, most)), is_key h (node_seed seed (before + 1)), nodes_are h seed (before + 1) count (omega (arith, most)))
@@ -136,7 +137,7 @@ pairs_tail : {X : Type 0} (R : X → X → Type 0) (x : X) (xs : List X) → All
 pairs_tail R x xs h = λ i j d below within. h (suc i) (suc j) d (omega (arith, below)) (omega (arith, within))
 
 edges_are : (nodes : ℕ) (before : ℕ × ℕ) (edges : List Edge) → All (λ e. IsBelow before (ends_of e)) edges → All (graphs.IsEdge nodes) edges
-    → AllPairs graphs.IsLower edges → AreEdges (range_with_len 1 nodes) before edges
+    → AllPairs graphs.IsLower edges → AreEdges FORMAT_1 (range_with_len 1 nodes) before edges
 edges_are nodes before [] after each ascend = tt
 edges_are nodes before (e ∷ edges) after each ascend =
     let is = All-head (graphs.IsEdge nodes) e edges each in (
@@ -164,12 +165,13 @@ topologies_fit s good =
     let ids = ids_are s.height s.seed (range_with_len 1 count) in
     let long : length (ids_of (topology_of s).nodes) ≡ count = ap (λ (xs : List ℕ). length xs) ids ∙ length-range_with_len 1 count in
     record {
+      is = refl;
       version = omega arith;
       nodes = nodes_are s.height s.seed 0 count (omega (arith, good.nodes.1));
       graph = record {
         node_count = (omega (arith, long, good.nodes.0), omega (arith, long, good.nodes.1));
-        edge_count = few_edges s.graph good;
-        are_edges = subst (λ (xs : List ℕ). AreEdges xs (0, 0) s.graph.edges) (sym ids)
+        edge_count = good.few;
+        are_edges = subst (λ (xs : List ℕ). AreEdges FORMAT_1 xs (0, 0) s.graph.edges) (sym ids)
             (edges_are count (0, 0) s.graph.edges (first_after count s.graph.edges good.edges) good.edges good.ascend);
       };
     }

@@ -8,7 +8,8 @@ use Rattle.sp_runs.specs.Runs.{Clean, InRange, IsForgedAt}
 use Rattle.sp_runs.specs.Scenarios.{setting_of}
 use Rattle.sp_runs.specs.Worlds.{World}
 use Rattle.sp_runs.specs.declared.what.What.{What}
-use Rattle.sp_graph.specs.Edges.{IsGraph}
+use Rattle.sp_base.specs.declared.format.TheConstants.{FORMAT_1}
+use Rattle.sp_graph.specs.Edges.{IsGraphIn}
 use Rattle.sp_schedule_crafts.specs.Objects.{body_of}
 use Rattle.sp_schedule_events.specs.declared.event.Event.{Event}
 use Rattle.sp_schedule_events.specs.declared.event.Event.TheVariants as events
@@ -31,7 +32,8 @@ in_the_middle P [] event after all = All-head P event after all
 in_the_middle P (e ∷ before) event after all = in_the_middle P before event after (All-tail P e (before ++ event ∷ after) all)
 
 -- no harmless event is forged
-harmless : (s : Scenario) (es : List Event) (js : List Entry) (w : World) (event : Event) (what : What) → IsGraph s.graph → InRange (setting_of s) es event
+harmless : (s : Scenario) (es : List Event) (js : List Entry) (w : World) (event : Event) (what : What) → IsGraphIn FORMAT_1 s.graph
+    → InRange (setting_of s) es event
     → Clean format (setting_of s) es js w → IsHarmless (setting_of s) event → IsHostile event → IsForgedAt format (setting_of s) es js w event what → ⊥
 harmless s es js w (events.Inject u v bytes) what good range run none hostile at =
     never _ what (no_frame_is_forged format (setting_of s) es js w at.new u v bytes at.entry none at.turn) at.is

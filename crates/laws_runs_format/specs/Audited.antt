@@ -1,6 +1,7 @@
 -- What an auditor finds of every run of a schedule: no broken promise.
 use Rattle.std.specs.Prelude.{List}
-use Rattle.sp_graph.specs.Edges.{IsGraph}
+use Rattle.sp_base.specs.declared.format.TheConstants.{FORMAT_1}
+use Rattle.sp_graph.specs.Edges.{IsGraphIn}
 use Rattle.sp_journal.specs.declared.entry.Entry.{Entry}
 use Rattle.sp_node_format.specs.Format.{format}
 use Rattle.sp_runs.specs.Runs.{Clean}
@@ -13,9 +14,10 @@ use Rattle.laws_runs_format.specs.Headline.{RunClaims}
 
 -- of each run without forgery of a header whose graph is in its ranges
 abbrev pub RunsPassAudits : Type 0
-RunsPassAudits = (s : Scenario) (es : List Event) (js : List Entry) (w : World) → IsGraph s.graph → Clean format (setting_of s) es js w
+RunsPassAudits = (s : Scenario) (es : List Event) (js : List Entry) (w : World) → IsGraphIn FORMAT_1 s.graph → Clean format (setting_of s) es js w
     → AreGood (setting_of s) es js
 
 -- and so of each that the headline is true of
 abbrev pub ClaimedRunsPassAudits : Type 0
-ClaimedRunsPassAudits = (s : Scenario) (es : List Event) (js : List Entry) → IsGraph s.graph → RunClaims (setting_of s) es js → AreGood (setting_of s) es js
+ClaimedRunsPassAudits = (s : Scenario) (es : List Event) (js : List Entry) → IsGraphIn FORMAT_1 s.graph → RunClaims (setting_of s) es js
+    → AreGood (setting_of s) es js

@@ -1,7 +1,8 @@
 -- The headline: what holds of every run of a schedule without forgery, after each of its events, whatever compromised nodes send.
 use Rattle.std.specs.Prelude.{ℕ, ◌≡◌, ◌≤◌, IsTrue, List, [], Some, take}
 use Rattle.sp_base.specs.declared.id.NodeId.{NodeId}
-use Rattle.sp_graph.specs.Edges.{IsGraph}
+use Rattle.sp_base.specs.declared.format.TheConstants.{FORMAT_1}
+use Rattle.sp_graph.specs.Edges.{IsGraphIn}
 use Rattle.sp_journal.specs.declared.entry.Entry.{Entry}
 use Rattle.sp_node_format.specs.Format.{format}
 use Rattle.sp_rules.specs.Node.{NodeState}
@@ -49,5 +50,5 @@ pub record RunClaims (x : Setting) (es : List Event) (js : List Entry) : Type 0 
 
 -- of each run of a header in its ranges. Nothing else is asked
 abbrev pub EveryRun : Type 0
-EveryRun = (s : Scenario) (es : List Event) (js : List Entry) (w : World) → IsGraph s.graph → 1 ≤ s.limits.buffer → Clean format (setting_of s) es js w
-    → RunClaims (setting_of s) es js
+EveryRun = (s : Scenario) (es : List Event) (js : List Entry) (w : World) → IsGraphIn FORMAT_1 s.graph → 1 ≤ s.limits.buffer
+    → Clean format (setting_of s) es js w → RunClaims (setting_of s) es js

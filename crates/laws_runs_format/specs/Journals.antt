@@ -1,7 +1,8 @@
 -- How much the journal of a run tells: an entry for each event, and no more deliveries than a number of 8 bytes counts.
 use Rattle.std.specs.Prelude.{◌≡◌, ◌≤◌, ◌*◌, List, length}
 use Rattle.sp_frame.specs.declared.frame.TheConstants.{MAX_FRAME_BYTES}
-use Rattle.sp_graph.specs.Edges.{IsGraph}
+use Rattle.sp_base.specs.declared.format.TheConstants.{FORMAT_1}
+use Rattle.sp_graph.specs.Edges.{IsGraphIn}
 use Rattle.sp_journal.specs.JournalText.{delivered_count, priority_count}
 use Rattle.sp_journal.specs.declared.entry.Entry.{Entry}
 use Rattle.sp_node_format.specs.Format.{format}
@@ -19,5 +20,5 @@ pub record IsCountable (es : List Event) (js : List Entry) : Type 0 where
 
 -- of each run of a header whose graph is in its ranges
 abbrev pub JournalsAreCountable : Type 0
-JournalsAreCountable = (s : Scenario) (es : List Event) (js : List Entry) (w : World) → IsGraph s.graph → Clean format (setting_of s) es js w
+JournalsAreCountable = (s : Scenario) (es : List Event) (js : List Entry) (w : World) → IsGraphIn FORMAT_1 s.graph → Clean format (setting_of s) es js w
     → IsCountable es js

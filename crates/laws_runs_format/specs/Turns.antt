@@ -1,7 +1,8 @@
 -- Each event that may happen in a run has a turn: the definitions of runs leave no event of a schedule without one.
 use Rattle.std.specs.Prelude.{ℕ, ◌<◌, List, length}
 use Rattle.sp_base.specs.declared.id.NodeId.{NodeId}
-use Rattle.sp_graph.specs.Edges.{IsGraph}
+use Rattle.sp_base.specs.declared.format.TheConstants.{FORMAT_1}
+use Rattle.sp_graph.specs.Edges.{IsGraphIn}
 use Rattle.sp_graph.specs.declared.graph.Graph.{Graph}
 use Rattle.sp_journal.specs.declared.entry.Entry.{Entry}
 use Rattle.sp_node_format.specs.Format.{format}
@@ -20,5 +21,5 @@ EachRequestHasAChoice = (g : Graph) (s t : NodeId) (paths : ℕ) → (choice : C
 
 -- so in every run of a header in its ranges, after fewer events than a node answers calls
 abbrev pub ScheduledEventsHaveTurns : Type 0
-ScheduledEventsHaveTurns = (s : Scenario) (es : List Event) (js : List Entry) (w : World) → IsGraph s.graph → Clean format (setting_of s) es js w
+ScheduledEventsHaveTurns = (s : Scenario) (es : List Event) (js : List Entry) (w : World) → IsGraphIn FORMAT_1 s.graph → Clean format (setting_of s) es js w
     → length es < MAX_CALLS → (e : Event) → InRange (setting_of s) es e → Happens format (setting_of s) es w e

@@ -1,6 +1,7 @@
 -- One message that is crafted, and the crafting signers of a run.
 use Rattle.std.specs.Prelude.{◌≡◌, ◌+◌, ◌<◌, List, [], min, Result, Ok, Err}
 use Rattle.sp_base.specs.Rows.{put_where}
+use Rattle.sp_base.specs.declared.format.TheConstants.{FORMAT_1}
 use Rattle.sp_base.specs.declared.id.NodeId.{NodeId}
 use Rattle.sp_base.specs.declared.memory.Memory.{Memory}
 use Rattle.sp_frame.specs.Writing.{IsWritable}
@@ -34,7 +35,7 @@ Crafts old key body (Err refused) new = new ≡ old
 
 -- what was signed has room in a frame
 abbrev pub HasRoom : Result Crafted Memory → Type 0
-HasRoom (Ok (answers.Signed object)) = IsWritable object
+HasRoom (Ok (answers.Signed object)) = IsWritable FORMAT_1 object
 HasRoom _ = Unit {0}
 
 -- ---- a run

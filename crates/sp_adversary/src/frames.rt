@@ -1,13 +1,15 @@
 // Frames that a compromised node crafts: fresh to their receiver, and under the right tag.
 ghost use Rattle.std.specs.Prelude.{◌≡◌, ◌≤◌, ◌++◌, [], All, IfOk, IfSome, None as Nothing, length, map, option_map, replicate};
+ghost use Rattle.sp_base.specs.declared.format.TheConstants.{FORMAT_1};
 ghost use Rattle.sp_frame.specs.Frames.{frame_bytes, tagged_part};
-ghost use Rattle.sp_frame.specs.Writing.{IsWritable};
+ghost use Rattle.sp_frame.specs.Views.{as_list};
+ghost use Rattle.sp_frame.specs.Writing.{IsWritable, IsWritableSlot, out_report};
 ghost use Rattle.sp_frame.specs.declared.frame.TheConstants.{TAG_BYTES};
 ghost use Rattle.sp_hmac.specs.Hmac.{hmac};
 ghost use Rattle.sp_node_format.specs.Format.{format};
-ghost use Rattle.sp_runs.specs.Inputs.{counter_after, object_alone, sealed_frame, slot_alone};
+ghost use Rattle.sp_runs.specs.Inputs.{contents_with, counter_after, object_alone, sealed_frame, slot_alone};
 
-use sp_base::{Bytes, Flow, Four, Memory, NodeId};
+use sp_base::{Bytes, FORMAT_1, Flow, Four, Memory, NodeId};
 use sp_frame::{Head, OutSlot, TAG_BYTES, write};
 use sp_msg::{Body, Kept};
 use std::alloc::Global;
@@ -18,7 +20,7 @@ const BOOT: u64 = 1;
 /// The head of the next crafted frame of `from` for `to`. `to` has the boot number `echo`, runs under this version of the topology, and
 /// `seen` is the counter that it keeps of `from`. The frame has the next counter, as far as there is one.
 pub fn crafted_head(from: NodeId, to: NodeId, echo: u64, seen: u64, topology: u32) -> Head
-    ensures { result ≡ record { from = from; to = to; boot = 1; echo = echo; counter = counter_after seen; topology = topology } }
+    ensures { result ≡ record { from = from; to = to; boot = 1; echo = echo; counter = counter_after seen; topology = topology; format = FORMAT_1 } }
 {
     Head {
         from,
@@ -27,18 +29,20 @@ pub fn crafted_head(from: NodeId, to: NodeId, echo: u64, seen: u64, topology: u3
         echo,
         counter: seen.saturating_add(1),
         topology,
+        format: FORMAT_1,
     }
 }
 
 /// A frame with one message in its section, under the tag of this key. Only want of memory refuses.
-#[tactic(auto, using(crate::proofs::Seals::sealed_is, crate::proofs::Seals::long_enough))]
+#[tactic(auto, using(crate::proofs::Seals::sealed_is, crate::proofs::Seals::long_enough, crate::proofs::Seals::writable_under))]
 pub fn object_frame(
     alloc: Global,
     head: &Head,
     key: &[u8; 32],
     object: &Kept,
 ) -> Result<Bytes, Memory>
-    requires { IsWritable object.now }
+    requires format { head.now.format ≡ FORMAT_1 }
+    requires object { IsWritable FORMAT_1 object.now }
     ensures { IfOk result (λ bytes. bytes ≡ sealed_frame format head.now key.now (object_alone object.now.body object.now)) }
 {
     let mut frame = with_object(alloc, head, object)?;
@@ -56,28 +60,31 @@ pub fn status_frame(
     base: u64,
     have: u64,
 ) -> Result<Bytes, Memory>
+    requires { head.now.format ≡ FORMAT_1 }
     ensures { IfOk result (λ bytes. bytes ≡ sealed_frame format head.now key.now (slot_alone flow base have Nothing [])) }
 {
     let slot = OutSlot {
         flow,
+        sboot: 0,
+        dboot: 0,
         base,
         have,
         ack: None,
         rels: Four::new(),
     };
-    let mut frame = write(alloc, head, None, 0, &Four::new(), Some(&slot))?;
+    let mut frame = with_parts(alloc, head, None, &Four::new(), Some(&slot))?;
     seal(key, &mut frame);
     Ok(frame)
 }
 
 /// The bytes of a frame with one message in its section, with zeros in the place of its tag.
 fn with_object(alloc: Global, head: &Head, object: &Kept) -> Result<Bytes, Memory>
-    requires { IsWritable object.now }
+    requires { IsWritable head.now.format object.now }
     ensures { IfOk result (λ bytes. bytes ≡ frame_bytes head.now (object_alone object.now.body object.now) (replicate 32 0)) }
 {
     match &object.body {
-        Body::Prio(_) => write(alloc, head, None, 0, &Four::new().with((1, object)), None),
-        Body::Weight(_) => write(alloc, head, Some(object), 0, &Four::new(), None),
+        Body::Prio(_) => with_parts(alloc, head, None, &Four::new().with((1, object)), None),
+        Body::Weight(_) => with_parts(alloc, head, Some(object), &Four::new(), None),
         Body::Ack(ack) => {
             let flow = Flow {
                 src: ack.src,
@@ -92,7 +99,7 @@ fn with_object(alloc: Global, head: &Head, object: &Kept) -> Result<Bytes, Memor
             };
             in_slot(alloc, head, flow, None, Four::new().with(object))
         }
-        _ => write(alloc, head, None, 0, &Four::new(), None),
+        _ => with_parts(alloc, head, None, &Four::new(), None),
     }
 }
 
@@ -104,19 +111,38 @@ fn in_slot<'a>(
     ack: Option<&'a Kept>,
     rels: Four<&'a Kept>,
 ) -> Result<Bytes, Memory>
-    requires ack { IfSome ack (λ o. IsWritable o.now) }
-    requires rels { All (λ o. IsWritable o.now) rels }
+    requires ack { IfSome ack (λ o. IsWritable head.now.format o.now) }
+    requires rels { All (λ o. IsWritable head.now.format o.now) rels }
     ensures { IfOk result (λ bytes. bytes ≡ frame_bytes head.now
         (slot_alone flow 0 0 (option_map (λ o. o.now) ack.entry) (map (λ o. o.now) rels.entry)) (replicate 32 0)) }
 {
     let slot = OutSlot {
         flow,
+        sboot: 0,
+        dboot: 0,
         base: 0,
         have: 0,
         ack,
         rels,
     };
-    write(alloc, head, None, 0, &Four::new(), Some(&slot))
+    with_parts(alloc, head, None, &Four::new(), Some(&slot))
+}
+
+/// The bytes of a frame with an update, priority messages and a report, and nothing else.
+fn with_parts(
+    alloc: Global,
+    head: &Head,
+    weight: Option<&Kept>,
+    prios: &Four<(u64, &Kept)>,
+    slot: Option<&OutSlot<'_>>,
+) -> Result<Bytes, Memory>
+    requires weight { IfSome weight (λ o. IsWritable head.now.format o.now) }
+    requires prios { All (λ p. IsWritable head.now.format p.1.now) prios.now }
+    requires slot { IfSome slot (λ s. IsWritableSlot head.now.format s.now) }
+    ensures { IfOk result (λ bytes. bytes ≡ frame_bytes head.now (contents_with (as_list (option_map (λ o. o.now) weight.entry))
+        (map (λ p. (p.0, p.1.now)) prios.now) (option_map (λ s. out_report s.now) slot.entry)) (replicate 32 0)) }
+{
+    write(alloc, head, weight, 0, prios, slot, None, None, None)
 }
 
 /// Writes the tag of all bytes before it into the last 32 bytes (RFC 2104, section 2).

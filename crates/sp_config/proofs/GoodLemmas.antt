@@ -9,6 +9,7 @@ use Rattle.sp_config.specs.declared.keys.Form.{Form}
 use Rattle.sp_config.specs.declared.keys.Form.TheVariants as forms
 use Rattle.sp_config.specs.declared.keys.Shape.TheVariants.{Number}
 use Rattle.sp_config.specs.declared.refused.ConfigRefused.{ConfigRefused}
+use Rattle.sp_config.specs.declared.keys.Ranges.{Ranges}
 use Rattle.sp_config.specs.declared.walks.Wrong.{Wrong}
 use Rattle.sp_config.specs.declared.walks.Wrong.TheVariants.{Missing, Range, Unknown}
 use Rattle.sp_config.specs.Good.{AreGood, IsGood, IsGoodAt}
@@ -37,87 +38,87 @@ second_ok (Err refused) b e = absurd (cc)
 missing_passed : (form : Form) (ms : Members) → refused_keys form ms ≡ Ok tt → refused_by Missing form ms ≡ Ok tt
 missing_passed form ms e = second_ok (refused_by Unknown form ms) (refused_by Missing form ms) e
 
-good_at : (bound : ℕ) (row : Row) (d : Option Data) → (row.optional || is_some d) ≡ true → fits_if bound row.shape d ≡ true → IsGoodAt bound row d
-good_at bound row None there fits = grind arith
-good_at bound row (Some d) there fits = fits
+good_at : (ranges : Ranges) (row : Row) (d : Option Data) → (row.optional || is_some d) ≡ true → fits_if ranges row.shape d ≡ true → IsGoodAt ranges row d
+good_at ranges row None there fits = grind arith
+good_at ranges row (Some d) there fits = fits
 
-good_rows : (bound : ℕ) (rows : List Row) (ms : Members) → missing_in rows ms ≡ None → out_of_range_in bound rows ms ≡ None → IsGood rows bound ms
+good_rows : (ranges : Ranges) (rows : List Row) (ms : Members) → missing_in rows ms ≡ None → out_of_range_in ranges rows ms ≡ None → IsGood rows ranges ms
 unfolding IsGood
-good_rows bound [] ms m r = tt
-good_rows bound (row ∷ rows) ms m r = elim (cases_Bool (row.optional || is_some (get_member row.name ms))) [
+good_rows ranges [] ms m r = tt
+good_rows ranges (row ∷ rows) ms m r = elim (cases_Bool (row.optional || is_some (get_member row.name ms))) [
   | inr absent ↦ absurd (let wrong : Some row.name ≡ None = rw absent at m in cc)
-  | inl there ↦ elim (cases_Bool (fits_if bound row.shape (get_member row.name ms))) [
+  | inl there ↦ elim (cases_Bool (fits_if ranges row.shape (get_member row.name ms))) [
     | inr other ↦ absurd (let wrong : Some row.name ≡ None = rw other at r in cc)
-    | inl fit ↦ (good_at bound row (get_member row.name ms) there fit, good_rows bound rows ms (rw there at m) (rw fit at r))
+    | inl fit ↦ (good_at ranges row (get_member row.name ms) there fit, good_rows ranges rows ms (rw there at m) (rw fit at r))
   ]
 ]
 
-good_tables : (rows : List Row) (bound : ℕ) (tables : List Members) → first_among Missing rows tables ≡ None
-    → first_among (Range bound) rows tables ≡ None → AreGood rows bound tables
-good_tables rows bound [] m r = tt
-good_tables rows bound (ms ∷ tables) m r =
+good_tables : (rows : List Row) (ranges : Ranges) (tables : List Members) → first_among Missing rows tables ≡ None
+    → first_among (Range ranges) rows tables ≡ None → AreGood rows ranges tables
+good_tables rows ranges [] m r = tt
+good_tables rows ranges (ms ∷ tables) m r =
     let here = both_none (missing_in rows ms) (first_among Missing rows tables) m in
-    let fit = both_none (out_of_range_in bound rows ms) (first_among (Range bound) rows tables) r in
-    (good_rows bound rows ms here.0 fit.0, good_tables rows bound tables here.1 fit.1)
+    let fit = both_none (out_of_range_in ranges rows ms) (first_among (Range ranges) rows tables) r in
+    (good_rows ranges rows ms here.0 fit.0, good_tables rows ranges tables here.1 fit.1)
 
 -- a table with nothing missing and nothing out of range
-pub good : (form : Form) (bound : ℕ) (ms : Members) → refused_keys form ms ≡ Ok tt → refused_by (Range bound) form ms ≡ Ok tt
-    → IsGood (keys_of form) bound ms
-good form bound ms m r = good_rows bound (keys_of form) ms (passed Missing form ms (missing_passed form ms m)).0 (passed (Range bound) form ms r).0
+pub good : (form : Form) (ranges : Ranges) (ms : Members) → refused_keys form ms ≡ Ok tt → refused_by (Range ranges) form ms ≡ Ok tt
+    → IsGood (keys_of form) ranges ms
+good form ranges ms m r = good_rows ranges (keys_of form) ms (passed Missing form ms (missing_passed form ms m)).0 (passed (Range ranges) form ms r).0
 
 -- the tables of its arrays
-good_array : (key : List ℕ) (kind : Form) (rest : List (List ℕ × Form)) (bound : ℕ) (ms : Members)
-    → first_in_arrays Missing ((key, kind) ∷ rest) ms ≡ None → first_in_arrays (Range bound) ((key, kind) ∷ rest) ms ≡ None
-    → AreGood (keys_of kind) bound (tables_at key ms)
-good_array key kind rest bound ms m r =
-    good_tables (keys_of kind) bound (tables_at key ms)
+good_array : (key : List ℕ) (kind : Form) (rest : List (List ℕ × Form)) (ranges : Ranges) (ms : Members)
+    → first_in_arrays Missing ((key, kind) ∷ rest) ms ≡ None → first_in_arrays (Range ranges) ((key, kind) ∷ rest) ms ≡ None
+    → AreGood (keys_of kind) ranges (tables_at key ms)
+good_array key kind rest ranges ms m r =
+    good_tables (keys_of kind) ranges (tables_at key ms)
     (both_none (first_among Missing (keys_of kind) (tables_at key ms)) (first_in_arrays Missing rest ms) m).0
-    (both_none (first_among (Range bound) (keys_of kind) (tables_at key ms)) (first_in_arrays (Range bound) rest ms) r).0
+    (both_none (first_among (Range ranges) (keys_of kind) (tables_at key ms)) (first_in_arrays (Range ranges) rest ms) r).0
 
-pub good_peers : (bound : ℕ) (ms : Members) → refused_keys forms.Config ms ≡ Ok tt → refused_by (Range bound) forms.Config ms ≡ Ok tt
-    → AreGood peer_keys bound (tables_at (codes "peer") ms)
-good_peers bound ms m r =
-    good_array (codes "peer") forms.Peer [] bound ms (passed Missing forms.Config ms (missing_passed forms.Config ms m)).1 (passed (Range bound) forms.Config ms r).1
+pub good_peers : (ranges : Ranges) (ms : Members) → refused_keys forms.Config ms ≡ Ok tt → refused_by (Range ranges) forms.Config ms ≡ Ok tt
+    → AreGood peer_keys ranges (tables_at (codes "peer") ms)
+good_peers ranges ms m r =
+    good_array (codes "peer") forms.Peer [] ranges ms (passed Missing forms.Config ms (missing_passed forms.Config ms m)).1 (passed (Range ranges) forms.Config ms r).1
 
-pub good_nodes : (bound : ℕ) (ms : Members) → refused_keys forms.Draft ms ≡ Ok tt → refused_by (Range bound) forms.Draft ms ≡ Ok tt
-    → AreGood node_keys bound (tables_at (codes "node") ms)
-good_nodes bound ms m r =
-    good_array (codes "node") forms.Node ((codes "edge", forms.Edge) ∷ []) bound ms (passed Missing forms.Draft ms (missing_passed forms.Draft ms m)).1
-    (passed (Range bound) forms.Draft ms r).1
+pub good_nodes : (ranges : Ranges) (ms : Members) → refused_keys forms.Draft ms ≡ Ok tt → refused_by (Range ranges) forms.Draft ms ≡ Ok tt
+    → AreGood node_keys ranges (tables_at (codes "node") ms)
+good_nodes ranges ms m r =
+    good_array (codes "node") forms.Node ((codes "edge", forms.Edge) ∷ []) ranges ms (passed Missing forms.Draft ms (missing_passed forms.Draft ms m)).1
+    (passed (Range ranges) forms.Draft ms r).1
 
-pub good_edges : (bound : ℕ) (ms : Members) → refused_keys forms.Draft ms ≡ Ok tt → refused_by (Range bound) forms.Draft ms ≡ Ok tt
-    → AreGood edge_keys bound (tables_at (codes "edge") ms)
-good_edges bound ms m r =
+pub good_edges : (ranges : Ranges) (ms : Members) → refused_keys forms.Draft ms ≡ Ok tt → refused_by (Range ranges) forms.Draft ms ≡ Ok tt
+    → AreGood edge_keys ranges (tables_at (codes "edge") ms)
+good_edges ranges ms m r =
     let edges : List (List ℕ × Form) = (codes "edge", forms.Edge) ∷ [] in
-    good_array (codes "edge") forms.Edge [] bound ms
+    good_array (codes "edge") forms.Edge [] ranges ms
     (both_none (first_among Missing node_keys (tables_at (codes "node") ms)) (first_in_arrays Missing edges ms)
     (passed Missing forms.Draft ms (missing_passed forms.Draft ms m)).1).1
-    (both_none (first_among (Range bound) node_keys (tables_at (codes "node") ms)) (first_in_arrays (Range bound) edges ms)
-    (passed (Range bound) forms.Draft ms r).1).1
+    (both_none (first_among (Range ranges) node_keys (tables_at (codes "node") ms)) (first_in_arrays (Range ranges) edges ms)
+    (passed (Range ranges) forms.Draft ms r).1).1
 
 -- the rows of each part
-pub good_first : (first rest : List Row) (bound : ℕ) (ms : Members) → IsGood (first ++ rest) bound ms → IsGood first bound ms
+pub good_first : (first rest : List Row) (ranges : Ranges) (ms : Members) → IsGood (first ++ rest) ranges ms → IsGood first ranges ms
 unfolding IsGood
-good_first [] rest bound ms h = tt
-good_first (row ∷ first) rest bound ms h = (h.0, good_first first rest bound ms h.1)
+good_first [] rest ranges ms h = tt
+good_first (row ∷ first) rest ranges ms h = (h.0, good_first first rest ranges ms h.1)
 
-pub good_rest : (first rest : List Row) (bound : ℕ) (ms : Members) → IsGood (first ++ rest) bound ms → IsGood rest bound ms
+pub good_rest : (first rest : List Row) (ranges : Ranges) (ms : Members) → IsGood (first ++ rest) ranges ms → IsGood rest ranges ms
 unfolding IsGood
-good_rest [] rest bound ms h = h
-good_rest (row ∷ first) rest bound ms h = good_rest first rest bound ms h.1
+good_rest [] rest ranges ms h = h
+good_rest (row ∷ first) rest ranges ms h = good_rest first rest ranges ms h.1
 
 -- a number in its range
 within_below : (low high : ℕ) (z : ℤ) → is_within low high z ≡ true → number_of (Some z) ≤ high
 within_below low high (pos n) h = grind (arith, nat_tests)
 within_below low high (negsuc n) h = omega arith
 
-pub number_below : (bound low high : ℕ) (name : List ℕ) (optional : Bool) (d : Option Data)
-    → IsGoodAt bound (record { name = name; optional = optional; shape = Number low high }) d → number_of (option_and_then as_integer d) ≤ high
-number_below bound low high name optional None h = omega arith
-number_below bound low high name optional (Some (integer z)) h = within_below low high z h
-number_below bound low high name optional (Some (string t)) h = omega arith
-number_below bound low high name optional (Some (float x)) h = omega arith
-number_below bound low high name optional (Some (boolean b)) h = omega arith
-number_below bound low high name optional (Some (datetime dt)) h = omega arith
-number_below bound low high name optional (Some (array ds)) h = omega arith
-number_below bound low high name optional (Some (table ms)) h = omega arith
+pub number_below : (ranges : Ranges) (low high : ℕ) (name : List ℕ) (optional : Bool) (d : Option Data)
+    → IsGoodAt ranges (record { name = name; optional = optional; shape = Number low high }) d → number_of (option_and_then as_integer d) ≤ high
+number_below ranges low high name optional None h = omega arith
+number_below ranges low high name optional (Some (integer z)) h = within_below low high z h
+number_below ranges low high name optional (Some (string t)) h = omega arith
+number_below ranges low high name optional (Some (float x)) h = omega arith
+number_below ranges low high name optional (Some (boolean b)) h = omega arith
+number_below ranges low high name optional (Some (datetime dt)) h = omega arith
+number_below ranges low high name optional (Some (array ds)) h = omega arith
+number_below ranges low high name optional (Some (table ms)) h = omega arith

@@ -1,12 +1,13 @@
 -- The keys of each kind of table, in the order in which they are judged: its name, whether it may be absent, what its value may be.
 use Rattle.std.specs.Prelude.{ℕ, ◌-◌, ◌^◌, Bool, true, false, List, [], ◌∷◌, ◌++◌, codes}
-use Rattle.sp_base.specs.declared.limits.TheConstants.{MAX_BUFFER, MAX_NODES, MAX_STORE}
+use Rattle.sp_base.specs.declared.format.TheConstants.{FORMAT_1, FORMAT_2}
+use Rattle.sp_base.specs.declared.limits.TheConstants.{MAX_BUFFER, MAX_STORE}
 use Rattle.sp_config.specs.declared.keys.Form.{Form}
 use Rattle.sp_config.specs.declared.keys.Form.TheVariants as forms
 use Rattle.sp_config.specs.declared.keys.Key.{Key}
 use Rattle.sp_config.specs.declared.keys.Key.TheVariants.{Must, May}
 use Rattle.sp_config.specs.declared.keys.Shape.{Shape}
-use Rattle.sp_config.specs.declared.keys.Shape.TheVariants.{Number, Height, Index, Digits, AnyDigits, Tables}
+use Rattle.sp_config.specs.declared.keys.Shape.TheVariants.{Number, Height, Index, Id, Digits, AnyDigits, Tables}
 
 -- a row of a table of keys
 pub record Row : Type 0 where
@@ -27,7 +28,7 @@ row_of (May name shape) = may name.now shape
 -- who a daemon is, and where it listens
 abbrev pub own_keys : List Row
 own_keys =
-    must (codes "node") (Number 1 MAX_NODES)
+    must (codes "node") Id
     ∷ must (codes "seed") (Digits 32)
     ∷ must (codes "admin") (Digits 60)
     ∷ must (codes "topology") AnyDigits
@@ -47,11 +48,12 @@ abbrev pub config_keys : List Row
 config_keys = own_keys ++ running_keys
 
 abbrev pub peer_keys : List Row
-peer_keys = must (codes "id") (Number 1 MAX_NODES) ∷ must (codes "port") (Number 1 (2 ^ 16 - 1)) ∷ must (codes "key") (Digits 32) ∷ []
+peer_keys = must (codes "id") Id ∷ must (codes "port") (Number 1 (2 ^ 16 - 1)) ∷ must (codes "key") (Digits 32) ∷ []
 
 abbrev pub draft_keys : List Row
 draft_keys =
-    must (codes "version") (Number 0 (2 ^ 32 - 1))
+    may (codes "format") (Number FORMAT_1 FORMAT_2)
+    ∷ must (codes "version") (Number 0 (2 ^ 32 - 1))
     ∷ must (codes "height") Height
     ∷ must (codes "admin_seed") (Digits 32)
     ∷ must (codes "admin_index") Index
@@ -60,7 +62,7 @@ draft_keys =
     ∷ []
 
 abbrev pub node_keys : List Row
-node_keys = must (codes "id") (Number 1 MAX_NODES) ∷ must (codes "seed") (Digits 32) ∷ []
+node_keys = must (codes "id") Id ∷ must (codes "seed") (Digits 32) ∷ []
 
 abbrev pub edge_keys : List Row
 edge_keys = must (codes "a") (Number 0 255) ∷ must (codes "b") (Number 0 255) ∷ must (codes "weight") (Number 0 (2 ^ 32 - 1)) ∷ []

@@ -1,6 +1,7 @@
 -- What a text says: the four refusals in their order, and the values.
 use Rattle.std.specs.Prelude.{ℕ, ◌≡◌, ◌≢◌, ◌-◌, ◌^◌, ◌==◌, List, map, Option, Some, None, Result, Ok, Err, codes, if◌then◌else◌}
 use Rattle.sp_base.specs.Refusals.{◌>>=◌, as_refusal}
+use Rattle.sp_base.specs.declared.format.TheConstants.{FORMAT_1, FORMAT_2}
 use Rattle.sp_topology.specs.Documents.{read_of}
 use Rattle.sp_topology.specs.Faults.{graph_fault}
 use Rattle.sp_topology.specs.declared.topology.Edge.{Edge}
@@ -17,11 +18,12 @@ use Rattle.sp_config.specs.declared.draft.DraftEdge.{DraftEdge}
 use Rattle.sp_config.specs.declared.draft.DraftNode.{DraftNode}
 use Rattle.sp_config.specs.declared.keys.Form.{Form}
 use Rattle.sp_config.specs.declared.keys.Form.TheVariants as forms
+use Rattle.sp_config.specs.declared.keys.Ranges.{Ranges}
 use Rattle.sp_config.specs.declared.refused.ConfigRefused.{ConfigRefused}
 use Rattle.sp_config.specs.declared.refused.ConfigRefused.TheVariants as refusals
 use Rattle.sp_config.specs.declared.walks.Wrong.{Wrong}
 use Rattle.sp_config.specs.declared.walks.Wrong.TheVariants.{Unknown, Missing, Range}
-use Rattle.sp_config.specs.Values.{bytes_at, number_at, number_or, tables_at}
+use Rattle.sp_config.specs.Values.{bytes_at, format_said, number_at, number_or, tables_at, text_at}
 use Rattle.sp_config.specs.Walks.{first_wrong}
 
 -- ---- refusals
@@ -29,7 +31,7 @@ use Rattle.sp_config.specs.Walks.{first_wrong}
 abbrev pub refusal_of : Wrong → List ℕ → ConfigRefused
 refusal_of Unknown key = refusals.Unknown key
 refusal_of Missing key = refusals.Missing key
-refusal_of (Range bound) key = refusals.Range key
+refusal_of (Range ranges) key = refusals.Range key
 
 abbrev pub unless : {F : Type 0} → (F → ConfigRefused) → Option F → Result (Unit {0}) ConfigRefused
 unless refusal None = Ok tt
@@ -70,18 +72,30 @@ config_from ms = record {
   peers = map peer_of (tables_at (codes "peer") ms);
 }
 
+-- a configuration is under the format of its topology, and no key of it is an index
+abbrev pub config_ranges : Members → Ranges
+config_ranges ms = record { format = format_said (text_at (codes "topology") ms); index = NO_INDEX }
+
 unfoldable pub config_in : Members → Result Config ConfigRefused
 config_in ms = do
   _ ← refused_keys forms.Config ms
-  _ ← refused_by (Range NO_INDEX) forms.Config ms
+  _ ← refused_by (Range (config_ranges ms)) forms.Config ms
   _ ← as_refusal refusals.Topology (document_in (bytes_at (codes "topology") ms))
   Ok (config_from ms)
 
 -- ---- a draft
 
+-- 1 where it isn't said. That of a draft whose format is out of range doesn't count
+abbrev pub format_in : Members → ℕ
+format_in ms = if number_at (codes "format") ms == FORMAT_2 then FORMAT_2 else FORMAT_1
+
 -- that of a draft whose height is out of range doesn't count
 abbrev pub height_in : Members → LmsHeight
 height_in ms = if number_at (codes "height") ms == 10 then Ten else Five
+
+-- its indexes are those of the administrator's key
+abbrev pub draft_ranges : Members → Ranges
+draft_ranges ms = record { format = format_in ms; index = total (height_in ms) - 1 }
 
 abbrev pub node_of : Members → DraftNode
 node_of ms = record { id = record { 0 = number_at (codes "id") ms }; seed = bytes_at (codes "seed") ms }
@@ -94,6 +108,7 @@ as_edge e = record { low = record { 0 = e.a }; high = record { 0 = e.b }; weight
 
 abbrev pub draft_from : Members → Draft
 draft_from ms = record {
+  format = format_in ms;
   version = number_at (codes "version") ms;
   height = height_in ms;
   admin_seed = bytes_at (codes "admin_seed") ms;
@@ -104,12 +119,12 @@ draft_from ms = record {
 
 -- the first fault of the document that the draft would give
 abbrev pub fault_of : Draft → Option TopologyRefused
-fault_of draft = graph_fault (map (λ n. n.id.0) draft.nodes) (map as_edge draft.edges)
+fault_of draft = graph_fault draft.format (map (λ n. n.id.0) draft.nodes) (map as_edge draft.edges)
 
 unfoldable pub draft_in : Members → Result Draft ConfigRefused
 draft_in ms = do
   _ ← refused_keys forms.Draft ms
-  _ ← refused_by (Range (total (height_in ms) - 1)) forms.Draft ms
+  _ ← refused_by (Range (draft_ranges ms)) forms.Draft ms
   _ ← unless refusals.Topology (fault_of (draft_from ms))
   Ok (draft_from ms)
 

@@ -1,11 +1,14 @@
 -- The value at a key of a table: as a number, as a text, as bytes, as the tables of an array; and whether it is what the key's row wants.
 use Rattle.std.specs.Prelude.{ℕ, ℤ, pos, negsuc, nat_le, ◌==◌, ◌/◌, ◌%◌, ◌&&◌, ◌||◌, Bool, true, false, List, [], ◌∷◌, length, Option, Some}
-use Rattle.std.specs.Prelude.{None, option_and_then, unwrap_or, Result, Ok, Err}
+use Rattle.std.specs.Prelude.{None, option_and_then, unwrap_or, Result, Ok, Err, slice_index, if◌then◌else◌}
 use Rattle.std.specs.List.{list_all}
 use Rattle.hex.specs.Hex.{decode_of}
 use Rattle.toml.specs.Data.{Data, string, integer, array, table, Items, no_items, item, Members, get_member, as_array, as_integer, as_str}
+use Rattle.sp_base.specs.Formats.{max_nodes}
+use Rattle.sp_base.specs.declared.format.TheConstants.{FORMAT_1, FORMAT_2}
+use Rattle.sp_config.specs.declared.keys.Ranges.{Ranges}
 use Rattle.sp_config.specs.declared.keys.Shape.{Shape}
-use Rattle.sp_config.specs.declared.keys.Shape.TheVariants.{Number, Height, Index, Digits, AnyDigits, Tables}
+use Rattle.sp_config.specs.declared.keys.Shape.TheVariants.{Number, Height, Index, Id, Digits, AnyDigits, Tables}
 
 -- ---- what a value may be
 
@@ -33,17 +36,26 @@ abbrev pub are_tables : Items → Bool
 are_tables no_items = true
 are_tables (item d ds) = is_table d && are_tables ds
 
--- the value is of this shape, where an index is at most the bound
-abbrev pub fits : ℕ → Shape → Data → Bool
-fits bound (Number low high) (integer z) = is_within low high z
-fits bound Height (integer z) = is_height z
-fits bound Index (integer z) = is_within 0 bound z
-fits bound (Digits n) (string text) = are_digits text && (length text / 2 == n)
-fits bound AnyDigits (string text) = are_digits text
-fits bound Tables (array ds) = are_tables ds
-fits bound _ _ = false
+-- the value is of this shape, where the rest of the text says this of its ranges
+abbrev pub fits : Ranges → Shape → Data → Bool
+fits ranges (Number low high) (integer z) = is_within low high z
+fits ranges Height (integer z) = is_height z
+fits ranges Index (integer z) = is_within 0 ranges.index z
+fits ranges Id (integer z) = is_within 1 (max_nodes ranges.format) z
+fits ranges (Digits n) (string text) = are_digits text && (length text / 2 == n)
+fits ranges AnyDigits (string text) = are_digits text
+fits ranges Tables (array ds) = are_tables ds
+fits ranges _ _ = false
+
+-- said of the ranges of a text that has neither an index nor an id
+abbrev pub nothing_said : Ranges
+nothing_said = record { format = FORMAT_1; index = 0 }
 
 -- ---- what it says
+
+-- the format of a document in digits: 2 exactly where these are digits of whole bytes and those of its fifth byte are 02, and else 1
+abbrev pub format_said : List ℕ → ℕ
+format_said text = if are_digits text && (slice_index text 8 == 48) && (slice_index text 9 == 50) then FORMAT_2 else FORMAT_1
 
 abbrev pub natural : ℤ → ℕ
 natural (pos n) = n

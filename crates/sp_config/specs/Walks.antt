@@ -5,6 +5,7 @@ use Rattle.std.specs.Cmp.Lexicographic.{pointwise}
 use Rattle.sp_base.specs.Cursor.{or_else}
 use Rattle.toml.specs.Data.{Data, Members, no_members, member, get_member}
 use Rattle.sp_config.specs.declared.keys.Form.{Form}
+use Rattle.sp_config.specs.declared.keys.Ranges.{Ranges}
 use Rattle.sp_config.specs.declared.keys.Shape.{Shape}
 use Rattle.sp_config.specs.declared.walks.Wrong.{Wrong}
 use Rattle.sp_config.specs.declared.walks.Wrong.TheVariants.{Unknown, Missing, Range}
@@ -26,21 +27,21 @@ abbrev pub missing_in : List Row → Members → Option (List ℕ)
 missing_in [] ms = None
 missing_in (row ∷ rows) ms = if row.optional || is_some (get_member row.name ms) then missing_in rows ms else Some row.name
 
-abbrev pub fits_if : ℕ → Shape → Option Data → Bool
-fits_if bound shape None = true
-fits_if bound shape (Some d) = fits bound shape d
+abbrev pub fits_if : Ranges → Shape → Option Data → Bool
+fits_if ranges shape None = true
+fits_if ranges shape (Some d) = fits ranges shape d
 
 -- the first row whose key is there, with a value that isn't of its shape
-abbrev pub out_of_range_in : ℕ → List Row → Members → Option (List ℕ)
-out_of_range_in bound [] ms = None
-out_of_range_in bound (row ∷ rows) ms =
-    if fits_if bound row.shape (get_member row.name ms) then out_of_range_in bound rows ms else Some row.name
+abbrev pub out_of_range_in : Ranges → List Row → Members → Option (List ℕ)
+out_of_range_in ranges [] ms = None
+out_of_range_in ranges (row ∷ rows) ms =
+    if fits_if ranges row.shape (get_member row.name ms) then out_of_range_in ranges rows ms else Some row.name
 
 -- the first key that is wrong in this way
 abbrev pub first_in : Wrong → List Row → Members → Option (List ℕ)
 first_in Unknown rows ms = unknown_in rows ms
 first_in Missing rows ms = missing_in rows ms
-first_in (Range bound) rows ms = out_of_range_in bound rows ms
+first_in (Range ranges) rows ms = out_of_range_in ranges rows ms
 
 -- ---- a table and the tables in its arrays
 

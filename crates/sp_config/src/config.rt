@@ -2,16 +2,15 @@
 ghost use Rattle.std.specs.Prelude.{◌≡◌, IfOk, codes, map};
 ghost use Rattle.toml.specs.Data.{get_member};
 ghost use Rattle.toml.specs.View.{items_view, table_view};
-ghost use Rattle.sp_config.specs.declared.config.TheConstants.{NO_INDEX};
 ghost use Rattle.sp_config.specs.Good.{AreGood, IsGood};
 ghost use Rattle.sp_config.specs.Keys.{own_keys, peer_keys, running_keys};
 ghost use Rattle.sp_base.specs.Refusals.{as_refusal};
-ghost use Rattle.sp_config.specs.Readings.{GivesInMemory, config_from, config_in, config_of, document_in, peer_of};
+ghost use Rattle.sp_config.specs.Readings.{GivesInMemory, config_from, config_in, config_of, config_ranges, document_in, peer_of};
 ghost use Rattle.sp_config.specs.Values.{bytes_at, number_at, number_or, tables_at, tables_of};
 
 use crate::ConfigRefused;
-use crate::digits::{bytes_of, key_of, seed_of};
-use crate::keys::Form;
+use crate::digits::{bytes_of, format_said, key_of, seed_of};
+use crate::keys::{Form, Ranges};
 use crate::steps::{refuse, refuse_keys, table_of};
 use crate::values::{array_at, byte_at, short_at, short_or, text_at};
 use crate::walks::Wrong;
@@ -68,10 +67,21 @@ fn config_in(alloc: Global, table: &Table) -> Result<Config, ConfigRefused>
     ensures { GivesInMemory (λ config. config) result (config_in (table_view table.now)) }
 {
     refuse_keys(alloc, Form::Config, table)?;
-    refuse(alloc, Wrong::Range(NO_INDEX), Form::Config, table)?;
+    let ranges = config_ranges(table);
+    refuse(alloc, Wrong::Range(ranges), Form::Config, table)?;
     let document = bytes_of(alloc, text_at(table, "topology"))?;
     refuse_document(alloc, &document)?;
-    Ok(config_from(alloc, table, document)?)
+    Ok(config_from(alloc, ranges, table, document)?)
+}
+
+/// What a configuration says of the ranges in it: the format of its topology.
+fn config_ranges(table: &Table) -> Ranges
+    ensures { result ≡ config_ranges (table_view table.now) }
+{
+    Ranges {
+        format: format_said(text_at(table, "topology")),
+        index: NO_INDEX,
+    }
 }
 
 /// Refuses bytes that don't begin with a document.
@@ -86,17 +96,22 @@ fn refuse_document(alloc: Global, document: &[u8]) -> Result<(), ConfigRefused>
 }
 
 /// The values of a good table, with the document at its key `topology`.
-fn config_from(alloc: Global, table: &Table, document: Vec<u8>) -> Result<Config, Memory>
-    requires own { IsGood own_keys NO_INDEX (table_view table.now) }
-    requires running { IsGood running_keys NO_INDEX (table_view table.now) }
-    requires peers { AreGood peer_keys NO_INDEX (tables_at (codes "peer") (table_view table.now)) }
+fn config_from(
+    alloc: Global,
+    ranges: Ranges,
+    table: &Table,
+    document: Vec<u8>,
+) -> Result<Config, Memory>
+    requires own { IsGood own_keys ranges (table_view table.now) }
+    requires running { IsGood running_keys ranges (table_view table.now) }
+    requires peers { AreGood peer_keys ranges (tables_at (codes "peer") (table_view table.now)) }
     requires document { document.items ≡ bytes_at (codes "topology") (table_view table.now) }
     ensures { IfOk result (λ config. config ≡ config_from (table_view table.now)) }
 {
-    let peers = peers_of(alloc, array_at(table, "peer"))?;
-    let (node, seed, admin) = own_of(table);
-    let (port, client_port) = ports_of(table);
-    let (buffer, store) = bounds_of(table);
+    let peers = peers_of(alloc, ranges, array_at(table, "peer"))?;
+    let (node, seed, admin) = own_of(ranges, table);
+    let (port, client_port) = ports_of(ranges, table);
+    let (buffer, store) = bounds_of(ranges, table);
     Ok(Config {
         node,
         seed,
@@ -111,8 +126,8 @@ fn config_from(alloc: Global, table: &Table, document: Vec<u8>) -> Result<Config
 }
 
 #[tactic(auto, unfolding(crate::specs::Good::IsGood))]
-fn own_of(table: &Table) -> (NodeId, [u8; 32], [u8; 60])
-    requires { IsGood own_keys NO_INDEX (table_view table.now) }
+fn own_of(ranges: Ranges, table: &Table) -> (NodeId, [u8; 32], [u8; 60])
+    requires { IsGood own_keys ranges (table_view table.now) }
     ensures node { result.0.0 ≡ number_at (codes "node") (table_view table.now) }
     ensures seed { result.1 ≡ bytes_at (codes "seed") (table_view table.now) }
     ensures admin { result.2 ≡ bytes_at (codes "admin") (table_view table.now) }
@@ -124,8 +139,8 @@ fn own_of(table: &Table) -> (NodeId, [u8; 32], [u8; 60])
 }
 
 #[tactic(auto, unfolding(crate::specs::Good::IsGood))]
-fn ports_of(table: &Table) -> (u16, u16)
-    requires { IsGood own_keys NO_INDEX (table_view table.now) }
+fn ports_of(ranges: Ranges, table: &Table) -> (u16, u16)
+    requires { IsGood own_keys ranges (table_view table.now) }
     ensures port { result.0 ≡ number_at (codes "port") (table_view table.now) }
     ensures client_port { result.1 ≡ number_at (codes "client_port") (table_view table.now) }
 {
@@ -133,8 +148,8 @@ fn ports_of(table: &Table) -> (u16, u16)
 }
 
 #[tactic(auto, unfolding(crate::specs::Good::IsGood))]
-fn bounds_of(table: &Table) -> (u16, u16)
-    requires { IsGood running_keys NO_INDEX (table_view table.now) }
+fn bounds_of(ranges: Ranges, table: &Table) -> (u16, u16)
+    requires { IsGood running_keys ranges (table_view table.now) }
     ensures buffer { result.0 ≡ number_or 16 (get_member (codes "buffer") (table_view table.now)) }
     ensures store { result.1 ≡ number_or 64 (get_member (codes "store") (table_view table.now)) }
 {
@@ -145,22 +160,22 @@ fn bounds_of(table: &Table) -> (u16, u16)
 }
 
 /// Each of these tables as a peer.
-fn peers_of(alloc: Global, values: &[Value]) -> Result<Vec<Peer>, Memory>
-    requires { AreGood peer_keys NO_INDEX (tables_of (items_view values.now)) }
+fn peers_of(alloc: Global, ranges: Ranges, values: &[Value]) -> Result<Vec<Peer>, Memory>
+    requires { AreGood peer_keys ranges (tables_of (items_view values.now)) }
     ensures { IfOk result (λ peers. peers.items ≡ map peer_of (tables_of (items_view values.now))) }
 {
     let mut peers = Vec::new(alloc);
     'peers: for value in values {
         if let Some(inside) = value.as_table() {
-            peers.push(peer_of(inside))?;
+            peers.push(peer_of(ranges, inside))?;
         }
     }
     Ok(peers)
 }
 
 #[tactic(auto, unfolding(crate::specs::Good::IsGood))]
-fn peer_of(table: &Table) -> Peer
-    requires { IsGood peer_keys NO_INDEX (table_view table.now) }
+fn peer_of(ranges: Ranges, table: &Table) -> Peer
+    requires { IsGood peer_keys ranges (table_view table.now) }
     ensures { result ≡ peer_of (table_view table.now) }
 {
     let id = NodeId(byte_at(table, "id"));

@@ -3,16 +3,17 @@ ghost use Rattle.std.specs.Prelude.{◌≡◌, IfOk, codes, map};
 ghost use Rattle.toml.specs.View.{items_view, table_view};
 ghost use Rattle.sp_config.specs.Good.{AreGood, IsGood};
 ghost use Rattle.sp_config.specs.Keys.{draft_keys, edge_keys, node_keys};
-ghost use Rattle.sp_config.specs.Readings.{GivesInMemory, as_edge, draft_from, draft_in, draft_of, edge_of, fault_of, height_in, node_of, unless};
+ghost use Rattle.sp_config.specs.Readings.{GivesInMemory, as_edge, draft_from, draft_in, draft_of, draft_ranges, edge_of, fault_of, format_in};
+ghost use Rattle.sp_config.specs.Readings.{height_in, node_of, unless};
 ghost use Rattle.sp_config.specs.Values.{bytes_at, number_at, tables_at, tables_of};
 
 use crate::ConfigRefused;
 use crate::digits::seed_of;
-use crate::keys::Form;
+use crate::keys::{Form, Ranges};
 use crate::steps::{refuse, refuse_keys, table_of, total};
 use crate::values::{array_at, byte_at, number_at, text_at, word_at};
 use crate::walks::Wrong;
-use sp_base::{Listed, Memory, NodeId};
+use sp_base::{FORMAT_1, FORMAT_2, Listed, Memory, NodeId};
 use sp_topology::{Edge, LmsHeight, first_fault};
 use std::alloc::Global;
 use toml::{Table, Value};
@@ -21,6 +22,8 @@ use toml::{Table, Value};
 /// A debug line says no seed.
 #[derive(Drop)]
 pub struct Draft {
+    /// The format of the document that it gives, 1 where it isn't said.
+    pub format: u8,
     pub version: u32,
     pub height: LmsHeight,
     pub admin_seed: [u8; 32],
@@ -56,11 +59,32 @@ fn draft_in(alloc: Global, table: &Table) -> Result<Draft, ConfigRefused>
     ensures { GivesInMemory (λ draft. draft) result (draft_in (table_view table.now)) }
 {
     refuse_keys(alloc, Form::Draft, table)?;
-    let bound = total(height_in(table)) - 1;
-    refuse(alloc, Wrong::Range(bound), Form::Draft, table)?;
-    let draft = draft_from(alloc, bound, table)?;
+    let ranges = draft_ranges(table);
+    refuse(alloc, Wrong::Range(ranges), Form::Draft, table)?;
+    let draft = draft_from(alloc, ranges, table)?;
     refuse_graph(alloc, &draft)?;
     Ok(draft)
+}
+
+/// What a draft says of the ranges in it: its format, and the last index of its administrator's key.
+fn draft_ranges(table: &Table) -> Ranges
+    ensures { result ≡ draft_ranges (table_view table.now) }
+{
+    Ranges {
+        format: format_in(table),
+        index: total(height_in(table)) - 1,
+    }
+}
+
+/// The format that a draft says, 1 where it says none. That of one whose format is out of range doesn't count.
+fn format_in(table: &Table) -> u8
+    ensures { result ≡ format_in (table_view table.now) }
+{
+    if number_at(table, "format") == u64::from(FORMAT_2) {
+        FORMAT_2
+    } else {
+        FORMAT_1
+    }
 }
 
 /// The height that a draft says. That of one whose height is out of range doesn't count.
@@ -75,17 +99,18 @@ fn height_in(table: &Table) -> LmsHeight
 
 /// The values of a good table.
 #[tactic(auto, unfolding(crate::specs::Good::IsGood))]
-fn draft_from(alloc: Global, bound: u64, table: &Table) -> Result<Draft, Memory>
-    requires good { IsGood draft_keys bound (table_view table.now) }
-    requires nodes { AreGood node_keys bound (tables_at (codes "node") (table_view table.now)) }
-    requires edges { AreGood edge_keys bound (tables_at (codes "edge") (table_view table.now)) }
+fn draft_from(alloc: Global, ranges: Ranges, table: &Table) -> Result<Draft, Memory>
+    requires good { IsGood draft_keys ranges (table_view table.now) }
+    requires nodes { AreGood node_keys ranges (tables_at (codes "node") (table_view table.now)) }
+    requires edges { AreGood edge_keys ranges (tables_at (codes "edge") (table_view table.now)) }
     ensures { IfOk result (λ draft. draft ≡ draft_from (table_view table.now)) }
 {
-    let nodes = nodes_of(alloc, bound, array_at(table, "node"))?;
-    let edges = edges_of(alloc, bound, array_at(table, "edge"))?;
+    let nodes = nodes_of(alloc, ranges, array_at(table, "node"))?;
+    let edges = edges_of(alloc, ranges, array_at(table, "edge"))?;
     let version = word_at(table, "version");
     let admin_seed = seed_of(text_at(table, "admin_seed"));
     Ok(Draft {
+        format: format_in(table),
         version,
         height: height_in(table),
         admin_seed,
@@ -96,22 +121,22 @@ fn draft_from(alloc: Global, bound: u64, table: &Table) -> Result<Draft, Memory>
 }
 
 /// Each of these tables as a node.
-fn nodes_of(alloc: Global, bound: u64, values: &[Value]) -> Result<Vec<DraftNode>, Memory>
-    requires { AreGood node_keys bound (tables_of (items_view values.now)) }
+fn nodes_of(alloc: Global, ranges: Ranges, values: &[Value]) -> Result<Vec<DraftNode>, Memory>
+    requires { AreGood node_keys ranges (tables_of (items_view values.now)) }
     ensures { IfOk result (λ nodes. nodes.items ≡ map node_of (tables_of (items_view values.now))) }
 {
     let mut nodes = Vec::new(alloc);
     'nodes: for value in values {
         if let Some(inside) = value.as_table() {
-            nodes.push(node_of(bound, inside))?;
+            nodes.push(node_of(ranges, inside))?;
         }
     }
     Ok(nodes)
 }
 
 #[tactic(auto, unfolding(crate::specs::Good::IsGood))]
-fn node_of(bound: u64, table: &Table) -> DraftNode
-    requires { IsGood node_keys bound (table_view table.now) }
+fn node_of(ranges: Ranges, table: &Table) -> DraftNode
+    requires { IsGood node_keys ranges (table_view table.now) }
     ensures { result ≡ node_of (table_view table.now) }
 {
     let id = NodeId(byte_at(table, "id"));
@@ -120,22 +145,22 @@ fn node_of(bound: u64, table: &Table) -> DraftNode
 }
 
 /// Each of these tables as an edge.
-fn edges_of(alloc: Global, bound: u64, values: &[Value]) -> Result<Vec<DraftEdge>, Memory>
-    requires { AreGood edge_keys bound (tables_of (items_view values.now)) }
+fn edges_of(alloc: Global, ranges: Ranges, values: &[Value]) -> Result<Vec<DraftEdge>, Memory>
+    requires { AreGood edge_keys ranges (tables_of (items_view values.now)) }
     ensures { IfOk result (λ edges. edges.items ≡ map edge_of (tables_of (items_view values.now))) }
 {
     let mut edges = Vec::new(alloc);
     'edges: for value in values {
         if let Some(inside) = value.as_table() {
-            edges.push(edge_of(bound, inside))?;
+            edges.push(edge_of(ranges, inside))?;
         }
     }
     Ok(edges)
 }
 
 #[tactic(auto, unfolding(crate::specs::Good::IsGood))]
-fn edge_of(bound: u64, table: &Table) -> DraftEdge
-    requires { IsGood edge_keys bound (table_view table.now) }
+fn edge_of(ranges: Ranges, table: &Table) -> DraftEdge
+    requires { IsGood edge_keys ranges (table_view table.now) }
     ensures { result ≡ edge_of (table_view table.now) }
 {
     let a = byte_at(table, "a");
@@ -151,7 +176,7 @@ fn refuse_graph(alloc: Global, draft: &Draft) -> Result<(), ConfigRefused>
 {
     let ids = ids_of(alloc, draft.nodes.as_slice())?;
     let links = links_of(alloc, draft.edges.as_slice())?;
-    match first_fault(&ids, &links) {
+    match first_fault(draft.format, &ids, &links) {
         Some(fault) => Err(ConfigRefused::Topology(fault)),
         None => Ok(()),
     }

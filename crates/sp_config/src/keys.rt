@@ -2,7 +2,7 @@
 ghost use Rattle.std.specs.Prelude.{◌≡◌, ◌++◌, map};
 ghost use Rattle.sp_config.specs.Keys.{draft_keys, edge_keys, keys_of, node_keys, own_keys, peer_keys, row_of, running_keys};
 
-use sp_base::{MAX_BUFFER, MAX_NODES, MAX_STORE};
+use sp_base::{FORMAT_1, FORMAT_2, MAX_BUFFER, MAX_STORE};
 
 /// The five kinds of tables.
 #[derive(Clone, Copy)]
@@ -14,6 +14,13 @@ pub enum Form {
     Edge,
 }
 
+/// What the rest of a text says of the ranges in it: its format, and the greatest index.
+#[derive(Clone, Copy)]
+pub struct Ranges {
+    pub format: u8,
+    pub index: u64,
+}
+
 /// What the value of a key may be.
 #[derive(Clone, Copy)]
 pub enum Shape {
@@ -21,8 +28,10 @@ pub enum Shape {
     Number(u64, u64),
     /// 5 or 10.
     Height,
-    /// The index from which a signer goes on: an integer from 0 to a bound that the rest of the text gives.
+    /// The index from which a signer goes on: an integer from 0 to the greatest index of the text.
     Index,
+    /// The id of a node: an integer from 1 to the greatest id of the text's format.
+    Id,
     /// Lower-case hexadecimal digits of so many bytes.
     Digits(usize),
     /// Lower-case hexadecimal digits of any bytes.
@@ -76,7 +85,7 @@ fn own_keys() -> &'static [Key]
     ensures { map row_of result.now ≡ own_keys }
 {
     &[
-        Key::Must("node", Shape::Number(1, MAX_NODES as u64)),
+        Key::Must("node", Shape::Id),
         Key::Must("seed", Shape::Digits(32)),
         Key::Must("admin", Shape::Digits(60)),
         Key::Must("topology", Shape::AnyDigits),
@@ -100,7 +109,7 @@ fn peer_keys() -> &'static [Key]
     ensures { map row_of result.now ≡ peer_keys }
 {
     &[
-        Key::Must("id", Shape::Number(1, MAX_NODES as u64)),
+        Key::Must("id", Shape::Id),
         Key::Must("port", Shape::Number(1, u16::MAX as u64)),
         Key::Must("key", Shape::Digits(32)),
     ]
@@ -110,6 +119,7 @@ fn draft_keys() -> &'static [Key]
     ensures { map row_of result.now ≡ draft_keys }
 {
     &[
+        Key::May("format", Shape::Number(FORMAT_1 as u64, FORMAT_2 as u64)),
         Key::Must("version", Shape::Number(0, u32::MAX as u64)),
         Key::Must("height", Shape::Height),
         Key::Must("admin_seed", Shape::Digits(32)),
@@ -123,7 +133,7 @@ fn node_keys() -> &'static [Key]
     ensures { map row_of result.now ≡ node_keys }
 {
     &[
-        Key::Must("id", Shape::Number(1, MAX_NODES as u64)),
+        Key::Must("id", Shape::Id),
         Key::Must("seed", Shape::Digits(32)),
     ]
 }

@@ -2,10 +2,11 @@
 ghost use Rattle.std.specs.Prelude.{◌≡◌, ◌<◌, ◌^◌, option_map};
 ghost use Rattle.toml.specs.Data.{get_member};
 ghost use Rattle.toml.specs.View.{items_view, table_view, view};
-ghost use Rattle.sp_config.specs.Values.{are_tables, fits, items_at, number_at, number_or, text_at};
+ghost use Rattle.sp_config.specs.Values.{are_tables, fits, items_at, nothing_said, number_at, number_or, text_at};
 
 use crate::digits::are_digits;
-use crate::keys::Shape;
+use crate::keys::{Ranges, Shape};
+use sp_base::max_nodes;
 use toml::{Table, Value};
 
 /// The value at a key.
@@ -86,14 +87,15 @@ pub fn array_at<'a>(table: &'a Table, key: &str) -> &'a [Value]
     }
 }
 
-/// Whether a value is of this shape, where an index is at most the bound.
-pub fn fits(bound: u64, shape: Shape, value: &Value) -> bool
-    ensures { result ≡ fits bound shape (view value.now) }
+/// Whether a value is of this shape, where the rest of the text says this of its ranges.
+pub fn fits(ranges: Ranges, shape: Shape, value: &Value) -> bool
+    ensures { result ≡ fits ranges shape (view value.now) }
 {
     match shape {
         Shape::Number(low, high) => is_number(low, high, value),
         Shape::Height => is_number(5, 5, value) || is_number(10, 10, value),
-        Shape::Index => is_number(0, bound, value),
+        Shape::Index => is_number(0, ranges.index, value),
+        Shape::Id => is_number(1, u64::from(max_nodes(ranges.format)), value),
         Shape::Digits(bytes) => has_digits(bytes, value),
         Shape::AnyDigits => is_digits(value),
         Shape::Tables => is_tables(value),
@@ -102,7 +104,7 @@ pub fn fits(bound: u64, shape: Shape, value: &Value) -> bool
 
 /// Whether a value is an integer between these two.
 fn is_number(low: u64, high: u64, value: &Value) -> bool
-    ensures { result ≡ fits 0 (Shape.Number low high) (view value.now) }
+    ensures { result ≡ fits nothing_said (Shape.Number low high) (view value.now) }
 {
     match value.as_integer() {
         Some(number) => number >= 0 && low <= number as u64 && number as u64 <= high,
@@ -112,7 +114,7 @@ fn is_number(low: u64, high: u64, value: &Value) -> bool
 
 /// Whether a value is the digits of so many bytes.
 fn has_digits(bytes: usize, value: &Value) -> bool
-    ensures { result ≡ fits 0 (Shape.Digits bytes) (view value.now) }
+    ensures { result ≡ fits nothing_said (Shape.Digits bytes) (view value.now) }
 {
     match value.as_str() {
         Some(text) => are_digits(text) && text.len() / 2 == bytes,
@@ -122,7 +124,7 @@ fn has_digits(bytes: usize, value: &Value) -> bool
 
 /// Whether a value is the digits of any bytes.
 fn is_digits(value: &Value) -> bool
-    ensures { result ≡ fits 0 Shape.AnyDigits (view value.now) }
+    ensures { result ≡ fits nothing_said Shape.AnyDigits (view value.now) }
 {
     match value.as_str() {
         Some(text) => are_digits(text),
@@ -132,7 +134,7 @@ fn is_digits(value: &Value) -> bool
 
 /// Whether a value is an array of tables.
 fn is_tables(value: &Value) -> bool
-    ensures { result ≡ fits 0 Shape.Tables (view value.now) }
+    ensures { result ≡ fits nothing_said Shape.Tables (view value.now) }
 {
     match value.as_array() {
         Some(values) => are_tables(values),

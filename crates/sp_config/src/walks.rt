@@ -5,7 +5,7 @@ ghost use Rattle.sp_config.specs.Keys.{keys_of, row_of};
 ghost use Rattle.sp_config.specs.Values.{tables_at};
 ghost use Rattle.sp_config.specs.Walks.{first_among, first_in, first_wrong, is_key, missing_in, out_of_range_in, unknown_in};
 
-use crate::keys::{Form, Key, keys_of};
+use crate::keys::{Form, Key, Ranges, keys_of};
 use crate::values::{array_at, fits, value_at};
 use toml::Table;
 
@@ -16,8 +16,8 @@ pub enum Wrong {
     Unknown,
     /// It must be there, and isn't.
     Missing,
-    /// Its value is of another type, or out of its range, where an index is at most this.
-    Range(u64),
+    /// Its value is of another type, or out of its range, where the rest of the text says this of its ranges.
+    Range(Ranges),
 }
 
 /// The first key that is wrong in this way: at the top, then table by table.
@@ -62,9 +62,9 @@ fn first_in(wrong: Wrong, form: Form, table: &Table) -> Option<&str>
             Some(key) => Some(key),
             None => missing_in(rest, table),
         },
-        Wrong::Range(bound) => match out_of_range_in(bound, first, table) {
+        Wrong::Range(ranges) => match out_of_range_in(ranges, first, table) {
             Some(key) => Some(key),
-            None => out_of_range_in(bound, rest, table),
+            None => out_of_range_in(ranges, rest, table),
         },
     }
 }
@@ -108,12 +108,12 @@ fn missing_in(rows: &[Key], table: &Table) -> Option<&'static str>
 }
 
 /// The first row whose key is there, with a value that isn't of its shape.
-fn out_of_range_in(bound: u64, rows: &[Key], table: &Table) -> Option<&'static str>
-    ensures { option_map (λ key. key.now) result ≡ out_of_range_in bound (map row_of rows.now) (table_view table.now) }
+fn out_of_range_in(ranges: Ranges, rows: &[Key], table: &Table) -> Option<&'static str>
+    ensures { option_map (λ key. key.now) result ≡ out_of_range_in ranges (map row_of rows.now) (table_view table.now) }
 {
     'rows: for row in rows {
         if let Some(value) = value_at(table, row.name()) {
-            if !fits(bound, row.shape(), value) {
+            if !fits(ranges, row.shape(), value) {
                 return Some(row.name());
             }
         }

@@ -1,6 +1,8 @@
 // The objects of a frame that was handled, with their answers: which of them is the first that is forged.
-ghost use Rattle.std.specs.Prelude.{◌≡◌, ◌∷◌, ◌++◌, ◌-◌, List, Ok, Some, None, drop, length, map, option_map, if◌then◌else◌};
+ghost use Rattle.std.specs.Prelude.{◌≡◌, ◌∷◌, ◌++◌, ◌-◌, All, IfSome, List, Ok, Some, None, drop, length, map, option_map, if◌then◌else◌};
 ghost use Rattle.laws_node.specs.Objects.{objects_in};
+ghost use Rattle.sp_base.specs.declared.format.TheConstants.{FORMAT_1};
+ghost use Rattle.sp_frame.specs.OfFormat.{AreOf, IsOf, IsSlotOf};
 ghost use Rattle.sp_frame.specs.Views.{as_contents, as_list, as_object};
 ghost use Rattle.sp_msg.specs.Bodies.{encoded, read_body};
 ghost use Rattle.sp_msg.specs.Views.{as_body};
@@ -41,14 +43,15 @@ struct Looked<'a, 'b> {
     rest: &'b [Item],
 }
 
-/// The first object of a handled frame that is forged: its bytes. The answers are those to its objects, in the order of handling.
+/// The first object of a handled frame of format 1 that is forged: its bytes. The answers are those to its objects, in the order of handling.
 #[tactic(auto, using(crate::proofs::Turns::objects_in_sections))]
 pub fn first_forged<'a>(
     known: &Known<'_>,
     sections: &Sections<'a>,
     items: &[Item],
 ) -> Option<&'a [u8]>
-    requires { length known.now.events.now ≡ length known.now.journal.now }
+    requires known { length known.now.events.now ≡ length known.now.journal.now }
+    requires of_format { AreOf FORMAT_1 sections.now }
     ensures { option_map (λ b. b.now) result
         ≡ forged_in_turn (setting_of known.now.scenario.now) known.now.events.now known.now.journal.now
         (objects_in (pieces_of (as_contents sections.now))) items.now }
@@ -67,7 +70,8 @@ pub fn first_forged<'a>(
 /// The same of a slot.
 #[tactic(auto, using(crate::proofs::Turns::none_left))]
 fn in_slot<'a>(known: &Known<'_>, slot: &Option<Slot<'a>>, items: &[Item]) -> Option<&'a [u8]>
-    requires { length known.now.events.now ≡ length known.now.journal.now }
+    requires known { length known.now.events.now ≡ length known.now.journal.now }
+    requires of_format { IfSome slot.now (IsSlotOf FORMAT_1) }
     ensures { option_map (λ b. b.now) result
         ≡ forged_in_turn (setting_of known.now.scenario.now) known.now.events.now known.now.journal.now (slot_objects slot.now) items.now }
 {
@@ -88,7 +92,8 @@ fn look<'a, 'b>(
     object: &Option<ObjectRef<'a>>,
     items: &'b [Item],
 ) -> Looked<'a, 'b>
-    requires { length known.now.events.now ≡ length known.now.journal.now }
+    requires known { length known.now.events.now ≡ length known.now.journal.now }
+    requires of_format { IfSome object.now (IsOf FORMAT_1) }
     ensures { (os : List Kept) → forged_in_turn (setting_of known.now.scenario.now) known.now.events.now known.now.journal.now
         (as_list (option_map as_object object.now) ++ os) items.now
         ≡ or_later (option_map (λ b. b.now) result.found)
@@ -110,7 +115,8 @@ fn look_all<'a, 'b>(
     place: usize,
     items: &'b [Item],
 ) -> Looked<'a, 'b>
-    requires { length known.now.events.now ≡ length known.now.journal.now }
+    requires known { length known.now.events.now ≡ length known.now.journal.now }
+    requires of_format { All (IsOf FORMAT_1) objects.now }
     ensures { (os : List Kept) → forged_in_turn (setting_of known.now.scenario.now) known.now.events.now known.now.journal.now
         (map as_object (drop place objects.now) ++ os) items.now
         ≡ or_later (option_map (λ b. b.now) result.found)
@@ -131,7 +137,8 @@ fn look_all<'a, 'b>(
 
 /// Looks at an object with the first of the answers.
 fn look_at<'a, 'b>(known: &Known<'_>, object: &ObjectRef<'a>, items: &'b [Item]) -> Looked<'a, 'b>
-    requires { length known.now.events.now ≡ length known.now.journal.now }
+    requires known { length known.now.events.now ≡ length known.now.journal.now }
+    requires of_format { IsOf FORMAT_1 object.now }
     ensures { (os : List Kept) → forged_in_turn (setting_of known.now.scenario.now) known.now.events.now known.now.journal.now
         (as_object object.now ∷ os) items.now
         ≡ or_later (option_map (λ b. b.now) result.found)
@@ -151,7 +158,8 @@ fn look_at<'a, 'b>(known: &Known<'_>, object: &ObjectRef<'a>, items: &'b [Item])
 
 /// The bytes of an object that is forged.
 fn found_in<'a>(known: &Known<'_>, object: &ObjectRef<'a>, item: Item) -> Option<&'a [u8]>
-    requires { length known.now.events.now ≡ length known.now.journal.now }
+    requires known { length known.now.events.now ≡ length known.now.journal.now }
+    requires of_format { IsOf FORMAT_1 object.now }
     ensures { option_map (λ b. b.now) result
         ≡ (if is_forged format (setting_of known.now.scenario.now) known.now.events.now known.now.journal.now
         (as_object object.now, item) then Some (encoded (as_object object.now).body) else None) }
@@ -165,7 +173,8 @@ fn found_in<'a>(known: &Known<'_>, object: &ObjectRef<'a>, item: Item) -> Option
 
 /// Whether the object is new, and its signer is correct and never signed it.
 fn is_forged(known: &Known<'_>, object: &ObjectRef<'_>, item: Item) -> bool
-    requires { length known.now.events.now ≡ length known.now.journal.now }
+    requires known { length known.now.events.now ≡ length known.now.journal.now }
+    requires of_format { IsOf FORMAT_1 object.now }
     ensures { result ≡ is_forged format (setting_of known.now.scenario.now) known.now.events.now known.now.journal.now (as_object object.now, item) }
 {
     let by = signer(&object.body);
@@ -194,8 +203,10 @@ fn is_new(item: Item) -> bool
 
 /// The objects of messages with link numbers, from this place on.
 fn objects_of<'a>(prios: &Four<(u64, ObjectRef<'a>)>, place: usize) -> Four<ObjectRef<'a>>
+    requires { All (λ m. IsOf FORMAT_1 m.1) prios.now }
     ensures objects { map as_object result ≡ map (λ m. as_object m.1) (drop place prios.now) }
     ensures many { length result ≡ length prios.now - place }
+    ensures of_format { All (IsOf FORMAT_1) result }
 {
     match prios.get(place) {
         Some((_, object)) => objects_of(prios, place + 1).led_by(*object),
@@ -205,6 +216,7 @@ fn objects_of<'a>(prios: &Four<(u64, ObjectRef<'a>)>, place: usize) -> Four<Obje
 
 /// The bytes of an object's message.
 fn message_of<'a>(object: &ObjectRef<'a>) -> &'a [u8]
+    requires { IsOf FORMAT_1 object.now }
     ensures { result.now ≡ encoded (as_object object.now).body }
 {
     spells(object.bytes, &object.body);

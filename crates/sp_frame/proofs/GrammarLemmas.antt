@@ -1,5 +1,6 @@
 -- A way to read and a way to spell that fit each other: the words of the grammar keep this.
-use Rattle.std.proofs.Common.{◌≡◌, ℕ, zero, suc, ◌^◌, ◌<◌, ◌≤◌, ◌==◌, true, inl, inr, List, [], ◌∷◌, ◌++◌, length, append_assoc, Option, None, Some, Result, Ok, Err, if◌then◌else◌, refl, sym, ap, ◌∙◌, subst, arith, lit<}
+use Rattle.std.proofs.Common.{◌≡◌, ℕ, zero, suc, ◌^◌, ◌<◌, ◌≤◌, ◌==◌, Bool, true, false, inl, inr, List, [], ◌∷◌, ◌++◌, length, append_assoc, Option, None}
+use Rattle.std.proofs.Common.{Some, Result, Ok, Err, if◌then◌else◌, refl, sym, ap, ◌∙◌, subst, arith, lit<}
 use Rattle.std.specs.Prelude.{All, IfSome, flat_map, nat_le}
 use Rattle.std.proofs.lemmas.Bool.{cases_Bool, eqb-true}
 use Rattle.std.proofs.lemmas.Bool.Decides.{nat_tests}
@@ -10,7 +11,7 @@ use Rattle.sp_base.specs.Refusals.{◌>>=◌}
 use Rattle.sp_base.specs.Spelling.{AreBytes}
 use Rattle.sp_base.proofs.NumberLemmas.{number_back, number_read, piece_back, piece_read}
 use Rattle.sp_base.proofs.RefusalLemmas.{as_refusal_ok, then_ok}
-use Rattle.sp_frame.specs.Grammar.{◌⊗◌, count, counted, counted_bytes, flagged, flagged_bytes, made, number, piece, times}
+use Rattle.sp_frame.specs.Grammar.{◌⊗◌, count, counted, counted_bytes, flagged, flagged_bytes, later, later_bytes, limited, made, number, piece, times}
 use Rattle.sp_frame.specs.declared.refused.SectionRefused.{SectionRefused}
 use Rattle.sp_frame.specs.declared.refused.SectionRefused.TheVariants as refusals
 
@@ -64,6 +65,12 @@ piece_is_read n bytes p are e =
     let both : AreBytes (p.0 ++ p.1) = subst AreBytes m.joined are in
     record { begins = record { is = m.joined; are_bytes = tail_of p.0 p.1 both }; count = m.count; are_bytes = front_of p.0 p.1 both }
 
+pub piece_fit : (n : ℕ) → Fit (piece n) (λ xs. xs) (λ xs. length xs ≡ n)
+piece_fit n = record {
+  back = λ xs rest long. ap (λ k. piece k (xs ++ rest)) (sym long) ∙ piece_is_back xs rest;
+  read = λ bytes p are e. let f = piece_is_read n bytes p are e in (f.begins, f.count);
+}
+
 -- ---- one part and the next
 -- both parts, the bytes in one
 pub joined : (bytes front middle back rest : List ℕ) → Begins bytes front middle → Begins middle back rest → Begins bytes (front ++ back) rest
@@ -98,27 +105,33 @@ module _ {X Y : Type 0} {one : List ℕ → Result (X × List ℕ) SectionRefuse
     read = both_read first second;
   }
 
-  -- ---- a part made into a value of another type
-  pub made_fit : (make : X → Y) (parts : Y → X) → ((y : Y) → make (parts y) ≡ y) → ((x : X) → parts (make x) ≡ x) → Fit one spell IsGood
-      → Fit (made make one) (λ y. spell (parts y)) (λ y. IsGood (parts y))
-  made_fit make parts whole again fit = record {
-    back = λ y rest good. rw (fit.back (parts y) rest good) (ap (λ z. Ok (z, rest)) (whole y));
+  -- ---- a part made into a value of another type, where what is good has one way back
+  pub made_good_fit : (make : X → Y) (parts : Y → X) (IsFine : Y → Type 0) → ((y : Y) → IsFine y → make (parts y) ≡ y)
+      → ((x : X) → IsGood x → parts (make x) ≡ x) → ((y : Y) → IsFine y → IsGood (parts y)) → ((x : X) → IsGood x → IsFine (make x)) → Fit one spell IsGood
+      → Fit (made make one) (λ y. spell (parts y)) IsFine
+  made_good_fit make parts IsFine whole again to from fit = record {
+    back = λ y rest fine. rw (fit.back (parts y) rest (to y fine)) (ap (λ z. Ok (z, rest)) (whole y fine));
     read = λ bytes p are e.
         let s = then_ok (one bytes) (λ x. Ok (make x.0, x.1)) p e in
         let f = fit.read bytes s.0 are s.1 in
         let same : (make s.0.0, s.0.1) ≡ p = let h : Ok (make s.0.0, s.0.1) ≡ Ok p = s.2 in cc in
-        let here : Begins bytes (spell (parts (make s.0.0))) s.0.1 × IsGood (parts (make s.0.0)) =
-        subst (λ x. Begins bytes (spell x) s.0.1 × IsGood x) (sym (again s.0.0)) f in
-        subst (λ (q : Y × List ℕ). Begins bytes (spell (parts q.0)) q.1 × IsGood (parts q.0)) same here;
+        let here : Begins bytes (spell (parts (make s.0.0))) s.0.1 × IsFine (make s.0.0) =
+        (subst (λ x. Begins bytes (spell x) s.0.1) (sym (again s.0.0 f.1)) f.0, from s.0.0 f.1) in
+        subst (λ (q : Y × List ℕ). Begins bytes (spell (parts q.0)) q.1 × IsFine q.0) same here;
   }
 
--- ---- counts
-count_is_back : (most x : ℕ) (rest : List ℕ) → most < 256 → x ≤ most → count most (big_bytes 1 x ++ rest) ≡ Ok (x, rest)
-unfolding count
-count_is_back most x rest small few =
+  pub made_fit : (make : X → Y) (parts : Y → X) → ((y : Y) → make (parts y) ≡ y) → ((x : X) → parts (make x) ≡ x) → Fit one spell IsGood
+      → Fit (made make one) (λ y. spell (parts y)) (λ y. IsGood (parts y))
+  made_fit make parts whole again fit =
+      made_good_fit make parts (λ y. IsGood (parts y)) (λ y fine. whole y) (λ x good. again x) (λ y fine. fine) (λ x good. subst IsGood (sym (again x)) good) fit
+
+-- ---- limited numbers, and counts
+limited_is_back : (n most x : ℕ) (rest : List ℕ) → most < 256 ^ n → x ≤ most → limited n most (big_bytes n x ++ rest) ≡ Ok (x, rest)
+unfolding limited
+limited_is_back n most x rest small few =
     let below : nat_le x most ≡ true = grind (arith, nat_tests) in
-    let fits : x < 256 ^ 1 = omega (arith, small, few) in
-    rw (number_is_back 1 x rest fits) (rw below refl)
+    let fits : x < 256 ^ n = omega (arith, small, few) in
+    rw (number_is_back n x rest fits) (rw below refl)
 
 few_enough : (most : ℕ) (n p : ℕ × List ℕ) → (if nat_le n.0 most then Ok n else Err refusals.Count) ≡ Ok p → (n ≡ p) × (n.0 ≤ most)
 few_enough most n p e = elim (cases_Bool (nat_le n.0 most)) [
@@ -126,13 +139,23 @@ few_enough most n p e = elim (cases_Bool (nat_le n.0 most)) [
   | inl t ↦ (let f : Ok n ≡ Ok p = rw t at e in cc, grind (arith, nat_tests))
 ]
 
-count_is_read : (most : ℕ) (bytes : List ℕ) (p : ℕ × List ℕ) → AreBytes bytes → count most bytes ≡ Ok p → Begins bytes (big_bytes 1 p.0) p.1 × (p.0 ≤ most)
-unfolding count
-count_is_read most bytes p are e =
-    let s = then_ok (number 1 bytes) (λ n. if nat_le n.0 most then Ok n else Err refusals.Count) p e in
-    let f = number_is_read 1 bytes s.0 are s.1 in
+limited_is_read : (n most : ℕ) (bytes : List ℕ) (p : ℕ × List ℕ) → AreBytes bytes → limited n most bytes ≡ Ok p
+    → Begins bytes (big_bytes n p.0) p.1 × (p.0 ≤ most)
+unfolding limited
+limited_is_read n most bytes p are e =
+    let s = then_ok (number n bytes) (λ x. if nat_le x.0 most then Ok x else Err refusals.Count) p e in
+    let f = number_is_read n bytes s.0 are s.1 in
     let few = few_enough most s.0 p s.2 in
-    subst (λ (q : ℕ × List ℕ). Begins bytes (big_bytes 1 q.0) q.1 × (q.0 ≤ most)) few.0 (f.0, few.1)
+    subst (λ (q : ℕ × List ℕ). Begins bytes (big_bytes n q.0) q.1 × (q.0 ≤ most)) few.0 (f.0, few.1)
+
+pub limited_fit : (n most : ℕ) → most < 256 ^ n → Fit (limited n most) (big_bytes n) (λ x. x ≤ most)
+limited_fit n most small = record { back = λ x rest few. limited_is_back n most x rest small few; read = limited_is_read n most }
+
+count_is_back : (most x : ℕ) (rest : List ℕ) → most < 256 → x ≤ most → count most (big_bytes 1 x ++ rest) ≡ Ok (x, rest)
+count_is_back most x rest small few = limited_is_back 1 most x rest small few
+
+count_is_read : (most : ℕ) (bytes : List ℕ) (p : ℕ × List ℕ) → AreBytes bytes → count most bytes ≡ Ok p → Begins bytes (big_bytes 1 p.0) p.1 × (p.0 ≤ most)
+count_is_read most bytes p are e = limited_is_read 1 most bytes p are e
 
 -- ---- so many, one after the other
 -- so many were read
@@ -146,6 +169,18 @@ without : {X : Type 0} (spell : X → List ℕ) (IsGood : X → Type 0) (bytes r
     → (None, rest) ≡ p → Begins bytes (flagged_bytes spell p.0) p.1 × IfSome p.0 IsGood
 without {X} spell IsGood bytes rest p begins same =
     subst (λ (q : Option X × List ℕ). Begins bytes (flagged_bytes spell q.0) q.1 × IfSome q.0 IsGood) same (begins, tt)
+
+when_later : {X : Type 0} (IsGood : X → Type 0) (x : Option X) → IfSome x IsGood → IfSome x (λ y. (false ≡ false) × IsGood y)
+when_later IsGood None good = tt
+when_later IsGood (Some x) good = (refl, good)
+
+later_when : {X : Type 0} (IsGood : X → Type 0) (x : Option X) → IfSome x (λ y. (false ≡ false) × IsGood y) → IfSome x IsGood
+later_when IsGood None good = tt
+later_when IsGood (Some x) good = good.1
+
+none_first : {X : Type 0} (IsGood : X → Type 0) (x : Option X) → IfSome x (λ y. (true ≡ false) × IsGood y) → x ≡ None
+none_first IsGood None good = refl
+none_first IsGood (Some x) good = absurd (let wrong : true ≡ false = good.0 in cc)
 
 module _ {X : Type 0} {one : List ℕ → Result (X × List ℕ) SectionRefused} {spell : X → List ℕ} {IsGood : X → Type 0} where
   times_back : Fit one spell IsGood → (xs : List X) (rest : List ℕ) → All IsGood xs → times one (length xs) (flat_map spell xs ++ rest) ≡ Ok (xs, rest)
@@ -227,3 +262,16 @@ module _ {X : Type 0} {one : List ℕ → Result (X × List ℕ) SectionRefused}
 
   pub flagged_fit : Fit one spell IsGood → Fit (flagged one) (flagged_bytes spell) (λ x. IfSome x IsGood)
   flagged_fit fit = record { back = flagged_back fit; read = flagged_read fit }
+
+  -- ---- a part that format 1 lacks
+  pub later_fit : (first : Bool) → Fit one spell IsGood → Fit (later one first) (later_bytes spell first) (λ x. IfSome x (λ y. (first ≡ false) × IsGood y))
+  later_fit true fit = record {
+    back = λ x rest good. ap (λ z. Ok (z, rest)) (sym (none_first IsGood x good));
+    read = λ bytes p are e.
+        let same : (None, bytes) ≡ p = let f : Ok (None, bytes) ≡ Ok p = e in cc in
+        subst (λ (q : Option X × List ℕ). Begins bytes [] q.1 × IfSome q.0 (λ y. (true ≡ false) × IsGood y)) same (record { is = refl; are_bytes = are }, tt);
+  }
+  later_fit false fit = record {
+    back = λ x rest good. flagged_back fit x rest (later_when IsGood x good);
+    read = λ bytes p are e. let f = flagged_read fit bytes p are e in (f.0, when_later IsGood p.0 f.1);
+  }

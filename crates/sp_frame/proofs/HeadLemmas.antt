@@ -8,33 +8,36 @@ use Rattle.sp_base.specs.Spelling.{AreBytes}
 use Rattle.sp_base.proofs.NumberLemmas.{bytes_back}
 use Rattle.sp_frame.specs.Frames.{IsFrame, ends_bytes, head_bytes, head_of, numbers_bytes, sections_part, tag_part}
 use Rattle.sp_frame.specs.Laws.{FrameIsItsParts, HeadIsRead}
-use Rattle.sp_frame.specs.declared.frame.TheConstants.{NAME, VERSION}
+use Rattle.sp_frame.specs.declared.frame.TheConstants.{NAME}
 use Rattle.sp_frame.specs.declared.head.Head.{Head}
 use Rattle.sp_frame.proofs.ObjectLemmas.{in_pieces}
 
 -- ---- a head is read back
-abbrev head_from : ℕ → ℕ → ℕ → ℕ → ℕ → ℕ → Head
-head_from a b c d e f = record { from = record { 0 = a }; to = record { 0 = b }; boot = c; echo = d; counter = e; topology = f }
+abbrev head_from : ℕ → ℕ → ℕ → ℕ → ℕ → ℕ → ℕ → Head
+head_from a b c d e f g = record { format = g; from = record { 0 = a }; to = record { 0 = b }; boot = c; echo = d; counter = e; topology = f }
 
-same_head : (a b c d e f : ℕ) (h : Head) → a ≡ h.from.0 → b ≡ h.to.0 → c ≡ h.boot → d ≡ h.echo → e ≡ h.counter → f ≡ h.topology → head_from a b c d e f ≡ h
-same_head a b c d e f h p q r s t u =
-    ap (λ x. head_from x b c d e f) p
-    ∙ ap (λ x. head_from h.from.0 x c d e f) q
-    ∙ ap (λ x. head_from h.from.0 h.to.0 x d e f) r
-    ∙ ap (λ x. head_from h.from.0 h.to.0 h.boot x e f) s
-    ∙ ap (λ x. head_from h.from.0 h.to.0 h.boot h.echo x f) t
-    ∙ ap (λ x. head_from h.from.0 h.to.0 h.boot h.echo h.counter x) u
+same_head : (a b c d e f g : ℕ) (h : Head) → a ≡ h.from.0 → b ≡ h.to.0 → c ≡ h.boot → d ≡ h.echo → e ≡ h.counter → f ≡ h.topology → g ≡ h.format
+    → head_from a b c d e f g ≡ h
+same_head a b c d e f g h p q r s t u v =
+    ap (λ x. head_from x b c d e f g) p
+    ∙ ap (λ x. head_from h.from.0 x c d e f g) q
+    ∙ ap (λ x. head_from h.from.0 h.to.0 x d e f g) r
+    ∙ ap (λ x. head_from h.from.0 h.to.0 h.boot x e f g) s
+    ∙ ap (λ x. head_from h.from.0 h.to.0 h.boot h.echo x f g) t
+    ∙ ap (λ x. head_from h.from.0 h.to.0 h.boot h.echo h.counter x g) u
+    ∙ ap (λ x. head_from h.from.0 h.to.0 h.boot h.echo h.counter h.topology x) v
 
 pub head_is_read : HeadIsRead
 unfolding head_of head_bytes ends_bytes numbers_bytes
 head_is_read h rest good =
-    same_head _ _ _ _ _ _ h
+    same_head _ _ _ _ _ _ _ h
     (let small : h.from.0 < 256 = good.from in omega (arith, small))
     (let small : h.to.0 < 256 = good.to in omega (arith, small))
     (big_number-reads_back 8 h.boot (big_bytes 8 h.echo ++ big_bytes 8 h.counter ++ big_bytes 4 h.topology ++ rest) good.boot)
     (big_number-reads_back 8 h.echo (big_bytes 8 h.counter ++ big_bytes 4 h.topology ++ rest) good.echo)
     (big_number-reads_back 8 h.counter (big_bytes 4 h.topology ++ rest) good.counter)
     (big_number-reads_back 4 h.topology rest good.topology)
+    (let small : h.format < 256 = good.format in omega (arith, small))
 
 -- ---- a frame is its parts
 drop_none : (n : ℕ) → drop {A = ℕ} n [] ≡ []
@@ -65,12 +68,12 @@ byte_there (suc k) (b ∷ bytes) = byte_there k bytes
 cut_byte : (k : ℕ) (bytes : List ℕ) → AreBytes bytes → k + 1 ≤ length bytes → big_bytes 1 (slice_index bytes k) ++ drop (k + 1) bytes ≡ drop k bytes
 cut_byte k bytes are long = ap (λ n. big_bytes 1 n ++ drop (k + 1) bytes) (sym (byte_there k bytes)) ∙ cut 1 k bytes are long
 
-ends_are : (bytes : List ℕ) → AreBytes bytes → 65 ≤ length bytes → big_number 2 bytes ≡ NAME → slice_index bytes 2 ≡ VERSION
+ends_are : (bytes : List ℕ) → AreBytes bytes → 65 ≤ length bytes → big_number 2 bytes ≡ NAME
     → ends_bytes (head_of bytes) ++ drop 5 bytes ≡ bytes
 unfolding ends_bytes head_of
-ends_are bytes are long name version =
+ends_are bytes are long name =
     let a = big_bytes 2 NAME in
-    let b = big_bytes 1 VERSION in
+    let b = big_bytes 1 (slice_index bytes 2) in
     let c = big_bytes 1 (slice_index bytes 3) in
     let d = big_bytes 1 (slice_index bytes 4) in
     let fifth : d ++ drop 5 bytes ≡ drop 4 bytes = cut_byte 4 bytes are (omega (arith, long)) in
@@ -80,7 +83,6 @@ ends_are bytes are long name version =
     in_pieces a b c d (drop 5 bytes)
     ∙ ap (λ x. a ++ (b ++ (c ++ x))) fifth
     ∙ ap (λ x. a ++ (b ++ x)) fourth
-    ∙ ap (λ n. a ++ (big_bytes 1 n ++ drop 3 bytes)) (sym version)
     ∙ ap (λ x. a ++ x) third
     ∙ ap (λ n. big_bytes 2 n ++ drop 2 bytes) (sym name)
     ∙ first
@@ -107,7 +109,7 @@ unfolding head_bytes
 head_is bytes are frame =
     append_assoc (ends_bytes (head_of bytes)) (numbers_bytes (head_of bytes)) (drop 33 bytes)
     ∙ ap (λ x. ends_bytes (head_of bytes) ++ x) (numbers_are bytes are frame.least)
-    ∙ ends_are bytes are frame.least frame.name frame.version
+    ∙ ends_are bytes are frame.least frame.name
 
 -- the bytes after the head are the sections and the tag
 split : (k : ℕ) (bytes : List ℕ) → 33 ≤ k → k ≤ length bytes → drop 33 (take k bytes) ++ drop k bytes ≡ drop 33 bytes

@@ -1,3 +1,4 @@
+pub mod FirstFormat
 pub mod GrammarLemmas
 pub mod HeadLemmas
 pub mod LengthLemmas

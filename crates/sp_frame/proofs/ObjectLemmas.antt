@@ -7,7 +7,7 @@ use Rattle.sp_base.specs.Refusals.{◌>>=◌}
 use Rattle.sp_base.specs.declared.format.TheConstants.{FORMAT_1}
 use Rattle.sp_base.specs.Spelling.{AreBytes}
 use Rattle.sp_base.proofs.RefusalLemmas.{then_ok}
-use Rattle.sp_msg.specs.Bodies.{encoded, read_body}
+use Rattle.sp_msg.specs.Bodies.{encoded_in, read_body_in}
 use Rattle.sp_msg.specs.declared.body.Body.{Body}
 use Rattle.sp_msg.specs.declared.kept.Kept.{Kept}
 use Rattle.sp_msg.specs.declared.refused.MsgRefused.{MsgRefused}
@@ -29,24 +29,25 @@ unfolding length_of
 length_back len rest small = rw ((number_fit 2).back len rest small) (rw (same_number len) refl)
 
 -- an object by its pieces
-pieces_back : (kind : Kind) (len : ℕ) (o : Kept) (rest : List ℕ) → IsObject kind len o
-    → object kind len (big_bytes 2 (length (encoded o.body)) ++ (encoded o.body ++ (big_bytes 2 len ++ (o.signature ++ rest)))) ≡ Ok (o, rest)
+pieces_back : (format : ℕ) (kind : Kind) (len : ℕ) (o : Kept) (rest : List ℕ) → IsObject format kind len o
+    → object format kind len (big_bytes 2 (length (encoded_in format o.body)) ++ (encoded_in format o.body ++ (big_bytes 2 len ++ (o.signature ++ rest)))) ≡ Ok (o, rest)
 unfolding object
-pieces_back kind len o rest good =
+pieces_back format kind len o rest good =
     let signed : piece len (o.signature ++ rest) ≡ Ok (o.signature, rest) = ap (λ n. piece n (o.signature ++ rest)) (sym good.long) ∙ piece_is_back o.signature rest in
-    rw ((number_fit 2).back (length (encoded o.body)) (encoded o.body ++ (big_bytes 2 len ++ (o.signature ++ rest))) (encoded_fits o.body good.fields))
-    (rw (piece_is_back (encoded o.body) (big_bytes 2 len ++ (o.signature ++ rest)))
-    (rw (whole_is_read FORMAT_1 o.body good.fields) (rw good.is (rw (length_back len (o.signature ++ rest) good.fits) (rw signed refl)))))
+    rw ((number_fit 2).back (length (encoded_in format o.body)) (encoded_in format o.body ++ (big_bytes 2 len ++ (o.signature ++ rest))) (encoded_fits format o.body good.fields))
+    (rw (piece_is_back (encoded_in format o.body) (big_bytes 2 len ++ (o.signature ++ rest)))
+    (rw (whole_is_read format o.body good.fields) (rw good.is (rw (length_back len (o.signature ++ rest) good.fits) (rw signed refl)))))
 
 pub in_pieces : (a b c d rest : List ℕ) → (a ++ b ++ c ++ d) ++ rest ≡ a ++ (b ++ (c ++ (d ++ rest)))
 in_pieces a b c d rest = append_assoc (a ++ b ++ c) d rest ∙ append_assoc (a ++ b) c (d ++ rest) ∙ append_assoc a b (c ++ (d ++ rest))
 
-object_back : (kind : Kind) (len : ℕ) (o : Kept) (rest : List ℕ) → IsObject kind len o → object kind len (object_bytes o ++ rest) ≡ Ok (o, rest)
+object_back : (format : ℕ) (kind : Kind) (len : ℕ) (o : Kept) (rest : List ℕ) → IsObject format kind len o
+    → object format kind len (object_bytes format o ++ rest) ≡ Ok (o, rest)
 unfolding object_bytes
-object_back kind len o rest good =
-    ap (object kind len) (in_pieces (big_bytes 2 (length (encoded o.body))) (encoded o.body) (big_bytes 2 (length o.signature)) o.signature rest)
-    ∙ ap (λ n. object kind len (big_bytes 2 (length (encoded o.body)) ++ (encoded o.body ++ (big_bytes 2 n ++ (o.signature ++ rest))))) good.long
-    ∙ pieces_back kind len o rest good
+object_back format kind len o rest good =
+    ap (object format kind len) (in_pieces (big_bytes 2 (length (encoded_in format o.body))) (encoded_in format o.body) (big_bytes 2 (length o.signature)) o.signature rest)
+    ∙ ap (λ n. object format kind len (big_bytes 2 (length (encoded_in format o.body)) ++ (encoded_in format o.body ++ (big_bytes 2 n ++ (o.signature ++ rest))))) good.long
+    ∙ pieces_back format kind len o rest good
 
 -- ---- what is read is spelled
 -- the message was read, and is of the kind
@@ -89,54 +90,56 @@ four : (bytes a one b two c three d rest : List ℕ) → Begins bytes a one → 
 four bytes a one b two c three d rest w x y z = joined bytes (a ++ b ++ c) three d rest (joined bytes (a ++ b) two c three (joined bytes a one b two w x) y) z
 
 -- an object was read
-record IsRead (kind : Kind) (len : ℕ) (bytes : List ℕ) (p : Kept × List ℕ) : Type 0 where
-  begins : Begins bytes (big_bytes 2 (length (encoded p.0.body)) ++ encoded p.0.body ++ big_bytes 2 (length p.0.signature) ++ p.0.signature) p.1
-  good : IsObject kind len p.0
+record IsRead (format : ℕ) (kind : Kind) (len : ℕ) (bytes : List ℕ) (p : Kept × List ℕ) : Type 0 where
+  begins : Begins bytes (big_bytes 2 (length (encoded_in format p.0.body)) ++ encoded_in format p.0.body ++ big_bytes 2 (length p.0.signature) ++ p.0.signature) p.1
+  good : IsObject format kind len p.0
 
-put_together : (kind : Kind) (len size : ℕ) (bytes one two three : List ℕ) (piece_read signature : List ℕ × List ℕ) (body : Body)
-    → Begins bytes (big_bytes 2 size) one → IsPiece size one piece_read → read_body piece_read.0 ≡ Ok body → is_of kind body ≡ true
+put_together : (format : ℕ) (kind : Kind) (len size : ℕ) (bytes one two three : List ℕ) (piece_read signature : List ℕ × List ℕ) (body : Body)
+    → Begins bytes (big_bytes 2 size) one → IsPiece size one piece_read → read_body_in format piece_read.0 ≡ Ok body → is_of kind body ≡ true
     → Begins piece_read.1 (big_bytes 2 len) three → len < 65536 → IsPiece len three signature
-    → IsRead kind len bytes (record { body = body; signature = signature.0 }, signature.1)
-put_together kind len size bytes one two three found signature body first second read is third fits fourth =
-    let message = read_is_encoded FORMAT_1 found.0 body second.are_bytes read in
-    let body_is : Begins one (encoded body) found.1 = subst (λ bs. Begins one bs found.1) message.0 second.begins in
-    let size_is : Begins bytes (big_bytes 2 (length (encoded body))) one =
+    → IsRead format kind len bytes (record { body = body; signature = signature.0 }, signature.1)
+put_together format kind len size bytes one two three found signature body first second read is third fits fourth =
+    let message = read_is_encoded format found.0 body second.are_bytes read in
+    let body_is : Begins one (encoded_in format body) found.1 = subst (λ bs. Begins one bs found.1) message.0 second.begins in
+    let size_is : Begins bytes (big_bytes 2 (length (encoded_in format body))) one =
     subst (λ n. Begins bytes (big_bytes 2 n) one) (sym second.count ∙ ap length message.0) first in
     let len_is : Begins found.1 (big_bytes 2 (length signature.0)) three = subst (λ n. Begins found.1 (big_bytes 2 n) three) (sym fourth.count) third in
     record {
-      begins = four bytes (big_bytes 2 (length (encoded body))) one (encoded body) found.1 (big_bytes 2 (length signature.0)) three signature.0 signature.1
+      begins = four bytes (big_bytes 2 (length (encoded_in format body))) one (encoded_in format body) found.1 (big_bytes 2 (length signature.0)) three signature.0 signature.1
           size_is body_is len_is fourth.begins;
       good = record { fields = message.1; is = is; long = fourth.count; fits = fits };
     }
 
-same_read : (kind : Kind) (len : ℕ) (bytes : List ℕ) (p q : Kept × List ℕ) → p ≡ q → IsRead kind len bytes p → IsRead kind len bytes q
-same_read kind len bytes p q same is = subst (λ (r : Kept × List ℕ). IsRead kind len bytes r) same is
+same_read : (format : ℕ) (kind : Kind) (len : ℕ) (bytes : List ℕ) (p q : Kept × List ℕ) → p ≡ q → IsRead format kind len bytes p
+    → IsRead format kind len bytes q
+same_read format kind len bytes p q same is = subst (λ (r : Kept × List ℕ). IsRead format kind len bytes r) same is
 
-object_is_read : (kind : Kind) (len : ℕ) (bytes : List ℕ) (p : Kept × List ℕ) → AreBytes bytes → object kind len bytes ≡ Ok p → IsRead kind len bytes p
+object_is_read : (format : ℕ) (kind : Kind) (len : ℕ) (bytes : List ℕ) (p : Kept × List ℕ) → AreBytes bytes → object format kind len bytes ≡ Ok p
+    → IsRead format kind len bytes p
 unfolding object
-object_is_read kind len bytes p are e =
-    let s = then_ok (number 2 bytes) (λ size. piece size.0 size.1 >>= λ spelling. of_kind kind (read_body spelling.0) >>= λ body.
+object_is_read format kind len bytes p are e =
+    let s = then_ok (number 2 bytes) (λ size. piece size.0 size.1 >>= λ spelling. of_kind kind (read_body_in format spelling.0) >>= λ body.
     length_of len spelling.1 >>= λ long. piece len long.1 >>= λ signature. Ok (record { body = body; signature = signature.0 }, signature.1)) p e in
-    let t = then_ok (piece s.0.0 s.0.1) (λ spelling. of_kind kind (read_body spelling.0) >>= λ body.
+    let t = then_ok (piece s.0.0 s.0.1) (λ spelling. of_kind kind (read_body_in format spelling.0) >>= λ body.
     length_of len spelling.1 >>= λ long. piece len long.1 >>= λ signature. Ok (record { body = body; signature = signature.0 }, signature.1)) p s.2 in
-    let u = then_ok (of_kind kind (read_body t.0.0)) (λ body.
+    let u = then_ok (of_kind kind (read_body_in format t.0.0)) (λ body.
     length_of len t.0.1 >>= λ long. piece len long.1 >>= λ signature. Ok (record { body = body; signature = signature.0 }, signature.1)) p t.2 in
     let v = then_ok (length_of len t.0.1) (λ long. piece len long.1 >>= λ signature. Ok (record { body = u.0; signature = signature.0 }, signature.1)) p u.2 in
     let w = then_ok (piece len v.0.1) (λ signature. Ok (record { body = u.0; signature = signature.0 }, signature.1)) p v.2 in
     let first = (number_fit 2).read bytes s.0 are s.1 in
     let second = piece_is_read s.0.0 s.0.1 t.0 first.0.are_bytes t.1 in
-    let message = is_message kind (read_body t.0.0) u.0 u.1 in
+    let message = is_message kind (read_body_in format t.0.0) u.0 u.1 in
     let third = length_read len t.0.1 v.0 second.begins.are_bytes v.1 in
     let fourth = piece_is_read len v.0.1 w.0 third.begins.are_bytes w.1 in
     let same : (record { body = u.0; signature = w.0.0 }, w.0.1) ≡ p =
     let h : Ok (record { body = u.0; signature = w.0.0 }, w.0.1) ≡ Ok p = w.2 in cc in
-    same_read kind len bytes (record { body = u.0; signature = w.0.0 }, w.0.1) p same
-    (put_together kind len s.0.0 bytes s.0.1 t.0.1 v.0.1 t.0 w.0 u.0 first.0 second message.0 message.1 third.begins third.fits fourth)
+    same_read format kind len bytes (record { body = u.0; signature = w.0.0 }, w.0.1) p same
+    (put_together format kind len s.0.0 bytes s.0.1 t.0.1 v.0.1 t.0 w.0 u.0 first.0 second message.0 message.1 third.begins third.fits fourth)
 
-object_read : (kind : Kind) (len : ℕ) (bytes : List ℕ) (p : Kept × List ℕ) → AreBytes bytes → object kind len bytes ≡ Ok p
-    → Begins bytes (object_bytes p.0) p.1 × IsObject kind len p.0
+object_read : (format : ℕ) (kind : Kind) (len : ℕ) (bytes : List ℕ) (p : Kept × List ℕ) → AreBytes bytes → object format kind len bytes ≡ Ok p
+    → Begins bytes (object_bytes format p.0) p.1 × IsObject format kind len p.0
 unfolding object_bytes
-object_read kind len bytes p are e = let r = object_is_read kind len bytes p are e in (r.begins, r.good)
+object_read format kind len bytes p are e = let r = object_is_read format kind len bytes p are e in (r.begins, r.good)
 
-pub object_fit : (kind : Kind) (len : ℕ) → Fit (object kind len) object_bytes (IsObject kind len)
-object_fit kind len = record { back = object_back kind len; read = object_read kind len }
+pub object_fit : (format : ℕ) (kind : Kind) (len : ℕ) → Fit (object format kind len) (object_bytes format) (IsObject format kind len)
+object_fit format kind len = record { back = object_back format kind len; read = object_read format kind len }

@@ -1,5 +1,6 @@
 -- The words of a grammar: how a part of a frame is read from the left, and how it is spelled.
-use Rattle.std.specs.Prelude.{ℕ, zero, suc, ◌==◌, nat_le, Option, None, Some, List, [], ◌∷◌, ◌++◌, length, flat_map, Result, Ok, Err, if◌then◌else◌}
+use Rattle.std.specs.Prelude.{ℕ, zero, suc, ◌==◌, nat_le, Bool, true, false, Option, None, Some, List, [], ◌∷◌, ◌++◌, length, flat_map, Result, Ok, Err}
+use Rattle.std.specs.Prelude.{if◌then◌else◌}
 use Rattle.byteorder.specs.Endian.{big_bytes}
 use Rattle.sp_base.specs.Reading.{number_at, piece_at}
 use Rattle.sp_base.specs.Refusals.{◌>>=◌, as_refusal}
@@ -14,9 +15,13 @@ number n bytes = as_refusal (λ short. refusals.Cut) (number_at n bytes)
 unfoldable pub piece : ℕ → List ℕ → Result (List ℕ × List ℕ) SectionRefused
 piece n bytes = as_refusal (λ short. refusals.Cut) (piece_at n bytes)
 
+-- a number of n bytes that is at most so great
+unfoldable pub limited : ℕ → ℕ → List ℕ → Result (ℕ × List ℕ) SectionRefused
+limited n most bytes = number n bytes >>= λ x. if nat_le x.0 most then Ok x else Err refusals.Count
+
 -- a count of at most so many
-unfoldable pub count : ℕ → List ℕ → Result (ℕ × List ℕ) SectionRefused
-count most bytes = number 1 bytes >>= λ n. if nat_le n.0 most then Ok n else Err refusals.Count
+abbrev pub count : ℕ → List ℕ → Result (ℕ × List ℕ) SectionRefused
+count most bytes = limited 1 most bytes
 
 -- one part and the next
 infixl 10 ◌⊗◌
@@ -42,6 +47,11 @@ module _ {X : Type 0} (one : List ℕ → Result (X × List ℕ) SectionRefused)
   abbrev pub flagged : List ℕ → Result (Option X × List ℕ) SectionRefused
   flagged bytes = count 1 bytes >>= λ flag. if flag.0 == 0 then Ok (None, flag.1) else one flag.1 >>= λ x. Ok (Some x.0, x.1)
 
+  -- the same in format 2; format 1 has neither flag nor part
+  abbrev pub later : Bool → List ℕ → Result (Option X × List ℕ) SectionRefused
+  later true bytes = Ok (None, bytes)
+  later false bytes = flagged bytes
+
 -- ---- the same, spelled
 module _ {X : Type 0} (spell : X → List ℕ) where
   abbrev pub counted_bytes : List X → List ℕ
@@ -50,3 +60,7 @@ module _ {X : Type 0} (spell : X → List ℕ) where
   abbrev pub flagged_bytes : Option X → List ℕ
   flagged_bytes None = big_bytes 1 0
   flagged_bytes (Some x) = big_bytes 1 1 ++ spell x
+
+  abbrev pub later_bytes : Bool → Option X → List ℕ
+  later_bytes true x = []
+  later_bytes false x = flagged_bytes x

@@ -1,23 +1,27 @@
--- Sections have one spelling, and so have heads: what is written is read back, and what is read is all that was written.
+-- Sections have one spelling in each format, and so have heads: what is written is read back, and what is read is all that was written.
 use Rattle.std.specs.Prelude.{ℕ, ◌≡◌, List, ◌∷◌, ◌++◌, Ok, Err}
 use Rattle.sp_base.specs.Spelling.{AreBytes}
 use Rattle.sp_frame.specs.Frames.{IsFrame, head_bytes, head_of, sections_part, tag_part}
-use Rattle.sp_frame.specs.Ranges.{IsContents, IsHead}
-use Rattle.sp_frame.specs.Sections.{Contents, sections_bytes, sections_of}
+use Rattle.sp_frame.specs.Ranges.{IsContentsIn, IsHead}
+use Rattle.sp_frame.specs.Sections.{Contents, sections_bytes_in, sections_of_in}
 use Rattle.sp_frame.specs.declared.head.Head.{Head}
 use Rattle.sp_frame.specs.declared.refused.SectionRefused.TheVariants as refusals
 
 -- sections in their ranges are read back from their bytes
 abbrev pub SpelledIsRead : Type 0
-SpelledIsRead = (len : ℕ) (s : Contents) → IsContents len s → sections_of len (sections_bytes s) ≡ Ok s
+SpelledIsRead = (format len : ℕ) (s : Contents) → IsContentsIn format len s → sections_of_in format len (sections_bytes_in format s) ≡ Ok s
 
 -- and refused where a byte follows
 abbrev pub TailIsRefused : Type 0
-TailIsRefused = (len : ℕ) (s : Contents) (b : ℕ) (rest : List ℕ) → IsContents len s → sections_of len (sections_bytes s ++ b ∷ rest) ≡ Err refusals.Tail
+TailIsRefused =
+    (format len : ℕ) (s : Contents) (b : ℕ) (rest : List ℕ) → IsContentsIn format len s
+    → sections_of_in format len (sections_bytes_in format s ++ b ∷ rest) ≡ Err refusals.Tail
 
 -- what is read is spelled by those bytes, all of them, and is in its ranges
 abbrev pub ReadIsSpelled : Type 0
-ReadIsSpelled = (len : ℕ) (bytes : List ℕ) (s : Contents) → AreBytes bytes → sections_of len bytes ≡ Ok s → (bytes ≡ sections_bytes s) × IsContents len s
+ReadIsSpelled =
+    (format len : ℕ) (bytes : List ℕ) (s : Contents) → AreBytes bytes → sections_of_in format len bytes ≡ Ok s
+    → (bytes ≡ sections_bytes_in format s) × IsContentsIn format len s
 
 -- a head is read back from its bytes, whatever follows
 abbrev pub HeadIsRead : Type 0

@@ -2,7 +2,9 @@ pub mod Frames
 pub mod Grammar
 pub mod Laws
 pub mod Objects
+pub mod OfFormat
 pub mod Prioritized
+pub mod Probes
 pub mod Ranges
 pub mod Reliable
 pub mod Sections

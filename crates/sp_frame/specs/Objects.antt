@@ -6,8 +6,9 @@
 use Rattle.std.specs.Prelude.{ℕ, ◌≡◌, ◌<◌, ◌==◌, Bool, true, false, List, ◌++◌, length, Result, Ok, Err, if◌then◌else◌}
 use Rattle.byteorder.specs.Endian.{big_bytes}
 use Rattle.sp_base.specs.Refusals.{◌>>=◌}
+use Rattle.sp_base.specs.Formats.{by_format}
 use Rattle.sp_base.specs.declared.limits.TheConstants.{MAX_MESSAGES}
-use Rattle.sp_msg.specs.Bodies.{HasGoodFields, encoded, read_body}
+use Rattle.sp_msg.specs.Bodies.{HasGoodFieldsIn, encoded_in, read_body_in}
 use Rattle.sp_msg.specs.declared.body.Body.{Body}
 use Rattle.sp_msg.specs.declared.body.Body.TheVariants as bodies
 use Rattle.sp_msg.specs.declared.kept.Kept.{Kept}
@@ -18,12 +19,15 @@ use Rattle.sp_frame.specs.declared.kind.Kind.TheVariants as kinds
 use Rattle.sp_frame.specs.declared.refused.SectionRefused.{SectionRefused}
 use Rattle.sp_frame.specs.declared.refused.SectionRefused.TheVariants as refusals
 
--- how many objects of a kind a frame has at most
-abbrev pub most : Kind → ℕ
-most kinds.Weight = 1
-most kinds.Prio = MAX_MESSAGES
-most kinds.Ack = 1
-most kinds.Rel = MAX_MESSAGES
+-- how many objects of a kind a frame has at most, in each format
+abbrev pub most : ℕ → Kind → ℕ
+most format kinds.Weight = 1
+most format kinds.Prio = MAX_MESSAGES
+most format kinds.Ack = 1
+most format kinds.Rel = by_format format MAX_MESSAGES 2
+most format kinds.Kack = 1
+most format kinds.Krel = 1
+most format kinds.Epoch = 1
 
 -- a message of this kind
 abbrev pub is_of : Kind → Body → Bool
@@ -31,6 +35,9 @@ is_of kinds.Weight (bodies.Weight w) = true
 is_of kinds.Prio (bodies.Prio p) = true
 is_of kinds.Ack (bodies.Ack a) = true
 is_of kinds.Rel (bodies.Rel r) = true
+is_of kinds.Kack (bodies.Kack a) = true
+is_of kinds.Krel (bodies.Krel r) = true
+is_of kinds.Epoch (bodies.Epoch e) = true
 is_of kind body = false
 
 -- what was read, where it is a message of this kind
@@ -43,21 +50,21 @@ unfoldable pub length_of : ℕ → List ℕ → Result (ℕ × List ℕ) Section
 length_of len bytes = number 2 bytes >>= λ n. if n.0 == len then Ok n else Err refusals.Object
 
 -- a message of this kind, with a signature of this length
-unfoldable pub object : Kind → ℕ → List ℕ → Result (Kept × List ℕ) SectionRefused
-object kind len bytes = do
+unfoldable pub object : ℕ → Kind → ℕ → List ℕ → Result (Kept × List ℕ) SectionRefused
+object format kind len bytes = do
   size ← number 2 bytes
   spelling ← piece size.0 size.1
-  body ← of_kind kind (read_body spelling.0)
+  body ← of_kind kind (read_body_in format spelling.0)
   long ← length_of len spelling.1
   signature ← piece len long.1
   Ok (record { body = body; signature = signature.0 }, signature.1)
 
-unfoldable pub object_bytes : Kept → List ℕ
-object_bytes o = big_bytes 2 (length (encoded o.body)) ++ encoded o.body ++ big_bytes 2 (length o.signature) ++ o.signature
+unfoldable pub object_bytes : ℕ → Kept → List ℕ
+object_bytes format o = big_bytes 2 (length (encoded_in format o.body)) ++ encoded_in format o.body ++ big_bytes 2 (length o.signature) ++ o.signature
 
 -- an object that a frame can have where signatures are of this length
-pub record IsObject (kind : Kind) (len : ℕ) (o : Kept) : Type 0 where
-  pub fields : HasGoodFields o.body
+pub record IsObject (format : ℕ) (kind : Kind) (len : ℕ) (o : Kept) : Type 0 where
+  pub fields : HasGoodFieldsIn format o.body
   pub is : is_of kind o.body ≡ true
   pub long : length o.signature ≡ len
   pub fits : len < 65536

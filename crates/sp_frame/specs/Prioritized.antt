@@ -10,14 +10,14 @@ use Rattle.sp_frame.specs.declared.kind.Kind.TheVariants as kinds
 use Rattle.sp_frame.specs.declared.refused.SectionRefused.{SectionRefused}
 
 -- a link number and the message under it
-unfoldable pub numbered : ℕ → List ℕ → Result ((ℕ × Kept) × List ℕ) SectionRefused
-numbered len bytes = (number 8 ⊗ object kinds.Prio len) bytes
+unfoldable pub numbered : ℕ → ℕ → List ℕ → Result ((ℕ × Kept) × List ℕ) SectionRefused
+numbered format len bytes = (number 8 ⊗ object format kinds.Prio len) bytes
 
-unfoldable pub numbered_bytes : ℕ × Kept → List ℕ
-numbered_bytes message = big_bytes 8 message.0 ++ object_bytes message.1
+unfoldable pub numbered_bytes : ℕ → ℕ × Kept → List ℕ
+numbered_bytes format message = big_bytes 8 message.0 ++ object_bytes format message.1
 
-unfoldable pub prios : ℕ → List ℕ → Result (List (ℕ × Kept) × List ℕ) SectionRefused
-prios len bytes = counted (numbered len) (most kinds.Prio) bytes
+unfoldable pub prios : ℕ → ℕ → List ℕ → Result (List (ℕ × Kept) × List ℕ) SectionRefused
+prios format len bytes = counted (numbered format len) (most format kinds.Prio) bytes
 
-unfoldable pub prios_bytes : List (ℕ × Kept) → List ℕ
-prios_bytes messages = counted_bytes numbered_bytes messages
+unfoldable pub prios_bytes : ℕ → List (ℕ × Kept) → List ℕ
+prios_bytes format messages = counted_bytes (numbered_bytes format) messages

@@ -1,56 +1,80 @@
--- The reliable section of a frame: a report on one flow, with an acknowledgement and messages.
+-- The reliable section of a frame: a report on one flow, with an acknowledgement and messages. The paths section is the same of a K-path flow.
 --
---     flag 1 | where it is 1: src 1 | dst 1 | base 8 | have 8 | acknowledgement flag 1 | its object | count 1 | objects
-use Rattle.std.specs.Prelude.{ℕ, Option, List, ◌++◌, Result}
+--     flag 1 | where it is 1: src 1 | dst 1 | sboot 8 | dboot 8 | base 8 | have 8 | acknowledgement flag 1 | its object | count 1 | objects
+--
+-- Format 1 lacks the boots, and the paths section.
+use Rattle.std.specs.Prelude.{ℕ, ◌==◌, Option, List, ◌++◌, Result}
 use Rattle.byteorder.specs.Endian.{big_bytes}
+use Rattle.sp_base.specs.Formats.{by_format}
+use Rattle.sp_base.specs.declared.format.TheConstants.{FORMAT_1}
 use Rattle.sp_base.specs.declared.id.Flow.{Flow}
 use Rattle.sp_msg.specs.declared.kept.Kept.{Kept}
-use Rattle.sp_frame.specs.Grammar.{◌⊗◌, counted, counted_bytes, flagged, flagged_bytes, made, number}
+use Rattle.sp_frame.specs.Grammar.{◌⊗◌, counted, counted_bytes, flagged, flagged_bytes, later, later_bytes, made, number}
 use Rattle.sp_frame.specs.Objects.{most, object, object_bytes}
+use Rattle.sp_frame.specs.declared.kind.Kind.{Kind}
 use Rattle.sp_frame.specs.declared.kind.Kind.TheVariants as kinds
 use Rattle.sp_frame.specs.declared.refused.SectionRefused.{SectionRefused}
 
 -- all messages of the flow up to base are acknowledged, and all up to have came. The ends may be any bytes, the numbers any of 8 bytes
 pub record Report : Type 0 where
   pub flow : Flow
+  pub sboot : ℕ
+  pub dboot : ℕ
   pub base : ℕ
   pub have : ℕ
   pub ack : Option Kept
   pub rels : List Kept
 
-unfoldable pub ack : ℕ → List ℕ → Result (Option Kept × List ℕ) SectionRefused
-ack len bytes = flagged (object kinds.Ack len) bytes
+-- the bytes of a boot
+abbrev pub boot_bytes : ℕ → ℕ
+boot_bytes format = by_format format 0 8
 
-unfoldable pub ack_bytes : Option Kept → List ℕ
-ack_bytes acked = flagged_bytes object_bytes acked
+unfoldable pub ack : ℕ → Kind → ℕ → List ℕ → Result (Option Kept × List ℕ) SectionRefused
+ack format kind len bytes = flagged (object format kind len) bytes
 
-unfoldable pub rels : ℕ → List ℕ → Result (List Kept × List ℕ) SectionRefused
-rels len bytes = counted (object kinds.Rel len) (most kinds.Rel) bytes
+unfoldable pub ack_bytes : ℕ → Option Kept → List ℕ
+ack_bytes format acked = flagged_bytes (object_bytes format) acked
 
-unfoldable pub rels_bytes : List Kept → List ℕ
-rels_bytes objects = counted_bytes object_bytes objects
+unfoldable pub rels : ℕ → Kind → ℕ → List ℕ → Result (List Kept × List ℕ) SectionRefused
+rels format kind len bytes = counted (object format kind len) (most format kind) bytes
 
-abbrev pub report_from : ((((ℕ × ℕ) × ℕ) × ℕ) × Option Kept) × List Kept → Report
-report_from (((((src, dst), base), have), acked), objects) = record {
+unfoldable pub rels_bytes : ℕ → List Kept → List ℕ
+rels_bytes format objects = counted_bytes (object_bytes format) objects
+
+abbrev pub report_from : ((((((ℕ × ℕ) × ℕ) × ℕ) × ℕ) × ℕ) × Option Kept) × List Kept → Report
+report_from (((((((src, dst), sboot), dboot), base), have), acked), objects) = record {
   flow = record { src = record { 0 = src }; dst = record { 0 = dst } };
+  sboot = sboot;
+  dboot = dboot;
   base = base;
   have = have;
   ack = acked;
   rels = objects;
 }
 
-unfoldable pub report : ℕ → List ℕ → Result (Report × List ℕ) SectionRefused
-report len bytes = made report_from (number 1 ⊗ number 1 ⊗ number 8 ⊗ number 8 ⊗ ack len ⊗ rels len) bytes
+-- a report with an acknowledgement of one kind and messages of another
+unfoldable pub report : ℕ → Kind → Kind → ℕ → List ℕ → Result (Report × List ℕ) SectionRefused
+report format acks messages len bytes =
+    made report_from (number 1 ⊗ number 1 ⊗ number (boot_bytes format) ⊗ number (boot_bytes format) ⊗ number 8 ⊗ number 8 ⊗ ack format acks len
+    ⊗ rels format messages len) bytes
 
 -- the numbers of a report
-unfoldable pub place_bytes : Report → List ℕ
-place_bytes r = big_bytes 1 r.flow.src.0 ++ big_bytes 1 r.flow.dst.0 ++ big_bytes 8 r.base ++ big_bytes 8 r.have
+unfoldable pub place_bytes : ℕ → Report → List ℕ
+place_bytes format r =
+    big_bytes 1 r.flow.src.0 ++ big_bytes 1 r.flow.dst.0 ++ big_bytes (boot_bytes format) r.sboot ++ big_bytes (boot_bytes format) r.dboot
+    ++ big_bytes 8 r.base ++ big_bytes 8 r.have
 
-unfoldable pub report_bytes : Report → List ℕ
-report_bytes r = place_bytes r ++ ack_bytes r.ack ++ rels_bytes r.rels
+unfoldable pub report_bytes : ℕ → Report → List ℕ
+report_bytes format r = place_bytes format r ++ ack_bytes format r.ack ++ rels_bytes format r.rels
 
-unfoldable pub slot : ℕ → List ℕ → Result (Option Report × List ℕ) SectionRefused
-slot len bytes = flagged (report len) bytes
+unfoldable pub slot : ℕ → ℕ → List ℕ → Result (Option Report × List ℕ) SectionRefused
+slot format len bytes = flagged (report format kinds.Ack kinds.Rel len) bytes
 
-unfoldable pub slot_bytes : Option Report → List ℕ
-slot_bytes reported = flagged_bytes report_bytes reported
+unfoldable pub slot_bytes : ℕ → Option Report → List ℕ
+slot_bytes format reported = flagged_bytes (report_bytes format) reported
+
+unfoldable pub paths : ℕ → ℕ → List ℕ → Result (Option Report × List ℕ) SectionRefused
+paths format len bytes = later (report format kinds.Kack kinds.Krel len) (format == FORMAT_1) bytes
+
+unfoldable pub paths_bytes : ℕ → Option Report → List ℕ
+paths_bytes format reported = later_bytes (report_bytes format) (format == FORMAT_1) reported

@@ -20,12 +20,24 @@ abbrev pub as_numbered : ℕ × ObjectRef → ℕ × Kept
 as_numbered message = (message.0, as_object message.1)
 
 abbrev pub as_report : Slot → Report
-as_report s = record { flow = s.flow; base = s.base; have = s.have; ack = option_map as_object s.ack; rels = map as_object s.rels }
+as_report s = record {
+  flow = s.flow;
+  sboot = s.sboot;
+  dboot = s.dboot;
+  base = s.base;
+  have = s.have;
+  ack = option_map as_object s.ack;
+  rels = map as_object s.rels;
+}
 
 abbrev pub as_contents : Sections → Contents
 as_contents s = record {
+  document = option_map (λ d. d.now) s.document;
   weights = as_list (option_map as_object s.weight);
   prio_ack = s.prio_ack;
   prios = map as_numbered s.prios;
   slot = option_map as_report s.slot;
+  paths = option_map as_report s.paths;
+  probe = s.probe;
+  epoch = option_map as_object s.epoch;
 }

@@ -8,8 +8,8 @@ use Rattle.sp_frame.specs.Objects.{most, object, object_bytes}
 use Rattle.sp_frame.specs.declared.kind.Kind.TheVariants as kinds
 use Rattle.sp_frame.specs.declared.refused.SectionRefused.{SectionRefused}
 
-unfoldable pub weights : ℕ → List ℕ → Result (List Kept × List ℕ) SectionRefused
-weights len bytes = counted (object kinds.Weight len) (most kinds.Weight) bytes
+unfoldable pub weights : ℕ → ℕ → List ℕ → Result (List Kept × List ℕ) SectionRefused
+weights format len bytes = counted (object format kinds.Weight len) (most format kinds.Weight) bytes
 
-unfoldable pub weights_bytes : List Kept → List ℕ
-weights_bytes objects = counted_bytes object_bytes objects
+unfoldable pub weights_bytes : ℕ → List Kept → List ℕ
+weights_bytes format objects = counted_bytes (object_bytes format) objects

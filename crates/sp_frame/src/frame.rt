@@ -1,21 +1,23 @@
 // A datagram as a frame: its head, its sections and its tag, borrowed from it.
-ghost use Rattle.std.specs.Prelude.{◌≡◌};
+ghost use Rattle.std.specs.Prelude.{◌≡◌, IfOk, slice_index};
 ghost use Rattle.sp_base.specs.Refusals.{Gives};
-ghost use Rattle.sp_frame.specs.Frames.{head_of, opened, sections_part, tagged_part, tag_part};
-ghost use Rattle.sp_frame.specs.Sections.{sections_of};
+ghost use Rattle.sp_base.specs.declared.format.TheConstants.{FORMAT_1};
+ghost use Rattle.sp_frame.specs.Frames.{head_of, opened, opened_in, sections_part, tag_part, tagged_part};
+ghost use Rattle.sp_frame.specs.OfFormat.{AreOf};
+ghost use Rattle.sp_frame.specs.Sections.{sections_of_in};
 ghost use Rattle.sp_frame.specs.Views.{as_contents};
 
 use crate::sections::sections_of;
 use crate::{FrameRefused, Head, SectionRefused, Sections};
 use byteorder::{BigEndian, ByteOrder};
-use sp_base::{NodeId, Short};
+use sp_base::{FORMAT_1, NodeId, Short};
 use std::marker::Model;
 
 /// The first two bytes of each frame, "SI".
 pub(crate) const NAME: u16 = 0x5349;
 
-/// The version of the format, the third byte of each frame.
-pub(crate) const VERSION: u8 = 1;
+/// The first byte of the control section of a frame with a document.
+pub(crate) const DOCUMENT: u8 = 128;
 
 /// The bytes of a head.
 pub const HEAD_BYTES: usize = 33;
@@ -29,7 +31,7 @@ pub const MIN_FRAME_BYTES: usize = 65;
 /// The longest payload of a datagram of UDP over IPv4 (RFC 768 and RFC 791).
 pub const MAX_FRAME_BYTES: usize = 65_507;
 
-/// A datagram of 65 to 65,507 bytes with the name and the version of frames. A contract sees its bytes.
+/// A datagram of 65 to 65,507 bytes with the name of frames. A contract sees its bytes.
 #[derive(Debug, Drop)]
 pub struct Frame<'a> {
     bytes: &'a [u8],
@@ -47,9 +49,18 @@ impl<'a> Model for Frame<'a> {
 }
 
 impl<'a> Frame<'a> {
-    /// The datagram as a frame: `TooLong`, `Short`, `Magic` or `Version` where it is none, the first of these that is so.
+    /// The datagram as a frame of format 1: `TooLong`, `Short`, `Magic` or `Version` where it is none, the first of these that is so.
     pub fn open(bytes: &'a [u8]) -> Result<Frame<'a>, FrameRefused>
-        ensures { Gives (λ frame. frame) result (opened bytes.now) }
+        ensures opened { Gives (λ frame. frame) result (opened bytes.now) }
+        ensures of_format { IfOk result (λ frame. slice_index frame 2 ≡ FORMAT_1) }
+    {
+        Frame::open_in(bytes, FORMAT_1)
+    }
+
+    /// The same of a format.
+    pub fn open_in(bytes: &'a [u8], format: u8) -> Result<Frame<'a>, FrameRefused>
+        ensures opened { Gives (λ frame. frame) result (opened_in format bytes.now) }
+        ensures of_format { IfOk result (λ frame. slice_index frame 2 ≡ format) }
     {
         if bytes.len() > MAX_FRAME_BYTES {
             return Err(FrameRefused::TooLong);
@@ -63,7 +74,7 @@ impl<'a> Frame<'a> {
         if BigEndian::read_u16(bytes) != NAME {
             return Err(FrameRefused::Magic);
         }
-        if bytes[2] != VERSION {
+        if bytes[2] != format {
             return Err(FrameRefused::Version);
         }
         Ok(Frame { bytes })
@@ -75,6 +86,7 @@ impl<'a> Frame<'a> {
     {
         let bytes = self.bytes;
         Head {
+            format: bytes[2],
             from: NodeId(bytes[3]),
             to: NodeId(bytes[4]),
             boot: BigEndian::read_u64(&bytes[5..]),
@@ -101,11 +113,12 @@ impl<'a> Frame<'a> {
 
     /// The sections, where signatures are of this length, or what is first wrong from the left. They borrow from the datagram.
     pub fn sections(&self, signature_len: usize) -> Result<Sections<'a>, SectionRefused>
-        ensures { Gives as_contents result (sections_of signature_len (sections_part self.now)) }
+        ensures read { Gives as_contents result (sections_of_in (slice_index self.now 2) signature_len (sections_part self.now)) }
+        ensures of_format { IfOk result (AreOf (slice_index self.now 2)) }
     {
         let bytes = self.bytes;
         let (signed, _) = bytes.split_at(bytes.len() - TAG_BYTES);
         let (_, sections) = signed.split_at(HEAD_BYTES);
-        sections_of(sections, signature_len)
+        sections_of(sections, bytes[2], signature_len)
     }
 }

@@ -14,4 +14,6 @@ pub struct Head {
     pub counter: u64,
     /// The version of the topology that the sender runs under.
     pub topology: u32,
+    /// The format of the frame, its third byte.
+    pub format: u8,
 }

@@ -6,4 +6,7 @@ pub enum Kind {
     Prio,
     Ack,
     Rel,
+    Kack,
+    Krel,
+    Epoch,
 }

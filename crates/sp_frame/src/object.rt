@@ -1,6 +1,6 @@
 // A signed message in a frame.
 ghost use Rattle.std.specs.Prelude.{◌≡◌, Ok};
-ghost use Rattle.sp_msg.specs.Bodies.{read_body};
+ghost use Rattle.sp_msg.specs.Bodies.{read_body_in};
 ghost use Rattle.sp_msg.specs.Views.{as_body};
 
 use sp_msg::BodyRef;
@@ -11,5 +11,7 @@ pub struct ObjectRef<'a> {
     pub bytes: &'a [u8],
     pub body: BodyRef<'a>,
     pub signature: &'a [u8],
-    ghost spelled: { read_body bytes.now ≡ Ok (as_body body) },
+    /// The format that the bytes are of.
+    pub format: u8,
+    ghost spelled: { read_body_in format bytes.now ≡ Ok (as_body body) },
 }

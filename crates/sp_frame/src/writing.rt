@@ -1,17 +1,22 @@
 // A frame, written into memory that is taken at once: its whole room first, and then each part into room that is there.
 ghost use Rattle.std.specs.Prelude.{◌≡◌, ◌+◌, ◌≤◌, ◌++◌, All, drop, length, map, IfOk, IfSome, option_map, replicate, vec_capacity, vec_len};
 ghost use Rattle.std.specs.List.{flat_map};
+ghost use Rattle.byteorder.specs.Endian.{big_bytes};
 ghost use Rattle.sp_frame.specs.Frames.{ends_bytes, frame_bytes, head_bytes, numbers_bytes};
 ghost use Rattle.sp_frame.specs.Objects.{object_bytes};
 ghost use Rattle.sp_frame.specs.Prioritized.{numbered_bytes, prios_bytes};
-ghost use Rattle.sp_frame.specs.Reliable.{ack_bytes, place_bytes, rels_bytes, report_bytes, slot_bytes};
+ghost use Rattle.sp_frame.specs.Probes.{epoch_bytes, probes_bytes};
+ghost use Rattle.sp_frame.specs.Reliable.{ack_bytes, boot_bytes, paths_bytes, place_bytes, rels_bytes, report_bytes, slot_bytes};
+ghost use Rattle.sp_frame.specs.Sections.{with_document};
 ghost use Rattle.sp_frame.specs.Views.{as_list};
 ghost use Rattle.sp_frame.specs.Weights.{weights_bytes};
 ghost use Rattle.sp_frame.specs.Writing.{IsWritable, IsWritableSlot, out_report};
 
-use crate::Head;
-use crate::frame::{HEAD_BYTES, NAME, TAG_BYTES, VERSION};
-use crate::lengths::{PRIO_ACK_BYTES, prios_len, slot_len, weight_len};
+use crate::frame::{DOCUMENT, HEAD_BYTES, NAME, TAG_BYTES};
+use crate::lengths::{
+    PRIO_ACK_BYTES, epoch_len, paths_len, prios_len, probe_len, slot_len, weight_len,
+};
+use crate::{Head, Probe};
 use sp_base::{
     Bytes, FORMAT_1, Flow, Four, Memory, push_bytes, push_u8, push_u16, push_u32, push_u64,
 };
@@ -22,14 +27,17 @@ use std::alloc::Global;
 #[derive(Debug, Drop)]
 pub struct OutSlot<'a> {
     pub flow: Flow,
+    /// The boots of the ends, which format 1 doesn't write.
+    pub sboot: u64,
+    pub dboot: u64,
     pub base: u64,
     pub have: u64,
     pub ack: Option<&'a Kept>,
     pub rels: Four<&'a Kept>,
 }
 
-/// The bytes of a frame, with 32 zero bytes in the place of its tag. Only want of memory refuses.
-#[tactic(auto, unfolding(crate::specs::Frames::frame_bytes, crate::specs::Sections::sections_bytes))]
+/// The bytes of a frame in the format of its head, with 32 zero bytes in the place of its tag. Only want of memory refuses.
+#[tactic(auto, unfolding(crate::specs::Frames::frame_bytes, crate::specs::Sections::sections_bytes_in, crate::specs::Sections::plain_bytes))]
 pub fn write(
     alloc: Global,
     head: &Head,
@@ -37,24 +45,55 @@ pub fn write(
     prio_ack: u64,
     prios: &Four<(u64, &Kept)>,
     slot: Option<&OutSlot<'_>>,
+    paths: Option<&OutSlot<'_>>,
+    probe: Option<&Probe>,
+    epoch: Option<&Kept>,
 ) -> Result<Bytes, Memory>
-    requires weight { IfSome weight (λ o. IsWritable o.now) }
-    requires prios { All (λ p. IsWritable p.1.now) prios.now }
-    requires slot { IfSome slot (λ s. IsWritableSlot s.now) }
+    requires weight { IfSome weight (λ o. IsWritable head.now.format o.now) }
+    requires prios { All (λ p. IsWritable head.now.format p.1.now) prios.now }
+    requires slot { IfSome slot (λ s. IsWritableSlot head.now.format s.now) }
+    requires paths { IfSome paths (λ s. IsWritableSlot head.now.format s.now) }
+    requires epoch { IfSome epoch (λ o. IsWritable head.now.format o.now) }
     ensures bytes { IfOk result (λ bytes. bytes ≡ frame_bytes head.now (record {
+      document = None;
       weights = as_list (option_map (λ o. o.now) weight.entry);
       prio_ack = prio_ack;
       prios = map (λ p. (p.0, p.1.now)) prios.now;
       slot = option_map (λ s. out_report s.now) slot.entry;
+      paths = option_map (λ s. out_report s.now) paths.entry;
+      probe = option_map (λ p. p.now) probe.entry;
+      epoch = option_map (λ o. o.now) epoch.entry;
     }) (replicate 32 0)) }
 {
-    let parts = weight_len(weight) + PRIO_ACK_BYTES + prios_len(prios) + slot_len(slot);
+    let format = head.format;
+    let first = weight_len(format, weight) + PRIO_ACK_BYTES + prios_len(format, prios);
+    let later = paths_len(format, paths) + probe_len(format, probe) + epoch_len(format, epoch);
+    let parts = first + slot_len(format, slot) + later;
     let mut out = Vec::with_capacity(alloc, HEAD_BYTES + parts + TAG_BYTES)?;
     push_head(&mut out, head);
-    push_weight(&mut out, weight);
+    push_weight(&mut out, format, weight);
     push_u64(&mut out, prio_ack);
-    push_prios(&mut out, prios);
-    push_slot(&mut out, slot);
+    push_prios(&mut out, format, prios);
+    push_slot(&mut out, format, slot);
+    push_paths(&mut out, format, paths);
+    push_probe(&mut out, format, probe);
+    push_epoch(&mut out, format, epoch);
+    push_bytes(&mut out, &[0u8; TAG_BYTES]);
+    Ok(Bytes::from_vec(out))
+}
+
+/// The bytes of a frame of format 2 with a document alone, with 32 zero bytes in the place of its tag. Only want of memory refuses.
+#[tactic(auto, unfolding(crate::specs::Frames::frame_bytes, crate::specs::Sections::sections_bytes_in, crate::specs::Sections::document_bytes, crate::specs::Sections::sized_bytes, crate::specs::Sections::zeros_bytes), using(crate::proofs::LengthLemmas::head_long))]
+pub fn write_document(alloc: Global, head: &Head, document: &[u8]) -> Result<Bytes, Memory>
+    requires { length document.now ≤ 65_426 }
+    ensures bytes { IfOk result (λ bytes. bytes ≡ frame_bytes head.now (with_document document.now) (replicate 32 0)) }
+{
+    let mut out = Vec::with_capacity(alloc, HEAD_BYTES + 16 + document.len() + TAG_BYTES)?;
+    push_head(&mut out, head);
+    push_u8(&mut out, DOCUMENT);
+    push_u16(&mut out, document.len() as u16);
+    push_bytes(&mut out, document);
+    push_bytes(&mut out, &[0u8; 13]);
     push_bytes(&mut out, &[0u8; TAG_BYTES]);
     Ok(Bytes::from_vec(out))
 }
@@ -78,7 +117,7 @@ fn push_ends(out: &mut Vec<u8>, head: &Head)
     ensures capacity { vec_capacity out.old ≤ vec_capacity out.new }
 {
     push_u16(out, NAME);
-    push_u8(out, VERSION);
+    push_u8(out, head.format);
     push_u8(out, head.from.0);
     push_u8(out, head.to.0);
 }
@@ -97,11 +136,11 @@ fn push_numbers(out: &mut Vec<u8>, head: &Head)
 }
 
 #[tactic(auto, unfolding(crate::specs::Weights::weights_bytes))]
-fn push_weight(out: &mut Vec<u8>, weight: Option<&Kept>)
-    requires fits { IfSome weight (λ o. IsWritable o.now) }
-    requires room { vec_len out.old + length (weights_bytes (as_list (option_map (λ o. o.now) weight))) ≤ vec_capacity out.old }
-    ensures bytes { out.new.items ≡ out.old.items ++ weights_bytes (as_list (option_map (λ o. o.now) weight.entry)) }
-    ensures len { vec_len out.new ≡ vec_len out.old + length (weights_bytes (as_list (option_map (λ o. o.now) weight.entry))) }
+fn push_weight(out: &mut Vec<u8>, format: u8, weight: Option<&Kept>)
+    requires fits { IfSome weight (λ o. IsWritable format o.now) }
+    requires room { vec_len out.old + length (weights_bytes format (as_list (option_map (λ o. o.now) weight))) ≤ vec_capacity out.old }
+    ensures bytes { out.new.items ≡ out.old.items ++ weights_bytes format (as_list (option_map (λ o. o.now) weight.entry)) }
+    ensures len { vec_len out.new ≡ vec_len out.old + length (weights_bytes format (as_list (option_map (λ o. o.now) weight.entry))) }
     ensures capacity { vec_capacity out.old ≤ vec_capacity out.new }
 {
     let Some(weight) = weight else {
@@ -109,44 +148,44 @@ fn push_weight(out: &mut Vec<u8>, weight: Option<&Kept>)
         return;
     };
     push_u8(out, 1);
-    push_object(out, weight);
+    push_object(out, format, weight);
 }
 
 #[tactic(auto, unfolding(crate::specs::Prioritized::prios_bytes))]
-fn push_prios(out: &mut Vec<u8>, prios: &Four<(u64, &Kept)>)
-    requires fits { All (λ p. IsWritable p.1.now) prios.now }
-    requires room { vec_len out.old + length (prios_bytes (map (λ p. (p.0, p.1.now)) prios.now)) ≤ vec_capacity out.old }
-    ensures bytes { out.new.items ≡ out.old.items ++ prios_bytes (map (λ p. (p.0, p.1.now)) prios.now) }
-    ensures len { vec_len out.new ≡ vec_len out.old + length (prios_bytes (map (λ p. (p.0, p.1.now)) prios.now)) }
+fn push_prios(out: &mut Vec<u8>, format: u8, prios: &Four<(u64, &Kept)>)
+    requires fits { All (λ p. IsWritable format p.1.now) prios.now }
+    requires room { vec_len out.old + length (prios_bytes format (map (λ p. (p.0, p.1.now)) prios.now)) ≤ vec_capacity out.old }
+    ensures bytes { out.new.items ≡ out.old.items ++ prios_bytes format (map (λ p. (p.0, p.1.now)) prios.now) }
+    ensures len { vec_len out.new ≡ vec_len out.old + length (prios_bytes format (map (λ p. (p.0, p.1.now)) prios.now)) }
     ensures capacity { vec_capacity out.old ≤ vec_capacity out.new }
 {
     push_u8(out, prios.len() as u8);
-    push_numbered(out, prios, 0);
+    push_numbered(out, format, prios, 0);
 }
 
 /// The messages with link numbers from this place on.
 #[tactic(auto, unfolding(crate::specs::Prioritized::numbered_bytes))]
-fn push_numbered(out: &mut Vec<u8>, prios: &Four<(u64, &Kept)>, place: usize)
-    requires fits { All (λ p. IsWritable p.1.now) prios.now }
-    requires room { vec_len out.old + length (flat_map numbered_bytes (map (λ p. (p.0, p.1.now)) (drop place prios.now))) ≤ vec_capacity out.old }
-    ensures bytes { out.new.items ≡ out.old.items ++ flat_map numbered_bytes (map (λ p. (p.0, p.1.now)) (drop place prios.now)) }
-    ensures len { vec_len out.new ≡ vec_len out.old + length (flat_map numbered_bytes (map (λ p. (p.0, p.1.now)) (drop place prios.now))) }
+fn push_numbered(out: &mut Vec<u8>, format: u8, prios: &Four<(u64, &Kept)>, place: usize)
+    requires fits { All (λ p. IsWritable format p.1.now) prios.now }
+    requires room { vec_len out.old + length (flat_map (numbered_bytes format) (map (λ p. (p.0, p.1.now)) (drop place prios.now))) ≤ vec_capacity out.old }
+    ensures bytes { out.new.items ≡ out.old.items ++ flat_map (numbered_bytes format) (map (λ p. (p.0, p.1.now)) (drop place prios.now)) }
+    ensures len { vec_len out.new ≡ vec_len out.old + length (flat_map (numbered_bytes format) (map (λ p. (p.0, p.1.now)) (drop place prios.now))) }
     ensures capacity { vec_capacity out.old ≤ vec_capacity out.new }
 {
     let Some((number, message)) = prios.get(place) else {
         return;
     };
     push_u64(out, *number);
-    push_object(out, message);
-    push_numbered(out, prios, place + 1);
+    push_object(out, format, message);
+    push_numbered(out, format, prios, place + 1);
 }
 
 #[tactic(auto, unfolding(crate::specs::Reliable::slot_bytes))]
-fn push_slot(out: &mut Vec<u8>, slot: Option<&OutSlot<'_>>)
-    requires fits { IfSome slot (λ s. IsWritableSlot s.now) }
-    requires room { vec_len out.old + length (slot_bytes (option_map (λ s. out_report s.now) slot)) ≤ vec_capacity out.old }
-    ensures bytes { out.new.items ≡ out.old.items ++ slot_bytes (option_map (λ s. out_report s.now) slot.entry) }
-    ensures len { vec_len out.new ≡ vec_len out.old + length (slot_bytes (option_map (λ s. out_report s.now) slot.entry)) }
+fn push_slot(out: &mut Vec<u8>, format: u8, slot: Option<&OutSlot<'_>>)
+    requires fits { IfSome slot (λ s. IsWritableSlot format s.now) }
+    requires room { vec_len out.old + length (slot_bytes format (option_map (λ s. out_report s.now) slot)) ≤ vec_capacity out.old }
+    ensures bytes { out.new.items ≡ out.old.items ++ slot_bytes format (option_map (λ s. out_report s.now) slot.entry) }
+    ensures len { vec_len out.new ≡ vec_len out.old + length (slot_bytes format (option_map (λ s. out_report s.now) slot.entry)) }
     ensures capacity { vec_capacity out.old ≤ vec_capacity out.new }
 {
     let Some(slot) = slot else {
@@ -154,41 +193,105 @@ fn push_slot(out: &mut Vec<u8>, slot: Option<&OutSlot<'_>>)
         return;
     };
     push_u8(out, 1);
-    push_report(out, slot);
+    push_report(out, format, slot);
+}
+
+/// The paths section, which format 1 lacks.
+#[tactic(auto, using(crate::proofs::LengthLemmas::paths_are, crate::proofs::LengthLemmas::no_paths_are))]
+fn push_paths(out: &mut Vec<u8>, format: u8, paths: Option<&OutSlot<'_>>)
+    requires fits { IfSome paths (λ s. IsWritableSlot format s.now) }
+    requires room { vec_len out.old + length (paths_bytes format (option_map (λ s. out_report s.now) paths)) ≤ vec_capacity out.old }
+    ensures bytes { out.new.items ≡ out.old.items ++ paths_bytes format (option_map (λ s. out_report s.now) paths.entry) }
+    ensures len { vec_len out.new ≡ vec_len out.old + length (paths_bytes format (option_map (λ s. out_report s.now) paths.entry)) }
+    ensures capacity { vec_capacity out.old ≤ vec_capacity out.new }
+{
+    if format != FORMAT_1 {
+        push_slot(out, format, paths);
+    }
+}
+
+/// The probe section, which format 1 lacks.
+#[tactic(auto, unfolding(crate::specs::Probes::probes_bytes, crate::specs::Probes::probe_bytes))]
+fn push_probe(out: &mut Vec<u8>, format: u8, probe: Option<&Probe>)
+    requires room { vec_len out.old + length (probes_bytes format (option_map (λ p. p.now) probe)) ≤ vec_capacity out.old }
+    ensures bytes { out.new.items ≡ out.old.items ++ probes_bytes format (option_map (λ p. p.now) probe.entry) }
+    ensures len { vec_len out.new ≡ vec_len out.old + length (probes_bytes format (option_map (λ p. p.now) probe.entry)) }
+    ensures capacity { vec_capacity out.old ≤ vec_capacity out.new }
+{
+    if format == FORMAT_1 {
+        return;
+    }
+    let Some(probe) = probe else {
+        push_u8(out, 0);
+        return;
+    };
+    push_u8(out, 1);
+    push_u64(out, probe.number);
+    push_bytes(out, &probe.nonce);
+    push_u64(out, probe.echo);
+    push_bytes(out, &probe.proof);
+}
+
+/// The epoch section, which format 1 lacks.
+#[tactic(auto, using(crate::proofs::LengthLemmas::epoch_is, crate::proofs::LengthLemmas::no_epoch_is))]
+fn push_epoch(out: &mut Vec<u8>, format: u8, said: Option<&Kept>)
+    requires fits { IfSome said (λ o. IsWritable format o.now) }
+    requires room { vec_len out.old + length (epoch_bytes format (option_map (λ o. o.now) said)) ≤ vec_capacity out.old }
+    ensures bytes { out.new.items ≡ out.old.items ++ epoch_bytes format (option_map (λ o. o.now) said.entry) }
+    ensures len { vec_len out.new ≡ vec_len out.old + length (epoch_bytes format (option_map (λ o. o.now) said.entry)) }
+    ensures capacity { vec_capacity out.old ≤ vec_capacity out.new }
+{
+    if format != FORMAT_1 {
+        push_ack(out, format, said);
+    }
+}
+
+/// The boot of an end, which format 1 lacks.
+fn push_boot(out: &mut Vec<u8>, format: u8, boot: u64)
+    requires { vec_len out.old + boot_bytes format ≤ vec_capacity out.old }
+    ensures bytes { out.new.items ≡ out.old.items ++ big_bytes (boot_bytes format) boot }
+    ensures len { vec_len out.new ≡ vec_len out.old + boot_bytes format }
+    ensures capacity { vec_capacity out.old ≤ vec_capacity out.new }
+{
+    if format != FORMAT_1 {
+        push_u64(out, boot);
+    }
 }
 
 #[tactic(auto, unfolding(crate::specs::Reliable::report_bytes))]
-fn push_report(out: &mut Vec<u8>, slot: &OutSlot<'_>)
-    requires fits { IsWritableSlot slot.now }
-    requires room { vec_len out.old + length (report_bytes (out_report slot.now)) ≤ vec_capacity out.old }
-    ensures bytes { out.new.items ≡ out.old.items ++ report_bytes (out_report slot.now) }
-    ensures len { vec_len out.new ≡ vec_len out.old + length (report_bytes (out_report slot.now)) }
+fn push_report(out: &mut Vec<u8>, format: u8, slot: &OutSlot<'_>)
+    requires fits { IsWritableSlot format slot.now }
+    requires room { vec_len out.old + length (report_bytes format (out_report slot.now)) ≤ vec_capacity out.old }
+    ensures bytes { out.new.items ≡ out.old.items ++ report_bytes format (out_report slot.now) }
+    ensures len { vec_len out.new ≡ vec_len out.old + length (report_bytes format (out_report slot.now)) }
     ensures capacity { vec_capacity out.old ≤ vec_capacity out.new }
 {
-    push_place(out, slot);
-    push_ack(out, slot.ack);
-    push_rels(out, &slot.rels);
+    push_place(out, format, slot);
+    push_ack(out, format, slot.ack);
+    push_rels(out, format, &slot.rels);
 }
 
 #[tactic(auto, unfolding(crate::specs::Reliable::place_bytes))]
-fn push_place(out: &mut Vec<u8>, slot: &OutSlot<'_>)
-    requires { vec_len out.old + length (place_bytes (out_report slot.now)) ≤ vec_capacity out.old }
-    ensures bytes { out.new.items ≡ out.old.items ++ place_bytes (out_report slot.now) }
-    ensures len { vec_len out.new ≡ vec_len out.old + length (place_bytes (out_report slot.now)) }
+fn push_place(out: &mut Vec<u8>, format: u8, slot: &OutSlot<'_>)
+    requires { vec_len out.old + length (place_bytes format (out_report slot.now)) ≤ vec_capacity out.old }
+    ensures bytes { out.new.items ≡ out.old.items ++ place_bytes format (out_report slot.now) }
+    ensures len { vec_len out.new ≡ vec_len out.old + length (place_bytes format (out_report slot.now)) }
     ensures capacity { vec_capacity out.old ≤ vec_capacity out.new }
 {
     push_u8(out, slot.flow.src.0);
     push_u8(out, slot.flow.dst.0);
+    push_boot(out, format, slot.sboot);
+    push_boot(out, format, slot.dboot);
     push_u64(out, slot.base);
     push_u64(out, slot.have);
 }
 
 #[tactic(auto, unfolding(crate::specs::Reliable::ack_bytes))]
-fn push_ack(out: &mut Vec<u8>, ack: Option<&Kept>)
-    requires fits { IfSome ack (λ o. IsWritable o.now) }
-    requires room { vec_len out.old + length (ack_bytes (option_map (λ o. o.now) ack)) ≤ vec_capacity out.old }
-    ensures bytes { out.new.items ≡ out.old.items ++ ack_bytes (option_map (λ o. o.now) ack.entry) }
-    ensures len { vec_len out.new ≡ vec_len out.old + length (ack_bytes (option_map (λ o. o.now) ack.entry)) }
+fn push_ack(out: &mut Vec<u8>, format: u8, ack: Option<&Kept>)
+    requires fits { IfSome ack (λ o. IsWritable format o.now) }
+    requires room { vec_len out.old + length (ack_bytes format (option_map (λ o. o.now) ack)) ≤ vec_capacity out.old }
+    ensures bytes { out.new.items ≡ out.old.items ++ ack_bytes format (option_map (λ o. o.now) ack.entry) }
+    ensures len { vec_len out.new ≡ vec_len out.old + length (ack_bytes format (option_map (λ o. o.now) ack.entry)) }
     ensures capacity { vec_capacity out.old ≤ vec_capacity out.new }
 {
     let Some(ack) = ack else {
@@ -196,46 +299,46 @@ fn push_ack(out: &mut Vec<u8>, ack: Option<&Kept>)
         return;
     };
     push_u8(out, 1);
-    push_object(out, ack);
+    push_object(out, format, ack);
 }
 
 #[tactic(auto, unfolding(crate::specs::Reliable::rels_bytes))]
-fn push_rels(out: &mut Vec<u8>, rels: &Four<&Kept>)
-    requires fits { All (λ o. IsWritable o.now) rels.now }
-    requires room { vec_len out.old + length (rels_bytes (map (λ o. o.now) rels.now)) ≤ vec_capacity out.old }
-    ensures bytes { out.new.items ≡ out.old.items ++ rels_bytes (map (λ o. o.now) rels.now) }
-    ensures len { vec_len out.new ≡ vec_len out.old + length (rels_bytes (map (λ o. o.now) rels.now)) }
+fn push_rels(out: &mut Vec<u8>, format: u8, rels: &Four<&Kept>)
+    requires fits { All (λ o. IsWritable format o.now) rels.now }
+    requires room { vec_len out.old + length (rels_bytes format (map (λ o. o.now) rels.now)) ≤ vec_capacity out.old }
+    ensures bytes { out.new.items ≡ out.old.items ++ rels_bytes format (map (λ o. o.now) rels.now) }
+    ensures len { vec_len out.new ≡ vec_len out.old + length (rels_bytes format (map (λ o. o.now) rels.now)) }
     ensures capacity { vec_capacity out.old ≤ vec_capacity out.new }
 {
     push_u8(out, rels.len() as u8);
-    push_objects(out, rels, 0);
+    push_objects(out, format, rels, 0);
 }
 
 /// The objects from this place on.
-fn push_objects(out: &mut Vec<u8>, rels: &Four<&Kept>, place: usize)
-    requires fits { All (λ o. IsWritable o.now) rels.now }
-    requires room { vec_len out.old + length (flat_map object_bytes (map (λ o. o.now) (drop place rels.now))) ≤ vec_capacity out.old }
-    ensures bytes { out.new.items ≡ out.old.items ++ flat_map object_bytes (map (λ o. o.now) (drop place rels.now)) }
-    ensures len { vec_len out.new ≡ vec_len out.old + length (flat_map object_bytes (map (λ o. o.now) (drop place rels.now))) }
+fn push_objects(out: &mut Vec<u8>, format: u8, rels: &Four<&Kept>, place: usize)
+    requires fits { All (λ o. IsWritable format o.now) rels.now }
+    requires room { vec_len out.old + length (flat_map (object_bytes format) (map (λ o. o.now) (drop place rels.now))) ≤ vec_capacity out.old }
+    ensures bytes { out.new.items ≡ out.old.items ++ flat_map (object_bytes format) (map (λ o. o.now) (drop place rels.now)) }
+    ensures len { vec_len out.new ≡ vec_len out.old + length (flat_map (object_bytes format) (map (λ o. o.now) (drop place rels.now))) }
     ensures capacity { vec_capacity out.old ≤ vec_capacity out.new }
 {
     let Some(message) = rels.get(place) else {
         return;
     };
-    push_object(out, message);
-    push_objects(out, rels, place + 1);
+    push_object(out, format, message);
+    push_objects(out, format, rels, place + 1);
 }
 
 #[tactic(auto, unfolding(crate::specs::Objects::object_bytes), using(crate::proofs::LengthLemmas::encoded_fits))]
-fn push_object(out: &mut Vec<u8>, object: &Kept)
-    requires fits { IsWritable object.now }
-    requires room { vec_len out.old + length (object_bytes object.now) ≤ vec_capacity out.old }
-    ensures bytes { out.new.items ≡ out.old.items ++ object_bytes object.now }
-    ensures len { vec_len out.new ≡ vec_len out.old + length (object_bytes object.now) }
+fn push_object(out: &mut Vec<u8>, format: u8, object: &Kept)
+    requires fits { IsWritable format object.now }
+    requires room { vec_len out.old + length (object_bytes format object.now) ≤ vec_capacity out.old }
+    ensures bytes { out.new.items ≡ out.old.items ++ object_bytes format object.now }
+    ensures len { vec_len out.new ≡ vec_len out.old + length (object_bytes format object.now) }
     ensures capacity { vec_capacity out.old ≤ vec_capacity out.new }
 {
-    push_u16(out, encoded_len(&object.body, FORMAT_1) as u16);
-    let Ok(()) = push_body(out, &object.body, FORMAT_1) else {
+    push_u16(out, encoded_len(&object.body, format) as u16);
+    let Ok(()) = push_body(out, &object.body, format) else {
         unreachable!()
     };
     let signature = object.signature.as_slice();

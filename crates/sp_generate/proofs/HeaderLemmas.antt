@@ -1,5 +1,5 @@
 -- The header of a number is in its ranges.
-use Rattle.std.proofs.Common.{◌≡◌, ◌<◌, ℕ, ◌==◌, ◌&&◌, Bool, true, nat_le, nat_lt, List, [], ◌∷◌, ◌++◌, refl, inl, inr, arith, replicate}
+use Rattle.std.proofs.Common.{◌≡◌, ◌<◌, ℕ, ◌==◌, ◌&&◌, Bool, true, nat_le, nat_lt, List, [], ◌∷◌, ◌++◌, refl, inl, inr, arith, replicate, length}
 use Rattle.std.specs.List.{All, AllPairs}
 use Rattle.std.proofs.lemmas.Bool.{cases_Bool, and_parts, eqb-true, leb-true, ltb-true}
 use Rattle.std.proofs.lemmas.Bool.Decides.{nat_tests}
@@ -8,7 +8,8 @@ use Rattle.std.proofs.lemmas.List.Kept.{AllPairs-cons}
 use Rattle.byteorder.specs.Endian.{big_bytes}
 use Rattle.sp_base.proofs.NumberLemmas.{AreBytes-big_bytes}
 use Rattle.sp_base.specs.Spelling.{AreBytes}
-use Rattle.sp_graph.specs.Edges.{IsEdge, IsGraph, IsLower}
+use Rattle.sp_base.specs.declared.format.TheConstants.{FORMAT_1}
+use Rattle.sp_graph.specs.Edges.{IsEdge, IsGraphIn, IsLower}
 use Rattle.sp_schedule.specs.Lines.{is_lower}
 use Rattle.sp_schedule.specs.Scenarios.{IsScenario, IsSeed}
 use Rattle.sp_topology.specs.declared.topology.Edge.{Edge}
@@ -76,9 +77,10 @@ ascend_means (e ∷ es) is =
     let both = and_parts (all_pass (is_lower e) es) (ascend es) is in
     AllPairs-cons IsLower e es (all_mean (is_lower e) (IsLower e) (lower_means e) es both.0) (ascend_means es both.1)
 
-graph_is : IsGraph (record { nodes = 8; edges = edges })
+graph_is : IsGraphIn FORMAT_1 (record { nodes = 8; edges = edges })
 graph_is = record {
   nodes = (leb-true 2 8 refl, leb-true 8 16 refl);
+  few = leb-true (length edges) 120 refl;
   edges = all_mean is_edge (IsEdge 8) edge_means edges refl;
   ascend = ascend_means edges refl;
 }

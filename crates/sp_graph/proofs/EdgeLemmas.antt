@@ -1,5 +1,5 @@
 -- Edges and their lines.
-use Rattle.std.proofs.Common.{◌≡◌, ◌<◌, ◌^◌, List, refl, sym, ◌∙◌, subst, arith}
+use Rattle.std.proofs.Common.{◌≡◌, ℕ, ◌<◌, ◌^◌, List, refl, sym, ◌∙◌, subst, arith}
 use Rattle.std.specs.Fmt.{decimal}
 use Rattle.sp_text.specs.Spelling.{Word}
 use Rattle.sp_text.proofs.FieldLemmas.{one_number}
@@ -24,8 +24,9 @@ one_edge words e f small_e small_f is_e is_f =
     all
 
 -- an edge that isn't the next one makes its line no good line
-pub not_next : (g : Graph) (words : List Word) (e : Edge) → g.nodes < 2 ^ 64 → IsAmong g.nodes e → IsWeight e → words ≡ edge_words e → (IsNextEdge g e → ⊥)
-    → (x : Edge) → IsNextEdge g x × (words ≡ edge_words x) → ⊥
-not_next g words e few among weight is wrong x right =
+pub not_next : (format : ℕ) → (g : Graph) (words : List Word) (e : Edge) → g.nodes < 2 ^ 64 → IsAmong g.nodes e → IsWeight e → words ≡ edge_words e
+    → (IsNextEdge format g e → ⊥)
+    → (x : Edge) → IsNextEdge format g x × (words ≡ edge_words x) → ⊥
+not_next format g words e few among weight is wrong x right =
     let same : x ≡ e = one_edge words x e (omega arith, omega arith, omega arith) (omega arith, omega arith, omega arith) right.1 is in
-    wrong (subst (λ (y : Edge). IsNextEdge g y) same right.0)
+    wrong (subst (λ (y : Edge). IsNextEdge format g y) same right.0)

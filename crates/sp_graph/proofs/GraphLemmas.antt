@@ -1,5 +1,5 @@
 -- Graphs grow by an edge that may come next, and join no two nodes twice.
-use Rattle.std.proofs.Common.{◌≡◌, ◌<◌, ◌-◌, ℕ, true, false, Bool, List, [], length, refl, sym, subst, ◌∙◌, inl, inr, arith}
+use Rattle.std.proofs.Common.{◌≡◌, ◌<◌, ◌≤◌, ◌-◌, ℕ, true, false, Bool, List, [], ◌∷◌, length, length-append, refl, sym, subst, ◌∙◌, inl, inr, arith}
 use Rattle.std.specs.Prelude.{◌⊎◌, ◌≢◌, ◌&&◌, ◌||◌, ◌==◌, Option, IfSome, slice_index_or}
 use Rattle.std.specs.List.{AllPairs}
 use Rattle.std.proofs.lemmas.Bool.{cases_eq, eqb-true}
@@ -7,13 +7,24 @@ use Rattle.std.proofs.lemmas.List.Elements.{All-nil, All-push}
 use Rattle.std.proofs.lemmas.List.Quantifiers.{all_pairs_push}
 use Rattle.std.proofs.lemmas.Option.{slice_get-get_or}
 use Rattle.sp_base.specs.declared.id.NodeId.{NodeId}
+use Rattle.sp_base.proofs.FormatLemmas.{few_edges, few_nodes}
+use Rattle.sp_base.specs.Formats.{max_nodes}
 use Rattle.sp_topology.specs.declared.topology.Edge.{Edge}
 use Rattle.sp_graph.specs.declared.graph.Graph.{Graph}
-use Rattle.sp_graph.specs.Edges.{AreNodes, IsEdge, IsGraph, IsLower, IsNextEdge, last_edge, with_edge}
+use Rattle.sp_graph.specs.Edges.{IsEdge, IsGraph, IsGraphIn, IsLower, IsNextEdge, last_edge, with_edge}
 use Rattle.sp_graph.specs.Walks.{is_between}
 
-pub graph_begins : (nodes : ℕ) → AreNodes nodes → IsGraph (record { nodes = nodes; edges = [] })
-graph_begins nodes few = record { nodes = few; edges = All-nil (IsEdge nodes); ascend = λ i j d less inside. absurd (omega (arith, inside)) }
+pub graph_begins : (format nodes : ℕ) → (2 ≤ nodes) × (nodes ≤ max_nodes format) → IsGraphIn format (record { nodes = nodes; edges = [] })
+graph_begins format nodes few = record { nodes = few; few = omega arith; edges = All-nil (IsEdge nodes); ascend = λ i j d less inside. absurd (omega (arith, inside)) }
+
+-- a graph of a format is in the ranges of all
+pub graph_of_any : (format : ℕ) (g : Graph) → IsGraphIn format g → IsGraph g
+graph_of_any format g good = record {
+  nodes = (good.nodes.0, omega (arith, good.nodes.1, few_nodes format));
+  few = omega (arith, good.few, few_edges format);
+  edges = good.edges;
+  ascend = good.ascend;
+}
 
 lower_again : (e f h : Edge) → IsLower e f → IsLower f h → IsLower e h
 lower_again e f h (inl a) (inl b) = inl (omega (arith, a, b))
@@ -36,9 +47,10 @@ all_lower edges e ascend after k d inside = go (cases_eq k (length edges - 1))
         (ascend k (length edges - 1) d (omega (arith, inside, before)) (omega (arith, inside))) last
 
 -- a graph may have one edge more, where that one may come next
-pub graph_grows : (g : Graph) (e : Edge) → IsGraph g → IsNextEdge g e → IsGraph (with_edge g e)
-graph_grows g e good next = record {
+pub graph_grows : (format : ℕ) → (g : Graph) (e : Edge) → IsGraphIn format g → IsNextEdge format g e → IsGraphIn format (with_edge g e)
+graph_grows format g e good next = record {
   nodes = good.nodes;
+  few = omega (arith, length-append g.edges (e ∷ []), next.few);
   edges = All-push (IsEdge g.nodes) g.edges e good.edges (next.ends.0, next.ends.1, next.ends.2, next.weight);
   ascend = all_pairs_push IsLower g.edges e good.ascend (all_lower g.edges e good.ascend next.ascends);
 }

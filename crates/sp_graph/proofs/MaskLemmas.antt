@@ -1,4 +1,4 @@
--- A graph has at most 120 edges, one between two nodes, and the edges of the steps of a path make its mask.
+-- A graph has one edge between two nodes, and the edges of the steps of a path make its mask.
 use Rattle.std.proofs.Common.{◌≡◌, ◌≢◌, ◌⊎◌, ℕ, zero, suc, max, ◌+◌, ◌-◌, ◌==◌, ◌||◌, ◌<◌, ◌≤◌, ◌^◌, inl, inr, cond, Bool, true, false, Option, Some, None, List, [], ◌∷◌, length, drop, take, refl, sym, ap, subst, ◌∙◌, arith}
 use Rattle.std.specs.Prelude.{nat_lt, position, slice_get, slice_index_or}
 use Rattle.std.specs.Int.{bit_at}
@@ -20,65 +20,6 @@ use Rattle.sp_graph.specs.declared.graph.Graph.{Graph}
 use Rattle.sp_graph.specs.Edges.{IsEdge, IsGraph, IsLower}
 use Rattle.sp_graph.specs.Masks.{is_walked_at, mask_at}
 use Rattle.sp_graph.specs.Walks.{is_between}
-
--- ---- few edges
-
--- how many edges of 16 nodes begin at one of the first so many
-abbrev before : ℕ → ℕ
-before zero = 0
-before (suc t) = before t + (15 - t)
-
-next_before : (t : ℕ) → before (t + 1) ≡ before t + (15 - t)
-next_before t = let e : t + 1 ≡ suc t = omega arith in rw e refl
-
-before_grows : (t k : ℕ) → before t ≤ before (t + k)
-before_grows t zero = let e : t + 0 ≡ t = omega arith in rw e (omega arith)
-before_grows t (suc k) = let e : t + suc k ≡ (t + k) + 1 = omega arith in rw e (omega (arith, next_before (t + k), before_grows t k))
-
--- the place of an edge among all edges of 16 nodes
-abbrev rank : Edge → ℕ
-rank e = before (e.low.0 - 1) + (e.high.0 - e.low.0 - 1)
-
-below_next : (nodes : ℕ) (e : Edge) → nodes ≤ 16 → IsEdge nodes e → rank e + 1 ≤ before e.low.0
-below_next nodes e few is =
-    let on = next_before (e.low.0 - 1) in
-    let same : e.low.0 - 1 + 1 ≡ e.low.0 = omega (arith, is.0) in
-    let more : before e.low.0 ≡ before (e.low.0 - 1) + (15 - (e.low.0 - 1)) = ap before (sym same) ∙ on in
-    omega (arith, more, is.0, is.1, is.2, few)
-
-rank_grows : (nodes : ℕ) (e f : Edge) → nodes ≤ 16 → IsEdge nodes e → IsEdge nodes f → IsLower e f → rank e + 1 ≤ rank f
-rank_grows nodes e f few one two (inl lower) =
-    let grown = before_grows e.low.0 (f.low.0 - 1 - e.low.0) in
-    let same : e.low.0 + (f.low.0 - 1 - e.low.0) ≡ f.low.0 - 1 = omega (arith, lower) in
-    let up : before e.low.0 ≤ before (f.low.0 - 1) = rw same at grown in
-    omega (arith, below_next nodes e few one, up)
-rank_grows nodes e f few one two (inr lower) =
-    let same : before (e.low.0 - 1) ≡ before (f.low.0 - 1) = ap (λ (n : ℕ). before (n - 1)) lower.0 in
-    omega (arith, same, lower.0, lower.1, one.1, two.1)
-
-rank_bound : (nodes : ℕ) (e : Edge) → nodes ≤ 16 → IsEdge nodes e → rank e < 120
-rank_bound nodes e few is =
-    let grown = before_grows e.low.0 (15 - e.low.0) in
-    let same : e.low.0 + (15 - e.low.0) ≡ 15 = omega (arith, is.1, is.2, few) in
-    let up : before e.low.0 ≤ before 15 = rw same at grown in
-    omega (arith, below_next nodes e few is, up)
-
-rank_at : (g : Graph) (k : ℕ) (d : Edge) → IsGraph g → k < length g.edges → k ≤ rank (slice_index_or g.edges k d)
-rank_at g zero d good inside = omega arith
-rank_at g (suc k) d good inside =
-    let here = good.edges (suc k) d inside in
-    let last = good.edges k d (omega (arith, inside)) in
-    omega (arith, rank_at g k d good (omega (arith, inside)), rank_grows g.nodes _ _ good.nodes.1 last here (good.ascend k (suc k) d (omega arith) inside))
-
-pub few_edges : (g : Graph) → IsGraph g → length g.edges ≤ MAX_EDGES
-few_edges g good = go g.edges refl
-  where
-    go : (edges : List Edge) → g.edges ≡ edges → length g.edges ≤ 120
-    go [] is = rw is (omega arith)
-    go (e ∷ edges) is =
-        let some : length g.edges ≡ length edges + 1 = omega (arith, ap length is) in
-        let last : length edges < length g.edges = omega (arith, some) in
-        omega (arith, some, rank_at g (length edges) e good last, rank_bound g.nodes (slice_index_or g.edges (length edges) e) good.nodes.1 (good.edges (length edges) e last))
 
 -- ---- the edge of one step
 

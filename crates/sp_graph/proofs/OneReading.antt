@@ -71,41 +71,43 @@ one_refusal r q (inr (inr x)) (inr (inr y)) = same_refusal x.4 y.4
 
 -- ---- lines
 
-nodes_once : (line : ℕ) (word : Word) (a b : Result Stage GraphRefused) → SaysNodes line word a → SaysNodes line word b → a ≡ b
-nodes_once line word (Ok x) (Ok y) p q =
+nodes_once : (format : ℕ) → (line : ℕ) (word : Word) (a b : Result Stage GraphRefused) → SaysNodes format line word a → SaysNodes format line word b → a ≡ b
+nodes_once format line word (Ok x) (Ok y) p q =
     let next : ℕ → Result Stage GraphRefused = λ n. Ok (stages.Edges (record { nodes = n; edges = [] })) in
     ap (λ (s : Stage). Ok s) p.2 ∙ ap next (same_value p.1 q.1) ∙ sym (ap (λ (s : Stage). Ok s) q.2)
-nodes_once line word (Ok x) (Err r) p q = absurd (not_both p.1 q)
-nodes_once line word (Err r) (Ok y) p q = absurd (not_both q.1 p)
-nodes_once line word (Err r) (Err s) p q = ap (λ (e : GraphRefused). Err e) (same_refusal p q)
+nodes_once format line word (Ok x) (Err r) p q = absurd (not_both p.1 q)
+nodes_once format line word (Err r) (Ok y) p q = absurd (not_both q.1 p)
+nodes_once format line word (Err r) (Err s) p q = ap (λ (e : GraphRefused). Err e) (same_refusal p q)
 
-edge_once : (g : Graph) (line : ℕ) (a b w : Word) (x y : Result Stage GraphRefused) → SaysEdge g line a b w x → SaysEdge g line a b w y → x ≡ y
-edge_once g line a b w (Ok x) (Ok y) p q =
+edge_once : (format : ℕ) → (g : Graph) (line : ℕ) (a b w : Word) (x y : Result Stage GraphRefused) → SaysEdge format g line a b w x
+    → SaysEdge format g line a b w y → x ≡ y
+edge_once format g line a b w (Ok x) (Ok y) p q =
     let edge = one_edge p.0 q.0 p.1 q.1 in
     rw (p.3, q.3, edge) refl
-edge_once g line a b w (Ok x) (Err r) p (inl q) = absurd (no_refusal p.0 r p.1 q)
-edge_once g line a b w (Ok x) (Err r) p (inr q) = absurd (q.2 (subst (λ (e : Edge). IsNextEdge g e) (one_edge p.0 q.0 p.1 q.1) p.2))
-edge_once g line a b w (Err r) (Ok y) (inl p) q = absurd (no_refusal q.0 r q.1 p)
-edge_once g line a b w (Err r) (Ok y) (inr p) q = absurd (p.2 (subst (λ (e : Edge). IsNextEdge g e) (one_edge q.0 p.0 q.1 p.1) q.2))
-edge_once g line a b w (Err r) (Err s) (inl p) (inl q) = ap (λ (e : GraphRefused). Err e) (one_refusal r s p q)
-edge_once g line a b w (Err r) (Err s) (inl p) (inr q) = absurd (no_refusal q.0 r q.1 p)
-edge_once g line a b w (Err r) (Err s) (inr p) (inl q) = absurd (no_refusal p.0 s p.1 q)
-edge_once g line a b w (Err r) (Err s) (inr p) (inr q) = ap (λ (e : GraphRefused). Err e) (p.3 ∙ sym q.3)
+edge_once format g line a b w (Ok x) (Err r) p (inl q) = absurd (no_refusal p.0 r p.1 q)
+edge_once format g line a b w (Ok x) (Err r) p (inr q) = absurd (q.2 (subst (λ (e : Edge). IsNextEdge format g e) (one_edge p.0 q.0 p.1 q.1) p.2))
+edge_once format g line a b w (Err r) (Ok y) (inl p) q = absurd (no_refusal q.0 r q.1 p)
+edge_once format g line a b w (Err r) (Ok y) (inr p) q = absurd (p.2 (subst (λ (e : Edge). IsNextEdge format g e) (one_edge q.0 p.0 q.1 p.1) q.2))
+edge_once format g line a b w (Err r) (Err s) (inl p) (inl q) = ap (λ (e : GraphRefused). Err e) (one_refusal r s p q)
+edge_once format g line a b w (Err r) (Err s) (inl p) (inr q) = absurd (no_refusal q.0 r q.1 p)
+edge_once format g line a b w (Err r) (Err s) (inr p) (inl q) = absurd (no_refusal p.0 s p.1 q)
+edge_once format g line a b w (Err r) (Err s) (inr p) (inr q) = ap (λ (e : GraphRefused). Err e) (p.3 ∙ sym q.3)
 
-one_saying : {line : ℕ} {words : List Word} {stage : Stage} {a b : Result Stage GraphRefused} → Says line words stage a → Says line words stage b → a ≡ b
+one_saying : {format line : ℕ} {words : List Word} {stage : Stage} {a b : Result Stage GraphRefused} → Says format line words stage a
+    → Says format line words stage b → a ≡ b
 one_saying (Version_line is) (Version_line is_too) = refl
 one_saying (Version_line is) (No_form none) = absurd (none is)
-one_saying {line} {a = a} {b = b} (Nodes_line n is says) (Nodes_line m is_too says_too) =
+one_saying {format} {line} {a = a} {b = b} (Nodes_line n is says) (Nodes_line m is_too says_too) =
     let forms : nodes_form m ≡ nodes_form n = sym is_too ∙ is in
     let same : m ≡ n = cc in
-    nodes_once line n a b says (subst (λ (x : Word). SaysNodes line x b) same says_too)
+    nodes_once format line n a b says (subst (λ (x : Word). SaysNodes format line x b) same says_too)
 one_saying (Nodes_line n is says) (No_form none) = absurd (none (n, is))
-one_saying {line} {a = x} {b = y} (Edge_line {g = g} a b w is says) (Edge_line c d v is_too says_too) =
+one_saying {format} {line} {a = x} {b = y} (Edge_line {g = g} a b w is says) (Edge_line c d v is_too says_too) =
     let forms : edge_form c d v ≡ edge_form a b w = sym is_too ∙ is in
     let first : c ≡ a = cc in
     let second : d ≡ b = cc in
     let third : v ≡ w = cc in
-    edge_once g line a b w x y says (rw (first, second, third) at says_too)
+    edge_once format g line a b w x y says (rw (first, second, third) at says_too)
 one_saying {words = words} (Edge_line a b w is says) (End_line end) = absurd (other_name words (codes "edge") (codes "end") _ _ refl is end)
 one_saying (Edge_line a b w is says) (No_form none) = absurd (none (inl (a, b, w, is)))
 one_saying {words = words} (End_line end) (Edge_line a b w is says) = absurd (other_name words (codes "edge") (codes "end") _ _ refl is end)
@@ -134,7 +136,8 @@ same_words {a} {b} {x} {y} same =
     let pairs : (a, x) ≡ (b, y) = cc in
     (ap (λ (p : List Word × List ℕ). p.0) pairs, ap (λ (p : List Word × List ℕ). p.1) pairs)
 
-pub same_reading : {stage : Stage} {number : ℕ} {text : List ℕ} {a b : Result Graph GraphRefused} → Reads stage number text a → Reads stage number text b → a ≡ b
+pub same_reading : {format : ℕ} {stage : Stage} {number : ℕ} {text : List ℕ} {a b : Result Graph GraphRefused} → Reads format stage number text a
+    → Reads format stage number text b → a ≡ b
 same_reading Whole Whole = refl
 same_reading (Whole {g = g}) (No_end open_end) = absurd (open_end (record { graph = g; is = refl }))
 same_reading Whole (No_words r some first) = absurd (some refl)
@@ -153,30 +156,30 @@ same_reading (No_words r some first) (Good_line words rest next first_too says r
 same_reading {number = number} (Bad_line words rest r first says) Whole = absurd (nothing_first number words rest first)
 same_reading {number = number} (Bad_line words rest r first says) (No_end open_end) = absurd (nothing_first number words rest first)
 same_reading (Bad_line words rest r first says) (No_words q some first_too) = absurd (let same = sym first ∙ first_too in cc)
-same_reading {stage} {number} (Bad_line words rest r first says) (Bad_line words_too rest_too q first_too says_too) =
+same_reading {format} {stage} {number} (Bad_line words rest r first says) (Bad_line words_too rest_too q first_too says_too) =
     let same = sym first_too ∙ first in
     let of_words : words_too ≡ words = (same_words same).0 in
-    let refused = one_saying says (subst (λ (ws : List Word). Says number ws stage (Err q)) of_words says_too) in
+    let refused = one_saying says (subst (λ (ws : List Word). Says format number ws stage (Err q)) of_words says_too) in
     let again : r ≡ q = cc in
     ap (λ (x : GraphRefused). Err x) again
-same_reading {stage} {number} (Bad_line words rest r first says) (Good_line words_too rest_too next first_too says_too reads) =
+same_reading {format} {stage} {number} (Bad_line words rest r first says) (Good_line words_too rest_too next first_too says_too reads) =
     let same = sym first_too ∙ first in
     let of_words : words_too ≡ words = (same_words same).0 in
-    absurd (let both = one_saying says (subst (λ (ws : List Word). Says number ws stage (Ok next)) of_words says_too) in cc)
+    absurd (let both = one_saying says (subst (λ (ws : List Word). Says format number ws stage (Ok next)) of_words says_too) in cc)
 same_reading {number = number} (Good_line words rest next first says reads) Whole = absurd (nothing_first number words rest first)
 same_reading {number = number} (Good_line words rest next first says reads) (No_end open_end) = absurd (nothing_first number words rest first)
 same_reading (Good_line words rest next first says reads) (No_words q some first_too) = absurd (let same = sym first ∙ first_too in cc)
-same_reading {stage} {number} (Good_line words rest next first says reads) (Bad_line words_too rest_too q first_too says_too) =
+same_reading {format} {stage} {number} (Good_line words rest next first says reads) (Bad_line words_too rest_too q first_too says_too) =
     let same = sym first_too ∙ first in
     let of_words : words_too ≡ words = (same_words same).0 in
-    absurd (let both = one_saying says (subst (λ (ws : List Word). Says number ws stage (Err q)) of_words says_too) in cc)
-same_reading {stage} {number} {b = b} (Good_line words rest next first says reads) (Good_line words_too rest_too other first_too says_too reads_too) =
+    absurd (let both = one_saying says (subst (λ (ws : List Word). Says format number ws stage (Err q)) of_words says_too) in cc)
+same_reading {format} {stage} {number} {b = b} (Good_line words rest next first says reads) (Good_line words_too rest_too other first_too says_too reads_too) =
     let same = sym first_too ∙ first in
     let of_words : words_too ≡ words = (same_words same).0 in
     let of_rest : rest_too ≡ rest = (same_words same).1 in
-    let both = one_saying says (subst (λ (ws : List Word). Says number ws stage (Ok other)) of_words says_too) in
+    let both = one_saying says (subst (λ (ws : List Word). Says format number ws stage (Ok other)) of_words says_too) in
     let of_next : other ≡ next = cc in
-    same_reading reads (subst (λ (s : Stage). Reads s (number + 1) rest b) of_next (subst (λ (t : List ℕ). Reads other (number + 1) t b) of_rest reads_too))
+    same_reading reads (subst (λ (s : Stage). Reads format s (number + 1) rest b) of_next (subst (λ (t : List ℕ). Reads format other (number + 1) t b) of_rest reads_too))
 
 pub one_reading : OneReading
 one_reading text a b x y = same_reading x y

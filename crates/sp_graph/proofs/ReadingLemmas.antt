@@ -1,6 +1,7 @@
 -- What was read so far: whatever the rest of a text says, the whole text says.
 use Rattle.std.proofs.Common.{◌≡◌, ◌≤◌, ◌+◌, ℕ, List, [], ◌∷◌, length, Result, Ok, Err, refl, sym, ap, subst, inl, arith, length-append}
 use Rattle.std.specs.Prelude.{Option, Some, None, IfErr, IfOk, IsErrAnd}
+use Rattle.sp_base.specs.Formats.{max_nodes}
 use Rattle.sp_text.specs.Spelling.{Word}
 use Rattle.sp_text.specs.Texts.{GivesInMemory, TakesNext, line_at, text_of, words_at}
 use Rattle.sp_text.specs.Unread.{LineText, Unread}
@@ -13,14 +14,14 @@ use Rattle.sp_graph.specs.declared.stage.Stage.TheVariants as stages
 use Rattle.sp_graph.specs.declared.refused.GraphRefused.{GraphRefused}
 use Rattle.sp_graph.specs.declared.refused.GraphRefused.TheVariants as refusals
 use Rattle.sp_graph.specs.Lines.{AreFields, Edge_line, IsField, Nodes_line, Says, edge_form, nodes_form, place_1}
-use Rattle.sp_base.specs.declared.limits.TheConstants.{MAX_LINE_BYTES, MAX_NODES}
+use Rattle.sp_base.specs.declared.limits.TheConstants.{MAX_LINE_BYTES}
 use Rattle.sp_text.proofs.NextLine.{read_lines_are_spelled}
-use Rattle.sp_graph.specs.Readings.{Bad_line, Good_line, IsEnd, IsReading, No_end, No_words, Reads, Whole, before_rest, first_words}
+use Rattle.sp_graph.specs.Readings.{Bad_line, Good_line, IsEnd, IsReading, No_end, No_words, Reads, Whole, before_rest, first_words, format_of}
 use Rattle.sp_graph.specs.Refusals.{UnlessMemory, of_text}
 
 -- whatever the rest says after so many good lines, the text says
 abbrev pub GoesOn : List ℕ → Stage → ℕ → List ℕ → Type 0
-GoesOn text stage count rest = (answer : Result Graph GraphRefused) → Reads stage (count + 1) rest answer → IsReading text answer
+GoesOn text stage count rest = (answer : Result Graph GraphRefused) → Reads (format_of text) stage (count + 1) rest answer → IsReading text answer
 
 -- what holds of an answer holds of it unless memory was wanting
 pub unless_memory : {X : Type 0} (Holds : Result X GraphRefused → Type 0) (answer : Result X GraphRefused) → Holds answer → UnlessMemory Holds answer
@@ -39,14 +40,16 @@ handed_on Holds (Ok x) refused is h = absurd is
 handed_on Holds (Err e) refused is h = subst (λ (r : GraphRefused). Holds (Err r)) (sym is) h
 
 -- a field is refused
-pub bad_nodes : (line : ℕ) (words : List Word) (n : Word) (answer : Result Stage GraphRefused) (refused : GraphRefused) → IsErrAnd answer (λ e. e ≡ refused) → words ≡ nodes_form n
-    → IsField (place_1 line 5) 2 MAX_NODES n (Err refused) → Says line words stages.Version answer
-bad_nodes line words n answer refused is form field = handed_on (Says line words stages.Version) answer refused is (Nodes_line n form field)
+pub bad_nodes : (format : ℕ) → (line : ℕ) (words : List Word) (n : Word) (answer : Result Stage GraphRefused) (refused : GraphRefused)
+    → IsErrAnd answer (λ e. e ≡ refused) → words ≡ nodes_form n
+    → IsField (place_1 line 5) 2 (max_nodes format) n (Err refused) → Says format line words stages.Version answer
+bad_nodes format line words n answer refused is form field = handed_on (Says format line words stages.Version) answer refused is (Nodes_line n form field)
 
-pub bad_edge : (g : Graph) (line : ℕ) (words : List Word) (a b w : Word) (answer : Result Stage GraphRefused) (refused : GraphRefused) → IsErrAnd answer (λ e. e ≡ refused)
-    → words ≡ edge_form a b w → AreFields g.nodes line a b w (Err refused) → UnlessMemory (Says line words (stages.Edges g)) answer
-bad_edge g line words a b w answer refused is form fields =
-    unless_memory (Says line words (stages.Edges g)) answer (handed_on (Says line words (stages.Edges g)) answer refused is (Edge_line a b w form (inl fields)))
+pub bad_edge : (format : ℕ) → (g : Graph) (line : ℕ) (words : List Word) (a b w : Word) (answer : Result Stage GraphRefused) (refused : GraphRefused)
+    → IsErrAnd answer (λ e. e ≡ refused)
+    → words ≡ edge_form a b w → AreFields g.nodes line a b w (Err refused) → UnlessMemory (Says format line words (stages.Edges g)) answer
+bad_edge format g line words a b w answer refused is form fields =
+    unless_memory (Says format line words (stages.Edges g)) answer (handed_on (Says format line words (stages.Edges g)) answer refused is (Edge_line a b w form (inl fields)))
 
 -- ---- one line more
 
@@ -84,7 +87,8 @@ first_line count old new line words given takes are =
 
 -- after a good line the rest still says what the text does
 pub goes_on : (text : List ℕ) (stage next : Stage) (count : ℕ) (old new : Unread) (line : Line) (words : List Word) → GoesOn text stage count old.rest → old.given ≡ count
-    → TakesNext old (Ok (Some line)) new → words_at line.number line.bytes.now ≡ Ok words → UnlessMemory (Says (count + 1) words stage) (Ok next) → GoesOn text next (count + 1) new.rest
+    → TakesNext old (Ok (Some line)) new → words_at line.number line.bytes.now ≡ Ok words
+    → UnlessMemory (Says (format_of text) (count + 1) words stage) (Ok next) → GoesOn text next (count + 1) new.rest
 goes_on text stage next count old new line words so_far given takes are says =
     λ answer rest. so_far answer (Good_line words new.rest next (first_line count old new line (Ok words) given takes are) says rest)
 
@@ -126,16 +130,17 @@ words_refused view text stage count old new line answer refused so_far given tak
 -- the words say nothing that may stand there
 pub stage_refused : (text : List ℕ) (stage : Stage) (count : ℕ) (old new : Unread) (line : Line) (words : List Word) (answer : Result Graph GraphRefused) (refused : GraphRefused)
     → GoesOn text stage count old.rest → old.given ≡ count → TakesNext old (Ok (Some line)) new → words_at line.number line.bytes.now ≡ Ok words
-    → UnlessMemory (Says (count + 1) words stage) (Err refused) → IsErrAnd answer (λ e. e ≡ refused) → UnlessMemory (IsReading text) answer
+    → UnlessMemory (Says (format_of text) (count + 1) words stage) (Err refused) → IsErrAnd answer (λ e. e ≡ refused) → UnlessMemory (IsReading text) answer
 stage_refused text stage count old new line words answer refused so_far given takes are says is = go refused says is
   where
-    at_line : (r : GraphRefused) → Says (count + 1) words stage (Err r) → IsReading text (Err r)
+    at_line : (r : GraphRefused) → Says (format_of text) (count + 1) words stage (Err r) → IsReading text (Err r)
     at_line r bad = so_far (Err r) (Bad_line words new.rest r (first_line count old new line (Ok words) given takes are) bad)
 
-    hand : (r : GraphRefused) → Says (count + 1) words stage (Err r) → IsErrAnd answer (λ e. e ≡ r) → UnlessMemory (IsReading text) answer
+    hand : (r : GraphRefused) → Says (format_of text) (count + 1) words stage (Err r) → IsErrAnd answer (λ e. e ≡ r) → UnlessMemory (IsReading text) answer
     hand r bad so = unless_memory (IsReading text) answer (handed_on (IsReading text) answer r so (at_line r bad))
 
-    go : (r : GraphRefused) → UnlessMemory (Says (count + 1) words stage) (Err r) → IsErrAnd answer (λ e. e ≡ r) → UnlessMemory (IsReading text) answer
+    go : (r : GraphRefused) → UnlessMemory (Says (format_of text) (count + 1) words stage) (Err r) → IsErrAnd answer (λ e. e ≡ r)
+        → UnlessMemory (IsReading text) answer
     go refusals.Memory bad so = handed_on (UnlessMemory (IsReading text)) answer refusals.Memory so tt
     go (refusals.Text r) bad so = hand (refusals.Text r) bad so
     go (refusals.Form n) bad so = hand (refusals.Form n) bad so
@@ -148,7 +153,8 @@ pub ends : (text : List ℕ) (stage : Stage) (count : ℕ) (rest : List ℕ) (an
     → IfOk answer (λ g. stage ≡ stages.End g) → IfErr answer (λ refused. (refused ≡ refusals.NoEnd (count + 1)) × (IsEnd stage → ⊥)) → UnlessMemory (IsReading text) answer
 ends text stage count rest answer so_far none ok err = unless_memory (IsReading text) answer (so_far answer (rw none (at_end answer ok err)))
   where
-    at_end : (a : Result Graph GraphRefused) → IfOk a (λ g. stage ≡ stages.End g) → IfErr a (λ refused. (refused ≡ refusals.NoEnd (count + 1)) × (IsEnd stage → ⊥)) → Reads stage (count + 1) [] a
+    at_end : (a : Result Graph GraphRefused) → IfOk a (λ g. stage ≡ stages.End g)
+        → IfErr a (λ refused. (refused ≡ refusals.NoEnd (count + 1)) × (IsEnd stage → ⊥)) → Reads (format_of text) stage (count + 1) [] a
     at_end (Ok g) good bad = rw good Whole
     at_end (Err refused) good bad = rw bad.0 (No_end bad.1)
 

@@ -1,5 +1,6 @@
 -- A text says a graph exactly where it is the graph's text.
-use Rattle.std.proofs.Common.{◌≡◌, ◌≢◌, ℕ, ◌+◌, ◌-◌, ◌<◌, ◌≤◌, ◌^◌, nat_le, ◌&&◌, true, List, [], ◌∷◌, ◌++◌, length, map, Result, Ok, Err, refl, sym, ap, subst, ◌∙◌, arith, append_assoc, length-append}
+use Rattle.std.proofs.Common.{◌≡◌, ◌≢◌, ℕ, ◌+◌, ◌-◌, ◌<◌, ◌≤◌, ◌^◌, nat_le, ◌&&◌, ◌==◌, Bool, true, false, if◌then◌else◌, List, [], ◌∷◌, ◌++◌, length, map}
+use Rattle.std.proofs.Common.{Result, Ok, Err, refl, sym, ap, subst, ◌∙◌, arith, append_assoc, length-append}
 use Rattle.std.specs.Prelude.{All, IfErr, IfOk, IfSome, Option, codes, slice_get, slice_index_or}
 use Rattle.std.specs.List.{flat_map, join_with_byte, list_all}
 use Rattle.std.specs.Fmt.{decimal}
@@ -12,7 +13,7 @@ use Rattle.std.proofs.lemmas.Option.{slice_get-get_or}
 use Rattle.std.proofs.lemmas.List.Sums.{AllPass-from_list_all}
 use Rattle.std.proofs.lemmas.Bool.Decides.{nat_tests}
 use Rattle.std.proofs.lemmas.List.Elements.{All-cons, All-nil, All-weaker}
-use Rattle.sp_base.specs.declared.limits.TheConstants.{MAX_LINE_BYTES, MAX_NODES, MAX_WEIGHT}
+use Rattle.sp_base.specs.declared.limits.TheConstants.{MAX_LINE_BYTES, MAX_WEIGHT}
 use Rattle.sp_base.specs.Refusals.{◌>>=◌}
 use Rattle.sp_text.specs.Lines.{IsInOneLine}
 use Rattle.sp_text.specs.Spelling.{Word}
@@ -29,47 +30,51 @@ use Rattle.sp_graph.specs.declared.stage.Stage.{Stage}
 use Rattle.sp_graph.specs.declared.stage.Stage.TheVariants as stages
 use Rattle.sp_graph.specs.declared.refused.GraphRefused.{GraphRefused}
 use Rattle.sp_graph.specs.declared.refused.GraphRefused.TheVariants as refusals
+use Rattle.sp_base.specs.Formats.{max_nodes}
+use Rattle.sp_base.specs.declared.format.TheConstants.{FORMAT_1}
+use Rattle.sp_base.proofs.FormatLemmas.{few_nodes}
 use Rattle.sp_graph.specs.Refusals.{UnlessMemory}
 use Rattle.sp_graph.proofs.OneReading.{one_reading}
-use Rattle.sp_graph.specs.Edges.{IsEdge, IsGraph, IsLower, IsNextEdge, last_edge}
+use Rattle.sp_graph.specs.Edges.{IsEdge, IsGraphIn, IsLower, IsNextEdge, last_edge}
 use Rattle.sp_graph.specs.Lines.{AreFields, Edge_line, End_line, In_range, IsField, Nodes_line, Says, Version_line}
-use Rattle.sp_graph.specs.Readings.{Bad_line, Good_line, IsReading, No_end, No_words, Reads, TextsAreRead, Whole, before_rest, first_words}
+use Rattle.sp_graph.specs.Readings.{Bad_line, FormatsAreSaid, Good_line, IsReading, No_end, No_words, Reads, TextsAreRead, Whole, before_rest, first_words}
+use Rattle.sp_graph.specs.Readings.{format_of}
 use Rattle.sp_graph.specs.Spelling.{edge_words, end_words, graph_lines, graph_text, line_text, nodes_words, version_words}
 use Rattle.sp_graph.proofs.GraphLemmas.{graph_begins, graph_grows}
 
 -- ---- what was read is spelled by just these lines
 
-abbrev IsGood : Stage → Type 0
-IsGood stages.Start = Unit {0}
-IsGood stages.Version = Unit {0}
-IsGood (stages.Edges g) = IsGraph g
-IsGood (stages.End g) = IsGraph g
+abbrev IsGood : (format : ℕ) → Stage → Type 0
+IsGood format stages.Start = Unit {0}
+IsGood format stages.Version = Unit {0}
+IsGood format (stages.Edges g) = IsGraphIn format g
+IsGood format (stages.End g) = IsGraphIn format g
 
 -- the lines up to a stage
-abbrev lines_to : Stage → List (List Word)
-lines_to stages.Start = []
-lines_to stages.Version = version_words ∷ []
-lines_to (stages.Edges g) = version_words ∷ nodes_words g.nodes ∷ map edge_words g.edges
-lines_to (stages.End g) = graph_lines g
+abbrev lines_to : (format : ℕ) → Stage → List (List Word)
+lines_to format stages.Start = []
+lines_to format stages.Version = version_words format ∷ []
+lines_to format (stages.Edges g) = version_words format ∷ nodes_words g.nodes ∷ map edge_words g.edges
+lines_to format (stages.End g) = graph_lines format g
 
-record Goes (stage next : Stage) (words : List Word) : Type 0 where
-  good : IsGood stage → IsGood next
-  lines : lines_to next ≡ lines_to stage ++ words ∷ []
+record Goes (format : ℕ) (stage next : Stage) (words : List Word) : Type 0 where
+  good : IsGood format stage → IsGood format next
+  lines : lines_to format next ≡ lines_to format stage ++ words ∷ []
 
 said_number : {place : At} {low high : ℕ} {word : Word} {n : ℕ} → IsField place low high word (Ok n) → (word ≡ decimal n) × (low ≤ n) × (n ≤ high)
 said_number (In_range n is small above below) = (is, above, below)
 
-goes : {line : ℕ} {words : List Word} {stage next : Stage} → Says line words stage (Ok next) → Goes stage next words
-goes (Version_line is) = record { good = λ _. tt; lines = rw is refl }
-goes (Nodes_line word is says) =
+goes : {format line : ℕ} {words : List Word} {stage next : Stage} → Says format line words stage (Ok next) → Goes format stage next words
+goes {format} (Version_line is) = record { good = λ _. tt; lines = rw is refl }
+goes {format} (Nodes_line word is says) =
     let n = said_number says.1 in
-    record { good = λ _. rw says.2 (graph_begins says.0 (n.1, n.2)); lines = rw (says.2, is, n.0) refl }
-goes (Edge_line {g = g} a b w is says) =
+    record { good = λ _. rw says.2 (graph_begins format says.0 (n.1, n.2)); lines = rw (says.2, is, n.0) refl }
+goes {format} (Edge_line {g = g} a b w is says) =
     let low = said_number says.1.0 in
     let high = said_number says.1.1 in
     let weight = said_number says.1.2 in
-    record { good = λ good. rw says.3 (graph_grows g says.0 good says.2); lines = rw (says.3, is, low.0, high.0, weight.0, map-append) refl }
-goes (End_line is) = record { good = λ good. good; lines = rw is refl }
+    record { good = λ good. rw says.3 (graph_grows format g says.0 good says.2); lines = rw (says.3, is, low.0, high.0, weight.0, map-append) refl }
+goes {format} (End_line is) = record { good = λ good. good; lines = rw is refl }
 
 -- the first line is spelled by its words
 spelled_first : (number : ℕ) (text rest : List ℕ) (words : List Word) → first_words number text ≡ Ok (words, rest) → text ≡ line_text words ++ rest
@@ -93,17 +98,18 @@ spelled_first number text rest words first = go (line_at number text) refl (λ i
     go (Err refused) is all = absurd cc
 
 -- what a graph's text says is the graph
-says_graph : {stage : Stage} {number : ℕ} {text : List ℕ} {answer : Result Graph GraphRefused} (g : Graph) → Reads stage number text answer → answer ≡ Ok g → IsGood stage
-    → IsGraph g × (flat_map line_text (lines_to stage) ++ text ≡ graph_text g)
+says_graph : {format : ℕ} {stage : Stage} {number : ℕ} {text : List ℕ} {answer : Result Graph GraphRefused} (g : Graph)
+    → Reads format stage number text answer → answer ≡ Ok g → IsGood format stage
+    → IsGraphIn format g × (flat_map line_text (lines_to format stage) ++ text ≡ graph_text format g)
 unfolding graph_text
-says_graph g (Whole {g = h}) is good = let same : h ≡ g = cc in (subst IsGraph same good, append-nil (flat_map line_text (graph_lines h)) ∙ ap graph_text same)
+says_graph {format} g (Whole {g = h}) is good = let same : h ≡ g = cc in (subst (IsGraphIn format) same good, append-nil (flat_map line_text (graph_lines format h)) ∙ ap (graph_text format) same)
 says_graph g (No_end open_end) is good = absurd cc
 says_graph g (No_words r some first) is good = absurd cc
 says_graph g (Bad_line words rest r first says) is good = absurd cc
-says_graph {stage} {number} {text} g (Good_line words rest next first says reads) is good =
+says_graph {format} {stage} {number} {text} g (Good_line words rest next first says reads) is good =
     let on = goes says in
     let rest_says = says_graph g reads is (on.good good) in
-    let front : flat_map line_text (lines_to stage) ++ text ≡ flat_map line_text (lines_to next) ++ rest =
+    let front : flat_map line_text (lines_to format stage) ++ text ≡ flat_map line_text (lines_to format next) ++ rest =
     rw (spelled_first number text rest words first, on.lines, flat_map-append) (simp (append_assoc, append-nil)) in
     (rest_says.0, front ∙ rest_says.1)
 
@@ -135,8 +141,9 @@ read_first number words rest good =
     let split : line_text words ++ rest ≡ line ++ 10 ∷ rest = simp append_assoc in
     rw (split, spelled_lines_are_read number line rest one good.short, spelled_words_are_read number words good.some good.each) refl
 
-good_line : {stage next : Stage} {answer : Result Graph GraphRefused} (words : List Word) (rest : List ℕ) → IsGoodLine words → ((number : ℕ) → Says number words stage (Ok next))
-    → ((number : ℕ) → Reads next number rest answer) → (number : ℕ) → Reads stage number (line_text words ++ rest) answer
+good_line : {format : ℕ} {stage next : Stage} {answer : Result Graph GraphRefused} (words : List Word) (rest : List ℕ) → IsGoodLine words
+    → ((number : ℕ) → Says format number words stage (Ok next))
+    → ((number : ℕ) → Reads format next number rest answer) → (number : ℕ) → Reads format stage number (line_text words ++ rest) answer
 good_line {next = next} words rest good says reads number = Good_line words rest next (read_first number words rest good) (says number) (reads (number + 1))
 
 named : (word : Word) → list_all (λ b. nat_le 33 b && nat_le b 126) word ≡ true → 0 < length word → IsWord word
@@ -157,12 +164,20 @@ two a b is_a is_b = All-cons IsWord a (b ∷ []) is_a (one b is_b)
 four : (a b c d : Word) → IsWord a → IsWord b → IsWord c → IsWord d → All IsWord (a ∷ b ∷ c ∷ d ∷ [])
 four a b c d is_a is_b is_c is_d = All-cons IsWord a (b ∷ c ∷ d ∷ []) is_a (All-cons IsWord b (c ∷ d ∷ []) is_b (two c d is_c is_d))
 
-version_good : IsGoodLine version_words
-version_good = record {
-  some = omega arith;
-  each = two (codes "graph") (codes "1") (named (codes "graph") refl (omega arith)) (named (codes "1") refl (omega arith));
-  short = omega arith;
-}
+version_good : (format : ℕ) → IsGoodLine (version_words format)
+version_good format = go (format == FORMAT_1)
+  where
+    go : (b : Bool) → IsGoodLine (codes "graph" ∷ (if b then codes "1" else codes "2") ∷ [])
+    go true = record {
+      some = omega arith;
+      each = two (codes "graph") (codes "1") (named (codes "graph") refl (omega arith)) (named (codes "1") refl (omega arith));
+      short = omega arith;
+    }
+    go false = record {
+      some = omega arith;
+      each = two (codes "graph") (codes "2") (named (codes "graph") refl (omega arith)) (named (codes "2") refl (omega arith));
+      short = omega arith;
+    }
 
 end_good : IsGoodLine end_words
 end_good = record { some = omega arith; each = one (codes "end") (named (codes "end") refl (omega arith)); short = omega arith }
@@ -194,10 +209,11 @@ with_edges g edges = record { nodes = g.nodes; edges = edges }
 in_range : (place : At) (low high n : ℕ) → n < 2 ^ 64 → low ≤ n → n ≤ high → IsField place low high (decimal n) (Ok n)
 in_range place low high n small above below = In_range n refl small above below
 
-edge_says : (g : Graph) (front : List Edge) (e : Edge) (line : ℕ) → IsGraph g → IsEdge g.nodes e → IsNextEdge (with_edges g front) e
-    → Says line (edge_words e) (stages.Edges (with_edges g front)) (Ok (stages.Edges (with_edges g (front ++ e ∷ []))))
-edge_says g front e line good is next =
-    let few = good.nodes.1 in
+edge_says : (format : ℕ) → (g : Graph) (front : List Edge) (e : Edge) (line : ℕ) → IsGraphIn format g → IsEdge g.nodes e
+    → IsNextEdge format (with_edges g front) e
+    → Says format line (edge_words e) (stages.Edges (with_edges g front)) (Ok (stages.Edges (with_edges g (front ++ e ∷ []))))
+edge_says format g front e line good is next =
+    let few : g.nodes ≤ 32 = omega (arith, good.nodes.1, few_nodes format) in
     let fields : AreFields g.nodes line (decimal e.low.0) (decimal e.high.0) (decimal e.weight) (Ok e) = (
       in_range _ 1 g.nodes e.low.0 (omega (arith, is.1, is.2, few)) is.0 (omega (arith, is.1, is.2)),
       in_range _ 1 g.nodes e.high.0 (omega (arith, is.2, few)) (omega (arith, is.0, is.1)) is.2,
@@ -205,9 +221,10 @@ edge_says g front e line good is next =
     ) in
     Edge_line (decimal e.low.0) (decimal e.high.0) (decimal e.weight) refl (e, fields, next, refl)
 
-ascends_after : (g : Graph) (front back : List Edge) (e : Edge) → IsGraph g → g.edges ≡ front ++ e ∷ back → IfSome (last_edge front) (λ f. IsLower f e)
-ascends_after g [] back e good is = tt
-ascends_after g (f ∷ front) back e good is =
+ascends_after : (format : ℕ) → (g : Graph) (front back : List Edge) (e : Edge) → IsGraphIn format g → g.edges ≡ front ++ e ∷ back
+    → IfSome (last_edge front) (λ f. IsLower f e)
+ascends_after format g [] back e good is = tt
+ascends_after format g (f ∷ front) back e good is =
     let before = f ∷ front in
     let last = length front in
     let inside : length before < length g.edges = omega (arith, ap length is, length-append before (e ∷ back)) in
@@ -218,59 +235,66 @@ ascends_after g (f ∷ front) back e good is =
     subst (λ (o : Option Edge). IfSome o (λ x. IsLower x e)) (sym (ap (slice_get before) there ∙ slice_get-get_or before last e (omega arith))) lower
 
 -- an edge of a graph may come after those before it
-pub next_of : (g : Graph) (front back : List Edge) (e : Edge) → IsGraph g → g.edges ≡ front ++ e ∷ back → IsEdge g.nodes e × IsNextEdge (with_edges g front) e
-next_of g front back e good is =
+pub next_of : (format : ℕ) → (g : Graph) (front back : List Edge) (e : Edge) → IsGraphIn format g → g.edges ≡ front ++ e ∷ back
+    → IsEdge g.nodes e × IsNextEdge format (with_edges g front) e
+next_of format g front back e good is =
     let inside : length front < length g.edges = omega (arith, ap length is, length-append front (e ∷ back)) in
     let at : slice_index_or g.edges (length front) e ≡ e = rw is (get_or_at front e back e (length front) refl) in
     let edge : IsEdge g.nodes e = rw at at (good.edges (length front) e inside) in
-    (edge, record { ends = (edge.0, edge.1, edge.2); weight = edge.3; ascends = ascends_after g front back e good is })
+    (edge, record { ends = (edge.0, edge.1, edge.2); weight = edge.3; ascends = ascends_after format g front back e good is; few = omega (arith, inside, good.few) })
 
 -- the edges from one on lead to the graph
-edges_read : {answer : Result Graph GraphRefused} {rest : List ℕ} (g : Graph) (front back : List Edge) → IsGraph g → g.edges ≡ front ++ back
-    → ((number : ℕ) → Reads (stages.Edges g) number rest answer) → (number : ℕ) → Reads (stages.Edges (with_edges g front)) number (flat_map line_text (map edge_words back) ++ rest) answer
-edges_read {answer} {rest} g front [] good is reads number =
+edges_read : {format : ℕ} {answer : Result Graph GraphRefused} {rest : List ℕ} (g : Graph) (front back : List Edge) → IsGraphIn format g
+    → g.edges ≡ front ++ back
+    → ((number : ℕ) → Reads format (stages.Edges g) number rest answer) → (number : ℕ)
+    → Reads format (stages.Edges (with_edges g front)) number (flat_map line_text (map edge_words back) ++ rest) answer
+edges_read {format} {answer} {rest} g front [] good is reads number =
     let all : with_edges g g.edges ≡ with_edges g front = ap (with_edges g) (is ∙ append-nil front) in
-    subst (λ (h : Graph). Reads (stages.Edges h) number rest answer) all (reads number)
-edges_read {answer} {rest} g front (e ∷ back) good is reads number =
-    let next = next_of g front back e good is in
-    let few = good.nodes.1 in
+    subst (λ (h : Graph). Reads format (stages.Edges h) number rest answer) all (reads number)
+edges_read {format} {answer} {rest} g front (e ∷ back) good is reads number =
+    let next = next_of format g front back e good is in
+    let few : g.nodes ≤ 32 = omega (arith, good.nodes.1, few_nodes format) in
     let line : IsGoodLine (edge_words e) = edge_good e (omega (arith, next.0.1, next.0.2, few)) (omega (arith, next.0.2, few)) (omega (arith, next.0.3)) in
     let more = edges_read g (front ++ e ∷ []) back good (is ∙ sym (append_assoc front (e ∷ []) back)) reads in
     rw append_assoc
-    (good_line (edge_words e) (flat_map line_text (map edge_words back) ++ rest) line (λ n. edge_says g front e n good next.0 next.1) more number)
+    (good_line (edge_words e) (flat_map line_text (map edge_words back) ++ rest) line (λ n. edge_says format g front e n good next.0 next.1) more number)
 
 -- ---- the whole text
 
-reads_whole : (g : Graph) → IsGraph g → Reads stages.Start 1 (graph_text g) (Ok g)
+reads_whole : (format : ℕ) → (g : Graph) → IsGraphIn format g → Reads format stages.Start 1 (graph_text format g) (Ok g)
 unfolding graph_text
-reads_whole g good =
+reads_whole format g good =
     let edges = flat_map line_text (map edge_words g.edges) in
-    let few = good.nodes.1 in
-    let end : (number : ℕ) → Reads (stages.Edges g) number (line_text end_words ++ []) (Ok g) = good_line end_words [] end_good (λ n. End_line refl) (λ n. Whole) in
+    let few : g.nodes ≤ 32 = omega (arith, good.nodes.1, few_nodes format) in
+    let end : (number : ℕ) → Reads format (stages.Edges g) number (line_text end_words ++ []) (Ok g) = good_line end_words [] end_good (λ n. End_line refl) (λ n. Whole) in
     let none = with_edges g [] in
-    let on : (number : ℕ) → Reads (stages.Edges none) number (edges ++ (line_text end_words ++ [])) (Ok g) = edges_read g [] g.edges good refl end in
-    let nodes : (number : ℕ) → Reads stages.Version number (line_text (nodes_words g.nodes) ++ (edges ++ (line_text end_words ++ []))) (Ok g) =
+    let on : (number : ℕ) → Reads format (stages.Edges none) number (edges ++ (line_text end_words ++ [])) (Ok g) = edges_read g [] g.edges good refl end in
+    let nodes : (number : ℕ) → Reads format stages.Version number (line_text (nodes_words g.nodes) ++ (edges ++ (line_text end_words ++ []))) (Ok g) =
     good_line (nodes_words g.nodes) (edges ++ (line_text end_words ++ [])) (nodes_good g.nodes (omega (arith, few)))
-    (λ n. Nodes_line (decimal g.nodes) refl (g.nodes, in_range _ 2 MAX_NODES g.nodes (omega (arith, few)) good.nodes.0 few, refl)) on in
-    let all = good_line version_words (line_text (nodes_words g.nodes) ++ (edges ++ (line_text end_words ++ []))) version_good (λ n. Version_line refl) nodes 1 in
-    let text : graph_text g ≡ line_text version_words ++ (line_text (nodes_words g.nodes) ++ (edges ++ (line_text end_words ++ []))) =
-    ap (λ (xs : List ℕ). line_text version_words ++ (line_text (nodes_words g.nodes) ++ xs)) (flat_map-append line_text (map edge_words g.edges) (end_words ∷ [])) in
+    (λ n. Nodes_line (decimal g.nodes) refl (g.nodes, in_range _ 2 (max_nodes format) g.nodes (omega (arith, few)) good.nodes.0 good.nodes.1, refl)) on in
+    let all = good_line (version_words format) (line_text (nodes_words g.nodes) ++ (edges ++ (line_text end_words ++ []))) (version_good format) (λ n. Version_line refl) nodes 1 in
+    let text : graph_text format g ≡ line_text (version_words format) ++ (line_text (nodes_words g.nodes) ++ (edges ++ (line_text end_words ++ []))) =
+    ap (λ (xs : List ℕ). line_text (version_words format) ++ (line_text (nodes_words g.nodes) ++ xs)) (flat_map-append line_text (map edge_words g.edges) (end_words ∷ [])) in
     rw text all
 
 pub texts_are_read : TextsAreRead
-texts_are_read text g =
-    (λ reads. let says = says_graph g reads refl tt in (says.0, says.1), λ is. rw is.1 (reads_whole g is.0))
+texts_are_read text g = (
+  λ reads. let says = says_graph g reads refl tt in (says.0, says.1),
+  λ is. subst (λ (t : List ℕ). Reads (format_of text) stages.Start 1 t (Ok g)) (sym is.1) (reads_whole (format_of text) g is.0),
+)
 
-never : (text : List ℕ) (g : Graph) (refused : GraphRefused) → IsReading text (Err refused) → IsGraph g → text ≡ graph_text g → ⊥
+never : (text : List ℕ) (g : Graph) (refused : GraphRefused) → IsReading text (Err refused) → IsGraphIn (format_of text) g
+    → text ≡ graph_text (format_of text) g → ⊥
 never text g refused reads good is = let both = one_reading text (Err refused) (Ok g) reads ((texts_are_read text g).1 (good, is)) in cc
 
 -- what was read is the graph of the text, and a text that is refused is of none
-pub is_of_text : (text : List ℕ) (answer : Result Graph GraphRefused) → UnlessMemory (IsReading text) answer → IfOk answer (λ g. IsGraph g × (text ≡ graph_text g))
+pub is_of_text : (text : List ℕ) (answer : Result Graph GraphRefused) → UnlessMemory (IsReading text) answer
+    → IfOk answer (λ g. IsGraphIn (format_of text) g × (text ≡ graph_text (format_of text) g))
 is_of_text text (Ok g) reads = (texts_are_read text g).0 reads
 is_of_text text (Err refused) reads = tt
 
 pub is_of_none : (text : List ℕ) (answer : Result Graph GraphRefused) → UnlessMemory (IsReading text) answer
-    → IfErr answer (λ refused. refused ≢ refusals.Memory → (g : Graph) → IsGraph g → text ≢ graph_text g)
+    → IfErr answer (λ refused. refused ≢ refusals.Memory → (g : Graph) → IsGraphIn (format_of text) g → text ≢ graph_text (format_of text) g)
 is_of_none text (Ok g) reads = tt
 is_of_none text (Err refusals.Memory) reads = λ no_memory g good is. no_memory refl
 is_of_none text (Err (refusals.Text refused)) reads = λ no_memory g good is. never text g (refusals.Text refused) reads good is
@@ -278,3 +302,7 @@ is_of_none text (Err (refusals.Form line)) reads = λ no_memory g good is. never
 is_of_none text (Err (refusals.Range line)) reads = λ no_memory g good is. never text g (refusals.Range line) reads good is
 is_of_none text (Err (refusals.NoEnd line)) reads = λ no_memory g good is. never text g (refusals.NoEnd line) reads good is
 is_of_none text (Err (refusals.AfterEnd line)) reads = λ no_memory g good is. never text g (refusals.AfterEnd line) reads good is
+
+pub formats_are_said : FormatsAreSaid
+unfolding graph_text
+formats_are_said g = (refl, refl)

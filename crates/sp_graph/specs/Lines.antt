@@ -1,7 +1,7 @@
 -- What one line of a graph's text says at its stage, and why a bad one is refused.
 --
 --     stage       good lines       the next stage
---     Start       graph 1          Version
+--     Start       graph FORMAT     Version
 --     Version     nodes N          Edges, with no edge yet
 --     Edges       edge A B W       Edges, with one edge more
 --                 end              End
@@ -11,7 +11,8 @@
 -- and then whether it is in its range; an edge that may not come next.
 use Rattle.std.specs.Prelude.{ℕ, ◌≡◌, ◌≢◌, ◌+◌, ◌-◌, ◌^◌, ◌<◌, ◌≤◌, ◌⊎◌, min, List, [], ◌∷◌, length, codes, Result, Ok, Err}
 use Rattle.std.specs.Fmt.{decimal}
-use Rattle.sp_base.specs.declared.limits.TheConstants.{MAX_NODES, MAX_WEIGHT}
+use Rattle.sp_base.specs.declared.limits.TheConstants.{MAX_WEIGHT}
+use Rattle.sp_base.specs.Formats.{max_nodes}
 use Rattle.sp_text.specs.Spelling.{Word}
 use Rattle.sp_text.specs.declared.place.At.{At}
 use Rattle.sp_text.specs.declared.place.TextRefused.TheVariants as texts
@@ -33,11 +34,11 @@ abbrev pub edge_form : Word → Word → Word → List Word
 edge_form a b w = codes "edge" ∷ a ∷ b ∷ w ∷ []
 
 -- a line with these words may stand here, whatever its fields say
-abbrev pub HasForm : Stage → List Word → Type 0
-HasForm stages.Start words = words ≡ version_words
-HasForm stages.Version words = (n : Word) × (words ≡ nodes_form n)
-HasForm (stages.Edges g) words = ((a b w : Word) × (words ≡ edge_form a b w)) ⊎ (words ≡ end_words)
-HasForm (stages.End g) words = Unit {0}
+abbrev pub HasForm : (format : ℕ) → Stage → List Word → Type 0
+HasForm format stages.Start words = words ≡ version_words format
+HasForm format stages.Version words = (n : Word) × (words ≡ nodes_form n)
+HasForm format (stages.Edges g) words = ((a b w : Word) × (words ≡ edge_form a b w)) ⊎ (words ≡ end_words)
+HasForm format (stages.End g) words = Unit {0}
 
 -- ---- fields
 
@@ -75,23 +76,25 @@ AreFields nodes line a b w (Err refused) =
 -- ---- lines
 
 -- what a line of this number of nodes says
-abbrev pub SaysNodes : ℕ → Word → Result Stage GraphRefused → Type 0
-SaysNodes line word (Ok next) = (n : ℕ) × IsField (place_1 line 5) 2 MAX_NODES word (Ok n) × (next ≡ stages.Edges (record { nodes = n; edges = [] }))
-SaysNodes line word (Err refused) = IsField (place_1 line 5) 2 MAX_NODES word (Err refused)
+abbrev pub SaysNodes : (format : ℕ) → ℕ → Word → Result Stage GraphRefused → Type 0
+SaysNodes format line word (Ok next) =
+    (n : ℕ) × IsField (place_1 line 5) 2 (max_nodes format) word (Ok n) × (next ≡ stages.Edges (record { nodes = n; edges = [] }))
+SaysNodes format line word (Err refused) = IsField (place_1 line 5) 2 (max_nodes format) word (Err refused)
 
 -- what a line of an edge with these fields says, after those of the graph
-abbrev pub SaysEdge : Graph → ℕ → Word → Word → Word → Result Stage GraphRefused → Type 0
-SaysEdge g line a b w (Ok next) = (e : Edge) × AreFields g.nodes line a b w (Ok e) × IsNextEdge g e × (next ≡ stages.Edges (with_edge g e))
-SaysEdge g line a b w (Err refused) =
+abbrev pub SaysEdge : (format : ℕ) → Graph → ℕ → Word → Word → Word → Result Stage GraphRefused → Type 0
+SaysEdge format g line a b w (Ok next) = (e : Edge) × AreFields g.nodes line a b w (Ok e) × IsNextEdge format g e × (next ≡ stages.Edges (with_edge g e))
+SaysEdge format g line a b w (Err refused) =
     AreFields g.nodes line a b w (Err refused)
-    ⊎ ((e : Edge) × AreFields g.nodes line a b w (Ok e) × (IsNextEdge g e → ⊥) × (refused ≡ refusals.Range line))
+    ⊎ ((e : Edge) × AreFields g.nodes line a b w (Ok e) × (IsNextEdge format g e → ⊥) × (refused ≡ refusals.Range line))
 
 -- what the words of the line of this number say at a stage: where they lead, or why they are refused
-pub data Says (line : ℕ) (words : List Word) : Stage → Result Stage GraphRefused → Type 0 where
-  Version_line : words ≡ version_words → Says line words stages.Start (Ok stages.Version)
-  Nodes_line : {said : Result Stage GraphRefused} (n : Word) → words ≡ nodes_form n → SaysNodes line n said → Says line words stages.Version said
-  Edge_line : {g : Graph} {said : Result Stage GraphRefused} (a b w : Word) → words ≡ edge_form a b w → SaysEdge g line a b w said
-      → Says line words (stages.Edges g) said
-  End_line : {g : Graph} → words ≡ end_words → Says line words (stages.Edges g) (Ok (stages.End g))
-  After_end : {g : Graph} → Says line words (stages.End g) (Err (refusals.AfterEnd line))
-  No_form : {stage : Stage} → (HasForm stage words → ⊥) → Says line words stage (Err (refusals.Form line))
+pub data Says (format line : ℕ) (words : List Word) : Stage → Result Stage GraphRefused → Type 0 where
+  Version_line : words ≡ version_words format → Says format line words stages.Start (Ok stages.Version)
+  Nodes_line : {said : Result Stage GraphRefused} (n : Word) → words ≡ nodes_form n → SaysNodes format line n said
+      → Says format line words stages.Version said
+  Edge_line : {g : Graph} {said : Result Stage GraphRefused} (a b w : Word) → words ≡ edge_form a b w → SaysEdge format g line a b w said
+      → Says format line words (stages.Edges g) said
+  End_line : {g : Graph} → words ≡ end_words → Says format line words (stages.Edges g) (Ok (stages.End g))
+  After_end : {g : Graph} → Says format line words (stages.End g) (Err (refusals.AfterEnd line))
+  No_form : {stage : Stage} → (HasForm format stage words → ⊥) → Says format line words stage (Err (refusals.Form line))

@@ -1,18 +1,19 @@
 -- A graph as text: lines of words, one space between two words, and a newline after each line.
 --
---     graph 1
+--     graph 1, or graph 2: the format
 --     nodes N             the nodes are 1 to N
 --     edge A B W          one line for each edge, with its weight
 --     end
 use Rattle.std.specs.Prelude.{ℕ, List, [], ◌∷◌, ◌++◌, map, codes}
 use Rattle.std.specs.List.{flat_map, join_with_byte}
 use Rattle.std.specs.Fmt.{decimal}
+use Rattle.sp_base.specs.Formats.{by_format}
 use Rattle.sp_text.specs.Spelling.{Word}
 use Rattle.sp_topology.specs.declared.topology.Edge.{Edge}
 use Rattle.sp_graph.specs.declared.graph.Graph.{Graph}
 
-abbrev pub version_words : List Word
-version_words = codes "graph" ∷ codes "1" ∷ []
+abbrev pub version_words : (format : ℕ) → List Word
+version_words format = codes "graph" ∷ by_format format (codes "1") (codes "2") ∷ []
 
 abbrev pub nodes_words : ℕ → List Word
 nodes_words nodes = codes "nodes" ∷ decimal nodes ∷ []
@@ -27,8 +28,8 @@ end_words = codes "end" ∷ []
 abbrev pub line_text : List Word → List ℕ
 line_text words = join_with_byte 32 words ++ 10 ∷ []
 
-abbrev pub graph_lines : Graph → List (List Word)
-graph_lines g = version_words ∷ nodes_words g.nodes ∷ (map edge_words g.edges ++ end_words ∷ [])
+abbrev pub graph_lines : (format : ℕ) → Graph → List (List Word)
+graph_lines format g = version_words format ∷ nodes_words g.nodes ∷ (map edge_words g.edges ++ end_words ∷ [])
 
-unfoldable pub graph_text : Graph → List ℕ
-graph_text g = flat_map line_text (graph_lines g)
+unfoldable pub graph_text : (format : ℕ) → Graph → List ℕ
+graph_text format g = flat_map line_text (graph_lines format g)

@@ -6,16 +6,16 @@ ghost use Rattle.sp_graph.specs.Edges.{IsAmong, IsLower, IsNextEdge, IsWeight, l
 ghost use Rattle.sp_graph.specs.Spelling.{edge_words};
 
 use crate::Graph;
-use sp_base::MAX_WEIGHT;
+use sp_base::{MAX_WEIGHT, max_edges};
 use sp_text::{fields, node_in, number_in};
 use sp_topology::Edge;
 
 /// The edge of a line `edge A B W`. None exactly where the line is no such edge that may come next.
-pub fn edge(graph: &Graph, words: &[&[u8]]) -> Option<Edge>
-    ensures { Finds (λ e. IsNextEdge graph.now e × (map (λ w. w.now) words.now ≡ edge_words e)) result }
+pub fn edge(format: u8, graph: &Graph, words: &[&[u8]]) -> Option<Edge>
+    ensures { Finds (λ e. IsNextEdge format graph.now e × (map (λ w. w.now) words.now ≡ edge_words e)) result }
 {
     let edge = edge_among(graph.nodes, words)?;
-    if is_next(graph, &edge) {
+    if is_next(format, graph, &edge) {
         Some(edge)
     } else {
         None
@@ -43,13 +43,16 @@ fn edge_of(nodes: u8, low: &[u8], high: &[u8], weight: &[u8]) -> Option<Edge>
     })
 }
 
-/// Whether the edge goes from a lower node to a higher one, and stands after the edges so far.
-pub fn is_next(graph: &Graph, edge: &Edge) -> bool
+/// Whether the edge goes from a lower node to a higher one, stands after the edges so far, and these are fewer than
+/// the format may have.
+pub fn is_next(format: u8, graph: &Graph, edge: &Edge) -> bool
     requires among { IsAmong graph.now.nodes edge.now }
     requires weight { IsWeight edge.now }
-    ensures { IsTrue result ↔ IsNextEdge graph.now edge.now }
+    ensures { IsTrue result ↔ IsNextEdge format graph.now edge.now }
 {
-    edge.low.0 < edge.high.0 && ascends(graph.edges.as_slice(), edge)
+    edge.low.0 < edge.high.0
+        && ascends(graph.edges.as_slice(), edge)
+        && graph.edges.as_slice().len() < usize::from(max_edges(format))
 }
 
 /// Whether the edge stands after the last of those so far.

@@ -1,21 +1,22 @@
 // The fields of a line: numbers in their ranges, from left to right.
 ghost use Rattle.std.specs.Prelude.{◌≡◌, ◌≤◌, IfOk};
-ghost use Rattle.sp_base.specs.declared.limits.TheConstants.{MAX_NODES};
+ghost use Rattle.sp_base.specs.Formats.{max_nodes};
 ghost use Rattle.sp_graph.specs.Edges.{IsAmong, IsWeight};
 ghost use Rattle.sp_graph.specs.Lines.{AreFields, IsField, column_after, place_1};
 
 use crate::GraphRefused;
-use sp_base::{MAX_NODES, MAX_WEIGHT, NodeId};
+use sp_base::{MAX_WEIGHT, NodeId, max_nodes};
 use sp_text::{At, TextRefused, number};
 use sp_topology::Edge;
 
 /// The number of nodes that a line `nodes N` says.
-pub fn nodes_of(line: u32, word: &[u8]) -> Result<u8, GraphRefused>
-    ensures field { IsField (place_1 line 5) 2 MAX_NODES word.now result }
-    ensures within { IfOk result (λ n. (2 ≤ n) × (n ≤ MAX_NODES)) }
+#[tactic(auto, using(sp_base::proofs::FormatLemmas::few_nodes))]
+pub fn nodes_of(format: u8, line: u32, word: &[u8]) -> Result<u8, GraphRefused>
+    ensures field { IsField (place_1 line 5) 2 (max_nodes format) word.now result }
+    ensures within { IfOk result (λ n. (2 ≤ n) × (n ≤ max_nodes format)) }
 {
     let place = At { line, column: 7 };
-    Ok(number_in(place, 2, u64::from(MAX_NODES), word)? as u8)
+    Ok(number_in(place, 2, u64::from(max_nodes(format)), word)? as u8)
 }
 
 /// The edge that a line `edge A B W` says, with nodes from 1 to the last.

@@ -103,10 +103,10 @@ impl Link {
         LinkAnswer::Fresh
     }
 
-    /// The head of the next frame.
-    pub fn head(&self, topology: u32) -> Head
+    /// The head of the next frame, under a topology of this version and format.
+    pub fn head(&self, topology: u32, format: u8) -> Head
         requires { self.now.sent < 2 ^ 60 }
-        ensures { result ≡ next_head self.now topology }
+        ensures { result ≡ next_head self.now topology format }
     {
         Head {
             from: self.me,
@@ -115,6 +115,7 @@ impl Link {
             echo: self.peer_boot,
             counter: self.sent + 1,
             topology,
+            format,
         }
     }
 

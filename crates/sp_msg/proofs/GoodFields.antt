@@ -98,6 +98,36 @@ good_weight format w good = record { origin = good.1.0; edge = good.1.1.0.1; seq
 pub weight_is_good : (format : ℕ) (w : WeightBody) → GoodWeight format w → HasGoodFieldsIn format (bodies.Weight w)
 weight_is_good format w is = (refl, (is.origin, ((omega arith, is.edge), (is.seq, (is.weight, tt)))))
 
+pub record GoodKrel (format : ℕ) (r : Krel) : Type 0 where
+  pub src : IsWithin 1 (max_nodes format) r.src.0
+  pub dst : IsWithin 1 (max_nodes format) r.dst.0
+  pub sboot : IsInRange (boot_field format) r.sboot
+  pub dboot : IsInRange (boot_field format) r.dboot
+  pub seq : IsWithin 1 MAX_SEQ r.seq
+  pub mask : GoodMask format r.mask
+  pub payload : length r.payload ≤ MAX_PAYLOAD_BYTES
+
+pub good_krel : (format : ℕ) (r : Krel) → HasGoodFieldsIn format (bodies.Krel r) → GoodKrel format r
+good_krel format r good = record {
+  src = good.1.0;
+  dst = good.1.1.0;
+  sboot = good.1.1.1.0;
+  dboot = good.1.1.1.1.0;
+  seq = good.1.1.1.1.1.0;
+  mask = record { high = good.1.1.1.1.1.1.0; low = good.1.1.1.1.1.1.1.0 };
+  payload = good.1.1.1.1.1.1.1.1.0.1;
+}
+
+pub record GoodKack (format : ℕ) (a : Kack) : Type 0 where
+  pub src : IsWithin 1 (max_nodes format) a.src.0
+  pub dst : IsWithin 1 (max_nodes format) a.dst.0
+  pub sboot : IsInRange (boot_field format) a.sboot
+  pub dboot : IsInRange (boot_field format) a.dboot
+  pub seq : IsWithin 1 MAX_SEQ a.seq
+
+pub good_kack : (format : ℕ) (a : Kack) → HasGoodFieldsIn format (bodies.Kack a) → GoodKack format a
+good_kack format a good = record { src = good.1.0; dst = good.1.1.0; sboot = good.1.1.1.0; dboot = good.1.1.1.1.0; seq = good.1.1.1.1.1.0 }
+
 -- ---- format 1
 
 -- it has no boot

@@ -1,6 +1,7 @@
 -- A node that starts keeps what every step keeps.
 use Rattle.std.proofs.Common.{◌≡◌, ◌<◌, ◌^◌, ℕ, ◌==◌, Bool, true, false, List, [], ◌∷◌, map, Some, refl, arith, cond}
 use Rattle.std.proofs.lemmas.Bool.Decides.{nat_tests}
+use Rattle.sp_base.specs.declared.format.TheConstants.{FORMAT_1}
 use Rattle.sp_base.specs.declared.id.EdgeId.{EdgeId}
 use Rattle.sp_base.specs.declared.id.NodeId.{NodeId}
 use Rattle.sp_node_format.specs.Format.{format}
@@ -19,7 +20,8 @@ use Rattle.sp_node_state.specs.Boots.{IsBootable, booted_of, fixed_of}
 use Rattle.sp_node_state.specs.States.{signer_in}
 use Rattle.sp_node_state.specs.declared.boot.NodeConfig.{NodeConfig}
 
-found_in : (height : LmsHeight) (before : ℕ) (nodes : List NodeKey) (me : NodeId) (key : List ℕ) → AreNodes height before nodes → key_of me.0 nodes ≡ Some key
+found_in : (height : LmsHeight) (before : ℕ) (nodes : List NodeKey) (me : NodeId) (key : List ℕ) → AreNodes FORMAT_1 height before nodes
+    → key_of me.0 nodes ≡ Some key
     → IsNode me
 found_in height before [] me key are found = absurd (cc)
 found_in height before (n ∷ nodes) me key are found = go (n.id.0 == me.0) refl found (λ e. found_in height n.id.0 nodes me key are.2 e)

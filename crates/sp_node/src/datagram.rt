@@ -1,5 +1,6 @@
 // A datagram arrives from a neighbour.
-ghost use Rattle.std.specs.Prelude.{◌≡◌, ◌≤◌, ◌<◌, ◌+◌, [], IfOk, OnErr, Some as There, length, position};
+ghost use Rattle.std.specs.Prelude.{◌≡◌, ◌≤◌, ◌<◌, ◌+◌, [], IfOk, IfSome, OnErr, Some as There, length, position, slice_index};
+ghost use Rattle.sp_base.specs.declared.format.TheConstants.{FORMAT_1};
 ghost use Rattle.sp_base.specs.Cursor.{or_else};
 ghost use Rattle.sp_base.specs.Rows.{replace_where};
 ghost use Rattle.sp_rules.specs.Node.{called, is_link, with_link};
@@ -8,6 +9,7 @@ ghost use Rattle.laws_node.specs.Nodes.{IsKept};
 ghost use Rattle.sp_node_arrivals.specs.Admitted.{IsAdmitted};
 ghost use Rattle.sp_node_format.specs.Format.{format};
 ghost use Rattle.sp_frame.specs.Frames.{head_of, opened};
+ghost use Rattle.sp_frame.specs.OfFormat.{AreOf};
 ghost use Rattle.sp_node.specs.Arrived.{pieces_with};
 ghost use Rattle.sp_node.specs.Calls.{Datagrams};
 ghost use Rattle.sp_node.specs.Life.{datagram_checks, datagram_tags};
@@ -79,6 +81,7 @@ fn passed<'a>(
     ensures link { result.link ≡ link_after format state.entry.now from bytes.now }
     ensures pieces { pieces_with result.sections
         ≡ pieces_where (reply_at format state.entry.now from bytes.now) (pieces_in (sections_in format state.entry.now.fixed bytes.now)) }
+    ensures formats { IfSome result.sections (AreOf FORMAT_1) }
     ensures work { tags.new ≤ tags.old + datagram_tags state.entry.now from bytes.now }
 {
     let mut link = state.link_at(place, from);
@@ -122,6 +125,7 @@ fn admit_sections(
 ) -> Result<Arrived, Memory>
     requires kept { IsKept format state.old }
     requires keys { checker.old.nodes ≡ state.old.fixed.topology.nodes }
+    requires formats { IfSome sections.now (AreOf FORMAT_1) }
     ensures taken { IfOk result (λ a. IsAdmitted (handle_all format (arrival_at state.old from) state.old.parts (pieces_with sections.now))
         state.new.parts a.items a.effects.list) }
     ensures others { IfOk result (λ _. state.new ≡ record state.old { parts = state.new.parts }) }
@@ -186,9 +190,11 @@ fn after_link<'a>(
     answer: LinkAnswer,
     frame: &Frame<'a>,
 ) -> (LinkReply, Option<Sections<'a>>)
+    requires { slice_index frame.now 2 ≡ FORMAT_1 }
     ensures reply { result.0 ≡ or_fresh (or_else (not_fresh answer)
         (not_read fixed.now.topology.version (head_of frame.now).topology (sections_in format fixed.now frame.now))) }
     ensures pieces { pieces_with result.1 ≡ pieces_where result.0 (pieces_in (sections_in format fixed.now frame.now)) }
+    ensures formats { IfSome result.1 (AreOf FORMAT_1) }
 {
     match answer {
         LinkAnswer::NotForMe => (LinkReply::NotForMe, None),
@@ -201,8 +207,10 @@ fn after_link<'a>(
 
 /// What becomes of a fresh frame.
 fn of_fresh<'a>(fixed: &Fixed, frame: &Frame<'a>) -> (LinkReply, Option<Sections<'a>>)
+    requires { slice_index frame.now 2 ≡ FORMAT_1 }
     ensures reply { result.0 ≡ or_fresh (not_read fixed.now.topology.version (head_of frame.now).topology (sections_in format fixed.now frame.now)) }
     ensures pieces { pieces_with result.1 ≡ pieces_where result.0 (pieces_in (sections_in format fixed.now frame.now)) }
+    ensures formats { IfSome result.1 (AreOf FORMAT_1) }
 {
     let theirs = frame.head().topology;
     if theirs != fixed.topology.version {

@@ -56,7 +56,7 @@ impl Model for Node {
 }
 
 impl Node {
-    /// A node at the start of a life with this boot number. Only want of memory refuses.
+    /// A node at the start of a life with this boot number, under a topology of format 1. Only want of memory refuses.
     ///
     /// A boot number never comes again, and is above that of every life before: neighbours take frames of lower ones for stale.
     pub fn boot(

@@ -2,6 +2,7 @@
 ghost use Rattle.std.specs.Prelude.{◌≡◌, ◌<◌, ◌≤◌, ◌+◌, ◌^◌, All, IfOk, Some as There, length, position, replicate};
 ghost use Rattle.laws_node.specs.Nodes.{IsKept};
 ghost use Rattle.sp_node_format.specs.Format.{format};
+ghost use Rattle.sp_base.specs.declared.format.TheConstants.{FORMAT_1};
 ghost use Rattle.sp_frame.specs.Frames.{frame_bytes};
 ghost use Rattle.sp_frame.specs.Ranges.{IsContents};
 ghost use Rattle.sp_node.specs.Calls.{Polls};
@@ -17,7 +18,7 @@ ghost use Rattle.sp_rules.specs.Prio.{carried, peer_in};
 ghost use Rattle.sp_rules.specs.Rel.{served};
 ghost use Rattle.sp_rules.specs.Weights.{moved};
 
-use sp_base::{Bytes, Memory, NodeId};
+use sp_base::{Bytes, FORMAT_1, Memory, NodeId};
 use sp_frame::{Head, write};
 use sp_link::Link;
 use sp_node_parts::{Fixed, Parts};
@@ -65,9 +66,9 @@ fn went(state: &mut State, place: usize, v: NodeId)
 /// The head of the next frame over a link.
 fn head_for(link: &Link, fixed: &Fixed) -> Head
     requires { link.now.sent < 2 ^ 60 }
-    ensures { result ≡ next_head link.now fixed.now.topology.version }
+    ensures { result ≡ next_head link.now fixed.now.topology.version FORMAT_1 }
 {
-    link.head(fixed.topology.version)
+    link.head(fixed.topology.version, FORMAT_1)
 }
 
 /// The bytes of the next frame to a neighbour, with zeros in the place of its tag.
@@ -78,6 +79,7 @@ fn unsealed(
     core: &Parts,
     v: NodeId,
 ) -> Result<Bytes, Memory>
+    requires format { head.now.format ≡ FORMAT_1 }
     requires contents { IsContents fixed.now.signature_len (contents_to fixed.now core.now v) }
     ensures { IfOk result (λ bytes. bytes ≡ frame_bytes head.now (contents_to fixed.now core.now v) (replicate 32 0)) }
 {
@@ -85,7 +87,17 @@ fn unsealed(
     let heard = core.prio.heard_of(v);
     let prios = core.prio.messages_for(v);
     let slot = core.rel.slot_for(v);
-    match write(alloc, head, weight, heard, &prios, slot.as_ref()) {
+    match write(
+        alloc,
+        head,
+        weight,
+        heard,
+        &prios,
+        slot.as_ref(),
+        None,
+        None,
+        None,
+    ) {
         Ok(bytes) => Ok(bytes),
         Err(_) => Err(Memory),
     }

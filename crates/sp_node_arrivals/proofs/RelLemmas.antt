@@ -22,12 +22,14 @@ use Rattle.sp_rules.specs.Answers.{ack_answer, rel_answer}
 use Rattle.sp_rules.specs.Flow.{FlowState, acknowledged_by, ends, flow_said, is_flow, is_full, pushed, received}
 use Rattle.sp_rules.specs.Handle.{ack_handled, rel_handled}
 use Rattle.sp_rules.specs.Parts.{Parts}
-use Rattle.sp_rules.specs.Rel.{RelState, admit_ack, admit_rel, are_ends, flow_in, is_from, is_to, judge_rel_of, peer_in, put_flow, reported, told, with_flow, with_peer}
+use Rattle.sp_rules.specs.Rel.{RelState, admit_ack, admit_rel, are_ends, flow_in, is_from, is_to, judge_ack_of, judge_rel, judge_rel_of}
+use Rattle.sp_rules.specs.Rel.{peer_in, put_flow, reported, told, with_flow, with_peer}
 use Rattle.sp_rules.specs.declared.rel.AckJudged.{AckJudged}
 use Rattle.sp_rules.specs.declared.rel.AckJudged.TheVariants as acks
 use Rattle.sp_rules.specs.declared.rel.RelJudged.{RelJudged}
 use Rattle.sp_rules.specs.declared.rel.RelJudged.TheVariants as rels
 use Rattle.sp_topology.specs.declared.topology.NodeKey.{NodeKey}
+use Rattle.sp_node_arrivals.specs.Ack.{IsAckReady}
 use Rattle.sp_node_arrivals.specs.Rel.{AreRelsReady, IsRelReady, StaysReady, may_be_new}
 
 -- ---- a report
@@ -53,6 +55,31 @@ rels_reported moved keys r v of base have flow [] readies are = are
 rels_reported moved keys r v of base have flow (o ∷ os) [] are = are
 rels_reported moved keys r v of base have flow (o ∷ os) (ready ∷ readies) are =
     (rel_reported moved keys r v of base have flow o ready are.0, rels_reported (moved || is_some ready) keys r v of base have flow os readies are.1)
+
+-- what is said of an acknowledgement stays the same after a report
+ack_judged : (r : RelState) (v : NodeId) (of : Flow) (base have : ℕ) (flow : Flow) (body : Body)
+    → judge_ack_of (reported r v of base have) flow body ≡ judge_ack_of r flow body
+ack_judged r v of base have flow body =
+    reported_either (λ s. judge_ack_of s flow body ≡ judge_ack_of r flow body) r v of base have (go body) refl
+  where
+    go : (body : Body) → judge_ack_of (with_peer r v (told (peer_in r.peers v) of base have)) flow body ≡ judge_ack_of r flow body
+    go (bodies.Ack a) = refl
+    go (bodies.Kack a) = refl
+    go (bodies.Rel m) = refl
+    go (bodies.Krel m) = refl
+    go (bodies.Prio m) = refl
+    go (bodies.Weight m) = refl
+    go (bodies.Epoch m) = refl
+
+pub ack_reported : (keys : List NodeKey) (r : RelState) (v : NodeId) (of : Flow) (base have : ℕ) (flow : Flow) (ack : Option Kept)
+    (ready : Option (Kept × SeatState)) → IfSome ack (λ o. IsAckReady keys r flow o ready)
+    → IfSome ack (λ o. IsAckReady keys (reported r v of base have) flow o ready)
+ack_reported keys r v of base have flow None ready is = tt
+ack_reported keys r v of base have flow (Some o) ready is = record {
+  copy = is.copy;
+  seat = reported_either (λ s. IfSome ready (λ a. IsSeated s flow a.1)) r v of base have is.seat is.seat;
+  right = λ new. is.right (sym (ack_judged r v of base have flow o.body) ∙ new);
+}
 
 -- ---- a row that moves on
 
@@ -99,18 +126,25 @@ not_old seq have later young more = grind (arith, nat_tests)
 may_have_been : (moved : Bool) (r : RelState) (k flow : Flow) (f : FlowState) (body : Body)
     → (flow_in r.flows flow).at.have ≤ (flow_in (put_flow r.flows k f) flow).at.have → may_be_new moved (judge_rel_of (with_flow r k f) flow body) ≡ true
     → may_be_new true (judge_rel_of r flow body) ≡ true
-may_have_been moved r k flow f (bodies.Rel m) more new =
-    let now = flow_in (put_flow r.flows k f) flow in
-    let is = passes moved (are_ends r flow m.src m.dst) (nat_le m.seq now.at.have) (is_from r flow) _ new in
-    let was = flow_in r.flows flow in
-    let young : nat_le m.seq was.at.have ≡ false = not_old m.seq was.at.have now.at.have is.young more in
-    rw (is.right, young, is.other) (waits (nat_lt (was.at.have + 1) m.seq) (is_full r.bound was) (is_to r flow && (length was.inbox == r.bound)))
-may_have_been moved r k flow f (bodies.Prio m) more new = absurd (cc)
-may_have_been moved r k flow f (bodies.Ack m) more new = absurd (cc)
-may_have_been moved r k flow f (bodies.Weight m) more new = absurd (cc)
-may_have_been moved r k flow f (bodies.Krel m) more new = absurd (cc)
-may_have_been moved r k flow f (bodies.Kack m) more new = absurd (cc)
-may_have_been moved r k flow f (bodies.Epoch m) more new = absurd (cc)
+may_have_been moved r k flow f body more new = go body new
+  where
+    of_ends : (src dst : NodeId) (seq : ℕ) → may_be_new moved (judge_rel (with_flow r k f) flow src dst seq) ≡ true
+        → may_be_new true (judge_rel r flow src dst seq) ≡ true
+    of_ends src dst seq new =
+        let now = flow_in (put_flow r.flows k f) flow in
+        let is = passes moved (are_ends r flow src dst) (nat_le seq now.at.have) (is_from r flow) _ new in
+        let was = flow_in r.flows flow in
+        let young : nat_le seq was.at.have ≡ false = not_old seq was.at.have now.at.have is.young more in
+        rw (is.right, young, is.other) (waits (nat_lt (was.at.have + 1) seq) (is_full r.bound was) (is_to r flow && (length was.inbox == r.bound)))
+
+    go : (body : Body) → may_be_new moved (judge_rel_of (with_flow r k f) flow body) ≡ true → may_be_new true (judge_rel_of r flow body) ≡ true
+    go (bodies.Rel m) new = of_ends m.src m.dst m.seq new
+    go (bodies.Krel m) new = of_ends m.src m.dst m.seq new
+    go (bodies.Prio m) new = absurd (cc)
+    go (bodies.Ack m) new = absurd (cc)
+    go (bodies.Weight m) new = absurd (cc)
+    go (bodies.Kack m) new = absurd (cc)
+    go (bodies.Epoch m) new = absurd (cc)
 
 seat_after : (r : RelState) (k flow : Flow) (f : FlowState) (ready : Option (Kept × List ℕ × SeatState)) → ends f ≡ k → f.active ≡ true
     → IfSome ready (λ m. IsSeated r flow m.2) → IfSome ready (λ m. IsSeated (with_flow r k f) flow m.2)

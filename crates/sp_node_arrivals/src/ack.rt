@@ -1,5 +1,7 @@
 // The acknowledgement of a slot: whether it may be new, its copy with the memory of its flow, and its taking.
 ghost use Rattle.std.specs.Prelude.{◌≡◌, ◌≢◌, ◌≤◌, ◌+◌, [], ◌∷◌, Bool, false, IfOk, IfSome, is_some, map, option_map};
+ghost use Rattle.sp_base.specs.declared.format.TheConstants.{FORMAT_1};
+ghost use Rattle.sp_frame.specs.OfFormat.{IsOf};
 ghost use Rattle.sp_frame.specs.Views.{as_list, as_object};
 ghost use Rattle.sp_msg.specs.Bodies.{HasGoodFields};
 ghost use Rattle.sp_msg.specs.Caused.{Caused};
@@ -20,7 +22,7 @@ use crate::arrival::Arrival;
 use crate::signed::{copy_of, is_right, recall};
 use sp_base::Memory;
 use sp_frame::ObjectRef;
-use sp_msg::{BodyRef, Kept};
+use sp_msg::{Ack, BodyRef, Kept};
 use sp_node_parts::Parts;
 use sp_rel::{AckJudged, Place, Seat};
 use sp_rules::{AckAnswer, Item};
@@ -35,6 +37,7 @@ pub(crate) fn ready(
     row: Place,
     object: &ObjectRef<'_>,
 ) -> Result<Option<(Kept, Seat)>, Memory>
+    requires format { IsOf FORMAT_1 object.now }
     requires place { IsPlace parts.now.rel.flows row }
     ensures ready { IfOk result (IsAckReady checker.old.nodes parts.now.rel row.flow (as_object object.now)) }
     ensures keys { checker.new.nodes ≡ checker.old.nodes }
@@ -64,6 +67,7 @@ pub(crate) fn admit(
     ready: Option<(Kept, Seat)>,
 ) -> Option<Item>
     requires place { IsPlace parts.old.rel.flows row }
+    requires format { IfSome ack.now (IsOf FORMAT_1) }
     requires ready { IfSome (option_map as_object ack.now) (λ o. IsAckReady at.now.fixed.now.topology.nodes parts.old.rel row.flow o ready) }
     ensures done { (c : Caused) → IsDone
         (handle_all format (as_arrival at.now) parts.old (map (AckPiece row.flow) (as_list (option_map as_object ack.now))))
@@ -85,6 +89,7 @@ fn admit_one(
     ready: Option<(Kept, Seat)>,
 ) -> Item
     requires place { IsPlace parts.old.rel.flows row }
+    requires format { IsOf FORMAT_1 object.now }
     requires ready { IsAckReady at.now.fixed.now.topology.nodes parts.old.rel row.flow (as_object object.now) ready }
     ensures done { (c : Caused) → IsDone
         (handle_all format (as_arrival at.now) parts.old (AckPiece row.flow (as_object object.now) ∷ []))
@@ -104,6 +109,16 @@ fn judge(parts: &Parts, row: Place, body: &BodyRef<'_>) -> AckJudged
 {
     match body {
         BodyRef::Ack(ack) => parts.rel.judge_ack(row, ack),
+        BodyRef::Kack(kack) => {
+            let ack = Ack {
+                src: kack.src,
+                dst: kack.dst,
+                sboot: 0,
+                dboot: 0,
+                seq: kack.seq,
+            };
+            parts.rel.judge_ack(row, &ack)
+        }
         _ => AckJudged::BadEnd,
     }
 }

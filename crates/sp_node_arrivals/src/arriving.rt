@@ -1,6 +1,8 @@
 // A fresh frame arrives: all memory and all signatures first, then its objects one after another, kind after kind.
 ghost use Rattle.std.specs.Prelude.{◌≡◌, ◌≤◌, ◌<◌, ◌+◌, ◌-◌, [], ◌++◌, IfOk, OnErr, drop, length, vec_capacity};
 ghost use Rattle.sp_base.specs.declared.limits.TheConstants.{MAX_MESSAGES};
+ghost use Rattle.sp_base.specs.declared.format.TheConstants.{FORMAT_1};
+ghost use Rattle.sp_frame.specs.OfFormat.{AreOf};
 ghost use Rattle.sp_frame.specs.Views.{as_contents, as_list};
 ghost use Rattle.sp_frame.specs.declared.sections.TheConstants.{MOST_OBJECTS};
 ghost use Rattle.sp_rules.specs.Handle.{handle_all};
@@ -47,6 +49,7 @@ pub fn arrive(
     from: NodeId,
     sections: &Sections<'_>,
 ) -> Result<Arrived, Memory>
+    requires formats { AreOf FORMAT_1 sections.now }
     requires keys { checker.old.nodes ≡ fixed.now.topology.nodes }
     requires ids { HasIds MAX_MESSAGES parts.old.prio }
     ensures taken { IfOk result (λ a. IsAdmitted
@@ -87,6 +90,7 @@ fn make_ready(
     checker: &mut Checker,
     sections: &Sections<'_>,
 ) -> Result<Ready, Memory>
+    requires formats { AreOf FORMAT_1 sections.now }
     requires keys { checker.old.nodes ≡ at.now.fixed.now.topology.nodes }
     ensures ready { IfOk result (IsReady (as_arrival at.now) parts.now sections.now) }
     ensures keys { checker.new.nodes ≡ checker.old.nodes }
@@ -156,6 +160,7 @@ fn taken(
     ready: Ready,
     room: Room,
 ) -> Arrived
+    requires formats { AreOf FORMAT_1 sections.now }
     requires ready { IsReady (as_arrival at.now) parts.old sections.now ready }
     requires ids { HasIds MAX_MESSAGES parts.old.prio }
     requires effects { room.effects ≡ record { list = []; room = frame_room parts.old.prio } }
@@ -181,6 +186,7 @@ fn admit(
     ready: Ready,
     out: &mut Effects,
 ) -> Answers
+    requires formats { AreOf FORMAT_1 sections.now }
     requires ready { IsReady (as_arrival at.now) parts.old sections.now ready }
     requires ids { HasIds MAX_MESSAGES parts.old.prio }
     requires room { frame_room parts.old.prio ≤ out.old.room }

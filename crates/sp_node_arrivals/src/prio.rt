@@ -2,6 +2,8 @@
 ghost use Rattle.std.specs.Prelude.{◌≡◌, ◌≤◌, ◌<◌, ◌+◌, ◌-◌, ◌*◌, ◌^◌};
 ghost use Rattle.std.specs.Prelude.{[], ◌∷◌, All, IfOk, IfSome, Some, drop, is_some, length, map};
 ghost use Rattle.sp_base.specs.declared.limits.TheConstants.{MAX_MESSAGES};
+ghost use Rattle.sp_base.specs.declared.format.TheConstants.{FORMAT_1};
+ghost use Rattle.sp_frame.specs.OfFormat.{IsOf};
 ghost use Rattle.sp_frame.specs.Views.{as_numbered, as_object};
 ghost use Rattle.sp_msg.specs.Bodies.{HasGoodFields};
 ghost use Rattle.sp_rules.specs.Answers.{prio_answer};
@@ -34,6 +36,7 @@ pub(crate) fn ready_from(
     prios: &Four<(u64, ObjectRef<'_>)>,
     place: usize,
 ) -> Result<Four<Option<Parcel>>, Memory>
+    requires formats { All (λ p. IsOf FORMAT_1 p.1) prios.now }
     requires keys { checker.old.nodes ≡ at.now.fixed.now.topology.nodes }
     ensures ready { IfOk result (ArePriosReady (as_arrival at.now) parts.now.prio (map as_numbered (drop place prios.now))) }
     ensures many { IfOk result (λ ready. length ready ≡ length prios.now - place) }
@@ -56,6 +59,7 @@ fn ready_one(
     checker: &mut Checker,
     object: &ObjectRef<'_>,
 ) -> Result<Option<Parcel>, Memory>
+    requires format { IsOf FORMAT_1 object.now }
     requires keys { checker.old.nodes ≡ at.now.fixed.now.topology.nodes }
     ensures ready { IfOk result (IsPrioReady (as_arrival at.now) parts.now.prio (as_object object.now)) }
     ensures keys { checker.new.nodes ≡ checker.old.nodes }
@@ -99,6 +103,7 @@ pub(crate) fn admit_from(
     out: &mut Effects,
 ) -> Four<Item>
     requires ready { ArePriosReady (as_arrival at.now) parts.old.prio (map as_numbered (drop place prios.now)) ready }
+    requires formats { All (λ p. IsOf FORMAT_1 p.1) prios.now }
     requires room { HasRoom (MAX_MESSAGES - place) parts.old.prio out.old.room }
     ensures done { IsDone
         (handle_all format (as_arrival at.now) parts.old (map prio_piece (map as_numbered (drop place prios.now))))
@@ -127,6 +132,7 @@ fn admit_one(
     out: &mut Effects,
 ) -> Item
     requires ready { IsPrioReady (as_arrival at.now) parts.old.prio (as_object object.now) ready }
+    requires format { IsOf FORMAT_1 object.now }
     requires ids { HasIds 1 parts.old.prio }
     requires room { prio_room parts.old.prio ≤ out.old.room }
     ensures done { IsDone

@@ -1,6 +1,8 @@
 // The reliable messages of a slot: whether each may be new, its copy with the memory of its flow, and its taking.
-ghost use Rattle.std.specs.Prelude.{◌≡◌, ◌≢◌, ◌≤◌, ◌+◌, ◌-◌, [], ◌∷◌, Bool, false, IfOk, IfSome, drop, is_some, length, map};
+ghost use Rattle.std.specs.Prelude.{◌≡◌, ◌≢◌, ◌≤◌, ◌+◌, ◌-◌, [], ◌∷◌, All, Bool, false, IfOk, IfSome, drop, is_some, length, map};
 ghost use Rattle.sp_base.specs.declared.limits.TheConstants.{MAX_MESSAGES};
+ghost use Rattle.sp_base.specs.declared.format.TheConstants.{FORMAT_1};
+ghost use Rattle.sp_frame.specs.OfFormat.{IsOf};
 ghost use Rattle.sp_frame.specs.Views.{as_object};
 ghost use Rattle.sp_msg.specs.Bodies.{HasGoodFields, payload_of};
 ghost use Rattle.sp_msg.specs.Views.{as_body};
@@ -37,6 +39,7 @@ pub(crate) fn ready_from(
     place: usize,
     moved: bool,
 ) -> Result<Four<Option<(Kept, Bytes, Seat)>>, Memory>
+    requires formats { All (IsOf FORMAT_1) rels.now }
     requires place { IsPlace parts.now.rel.flows row }
     ensures ready { IfOk result (AreRelsReady moved checker.old.nodes parts.now.rel row.flow (map as_object (drop place rels.now))) }
     ensures many { IfOk result (λ ready. length ready ≡ length rels.now - place) }
@@ -62,6 +65,7 @@ fn ready_one(
     object: &ObjectRef<'_>,
     moved: bool,
 ) -> Result<Option<(Kept, Bytes, Seat)>, Memory>
+    requires format { IsOf FORMAT_1 object.now }
     requires place { IsPlace parts.now.rel.flows row }
     ensures ready { IfOk result (IsRelReady moved checker.old.nodes parts.now.rel row.flow (as_object object.now)) }
     ensures keys { checker.new.nodes ≡ checker.old.nodes }
@@ -102,6 +106,7 @@ pub(crate) fn admit_from(
 ) -> Four<Item>
     requires place { IsPlace parts.old.rel.flows row }
     requires ready { AreRelsReady false at.now.fixed.now.topology.nodes parts.old.rel row.flow (map as_object (drop place rels.now)) ready }
+    requires formats { All (IsOf FORMAT_1) rels.now }
     requires room { MAX_MESSAGES - place ≤ out.old.room }
     ensures done { IsDone
         (handle_all format (as_arrival at.now) parts.old (map (RelPiece row.flow) (map as_object (drop place rels.now))))
@@ -129,6 +134,7 @@ fn admit_one(
 ) -> Item
     requires place { IsPlace parts.old.rel.flows row }
     requires ready { IsRelReady false at.now.fixed.now.topology.nodes parts.old.rel row.flow (as_object object.now) ready }
+    requires format { IsOf FORMAT_1 object.now }
     requires room { 1 ≤ out.old.room }
     ensures done { IsDone
         (handle_all format (as_arrival at.now) parts.old (RelPiece row.flow (as_object object.now) ∷ []))
@@ -149,6 +155,7 @@ fn judge(parts: &Parts, row: Place, body: &BodyRef<'_>) -> RelJudged
 {
     match body {
         BodyRef::Rel(rel) => parts.rel.judge_rel(row, rel.src, rel.dst, rel.seq),
+        BodyRef::Krel(krel) => parts.rel.judge_rel(row, krel.src, krel.dst, krel.seq),
         _ => RelJudged::BadEnd,
     }
 }

@@ -1,5 +1,7 @@
 // Whether an object bears its signer's signature, and what its bytes say of its fields.
 ghost use Rattle.std.specs.Prelude.{◌≡◌, ◌≤◌, ◌+◌, Ok, IfOk};
+ghost use Rattle.sp_base.specs.declared.format.TheConstants.{FORMAT_1};
+ghost use Rattle.sp_frame.specs.OfFormat.{IsOf};
 ghost use Rattle.sp_frame.specs.Views.{as_object};
 ghost use Rattle.sp_msg.specs.Bodies.{HasGoodFields, read_body};
 ghost use Rattle.sp_msg.specs.Views.{as_body};
@@ -13,6 +15,7 @@ use std::alloc::Global;
 
 /// Whether the object bears its signer's signature.
 pub(crate) fn is_right(checker: &mut Checker, object: &ObjectRef<'_>) -> bool
+    requires format { IsOf FORMAT_1 object.now }
     ensures right { result ≡ is_right checker.old.nodes (as_object object.now) }
     ensures keys { checker.new.nodes ≡ checker.old.nodes }
     ensures work { checker.new.checks ≤ checker.old.checks + 1 }
@@ -35,6 +38,7 @@ fn bears(checker: &mut Checker, bytes: &[u8], body: &BodyRef<'_>, signature: &[u
 
 /// For the prover alone, it does nothing when it runs: the fields of an object are in their ranges, since bytes spell them.
 pub(crate) fn recall(object: &ObjectRef<'_>)
+    requires { IsOf FORMAT_1 object.now }
     ensures { HasGoodFields (as_object object.now).body }
 {
     recall_spelled(object.bytes, &object.body);

@@ -1,6 +1,8 @@
 // A slot of a frame: its report, its acknowledgement, its messages.
 ghost use Rattle.std.specs.Prelude.{◌≡◌, ◌≤◌, ◌+◌, IfOk, IfSome, Some, option_map};
 ghost use Rattle.sp_base.specs.declared.limits.TheConstants.{MAX_MESSAGES};
+ghost use Rattle.sp_base.specs.declared.format.TheConstants.{FORMAT_1};
+ghost use Rattle.sp_frame.specs.OfFormat.{IsSlotOf};
 ghost use Rattle.sp_frame.specs.Views.{as_report};
 ghost use Rattle.sp_rules.specs.Handle.{handle_all};
 ghost use Rattle.sp_rules.specs.Pieces.{slot_pieces};
@@ -43,6 +45,7 @@ pub(crate) fn ready(
     checker: &mut Checker,
     slot: &Option<Slot<'_>>,
 ) -> Result<SlotReady, Memory>
+    requires format { IfSome slot.now (IsSlotOf FORMAT_1) }
     requires keys { checker.old.nodes ≡ at.now.fixed.now.topology.nodes }
     ensures ready { IfOk result (λ ready. IfSome slot.now (λ s. IsSlotReady at.now.fixed.now.topology.nodes parts.now.rel s ready)) }
     ensures keys { checker.new.nodes ≡ checker.old.nodes }
@@ -65,6 +68,7 @@ fn ready_slot(
     checker: &mut Checker,
     slot: &Slot<'_>,
 ) -> Result<SlotReady, Memory>
+    requires format { IsSlotOf FORMAT_1 slot.now }
     requires keys { checker.old.nodes ≡ at.now.fixed.now.topology.nodes }
     ensures ready { IfOk result (IsSlotReady at.now.fixed.now.topology.nodes parts.now.rel slot.now) }
     ensures keys { checker.new.nodes ≡ checker.old.nodes }
@@ -89,6 +93,7 @@ pub(crate) fn admit(
     ready: SlotReady,
     out: &mut Effects,
 ) -> SlotAnswers
+    requires format { IfSome slot.now (IsSlotOf FORMAT_1) }
     requires ready { IfSome slot.now (λ s. IsSlotReady at.now.fixed.now.topology.nodes parts.old.rel s ready) }
     requires room { MAX_MESSAGES ≤ out.old.room }
     ensures { IsDone
@@ -114,6 +119,7 @@ fn admit_slot(
     ready: SlotReady,
     out: &mut Effects,
 ) -> SlotAnswers
+    requires format { IsSlotOf FORMAT_1 slot.now }
     requires ready { IsSlotReady at.now.fixed.now.topology.nodes parts.old.rel slot.now ready }
     requires room { MAX_MESSAGES ≤ out.old.room }
     ensures { IsDone

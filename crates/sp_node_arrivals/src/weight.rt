@@ -1,5 +1,7 @@
 // An update of a weight: whether it may be new, its copy, and its taking.
 ghost use Rattle.std.specs.Prelude.{◌≡◌, ◌≤◌, ◌+◌, IfOk, IfSome, is_some, map, option_map};
+ghost use Rattle.sp_base.specs.declared.format.TheConstants.{FORMAT_1};
+ghost use Rattle.sp_frame.specs.OfFormat.{IsOf};
 ghost use Rattle.sp_frame.specs.Views.{as_list, as_object};
 ghost use Rattle.sp_msg.specs.Bodies.{HasGoodFields};
 ghost use Rattle.sp_msg.specs.Views.{as_body};
@@ -33,6 +35,7 @@ pub(crate) fn ready(
     update: &Option<ObjectRef<'_>>,
 ) -> Result<Option<Kept>, Memory>
     requires keys { checker.old.nodes ≡ at.now.fixed.now.topology.nodes }
+    requires format { IfSome update.now (IsOf FORMAT_1) }
     ensures ready { IfOk result (λ ready. IfSome (option_map as_object update.now)
         (λ o. IsWeightReady at.now.fixed.now.me at.now.fixed.now.topology.nodes parts.now.weights o ready)) }
     ensures keys { checker.new.nodes ≡ checker.old.nodes }
@@ -63,6 +66,7 @@ pub(crate) fn admit(
 ) -> Option<Item>
     requires ready { IfSome (option_map as_object update.now)
         (λ o. IsWeightReady at.now.fixed.now.me at.now.fixed.now.topology.nodes parts.old.weights o ready) }
+    requires format { IfSome update.now (IsOf FORMAT_1) }
     requires room { 1 ≤ out.old.room }
     ensures done { IsDone
         (handle_all format (as_arrival at.now) parts.old (map WeightPiece (as_list (option_map as_object update.now))))

@@ -4,6 +4,7 @@ use Rattle.std.proofs.lemmas.List.{length-append}
 use Rattle.std.proofs.lemmas.List.Elements.{All-drop, All-take}
 use Rattle.sp_base.proofs.NumberLemmas.{byte_at_place, number_fits}
 use Rattle.sp_base.specs.Spelling.{AreBytes}
+use Rattle.sp_base.specs.declared.format.TheConstants.{FORMAT_1}
 use Rattle.sp_frame.proofs.SectionLemmas.{read_is_spelled}
 use Rattle.sp_frame.specs.Frames.{head_of, sections_part}
 use Rattle.sp_frame.specs.Ranges.{IsHead}
@@ -36,6 +37,7 @@ long h seed index message =
 head_fits : (bytes : List ℕ) → AreBytes bytes → IsHead (head_of bytes)
 unfolding head_of
 head_fits bytes are = record {
+  format = byte_at_place bytes are 2;
   from = byte_at_place bytes are 3;
   to = byte_at_place bytes are 4;
   boot = number_fits 8 (drop 5 bytes) (All-drop (λ b. b < 256) 5 bytes are);
@@ -53,7 +55,7 @@ format_fits f s is = record {
       (seed_signatures_are_valid (param_of f.topology.height) s.seed message index (omega (arith, below, is.total)));
   heads = head_fits;
   sections = λ bytes contents are reads.
-      (read_is_spelled f.signature_len (sections_part bytes) contents
+      (read_is_spelled FORMAT_1 f.signature_len (sections_part bytes) contents
       (All-drop (λ b. b < 256) 33 (take (length bytes - 32) bytes) (All-take (λ b. b < 256) (length bytes - 32) bytes are)) reads).1;
   own = λ body fields about. fields_pass body fields;
 }

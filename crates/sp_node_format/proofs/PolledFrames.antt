@@ -9,9 +9,12 @@ use Rattle.std.proofs.lemmas.List.Elements.{All-head, All-tail}
 use Rattle.byteorder.specs.Endian.{big_bytes}
 use Rattle.sha2.proofs.Facts256.{length-sha256}
 use Rattle.sp_base.specs.Rows.{first_where}
+use Rattle.sp_base.specs.declared.format.TheConstants.{FORMAT_1}
 use Rattle.sp_base.specs.declared.id.NodeId.{NodeId}
 use Rattle.sp_base.specs.declared.limits.TheConstants.{MAX_MESSAGES}
 use Rattle.sp_node_format.specs.Format.{format}
+use Rattle.sp_frame.proofs.FirstFormat.{no_document, sections_are}
+use Rattle.sp_frame.proofs.LengthLemmas.{place_long}
 use Rattle.sp_frame.proofs.HeadLemmas.{head_is_read}
 use Rattle.sp_frame.proofs.SectionLemmas.{spelled_is_read}
 use Rattle.sp_frame.specs.Frames.{ends_bytes, head_bytes, head_of, numbers_bytes, opened, tagged_part, tag_part}
@@ -66,11 +69,11 @@ object_size body signature len short long small =
     subst (λ (k : ℕ). k ≤ 6142) (sym (four (big_bytes 2 (length body)) body (big_bytes 2 (length signature)) signature))
     (let one = two_bytes (length body) in let two = two_bytes (length signature) in omega (arith, short, long, small, one, two))
 
-object_len : (kind : Kind) (len : ℕ) → len ≤ most_signature → (o : Kept) → IsObject kind len o → length (object_bytes o) ≤ 6142
+object_len : (kind : Kind) (len : ℕ) → len ≤ most_signature → (o : Kept) → IsObject FORMAT_1 kind len o → length (object_bytes FORMAT_1 o) ≤ 6142
 unfolding object_bytes
 object_len kind len small o is = object_size (encoded o.body) o.signature len (body_len o.body is.fields) is.long small
 
-numbered_len : (len : ℕ) → len ≤ most_signature → (m : ℕ × Kept) → IsNumbered len m → length (numbered_bytes m) ≤ 6150
+numbered_len : (len : ℕ) → len ≤ most_signature → (m : ℕ × Kept) → IsNumbered FORMAT_1 len m → length (numbered_bytes FORMAT_1 m) ≤ 6150
 unfolding numbered_bytes
 numbered_len len small m is = let one = object_len kinds.Prio len small m.1 is.object in omega (arith, one)
 
@@ -87,7 +90,7 @@ counted_len : {X : Type 0} (P : X → Type 0) (spell : X → List ℕ) (each_mos
     → length (counted_bytes spell xs) ≤ each_most * length xs + 1
 counted_len P spell each_most each xs all = let spelled = all_len P spell each_most each xs all in omega (arith, spelled)
 
-ack_len : (len : ℕ) → len ≤ most_signature → (o : Option Kept) → IfSome o (IsObject kinds.Ack len) → length (ack_bytes o) ≤ 6143
+ack_len : (len : ℕ) → len ≤ most_signature → (o : Option Kept) → IfSome o (IsObject FORMAT_1 kinds.Ack len) → length (ack_bytes FORMAT_1 o) ≤ 6143
 unfolding ack_bytes
 ack_len len small None is = omega arith
 ack_len len small (Some o) is = let one = object_len kinds.Ack len small o is in omega (arith, one)
@@ -100,46 +103,49 @@ three a b c =
     let right_two = length-append b c in
     omega (arith, one, two, right_one, right_two)
 
-place_len : (r : Report) → length (place_bytes r) ≡ 18
+place_len : (r : Report) → length (place_bytes FORMAT_1 r) ≡ 18
 unfolding place_bytes
-place_len r = omega arith
+place_len r = omega (arith, place_long FORMAT_1 r)
 
-rels_len : (len : ℕ) → len ≤ most_signature → (rs : List Kept) → All (IsObject kinds.Rel len) rs → length rs ≤ MAX_MESSAGES → length (rels_bytes rs) ≤ 24569
+rels_len : (len : ℕ) → len ≤ most_signature → (rs : List Kept) → All (IsObject FORMAT_1 kinds.Rel len) rs → length rs ≤ MAX_MESSAGES
+    → length (rels_bytes FORMAT_1 rs) ≤ 24569
 unfolding rels_bytes
 rels_len len small rs all few =
-    let counted = counted_len (IsObject kinds.Rel len) object_bytes 6142 (object_len kinds.Rel len small) rs all in
+    let counted = counted_len (IsObject FORMAT_1 kinds.Rel len) (object_bytes FORMAT_1) 6142 (object_len kinds.Rel len small) rs all in
     omega (arith, few, counted)
 
-report_len : (len : ℕ) → len ≤ most_signature → (r : Report) → IsReport len r → length (report_bytes r) ≤ 30730
+report_len : (len : ℕ) → len ≤ most_signature → (r : Report) → IsReport FORMAT_1 kinds.Ack kinds.Rel len r → length (report_bytes FORMAT_1 r) ≤ 30730
 unfolding report_bytes
 report_len len small r is =
-    subst (λ (k : ℕ). k ≤ 30730) (sym (three (place_bytes r) (ack_bytes r.ack) (rels_bytes r.rels)))
+    subst (λ (k : ℕ). k ≤ 30730) (sym (three (place_bytes FORMAT_1 r) (ack_bytes FORMAT_1 r.ack) (rels_bytes FORMAT_1 r.rels)))
     (let place = place_len r in let acks = ack_len len small r.ack is.ack in let rels = rels_len len small r.rels is.rels is.few in omega (arith, place, acks, rels))
 
-slot_len : (len : ℕ) → len ≤ most_signature → (s : Option Report) → IfSome s (IsReport len) → length (slot_bytes s) ≤ 30731
+slot_len : (len : ℕ) → len ≤ most_signature → (s : Option Report) → IfSome s (IsReport FORMAT_1 kinds.Ack kinds.Rel len)
+    → length (slot_bytes FORMAT_1 s) ≤ 30731
 unfolding slot_bytes
 slot_len len small None is = omega arith
 slot_len len small (Some r) is = let one = report_len len small r is in omega (arith, one)
 
-weights_len : (len : ℕ) → len ≤ most_signature → (os : List Kept) → All (IsObject kinds.Weight len) os → length os ≤ 1 → length (weights_bytes os) ≤ 6143
+weights_len : (len : ℕ) → len ≤ most_signature → (os : List Kept) → All (IsObject FORMAT_1 kinds.Weight len) os → length os ≤ 1
+    → length (weights_bytes FORMAT_1 os) ≤ 6143
 unfolding weights_bytes
 weights_len len small os all few =
-    let counted = counted_len (IsObject kinds.Weight len) object_bytes 6142 (object_len kinds.Weight len small) os all in
+    let counted = counted_len (IsObject FORMAT_1 kinds.Weight len) (object_bytes FORMAT_1) 6142 (object_len kinds.Weight len small) os all in
     omega (arith, few, counted)
 
-prios_len : (len : ℕ) → len ≤ most_signature → (ms : List (ℕ × Kept)) → All (IsNumbered len) ms → length ms ≤ MAX_MESSAGES → length (prios_bytes ms) ≤ 24601
+prios_len : (len : ℕ) → len ≤ most_signature → (ms : List (ℕ × Kept)) → All (IsNumbered FORMAT_1 len) ms → length ms ≤ MAX_MESSAGES
+    → length (prios_bytes FORMAT_1 ms) ≤ 24601
 unfolding prios_bytes
 prios_len len small ms all few =
-    let counted = counted_len (IsNumbered len) numbered_bytes 6150 (numbered_len len small) ms all in
+    let counted = counted_len (IsNumbered FORMAT_1 len) (numbered_bytes FORMAT_1) 6150 (numbered_len len small) ms all in
     omega (arith, few, counted)
 
 eight_bytes : (n : ℕ) → length (big_bytes 8 n) ≡ 8
 eight_bytes n = omega arith
 
 sections_len : (len : ℕ) → len ≤ most_signature → (s : Contents) → IsContents len s → length (sections_bytes s) ≤ 61483
-unfolding sections_bytes
 sections_len len small s is =
-    subst (λ (k : ℕ). k ≤ 61483) (sym (four (weights_bytes s.weights) (big_bytes 8 s.prio_ack) (prios_bytes s.prios) (slot_bytes s.slot)))
+    subst (λ (k : ℕ). k ≤ 61483) (sym (ap length (sections_are s (no_document len s is)) ∙ four (weights_bytes FORMAT_1 s.weights) (big_bytes 8 s.prio_ack) (prios_bytes FORMAT_1 s.prios) (slot_bytes FORMAT_1 s.slot)))
     (let one = weights_len len small s.weights is.weights is.few_weights in
     let two = eight_bytes s.prio_ack in
     let more = prios_len len small s.prios is.prios is.few_prios in
@@ -152,13 +158,13 @@ head_len h = omega arith
 
 -- ---- a frame
 
-opens : (h : Head) (rest : List ℕ) → 32 ≤ length rest → length rest ≤ 65474 → opened (head_bytes h ++ rest) ≡ Ok (head_bytes h ++ rest)
+opens : (h : Head) (rest : List ℕ) → h.format ≡ FORMAT_1 → 32 ≤ length rest → length rest ≤ 65474 → opened (head_bytes h ++ rest) ≡ Ok (head_bytes h ++ rest)
 unfolding head_bytes ends_bytes numbers_bytes
-opens h rest least most = grind (arith, nat_tests, least, most)
+opens h rest first least most = grind (arith, nat_tests, first, least, most)
 
-read_back : (len : ℕ) (h : Head) (s : Contents) (tag : List ℕ) → len ≤ most_signature → IsHead h → IsContents len s → length tag ≡ 32
+read_back : (len : ℕ) (h : Head) (s : Contents) (tag : List ℕ) → len ≤ most_signature → IsHead h → h.format ≡ FORMAT_1 → IsContents len s → length tag ≡ 32
     → Reads ((head_bytes h ++ sections_bytes s) ++ tag) len h s
-read_back len h s tag small head contents long =
+read_back len h s tag small head first contents long =
     let inner = head_bytes h ++ sections_bytes s in
     let bytes = inner ++ tag in
     let together : bytes ≡ head_bytes h ++ (sections_bytes s ++ tag) = append_assoc (head_bytes h) (sections_bytes s) tag in
@@ -167,9 +173,9 @@ read_back len h s tag small head contents long =
     let whole : length bytes ≡ length inner + length tag = length-append inner tag in
     let signed : tagged_part bytes ≡ inner = take_at inner tag (length bytes - 32) (omega (arith, whole, long)) in
     record {
-      opens = rw together (opens h (sections_bytes s ++ tag) (omega (arith, all, long)) (omega (arith, all, long, size)));
+      opens = rw together (opens h (sections_bytes s ++ tag) first (omega (arith, all, long)) (omega (arith, all, long, size)));
       head = ap head_of together ∙ head_is_read h (sections_bytes s ++ tag) head;
-      sections = ap (λ (bs : List ℕ). sections_of len (drop 33 bs)) signed ∙ (ap (sections_of len) (drop_at (head_bytes h) (sections_bytes s) 33 (head_len h)) ∙ spelled_is_read len s contents);
+      sections = ap (λ (bs : List ℕ). sections_of len (drop 33 bs)) signed ∙ (ap (sections_of len) (drop_at (head_bytes h) (sections_bytes s) 33 (head_len h)) ∙ spelled_is_read FORMAT_1 len s contents);
     }
 
 tag_len : (key message : List ℕ) → length (hmac key message) ≡ 32
@@ -190,17 +196,17 @@ found P test d (x ∷ xs) some all = by (test x) refl (λ rest. found P test d x
     by true is rest some = All-head P x xs all
     by false is rest some = rest some
 
-head_fits : (n : NodeState) (v : NodeId) → IsKept format n → is_neighbour n v ≡ true → IsHead (next_head (link_in n v) n.fixed.topology.version)
+head_fits : (n : NodeState) (v : NodeId) → IsKept format n → is_neighbour n v ≡ true → IsHead (next_head (link_in n v) n.fixed.topology.version FORMAT_1)
 head_fits n v kept is =
     let h = found (LinkHolds n.calls) (is_link v) (new_link n.fixed.me v 0 []) n.links is kept.links in
     let calls = kept.calls in
     let sent = h.sent in
-    record { from = h.me; to = h.peer; boot = h.boot; echo = h.peer_boot; counter = omega (arith, sent, calls); topology = kept.fixed.topology.version }
+    record { format = omega arith; from = h.me; to = h.peer; boot = h.boot; echo = h.peer_boot; counter = omega (arith, sent, calls); topology = kept.fixed.topology.version }
 
 pub polled_is_read_back : PolledIsReadBack
 polled_is_read_back n v kept small is =
     let l = link_in n v in
-    let h = next_head l n.fixed.topology.version in
+    let h = next_head l n.fixed.topology.version FORMAT_1 in
     let s = contents_to n.fixed n.parts v in
     let inner = head_bytes h ++ sections_bytes s in
     let tag = hmac l.key inner in
@@ -208,6 +214,6 @@ polled_is_read_back n v kept small is =
     let whole : length (inner ++ tag) ≡ length inner + length tag = length-append inner tag in
     let signed : tagged_part (inner ++ tag) ≡ inner = take_at inner tag (length (inner ++ tag) - 32) (omega (arith, whole, long)) in
     let behind : tag_part (inner ++ tag) ≡ tag = drop_at inner tag (length (inner ++ tag) - 32) (omega (arith, whole, long)) in (
-      read_back n.fixed.signature_len h s tag small (head_fits n v kept is) (frames_fit format n v kept) long,
+      read_back n.fixed.signature_len h s tag small (head_fits n v kept is) refl (frames_fit format n v kept) long,
       ap₂ (λ (a b : List ℕ). pointwise nat_eq a (hmac l.key b)) behind signed ∙ same_bytes tag,
     )

@@ -1,5 +1,6 @@
 -- The frame that a node makes for a neighbour, as the neighbour reads it.
 use Rattle.std.specs.Prelude.{ℕ, ◌≡◌, ◌≤◌, true, List, Ok}
+use Rattle.sp_base.specs.declared.format.TheConstants.{FORMAT_1}
 use Rattle.sp_base.specs.declared.id.NodeId.{NodeId}
 use Rattle.sp_node_format.specs.Format.{format}
 use Rattle.sp_frame.specs.Frames.{head_of, opened, sections_part}
@@ -30,5 +31,5 @@ SignaturesAreShort = (height : LmsHeight) → signature_len (param_of height) �
 -- whatever a node keeps, and whatever it says to a neighbour
 abbrev pub PolledIsReadBack : Type 0
 PolledIsReadBack = (n : NodeState) (v : NodeId) → IsKept format n → n.fixed.signature_len ≤ most_signature → is_neighbour n v ≡ true
-    → Reads (frame_to format n v) n.fixed.signature_len (next_head (link_in n v) n.fixed.topology.version) (contents_to n.fixed n.parts v)
+    → Reads (frame_to format n v) n.fixed.signature_len (next_head (link_in n v) n.fixed.topology.version FORMAT_1) (contents_to n.fixed n.parts v)
     × (is_right format (link_in n v).key (frame_to format n v) ≡ true)

@@ -5,7 +5,8 @@ ghost use Rattle.sp_rules.specs.Prio as prio;
 ghost use Rattle.sp_rules.specs.Rel as rel;
 ghost use Rattle.sp_rules.specs.Weights as weights;
 ghost use Rattle.sp_rules.specs.declared.store.TheConstants.{IDS};
-ghost use Rattle.sp_topology.specs.Ranges.{IsTopology};
+ghost use Rattle.sp_base.specs.declared.format.TheConstants.{FORMAT_1};
+ghost use Rattle.sp_topology.specs.InFormat.{IsTopologyIn};
 
 use sp_base::{EdgeId, Limits, Memory, NodeId};
 use sp_prio::{Neighbour, PrioTable};
@@ -34,13 +35,14 @@ impl Model for Parts {
 impl Parts {
     /// The parts of a node under a topology, with nothing in them: room for `limits.buffer` messages of each flow and `limits.store` entries of
     /// each store. It is refused for want of memory alone.
+    #[tactic(auto, using(sp_topology::proofs::InFormat::of_format_1))]
     pub fn new(
         alloc: Global,
         me: NodeId,
         topology: &Topology,
         limits: Limits,
     ) -> Result<Parts, Memory>
-        requires { IsTopology topology.now }
+        requires { IsTopologyIn FORMAT_1 topology.now }
         ensures { IfOk result (λ parts. parts
             ≡ empty_parts (record { me = me; boot = 0; topology = topology.now; signature_len = 0 }) limits.buffer limits.store) }
     {
@@ -64,7 +66,7 @@ fn tables_of(
     neighbours: &[Neighbour],
     peers: &[NodeId],
 ) -> Result<Parts, Memory>
-    requires topology { IsTopology topology.now }
+    requires topology { IsTopologyIn FORMAT_1 topology.now }
     requires few { length neighbours.now ≤ IDS }
     ensures { IfOk result (λ parts. parts ≡ record {
       weights = weights.start topology.now;

@@ -11,7 +11,8 @@ use Rattle.sp_msg.specs.declared.kept.Kept.{Kept}
 use Rattle.sp_rules.specs.Weights.{WeightState, effective, held_in, minimum_of, weight_of, weight_said}
 use Rattle.sp_topology.specs.declared.topology.Edge.{Edge}
 use Rattle.sp_topology.specs.declared.topology.Topology.{Topology}
-use Rattle.sp_topology.specs.Ranges.{AreEdges, IsTopology, ends_of, ids_of}
+use Rattle.sp_topology.specs.InFormat.{IsTopologyIn}
+use Rattle.sp_topology.specs.Ranges.{AreEdges, ends_of, ids_of}
 use Rattle.laws_node.specs.Sizes.{Sizes}
 use Rattle.laws_node.specs.Updates.{UpdateHolds, WeightsHold}
 
@@ -28,13 +29,14 @@ held_small : (k : Sizes) (index row : ℕ) (held : Option Kept) → IfSome held 
 held_small k index row None holds = omega arith
 held_small k index row (Some kept) holds = said_small kept.body holds.fits.fields
 
-minimum_small : (ids : List ℕ) (before : ℕ × ℕ) (edges : List Edge) (edge : ℕ) → AreEdges ids before edges → minimum_of (slice_get edges edge) ≤ MAX_WEIGHT
+minimum_small : (ids : List ℕ) (before : ℕ × ℕ) (edges : List Edge) (edge : ℕ) → AreEdges FORMAT_1 ids before edges
+    → minimum_of (slice_get edges edge) ≤ MAX_WEIGHT
 minimum_small ids before [] edge are = omega arith
 minimum_small ids before (e ∷ edges) zero are = are.1.1
 minimum_small ids before (e ∷ edges) (suc edge) are = minimum_small ids (ends_of e) edges edge are.2
 
 -- no weight in effect is above the greatest
-pub effective_small : (t : Topology) (k : Sizes) (index : ℕ) (w : WeightState) → IsTopology t → k.edges ≡ t.edges → WeightsHold k index w
+pub effective_small : (t : Topology) (k : Sizes) (index : ℕ) (w : WeightState) → IsTopologyIn FORMAT_1 t → k.edges ≡ t.edges → WeightsHold k index w
     → (edge : ℕ) → effective w edge ≤ MAX_WEIGHT
 effective_small t k index w good same holds edge =
     let least : minimum_of (slice_get w.edges edge) ≤ MAX_WEIGHT =

@@ -20,7 +20,8 @@ ghost use Rattle.sp_rules.specs.Sends.{prio_body, prio_refusal, signed_effect};
 ghost use Rattle.sp_rules.specs.Steps.{SendPrio};
 ghost use Rattle.sp_rules.specs.Told.{told};
 ghost use Rattle.sp_rules.specs.Weights.{effective};
-ghost use Rattle.sp_topology.specs.Ranges.{IsTopology};
+ghost use Rattle.sp_base.specs.declared.format.TheConstants.{FORMAT_1};
+ghost use Rattle.sp_topology.specs.InFormat.{IsTopologyIn};
 
 use crate::State;
 use sp_base::{Bytes, Memory};
@@ -200,7 +201,7 @@ fn choose(
     core: &Parts,
     message: &PrioSend<'_>,
 ) -> Result<Mask, NoMask>
-    requires topology { IsTopology fixed.now.topology }
+    requires topology { IsTopologyIn FORMAT_1 fixed.now.topology }
     requires edges { core.now.weights.edges ≡ fixed.now.topology.edges }
     requires small { (edge : ℕ) → effective core.now.weights edge ≤ MAX_WEIGHT }
     requires from { is_node (nodes_of fixed.now.topology) fixed.now.me.0 ≡ true }

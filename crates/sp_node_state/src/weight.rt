@@ -52,6 +52,7 @@ pub fn set_weight(
 }
 
 /// The edge to a neighbour, or why its weight isn't set.
+#[tactic(auto, using(sp_topology::proofs::InFormat::of_format_1))]
 fn edge_for(state: &State, peer: NodeId, weight: u32) -> Result<EdgeId, SendRefused>
     requires { IsKept format state.now }
     ensures edge { IfOk result (λ edge. edge_to state.entry.now.fixed peer ≡ There edge.0) }

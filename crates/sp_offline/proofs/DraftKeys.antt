@@ -46,10 +46,11 @@ seed_key height seed key is long bytes = record {
   one_time = rw is (one_time height seed);
 }
 
-are_nodes : (height : LmsHeight) (before : ℕ) (nodes : List NodeKey) → AreIds before (ids_of nodes) → All (λ n. IsKey height n.key) nodes → AreNodes height before nodes
-are_nodes height before [] ids each = tt
-are_nodes height before (n ∷ nodes) ids each =
-    (ids.0, All-head (λ m. IsKey height m.key) n nodes each, are_nodes height n.id.0 nodes ids.1 (All-tail (λ m. IsKey height m.key) n nodes each))
+are_nodes : (format : ℕ) (height : LmsHeight) (before : ℕ) (nodes : List NodeKey) → AreIds format before (ids_of nodes) → All (λ n. IsKey height n.key) nodes
+    → AreNodes format height before nodes
+are_nodes format height before [] ids each = tt
+are_nodes format height before (n ∷ nodes) ids each =
+    (ids.0, All-head (λ m. IsKey height m.key) n nodes each, are_nodes format height n.id.0 nodes ids.1 (All-tail (λ m. IsKey height m.key) n nodes each))
 
 same_ids : (height : LmsHeight) (nodes : List DraftNode) → ids_of (map (node_key height) nodes) ≡ map (λ n. n.id.0) nodes
 same_ids height [] = refl
@@ -58,12 +59,14 @@ same_ids height (n ∷ nodes) = ap (λ (ids : List ℕ). n.id.0 ∷ ids) (same_i
 pub in_range : NoFaultIsInRange → (d : Draft) (t : Topology) → t ≡ topology_of d → IsGoodDraft d → t.version < 2 ^ 32 → All (λ n. IsKey d.height n.key) t.nodes → IsTopology t
 in_range law d t is good version each =
     let ids : ids_of t.nodes ≡ map (λ n. n.id.0) d.nodes = rw is (same_ids d.height d.nodes) in
-    let right = (law (map (λ n. n.id.0) d.nodes) t.edges).0 (rw is good.no_fault) in
+    let right = (law d.format (map (λ n. n.id.0) d.nodes) t.edges).0 (rw is good.no_fault) in
     let height : t.height ≡ d.height = ap (λ (x : Topology). x.height) is in
+    let format : t.format ≡ d.format = ap (λ (x : Topology). x.format) is in
     record {
+      format = rw format good.format;
       version = version;
-      nodes = rw height (are_nodes d.height 0 t.nodes (rw ids right.0) each);
-      graph = rw ids right.1;
+      nodes = rw (format, height) (are_nodes d.format d.height 0 t.nodes (rw ids right.0) each);
+      graph = rw (format, ids) right.1;
     }
 
 -- one key more

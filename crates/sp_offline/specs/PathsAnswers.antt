@@ -4,8 +4,8 @@ use Rattle.sp_graph.specs.declared.graph.Graph.{Graph}
 use Rattle.sp_graph.specs.declared.part.Part.{Part}
 use Rattle.sp_graph.specs.declared.refused.GraphRefused.{GraphRefused}
 use Rattle.sp_graph.specs.declared.refused.GraphRefused.TheVariants as refusals
-use Rattle.sp_graph.specs.Edges.{IsGraph}
-use Rattle.sp_graph.specs.Readings.{IsReading}
+use Rattle.sp_graph.specs.Edges.{IsGraphIn}
+use Rattle.sp_graph.specs.Readings.{IsReading, format_of}
 use Rattle.sp_graph.specs.Spelling.{graph_text}
 use Rattle.sp_paths.specs.declared.paths.Paths.{Paths}
 use Rattle.sp_paths.specs.Cheapest.{AreCheapest, IsNode}
@@ -16,9 +16,9 @@ use Rattle.sp_offline.specs.declared.paths_answer.PathsAnswer.TheVariants as ans
 use Rattle.sp_offline.specs.PathsRefusals.{kind_word, line_of, refused_line}
 use Rattle.sp_offline.specs.PathsLines.{fewer_text, paths_text}
 
--- the text is that of the graph
+-- the text is that of the graph in its format
 abbrev pub SaysGraph : List ℕ → Graph → Type 0
-SaysGraph text g = IsGraph g × (text ≡ graph_text g)
+SaysGraph text g = IsGraphIn (format_of text) g × (text ≡ graph_text (format_of text) g)
 
 -- the cheapest paths of the graph
 pub record IsFound (q : Query) (text out : List ℕ) : Type 0 where
@@ -44,7 +44,7 @@ pub record IsBadText (text out : List ℕ) : Type 0 where
   pub no_want : refused ≢ refusals.Memory
   pub says : IsReading text (Err refused)
   -- it is the text of no graph
-  pub bad : (g : Graph) → IsGraph g → text ≢ graph_text g
+  pub bad : (g : Graph) → IsGraphIn (format_of text) g → text ≢ graph_text (format_of text) g
   pub written : out ≡ refused_line (line_of refused) (kind_word refused)
 
 -- an end that is no node of the graph

@@ -19,7 +19,13 @@ abbrev pub node_key : LmsHeight → DraftNode → NodeKey
 node_key height n = record { id = n.id; key = public_key (param_of height) n.seed }
 
 abbrev pub topology_of : Draft → Topology
-topology_of d = record { version = d.version; height = d.height; nodes = map (node_key d.height) d.nodes; edges = map as_edge d.edges }
+topology_of d = record {
+  format = d.format;
+  version = d.version;
+  height = d.height;
+  nodes = map (node_key d.height) d.nodes;
+  edges = map as_edge d.edges;
+}
 
 -- the document, and the administrator's signature of it with the draft's index
 abbrev pub signed_document : Draft → List ℕ

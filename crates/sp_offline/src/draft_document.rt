@@ -32,14 +32,21 @@ fn topology_of(alloc: Global, draft: &Draft) -> Result<Topology, Memory>
 {
     let nodes = keys_of(alloc, draft.height, draft.nodes.as_slice())?;
     let edges = links_of(alloc, draft.edges.as_slice())?;
-    Ok(topology_with(draft.version, draft.height, nodes, edges))
+    Ok(topology_with(draft.format, draft.version, draft.height, nodes, edges))
 }
 
-fn topology_with(version: u32, height: LmsHeight, nodes: Vec<NodeKey>, edges: Vec<Edge>) -> Topology
-    ensures topology { result ≡ record { version = version; height = height; nodes = nodes.items; edges = edges.items } }
+fn topology_with(
+    format: u8,
+    version: u32,
+    height: LmsHeight,
+    nodes: Vec<NodeKey>,
+    edges: Vec<Edge>,
+) -> Topology
+    ensures topology { result ≡ record { format = format; version = version; height = height; nodes = nodes.items; edges = edges.items } }
     ensures small { result.version < 2 ^ 32 }
 {
     Topology {
+        format,
         version,
         height,
         nodes: Listed::from_vec(nodes),

@@ -48,7 +48,7 @@ pub fn cheapest_paths(
 }
 
 /// The answer to a query over a graph, of which this is the text.
-#[tactic(auto, using(crate::proofs::KnownEnds::known_ends))]
+#[tactic(auto, using(crate::proofs::KnownEnds::known_ends, sp_graph::proofs::GraphLemmas::graph_of_any))]
 fn of_graph(
     alloc: Global,
     query: &Query,

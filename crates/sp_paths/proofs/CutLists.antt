@@ -3,7 +3,7 @@ use Rattle.std.proofs.Common.{◌≡◌, ◌<◌, ◌≤◌, ℕ, Bool, true, fa
 use Rattle.std.specs.Prelude.{◌&&◌}
 use Rattle.std.specs.List.{filter, flat_map}
 use Rattle.sp_base.specs.declared.id.NodeId.{NodeId}
-use Rattle.sp_base.specs.declared.limits.TheConstants.{MAX_NODES}
+use Rattle.sp_base.specs.declared.limits.TheConstants.{MAX_NODES_2}
 use Rattle.sp_graph.specs.declared.graph.Graph.{Graph}
 use Rattle.sp_graph.specs.declared.part.Part.{Part}
 use Rattle.sp_graph.specs.declared.part.Part.TheVariants as parts
@@ -77,6 +77,6 @@ cut_is g s t k found reached right ends few =
       least = few.least;
       smallest = λ other good small. all_from (λ part. other part ≡ true) cut (λ q h.
           let at = from_filter test (parts_of g s t) q h in
-          let inside = (held (λ part. ((node_of part).0 ≤ MAX_NODES) × (number part < PARTS)) (parts_of g s t) q (parts_small g s t right) at.0).1 in
+          let inside = (held (λ part. ((node_of part).0 ≤ MAX_NODES_2) × (number part < PARTS)) (parts_of g s t) q (parts_small g s t right) at.0).1 in
           few.smallest other good small q (omega (arith, inside, few.marks)) at.1);
     }

@@ -3,7 +3,7 @@ use Rattle.std.proofs.Common.{◌≡◌, ◌+◌, ◌*◌, ◌<◌, ◌≤◌, �
 use Rattle.std.specs.Prelude.{◌⊎◌}
 use Rattle.std.specs.List.{All, flat_map, range_with_len}
 use Rattle.sp_base.specs.declared.id.NodeId.{NodeId}
-use Rattle.sp_base.specs.declared.limits.TheConstants.{MAX_NODES}
+use Rattle.sp_base.specs.declared.limits.TheConstants.{MAX_NODES_2}
 use Rattle.sp_graph.specs.declared.graph.Graph.{Graph}
 use Rattle.sp_graph.specs.declared.part.Part.{Part}
 use Rattle.sp_graph.specs.declared.part.Part.TheVariants as parts
@@ -53,12 +53,12 @@ number_small : (p : Part) (n : ℕ) → (node_of p).0 ≤ n → number p < 2 * (
 number_small (parts.In v) n small = omega (arith, small)
 number_small (parts.Out v) n small = omega (arith, small)
 
-pub parts_small : (g : Graph) (s t : NodeId) → IsGraph g → All (λ part. ((node_of part).0 ≤ MAX_NODES) × (number part < PARTS)) (parts_of g s t)
-parts_small g s t right = all_from (λ part. ((node_of part).0 ≤ MAX_NODES) × (number part < PARTS)) (parts_of g s t) (λ p h.
+pub parts_small : (g : Graph) (s t : NodeId) → IsGraph g → All (λ part. ((node_of part).0 ≤ MAX_NODES_2) × (number part < PARTS)) (parts_of g s t)
+parts_small g s t right = all_from (λ part. ((node_of part).0 ≤ MAX_NODES_2) × (number part < PARTS)) (parts_of g s t) (λ p h.
     let at = from_filter (stays s t) (flat_map both (nodes_to g.nodes)) p h in
     let small = node_small g.nodes (node_of p) (part_node (nodes_to g.nodes) p at.0) in
-    let few : (node_of p).0 ≤ MAX_NODES = omega (arith, small, right.nodes.1) in
-    (few, number_small p MAX_NODES few))
+    let few : (node_of p).0 ≤ MAX_NODES_2 = omega (arith, small, right.nodes.1) in
+    (few, number_small p MAX_NODES_2 few))
 
 ones : {X : Type 0} (xs : List X) → total (λ x. 1) xs ≡ length xs
 ones [] = refl
@@ -98,5 +98,6 @@ path_short g s t path right from to good =
     small : (v : NodeId) → Has path v → (1 ≤ v.0) × (v.0 ≤ g.nodes)
     small v h = in_line v (subst (λ (p : List NodeId). Has p v) good.ends.1 h)
 
-pub paths_short : (g : Graph) (s t : NodeId) (k : ℕ) (ps : List (List NodeId)) → IsGraph g → IsNode g s → IsNode g t → Disjoint g s t k ps → All (λ path. length path ≤ MAX_NODES) ps
-paths_short g s t k ps right from to good = all_from (λ path. length path ≤ MAX_NODES) ps (λ path h. omega (arith, path_short g s t path right from to (held (IsPath g s t) ps path good.are_paths h), right.nodes.1))
+pub paths_short : (g : Graph) (s t : NodeId) (k : ℕ) (ps : List (List NodeId)) → IsGraph g → IsNode g s → IsNode g t → Disjoint g s t k ps
+    → All (λ path. length path ≤ MAX_NODES_2) ps
+paths_short g s t k ps right from to good = all_from (λ path. length path ≤ MAX_NODES_2) ps (λ path h. omega (arith, path_short g s t path right from to (held (IsPath g s t) ps path good.are_paths h), right.nodes.1))

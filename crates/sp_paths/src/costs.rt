@@ -1,7 +1,7 @@
 // What a path costs.
 ghost use Rattle.std.specs.Prelude.{◌≡◌, ◌*◌, ◌+◌, ◌≤◌, ◌^◌, length};
 ghost use Rattle.std.specs.List.{All, sum_by};
-ghost use Rattle.sp_base.specs.declared.limits.TheConstants.{MAX_NODES};
+ghost use Rattle.sp_base.specs.declared.limits.TheConstants.{MAX_NODES_2};
 ghost use Rattle.sp_paths.specs.declared.limits.TheConstants.{MAX_PATHS};
 ghost use Rattle.sp_graph.specs.Edges.{IsWeight};
 ghost use Rattle.sp_graph.specs.Walks.{is_between, steps, weight_between};
@@ -30,7 +30,7 @@ pub fn weight_between(edges: &[Edge], u: NodeId, v: NodeId) -> u32
 
 /// The weights of a path's edges together.
 fn path_cost(edges: &[Edge], path: &[NodeId]) -> u64
-    requires short { length path.now ≤ MAX_NODES }
+    requires short { length path.now ≤ MAX_NODES_2 }
     ensures bound { result ≤ length path.now * 2 ^ 32 }
     ensures sum { result ≡ sum_by (λ step. weight_between edges.now step.0 step.1) (steps path.now) }
 {
@@ -45,7 +45,7 @@ fn path_cost(edges: &[Edge], path: &[NodeId]) -> u64
 
 /// The weights of all their edges together.
 pub fn cost(edges: &[Edge], paths: &[Listed<NodeId>]) -> u64
-    requires short { All (λ path. length path ≤ MAX_NODES) paths.now }
+    requires short { All (λ path. length path ≤ MAX_NODES_2) paths.now }
     requires few { length paths.now ≤ MAX_PATHS }
     ensures { result ≡ sum_by (λ path. sum_by (λ step. weight_between edges.now step.0 step.1) (steps path)) paths.now }
 {

@@ -1,7 +1,7 @@
 // The lanes of a graph: one for each arc of the split graph, in the order of the arcs, and none of them used.
 ghost use Rattle.std.specs.Prelude.{◌≡◌, ◌≤◌, ◌++◌, ◌∷◌, [], IfOk, OnOk, map};
 ghost use Rattle.std.specs.List.{All, filter};
-ghost use Rattle.sp_base.specs.declared.limits.TheConstants.{MAX_NODES, MAX_WEIGHT};
+ghost use Rattle.sp_base.specs.declared.limits.TheConstants.{MAX_NODES_2, MAX_WEIGHT};
 ghost use Rattle.sp_graph.specs.Edges.{IsGraph};
 ghost use Rattle.sp_graph.specs.Split.{arcs_of, node_arc, nodes_to, stays};
 ghost use Rattle.sp_paths.specs.Parts.{IsFresh, arc, arc_of, is_there, node_of, number};
@@ -15,7 +15,7 @@ use std::vec::Vec;
 
 /// The number of a part: twice its node for the in-part, and one more for the out-part.
 pub fn number(part: Part) -> u8
-    requires few { (node_of part).0 ≤ MAX_NODES }
+    requires few { (node_of part).0 ≤ MAX_NODES_2 }
     ensures { result ≡ number part }
 {
     match part {
@@ -43,7 +43,7 @@ fn push_arc(
     s: NodeId,
     t: NodeId,
 ) -> Result<(), Memory>
-    requires parts { ((node_of from).0 ≤ MAX_NODES) × ((node_of to).0 ≤ MAX_NODES) }
+    requires parts { ((node_of from).0 ≤ MAX_NODES_2) × ((node_of to).0 ≤ MAX_NODES_2) }
     requires weight { cost ≤ MAX_WEIGHT }
     requires fresh { All IsFresh lanes.old.items }
     ensures arcs { OnOk result (map arc_of lanes.new.items ≡ map arc_of lanes.old.items ++ filter (is_there s t) (arc from to cost ∷ [])) }
@@ -62,7 +62,7 @@ fn push_arc(
 
 /// Adds the lanes through a node, and so for each node.
 fn push_nodes(lanes: &mut Vec<Lane>, nodes: u8, s: NodeId, t: NodeId) -> Result<(), Memory>
-    requires few { nodes ≤ MAX_NODES }
+    requires few { nodes ≤ MAX_NODES_2 }
     requires fresh { All IsFresh lanes.old.items }
     ensures arcs { OnOk result (map arc_of lanes.new.items ≡ map arc_of lanes.old.items ++ filter (is_there s t) (map node_arc (nodes_to nodes))) }
     ensures fresh { All IsFresh lanes.new.items }

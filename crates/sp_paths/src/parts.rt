@@ -1,7 +1,7 @@
 // The parts of a graph in their order, the potential of each, and those that are in a cut.
 ghost use Rattle.std.specs.Prelude.{◌≡◌, ◌<◌, ◌≤◌, ◌^◌, ◌++◌, ◌∷◌, [], IfOk, OnOk, length, map, pos, ℕ};
 ghost use Rattle.std.specs.List.{All, filter};
-ghost use Rattle.sp_base.specs.declared.limits.TheConstants.{MAX_NODES};
+ghost use Rattle.sp_base.specs.declared.limits.TheConstants.{MAX_NODES_2};
 ghost use Rattle.sp_graph.specs.Split.{parts_of, stays};
 ghost use Rattle.sp_paths.specs.Bounds.{most_potential};
 ghost use Rattle.sp_paths.specs.Lanes.{at, is_in};
@@ -26,7 +26,7 @@ fn push_part(parts: &mut Vec<Part>, part: Part, s: NodeId, t: NodeId) -> Result<
 
 /// The parts of a graph between two ends: by their nodes, the in-part first.
 pub fn parts(alloc: Global, graph: &Graph, s: NodeId, t: NodeId) -> Result<Vec<Part>, Memory>
-    requires few { graph.now.nodes ≤ MAX_NODES }
+    requires few { graph.now.nodes ≤ MAX_NODES_2 }
     ensures { IfOk result (λ parts. parts.items ≡ parts_of graph.now s t) }
 {
     let mut parts = Vec::with_capacity(alloc, PARTS)?;
@@ -40,7 +40,7 @@ pub fn parts(alloc: Global, graph: &Graph, s: NodeId, t: NodeId) -> Result<Vec<P
 
 /// The potential of each part.
 pub fn potentials(alloc: Global, parts: &[Part], potential: &[u64]) -> Result<Vec<i64>, Memory>
-    requires parts { All (λ part. ((node_of part).0 ≤ MAX_NODES) × (number part < length potential.now)) parts.now }
+    requires parts { All (λ part. ((node_of part).0 ≤ MAX_NODES_2) × (number part < length potential.now)) parts.now }
     requires low { (v : ℕ) → at potential.now v ≤ most_potential }
     ensures { IfOk result (λ numbers. numbers.items ≡ map (λ part. pos (at potential.now (number part))) parts.now) }
 {
@@ -53,7 +53,7 @@ pub fn potentials(alloc: Global, parts: &[Part], potential: &[u64]) -> Result<Ve
 
 /// The parts that are reached.
 pub fn cut(alloc: Global, parts: &[Part], reached: &[bool]) -> Result<Vec<Part>, Memory>
-    requires parts { All (λ part. ((node_of part).0 ≤ MAX_NODES) × (number part < length reached.now)) parts.now }
+    requires parts { All (λ part. ((node_of part).0 ≤ MAX_NODES_2) × (number part < length reached.now)) parts.now }
     ensures { IfOk result (λ cut. cut.items ≡ filter (λ part. is_in reached.now (number part)) parts.now) }
 {
     let mut cut = Vec::with_capacity(alloc, parts.len())?;

@@ -5,7 +5,7 @@ use Rattle.sp_msg.specs.declared.body.Body.{Body}
 use Rattle.sp_msg.specs.declared.body.Body.TheVariants as bodies
 use Rattle.sp_rules.proofs.FlowJudged.{new_ack, new_rel, same_flow}
 use Rattle.sp_rules.specs.Flow.{flow_said}
-use Rattle.sp_rules.specs.Rel.{RelState, judge_ack_of, judge_rel_of}
+use Rattle.sp_rules.specs.Rel.{RelState, judge_ack_of, judge_rel_of, plain_ack}
 use Rattle.sp_rules.specs.declared.rel.AckJudged.TheVariants as acks
 use Rattle.sp_rules.specs.declared.rel.RelJudged.TheVariants as rels
 
@@ -15,7 +15,7 @@ ack_flow r flow (bodies.Prio m) new = absurd (cc)
 ack_flow r flow (bodies.Rel m) new = absurd (cc)
 ack_flow r flow (bodies.Weight m) new = absurd (cc)
 ack_flow r flow (bodies.Krel m) new = absurd (cc)
-ack_flow r flow (bodies.Kack m) new = absurd (cc)
+ack_flow r flow (bodies.Kack a) new = same_flow r flow a.src a.dst (new_ack r flow (plain_ack a) new).ends
 ack_flow r flow (bodies.Epoch m) new = absurd (cc)
 
 pub ack_again : (r : RelState) (flow : Flow) (body : Body) → judge_ack_of r flow body ≡ acks.New → judge_ack_of r (flow_said body) body ≡ acks.New
@@ -26,7 +26,7 @@ rel_flow r flow (bodies.Rel m) new = same_flow r flow m.src m.dst (new_rel r flo
 rel_flow r flow (bodies.Prio m) new = absurd (cc)
 rel_flow r flow (bodies.Ack m) new = absurd (cc)
 rel_flow r flow (bodies.Weight m) new = absurd (cc)
-rel_flow r flow (bodies.Krel m) new = absurd (cc)
+rel_flow r flow (bodies.Krel m) new = same_flow r flow m.src m.dst (new_rel r flow m.src m.dst m.seq new).ends
 rel_flow r flow (bodies.Kack m) new = absurd (cc)
 rel_flow r flow (bodies.Epoch m) new = absurd (cc)
 

@@ -1,8 +1,8 @@
 // Acknowledgements of a slot: what is said of one, and keeping a new one.
 ghost use Rattle.std.specs.Prelude.{◌≡◌};
-ghost use Rattle.sp_msg.specs.Bodies.{HasGoodFields};
 ghost use Rattle.sp_rel.specs.Places.{IsPlace};
 ghost use Rattle.sp_rel.specs.Seated.{IsSeated};
+ghost use Rattle.sp_rules.specs.Changes.{FitsAFormat};
 ghost use Rattle.sp_rules.specs.Rel.{admit_ack, judge_ack, judge_ack_of};
 
 use crate::change::Change;
@@ -38,7 +38,7 @@ impl RelTable {
     #[tactic(auto, using(crate::proofs::OwnFlows::ack_flow))]
     pub fn admit_ack(&mut self, ack: Kept, place: Place, seat: Seat)
         requires new { judge_ack_of self.old place.flow ack.body ≡ AckJudged.New }
-        requires fields { HasGoodFields ack.body }
+        requires fields { FitsAFormat ack.body }
         requires place { IsPlace self.old.flows place }
         requires seat { IsSeated self.old place.flow seat }
         ensures table { self.new ≡ admit_ack self.old ack }

@@ -1,11 +1,11 @@
 // What becomes of a flow: the memory that a change needs, a message of a client, a report, and what a client takes.
 ghost use Rattle.std.specs.Prelude.{◌≡◌, IfErr, IfOk, slice_get};
-ghost use Rattle.sp_msg.specs.Bodies.{HasGoodFields};
 ghost use Rattle.sp_rel.specs.Changes.{CanChange, changed};
 ghost use Rattle.sp_rel.specs.Places.{IsPlace};
 ghost use Rattle.sp_rel.specs.Rows as rows;
 ghost use Rattle.sp_rel.specs.Seated.{IsSeated, seat_for};
 ghost use Rattle.sp_rel.specs.Tables.{put_in};
+ghost use Rattle.sp_rules.specs.Changes.{FitsAFormat};
 ghost use Rattle.sp_rules.specs.Flow.{after_take, flow_said};
 ghost use Rattle.sp_rules.specs.Rel.{IsNextOwn, flow_in, oldest, pushed_in, reported, took};
 
@@ -72,7 +72,7 @@ impl RelTable {
     /// Keeps a client's message under the number that `room` gave.
     pub fn push(&mut self, message: Kept, seat: Seat)
         requires next { IsNextOwn self.old message.body }
-        requires fields { HasGoodFields message.body }
+        requires fields { FitsAFormat message.body }
         requires seat { IsSeated self.old (flow_said message.body) seat }
         ensures { self.new ≡ pushed_in self.old message }
     {
@@ -104,7 +104,7 @@ impl RelTable {
     }
 }
 
-/// The flow of a reliable message or an acknowledgement.
+/// The flow of a message or an acknowledgement, or of their like of K-path flows.
 pub(crate) fn flow_said(body: &Body) -> Flow
     ensures { result ≡ flow_said body.now }
 {
@@ -116,6 +116,14 @@ pub(crate) fn flow_said(body: &Body) -> Flow
         Body::Ack(ack) => Flow {
             src: ack.src,
             dst: ack.dst,
+        },
+        Body::Krel(krel) => Flow {
+            src: krel.src,
+            dst: krel.dst,
+        },
+        Body::Kack(kack) => Flow {
+            src: kack.src,
+            dst: kack.dst,
         },
         _ => Flow {
             src: NodeId(0),

@@ -2,9 +2,9 @@
 ghost use Rattle.std.specs.Prelude.{◌≡◌, Some, map, option_map};
 ghost use Rattle.sp_base.specs.Cursor.{next_after};
 ghost use Rattle.sp_frame.specs.Writing.{out_report};
-ghost use Rattle.sp_msg.specs.Bodies.{HasGoodFields};
 ghost use Rattle.sp_msg.specs.declared.body.Body.TheVariants.{Ack as Acked};
-ghost use Rattle.sp_rules.specs.Rel.{due, flow_at, is_due, served, settled, slot_for, slot_of};
+ghost use Rattle.sp_rules.specs.Changes.{FitsAFormat};
+ghost use Rattle.sp_rules.specs.Rel.{due, flow_at, is_due, plain, served, settled, slot_for, slot_of};
 
 use crate::change::Change;
 use crate::changes::flow_said;
@@ -62,6 +62,8 @@ impl RelTable {
                 let after = view.have.max(numbers.base);
                 OutSlot {
                     flow,
+                    sboot: 0,
+                    dboot: 0,
                     base: numbers.base,
                     have: numbers.have,
                     ack: if view.base < numbers.base {
@@ -78,6 +80,8 @@ impl RelTable {
             }
             None => OutSlot {
                 flow,
+                sboot: 0,
+                dboot: 0,
                 base: 0,
                 have: 0,
                 ack: None,
@@ -113,8 +117,8 @@ impl RelTable {
 
     /// The acknowledgement that was due is signed, and is kept.
     pub fn signed(&mut self, ack: Kept)
-        requires due { option_map Acked (due self.old) ≡ Some ack.body }
-        requires fields { HasGoodFields ack.body }
+        requires due { option_map Acked (due self.old) ≡ Some (plain ack.body) }
+        requires fields { FitsAFormat ack.body }
         ensures { self.new ≡ settled self.old ack }
     {
         self.flows.recall();

@@ -1,8 +1,9 @@
 // Messages of a slot: what is said of one, and taking a new one.
 ghost use Rattle.std.specs.Prelude.{◌≡◌, ◌-◌, ◌<◌, ◌++◌, length};
-ghost use Rattle.sp_msg.specs.Bodies.{HasGoodFields, payload_of};
+ghost use Rattle.sp_msg.specs.Bodies.{payload_of};
 ghost use Rattle.sp_rel.specs.Places.{IsPlace};
 ghost use Rattle.sp_rel.specs.Seated.{IsSeated};
+ghost use Rattle.sp_rules.specs.Changes.{FitsAFormat};
 ghost use Rattle.sp_rules.specs.Flow.{IsReliable};
 ghost use Rattle.sp_rules.specs.Rel.{admit_rel, delivery, judge_rel, judge_rel_of, rel_effects};
 
@@ -52,7 +53,7 @@ impl RelTable {
         out: &mut Effects,
     )
         requires new { judge_rel_of self.old place.flow message.body ≡ RelJudged.New }
-        requires fields { HasGoodFields message.body }
+        requires fields { FitsAFormat message.body }
         requires payload { payload ≡ payload_of message.body }
         requires place { IsPlace self.old.flows place }
         requires seat { IsSeated self.old place.flow seat }
@@ -84,6 +85,11 @@ fn delivery(message: Kept) -> Effect
             src: rel.src,
             seq: rel.seq,
             payload: rel.payload,
+        },
+        Body::Krel(krel) => Effect::Delivered {
+            src: krel.src,
+            seq: krel.seq,
+            payload: krel.payload,
         },
         _ => unreachable!(),
     }

@@ -239,13 +239,15 @@ impl FlowRow {
     }
 }
 
-/// The number of a reliable message or an acknowledgement.
+/// The number of a message or an acknowledgement, or of their like of K-path flows.
 fn number_said(body: &Body) -> u64
     ensures { result ≡ number_said body.now }
 {
     match body {
         Body::Rel(rel) => rel.seq,
         Body::Ack(ack) => ack.seq,
+        Body::Krel(krel) => krel.seq,
+        Body::Kack(kack) => kack.seq,
         _ => 0,
     }
 }

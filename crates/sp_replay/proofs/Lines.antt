@@ -3,7 +3,8 @@ use Rattle.std.proofs.Common.{◌≡◌, ◌+◌, ℕ, Bool, List, [], ◌∷◌
 use Rattle.std.specs.Io.KnownBytes.{Appends}
 use Rattle.std.proofs.KnownBytes.{Appends-trans}
 use Rattle.std.proofs.lemmas.List.{same_from_push}
-use Rattle.sp_graph.specs.Edges.{IsGraph}
+use Rattle.sp_base.specs.declared.format.TheConstants.{FORMAT_1}
+use Rattle.sp_graph.specs.Edges.{IsGraphIn}
 use Rattle.sp_journal.specs.JournalText.{entry_text, journal_lines}
 use Rattle.sp_lines.specs.Texts.{At_end, Good, Leads, Nothing_left}
 use Rattle.sp_lines.proofs.LeadLemmas.{led_by}
@@ -189,13 +190,13 @@ begun_done old next s parsed = subst (λ (z : Stage). AreDone z (Some (at_first 
     begun_next : (old next : Stage) (s : Scenario) → IsParsed old (parts.Began s) next → next ≡ stages.Events s []
     begun_next old next s parsed = parsed.1
 
-pub begun_graph : (old next : Stage) (s : Scenario) → IsParsed old (parts.Began s) next → IsGoodStage next → IsGraph s.graph
+pub begun_graph : (old next : Stage) (s : Scenario) → IsParsed old (parts.Began s) next → IsGoodStage next → IsGraphIn FORMAT_1 s.graph
 begun_graph old next s parsed good = let schedule : IsSchedule s [] = subst IsGoodStage (begun_next old next s parsed) good in schedule.scenario.graph
   where
     begun_next : (old next : Stage) (s : Scenario) → IsParsed old (parts.Began s) next → next ≡ stages.Events s []
     begun_next old next s parsed = parsed.1
 
-past_at_first : (s : Scenario) → IsGraph s.graph → IsPast (at_first s)
+past_at_first : (s : Scenario) → IsGraphIn FORMAT_1 s.graph → IsPast (at_first s)
 past_at_first s graph = record { graph = graph; last = at_start (setting_of s); clean = Starts; left = refl }
 
 none_before : (old next : Stage) (s : Scenario) (world : Option Past) → IsParsed old (parts.Began s) next → AreDone old world → world ≡ None

@@ -2,7 +2,8 @@
 ghost use Rattle.std.specs.Prelude.{◌≡◌, ◌<◌, ◌+◌, ◌∷◌, ◌++◌, [], true, false, length, List, IfSome, None as Nothing, OnOk};
 ghost use Rattle.std.specs.Io.KnownBytes.{Appends};
 ghost use Rattle.sp_base.specs.declared.limits.TheConstants.{MAX_EVENTS};
-ghost use Rattle.sp_graph.specs.Edges.{IsGraph};
+ghost use Rattle.sp_base.specs.declared.format.TheConstants.{FORMAT_1};
+ghost use Rattle.sp_graph.specs.Edges.{IsGraphIn};
 ghost use Rattle.sp_journal.specs.declared.entry.Entry as noted;
 ghost use Rattle.sp_runs.specs.Runs.{InRange};
 ghost use Rattle.sp_runs.specs.Scenarios.{setting_of};
@@ -73,7 +74,7 @@ fn begin<K: Sink>(
     world: &mut Option<World>,
     sink: &mut K,
 ) -> Result<(), Halt>
-    requires { IsGraph scenario.graph }
+    requires { IsGraphIn FORMAT_1 scenario.graph }
     ensures begins { Begins scenario world.new (K.contents sink.old) (K.contents sink.new) result }
     ensures counts { SinkCountsIn result (K.faults sink.old) (K.faults sink.new) }
 {

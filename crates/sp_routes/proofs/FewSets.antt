@@ -8,7 +8,7 @@ use Rattle.std.proofs.lemmas.List.{get_or_default, length-map}
 use Rattle.std.proofs.lemmas.Map.Made.{IsDistinct-from_AllPairs}
 use Rattle.std.proofs.lemmas.Map.Steps.{length-le_from_distinct_below}
 use Rattle.sp_base.specs.declared.id.NodeId.{NodeId}
-use Rattle.sp_base.specs.declared.limits.TheConstants.{MAX_NODES}
+use Rattle.sp_base.specs.declared.limits.TheConstants.{MAX_NODES_2}
 use Rattle.sp_graph.specs.declared.graph.Graph.{Graph}
 use Rattle.sp_routes.specs.declared.book.KeptSet.{KeptSet}
 use Rattle.sp_routes.specs.Pages.{IsAnswer, is_for, no_set}
@@ -18,7 +18,7 @@ use Rattle.sp_paths.specs.Tests.{below}
 abbrev seat : ℕ → ℕ → ℕ → ℕ
 seat s t k = (t - 1 - below s t) * 8 + (k - 1)
 
-seat_small : (s t k : ℕ) → 1 ≤ s → s ≤ 16 → 1 ≤ t → t ≤ 16 → s ≢ t → 1 ≤ k → k ≤ 8 → seat s t k < 120
+seat_small : (s t k : ℕ) → 1 ≤ s → s ≤ 32 → 1 ≤ t → t ≤ 32 → s ≢ t → 1 ≤ k → k ≤ 8 → seat s t k < 248
 seat_small s t k s_some s_small t_some t_small other k_some k_small = grind (arith, nat_tests)
 
 same_seat : (s t u k j : ℕ) → 1 ≤ s → 1 ≤ t → s ≢ t → 1 ≤ u → s ≢ u → 1 ≤ k → k ≤ 8 → 1 ≤ j → j ≤ 8 → seat s t k ≡ seat s u j → (t ≡ u) × (k ≡ j)
@@ -43,7 +43,7 @@ seat_at s sets k d inside =
 apart : (s t : NodeId) → s ≢ t → s.0 ≢ t.0
 apart s t other same = other (ap (λ (n : ℕ). record { 0 = n }) same)
 
-small_at : (g : Graph) (s : NodeId) (set : KeptSet) → g.nodes ≤ MAX_NODES → IsAnswer g s set → seat_of s set < 120
+small_at : (g : Graph) (s : NodeId) (set : KeptSet) → g.nodes ≤ MAX_NODES_2 → IsAnswer g s set → seat_of s set < 248
 small_at g s set nodes is =
     let ends = is.2.ends in
     seat_small s.0 set.destination.0 set.count ends.0.0 (omega (arith, ends.0.1, nodes)) ends.1.0 (omega (arith, ends.1.1, nodes)) (apart s set.destination ends.2) is.0 is.1
@@ -58,12 +58,12 @@ differ_at g s set later is will other same =
     ends_of_later.1.0 (apart s later.destination ends_of_later.2) is.0 is.1 will.0 will.1 same in
     grind (arith, nat_tests, both, other)
 
-pub few_sets : (g : Graph) (s : NodeId) (sets : List KeptSet) → g.nodes ≤ MAX_NODES → All (IsAnswer g s) sets
-    → AllPairs (λ (set later : KeptSet). is_for later.destination later.count set ≡ false) sets → length sets ≤ 120
+pub few_sets : (g : Graph) (s : NodeId) (sets : List KeptSet) → g.nodes ≤ MAX_NODES_2 → All (IsAnswer g s) sets
+    → AllPairs (λ (set later : KeptSet). is_for later.destination later.count set ≡ false) sets → length sets ≤ 248
 few_sets g s sets nodes answers once =
     let seats = map (seat_of s) sets in
     let long : length seats ≡ length sets = length-map sets (seat_of s) in
-    let small : All (λ (x : ℕ). x < 120) seats =
+    let small : All (λ (x : ℕ). x < 248) seats =
     λ k d inside. let here : k < length sets = omega (arith, inside, long) in
     rw (seat_at s sets k d here) (small_at g s (get_or sets k no_set) nodes (answers k no_set here)) in
     let apart_all : AllPairs (λ (x y : ℕ). x ≢ y) seats =
@@ -71,4 +71,4 @@ few_sets g s sets nodes answers once =
     let here : i < length sets = omega (arith, less, there) in
     rw (seat_at s sets i d here, seat_at s sets j d there)
     (differ_at g s (get_or sets i no_set) (get_or sets j no_set) (answers i no_set here) (answers j no_set there) (once i j no_set less there)) in
-    rw (← long) (length-le_from_distinct_below seats 120 (IsDistinct-from_AllPairs Decides-eqb seats apart_all) (λ q is. any_below 120 q seats small is))
+    rw (← long) (length-le_from_distinct_below seats 248 (IsDistinct-from_AllPairs Decides-eqb seats apart_all) (λ q is. any_below 248 q seats small is))

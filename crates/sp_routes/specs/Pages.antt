@@ -2,7 +2,7 @@
 use Rattle.std.specs.Prelude.{ℕ, ◌≡◌, ◌≤◌, ◌<◌, ◌-◌, ◌*◌, ◌==◌, ◌&&◌, Bool, false, List, [], slice_index_or, length}
 use Rattle.std.specs.List.{All, AllPairs}
 use Rattle.sp_base.specs.declared.id.NodeId.{NodeId}
-use Rattle.sp_base.specs.declared.limits.TheConstants.{MAX_NODES}
+use Rattle.sp_base.specs.declared.limits.TheConstants.{MAX_NODES_2}
 use Rattle.sp_graph.specs.declared.graph.Graph.{Graph}
 use Rattle.sp_paths.specs.Cheapest.{AreLeast}
 use Rattle.sp_routes.specs.declared.book.KeptSet.{KeptSet}
@@ -25,10 +25,10 @@ is_for t k set = (set.destination.0 == t.0) && (set.count == k)
 
 -- each set is an answer, and no two are of as many paths to one destination: so there are at most so many as other nodes, for each number of paths
 pub record IsPage (p : Page) : Type 0 where
-  pub nodes : p.graph.nodes ≤ MAX_NODES
+  pub nodes : p.graph.nodes ≤ MAX_NODES_2
   pub answers : All (IsAnswer p.graph p.source) p.sets.items
   pub once : AllPairs (λ set later. is_for later.destination later.count set ≡ false) p.sets.items
-  pub few : length p.sets.items ≤ (MAX_NODES - 1) * MAX_PATHS
+  pub few : length p.sets.items ≤ (MAX_NODES_2 - 1) * MAX_PATHS
 
 -- the paths that are asked for stand in this place
 abbrev pub AnswersAt : Page → Graph → NodeId → NodeId → ℕ → ℕ → Type 0

@@ -1,6 +1,6 @@
 // The paths from one node, kept while the graph rests: who asks again is answered without a search.
 ghost use Rattle.std.specs.Prelude.{◌≡◌, ◌≤◌, ◌<◌, ◌-◌, ◌++◌, ◌∷◌, [], ◌↔◌, IfErr, IfOk, IfSome, IsNone, IsTrue};
-ghost use Rattle.sp_base.specs.declared.limits.TheConstants.{MAX_NODES};
+ghost use Rattle.sp_base.specs.declared.limits.TheConstants.{MAX_NODES_2};
 ghost use Rattle.sp_graph.specs.Edges.{IsGraph};
 ghost use Rattle.sp_paths.specs.Cheapest.{AreLeast, IsNode};
 ghost use Rattle.sp_paths.specs.Fewer.{SaysFewer};
@@ -32,7 +32,7 @@ pub(crate) struct Page {
 
 /// A book of the cheapest disjoint paths from one node in one graph: what was found is lent again, until another node asks or the graph changes.
 ///
-/// A contract doesn't see what is kept: no answer depends on it. At most one set is kept for each destination and number of paths, so at most 120.
+/// A contract doesn't see what is kept: no answer depends on it. At most one set is kept for each destination and number of paths, so at most 248.
 #[derive(Drop)]
 pub struct PathBook {
     page: Page,
@@ -151,7 +151,7 @@ impl Page {
         set: KeptSet,
     ) -> Result<usize, Memory>
         requires page { IsPage self.old }
-        requires nodes { graph.now.nodes ≤ MAX_NODES }
+        requires nodes { graph.now.nodes ≤ MAX_NODES_2 }
         requires answer { IsAnswer graph.now source set }
         requires new { IsNew self.old graph.now source set.destination set.count }
         ensures page { IsPage self.new }

@@ -8,7 +8,8 @@ ghost use Rattle.sp_rules.specs.Masks.{IsChoice, Mask as Over, graph_of};
 ghost use Rattle.sp_rules.specs.Parts.{nodes_of};
 ghost use Rattle.sp_rules.specs.Prio.{is_node};
 ghost use Rattle.sp_rules.specs.Weights.{effective};
-ghost use Rattle.sp_topology.specs.Ranges.{IsTopology};
+ghost use Rattle.sp_base.specs.declared.format.TheConstants.{FORMAT_1};
+ghost use Rattle.sp_topology.specs.InFormat.{IsTopologyIn};
 
 use crate::PathBook;
 use crate::cheapest::cheapest_mask;
@@ -44,7 +45,7 @@ pub fn mask_to(
     to: NodeId,
     paths: u8,
 ) -> Result<Mask, NoMask>
-    requires topology { IsTopology topology.now }
+    requires topology { IsTopologyIn FORMAT_1 topology.now }
     requires edges { weights.now.edges ≡ topology.now.edges }
     requires small { (edge : ℕ) → effective weights.now edge ≤ MAX_WEIGHT }
     requires ends { (is_node (nodes_of topology.now) from.0 ≡ true) × (is_node (nodes_of topology.now) to.0 ≡ true) × (from ≢ to) }

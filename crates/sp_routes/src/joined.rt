@@ -1,6 +1,6 @@
 // Which nodes the steps of paths join, and the edges between these.
 ghost use Rattle.std.specs.Prelude.{◌≡◌, ◌≤◌, ◌<◌, ◌*◌, ◌+◌, ◌^◌, ℕ, All, Some, length, slice_get};
-ghost use Rattle.sp_base.specs.declared.limits.TheConstants.{MAX_EDGES};
+ghost use Rattle.sp_base.specs.declared.limits.TheConstants.{MAX_EDGES_2};
 ghost use Rattle.sp_graph.specs.Masks.{is_walked};
 ghost use Rattle.sp_graph.specs.Walks.{is_between};
 ghost use Rattle.sp_routes.specs.Joined.{Adds, HasFlag, flag_place, joins, joins_at};
@@ -8,12 +8,12 @@ ghost use Rattle.sp_msg.specs.Masks.{bits};
 ghost use Rattle.sp_msg.specs.Views.{names_edge};
 ghost use Rattle.sp_rules.specs.Masks.{is_used};
 
-use sp_base::{EdgeId, Listed, MAX_NODES, NodeId};
+use sp_base::{EdgeId, Listed, MAX_NODES_2, NodeId};
 use sp_msg::Mask;
 use sp_topology::Edge;
 
 /// The greatest id of a node of a graph, and one more.
-const IDS: usize = MAX_NODES as usize + 1;
+const IDS: usize = MAX_NODES_2 as usize + 1;
 
 /// How many flags there are: one for each two ids.
 pub const FLAGS: usize = IDS * IDS;
@@ -75,7 +75,7 @@ fn joins(flags: &[bool], edge: &Edge) -> bool
 
 /// The mask of one edge.
 fn bit(place: usize) -> Mask
-    requires { place < MAX_EDGES }
+    requires { place < MAX_EDGES_2 }
     ensures { bits result ≡ 2 ^ place }
 {
     Mask::of(EdgeId(place as u16))
@@ -84,7 +84,7 @@ fn bit(place: usize) -> Mask
 /// The edges whose ends are joined.
 pub fn mask_of_joined(edges: &[Edge], flags: &[bool]) -> Mask
     requires flags { length flags.now ≡ FLAGS }
-    requires few { length edges.now ≤ MAX_EDGES }
+    requires few { length edges.now ≤ MAX_EDGES_2 }
     requires ends { All HasFlag edges.now }
     ensures { (place : ℕ) → names_edge (bits result) place ≡ joins_at flags.now (slice_get edges.now place) }
 {

@@ -2,7 +2,8 @@
 ghost use Rattle.std.specs.Prelude.{◌≡◌, ◌≤◌, IfOk, length};
 ghost use Rattle.sp_base.specs.declared.limits.TheConstants.{MAX_EDGES};
 ghost use Rattle.sp_rules.specs.Masks.{graph_of, greatest_id, weighed};
-ghost use Rattle.sp_topology.specs.Ranges.{IsTopology};
+ghost use Rattle.sp_base.specs.declared.format.TheConstants.{FORMAT_1};
+ghost use Rattle.sp_topology.specs.InFormat.{IsTopologyIn};
 
 use sp_base::{EdgeId, Listed, Memory};
 use sp_graph::Graph;
@@ -42,7 +43,7 @@ fn weighed(alloc: Global, weights: &Weights, edges: &[Edge]) -> Result<Vec<Edge>
 
 /// The graph in which paths are sought: the topology under the weights that are in effect.
 pub fn graph_of(alloc: Global, topology: &Topology, weights: &Weights) -> Result<Graph, Memory>
-    requires topology { IsTopology topology.now }
+    requires topology { IsTopologyIn FORMAT_1 topology.now }
     requires edges { weights.now.edges ≡ topology.now.edges }
     ensures { IfOk result (λ graph. graph ≡ graph_of topology.now weights.now) }
 {

@@ -8,14 +8,13 @@ use Rattle.std.proofs.lemmas.Option.{get_or_from_slice_get}
 use Rattle.sp_base.specs.Cursor.{first_active_from, next_after, or_else}
 use Rattle.sp_base.specs.declared.id.Flow.{Flow}
 use Rattle.sp_base.specs.declared.id.NodeId.{NodeId}
-use Rattle.sp_base.specs.declared.format.TheConstants.{FORMAT_1}
-use Rattle.sp_msg.proofs.GoodFields.{good_ack}
-use Rattle.sp_msg.specs.Bodies.{HasGoodFields}
+use Rattle.sp_msg.proofs.GoodFields.{good_ack, good_kack}
+use Rattle.sp_msg.specs.declared.body.Ack.{Ack}
 use Rattle.sp_msg.specs.declared.body.Body.{Body}
 use Rattle.sp_msg.specs.declared.body.Body.TheVariants as bodies
-use Rattle.sp_rules.specs.Changes.{CanConclude}
+use Rattle.sp_rules.specs.Changes.{CanConclude, FitsAFormat}
 use Rattle.sp_rules.specs.Flow.{FlowState, IsStanding, ends, flow_said}
-use Rattle.sp_rules.specs.Rel.{AreStanding, RelState, ack_of, due, due_place, flow_at, flow_in, is_due}
+use Rattle.sp_rules.specs.Rel.{AreStanding, RelState, ack_of, due, due_place, flow_at, flow_in, is_due, plain, plain_ack}
 use Rattle.sp_rules.proofs.FlowJudged.{found_ends}
 use Rattle.sp_rules.proofs.Standing.{standing_in}
 
@@ -100,14 +99,28 @@ conclude_at r flow end some standing =
       sound = s.sound;
     }
 
-pub can_conclude : (r : RelState) (body : Body) → option_map bodies.Ack (due r) ≡ Some body → HasGoodFields body → AreStanding r
+pub can_conclude : (r : RelState) (body : Body) → option_map bodies.Ack (due r) ≡ Some (plain body) → FitsAFormat body → AreStanding r
     → CanConclude r.me (flow_in r.flows (flow_said body))
 can_conclude r body is good standing = go (option_and_then (flow_at r.flows) (due_place r)) refl is
   where
-    go : (o : Option Flow) → option_and_then (flow_at r.flows) (due_place r) ≡ o → option_map bodies.Ack (option_map (ack_of r) o) ≡ Some body
+    numbered : (body : Body) (a : Ack) → bodies.Ack a ≡ plain body → FitsAFormat body
+        → (record { src = a.src; dst = a.dst } ≡ flow_said body) × (1 ≤ a.seq)
+    numbered (bodies.Ack b) a is good =
+        let same : a ≡ b = cc in
+        (ap (λ (x : Ack). record { src = x.src; dst = x.dst }) same, subst (λ (x : Ack). 1 ≤ x.seq) (sym same) (good_ack good.0 b good.1).seq.0)
+    numbered (bodies.Kack b) a is good =
+        let same : a ≡ plain_ack b = cc in
+        (ap (λ (x : Ack). record { src = x.src; dst = x.dst }) same, subst (λ (x : Ack). 1 ≤ x.seq) (sym same) (good_kack good.0 b good.1).seq.0)
+    numbered (bodies.Rel b) a is good = absurd (cc)
+    numbered (bodies.Krel b) a is good = absurd (cc)
+    numbered (bodies.Prio b) a is good = absurd (cc)
+    numbered (bodies.Weight b) a is good = absurd (cc)
+    numbered (bodies.Epoch b) a is good = absurd (cc)
+
+    go : (o : Option Flow) → option_and_then (flow_at r.flows) (due_place r) ≡ o → option_map bodies.Ack (option_map (ack_of r) o) ≡ Some (plain body)
         → CanConclude r.me (flow_in r.flows (flow_said body))
     go None turn is = absurd (cc)
     go (Some flow) turn is =
-        let same : bodies.Ack (ack_of r flow) ≡ body = cc in
-        let fields : HasGoodFields (bodies.Ack (ack_of r flow)) = subst HasGoodFields (sym same) good in
-        subst (λ (b : Body). CanConclude r.me (flow_in r.flows (flow_said b))) same (conclude_at r flow (ends_here r flow turn) (good_ack FORMAT_1 (ack_of r flow) fields).seq.0 standing)
+        let same : bodies.Ack (ack_of r flow) ≡ plain body = cc in
+        let said = numbered body (ack_of r flow) same good in
+        subst (λ (fl : Flow). CanConclude r.me (flow_in r.flows fl)) said.0 (conclude_at r flow (ends_here r flow turn) said.1 standing)

@@ -4,17 +4,14 @@ use Rattle.std.proofs.lemmas.Bool.Decides.{nat_tests}
 use Rattle.sp_base.specs.declared.id.Flow.{Flow}
 use Rattle.sp_base.specs.declared.id.NodeId.{NodeId}
 use Rattle.sp_base.specs.declared.limits.TheConstants.{MAX_SEQ}
-use Rattle.sp_base.specs.declared.format.TheConstants.{FORMAT_1}
-use Rattle.sp_msg.proofs.GoodFields.{good_ack, good_rel}
-use Rattle.sp_msg.specs.Bodies.{HasGoodFields}
+use Rattle.sp_msg.proofs.GoodFields.{good_ack, good_kack, good_krel, good_rel}
 use Rattle.sp_msg.specs.declared.body.Ack.{Ack}
 use Rattle.sp_msg.specs.declared.body.Body.{Body}
 use Rattle.sp_msg.specs.declared.body.Body.TheVariants as bodies
-use Rattle.sp_msg.specs.declared.body.Rel.{Rel}
 use Rattle.sp_msg.specs.declared.kept.Kept.{Kept}
-use Rattle.sp_rules.specs.Changes.{CanAcknowledge, CanPush, CanReceive}
-use Rattle.sp_rules.specs.Flow.{FlowState, IsMessage, IsReliable, ends, flow_said, is_flow, is_full}
-use Rattle.sp_rules.specs.Rel.{IsNextOwn, RelState, are_ends, flow_in, is_from, is_node, is_to, judge_ack, judge_ack_of, judge_rel, judge_rel_of, own_flow, room}
+use Rattle.sp_rules.specs.Changes.{CanAcknowledge, CanPush, CanReceive, FitsAFormat}
+use Rattle.sp_rules.specs.Flow.{FlowState, IsMessage, IsReliable, ends, flow_said, is_flow, is_full, number_said}
+use Rattle.sp_rules.specs.Rel.{IsNextOwn, RelState, are_ends, flow_in, is_from, is_node, is_to, judge_ack, judge_ack_of, judge_rel, judge_rel_of, own_flow, plain_ack, room}
 use Rattle.sp_rules.specs.declared.rel.AckJudged.{AckJudged}
 use Rattle.sp_rules.specs.declared.rel.AckJudged.TheVariants as acks
 use Rattle.sp_rules.specs.declared.rel.RelJudged.{RelJudged}
@@ -108,25 +105,37 @@ both_nodes r flow src dst e = go (src.0 == flow.src.0) (dst.0 == flow.dst.0) (no
     go true false c d one f two all = absurd (cc)
     go false b c d one f two all = absurd (cc)
 
+-- ---- a message that some format has
+
+-- its number is in range
+pub small_number : (body : Body) → FitsAFormat body → number_said body ≤ MAX_SEQ
+small_number (bodies.Rel b) good = (good_rel good.0 b good.1).seq.1
+small_number (bodies.Ack b) good = (good_ack good.0 b good.1).seq.1
+small_number (bodies.Krel b) good = (good_krel good.0 b good.1).seq.1
+small_number (bodies.Kack b) good = (good_kack good.0 b good.1).seq.1
+small_number (bodies.Prio b) good = omega arith
+small_number (bodies.Weight b) good = omega arith
+small_number (bodies.Epoch b) good = omega arith
+
 -- ---- a client's message is the next one
 
 -- it may be kept in the flow from this node
-own_can_push : (r : RelState) (m : Kept) (b : Rel) → m.body ≡ bodies.Rel b → b.src ≡ r.me → room r b.dst ≡ Ok b.seq → b.seq ≤ MAX_SEQ
-    → CanPush r.me r.bound (flow_in r.flows (own_flow r b.dst)) m
-own_can_push r m b is src next small =
-    let f = flow_in r.flows (own_flow r b.dst) in
-    let there = room_passes (not (are_ends r (own_flow r b.dst) r.me b.dst)) _ _ b.seq next in
-    let free = room_passes (is_full r.bound f) _ _ b.seq there.1 in
-    let number : f.at.have + 1 ≡ b.seq = cc in
-    let two : (r.me.0 == b.dst.0) ≡ false = different r (own_flow r b.dst) r.me b.dst (not_true (are_ends r (own_flow r b.dst) r.me b.dst) there.0) in
-    let found = found_ends r.flows (own_flow r b.dst) in
-    let dst : f.dst ≡ b.dst = ap (λ e. e.dst) found in
-    let message : IsMessage (ends f) (f.at.have + 1) (bodies.Rel b) = (src ∙ sym (ap (λ e. e.src) found), sym dst, sym number) in
+own_can_push : (r : RelState) (m : Kept) (dst : NodeId) (seq : ℕ) → room r dst ≡ Ok seq → seq ≤ MAX_SEQ
+    → ((flow : Flow) (n : ℕ) → flow.src ≡ r.me → flow.dst ≡ dst → n ≡ seq → IsMessage flow n m.body)
+    → CanPush r.me r.bound (flow_in r.flows (own_flow r dst)) m
+own_can_push r m to seq next small message =
+    let f = flow_in r.flows (own_flow r to) in
+    let there = room_passes (not (are_ends r (own_flow r to) r.me to)) _ _ seq next in
+    let free = room_passes (is_full r.bound f) _ _ seq there.1 in
+    let number : f.at.have + 1 ≡ seq = cc in
+    let two : (r.me.0 == to.0) ≡ false = different r (own_flow r to) r.me to (not_true (are_ends r (own_flow r to) r.me to) there.0) in
+    let found = found_ends r.flows (own_flow r to) in
+    let dst : f.dst ≡ to = ap (λ e. e.dst) found in
     record {
-      relay = ap (λ u. u.0 == r.me.0) dst ∙ swapped r.me.0 b.dst.0 two;
+      relay = ap (λ u. u.0 == r.me.0) dst ∙ swapped r.me.0 to.0 two;
       room = free.0;
       small = omega (arith, number, small);
-      next = subst (λ (body : Body). IsMessage (ends f) (f.at.have + 1) body) (sym is) message;
+      next = message (ends f) (f.at.have + 1) (ap (λ e. e.src) found) dst number;
     }
 
 -- where there is room, the other end is another node, and the number comes after the last
@@ -139,19 +148,30 @@ room_is r dst number is =
     let same : f.at.have + 1 ≡ number = cc in
     (not_true (are_ends r (own_flow r dst) r.me dst) there.0, sym same)
 
-pub can_push_own : (r : RelState) (m : Kept) → IsNextOwn r m.body → HasGoodFields m.body → CanPush r.me r.bound (flow_in r.flows (flow_said m.body)) m
-can_push_own r m next good = go m.body refl next good
+pub can_push_own : (r : RelState) (m : Kept) → IsNextOwn r m.body → FitsAFormat m.body → CanPush r.me r.bound (flow_in r.flows (flow_said m.body)) m
+can_push_own r m next good = go m.body refl next (small_number m.body good)
   where
-    go : (body : Body) → m.body ≡ body → IsNextOwn r body → HasGoodFields body → CanPush r.me r.bound (flow_in r.flows (flow_said m.body)) m
-    go (bodies.Rel b) is next good =
-        let flow : flow_said m.body ≡ own_flow r b.dst = ap flow_said is ∙ ap (λ (u : NodeId). record { src = u; dst = b.dst }) next.0 in
-        subst (λ (fl : Flow). CanPush r.me r.bound (flow_in r.flows fl) m) (sym flow) (own_can_push r m b is next.0 next.1 (good_rel FORMAT_1 b good).seq.1)
-    go (bodies.Prio b) is next good = absurd next
-    go (bodies.Ack b) is next good = absurd next
-    go (bodies.Weight b) is next good = absurd next
-    go (bodies.Krel b) is next good = absurd next
-    go (bodies.Kack b) is next good = absurd next
-    go (bodies.Epoch b) is next good = absurd next
+    -- the message from this node to another
+    to : (body : Body) → m.body ≡ body → (src dst : NodeId) (seq : ℕ) → flow_said body ≡ record { src = src; dst = dst } → src ≡ r.me
+        → room r dst ≡ Ok seq → seq ≤ MAX_SEQ
+        → ((flow : Flow) (n : ℕ) → flow.src ≡ src → flow.dst ≡ dst → n ≡ seq → IsMessage flow n body)
+        → CanPush r.me r.bound (flow_in r.flows (flow_said m.body)) m
+    to body is src dst seq said mine next small message =
+        let flow : flow_said m.body ≡ own_flow r dst = ap flow_said is ∙ said ∙ ap (λ (u : NodeId). record { src = u; dst = dst }) mine in
+        subst (λ (fl : Flow). CanPush r.me r.bound (flow_in r.flows fl) m) (sym flow)
+        (own_can_push r m dst seq next small
+        (λ fl n from end number. subst (IsMessage fl n) (sym is) (message fl n (from ∙ sym mine) end number)))
+
+    go : (body : Body) → m.body ≡ body → IsNextOwn r body → number_said body ≤ MAX_SEQ → CanPush r.me r.bound (flow_in r.flows (flow_said m.body)) m
+    go (bodies.Rel b) is next small =
+        to (bodies.Rel b) is b.src b.dst b.seq refl next.0 next.1 small (λ fl n from end number. (sym from, sym end, sym number))
+    go (bodies.Krel b) is next small =
+        to (bodies.Krel b) is b.src b.dst b.seq refl next.0 next.1 small (λ fl n from end number. (sym from, sym end, sym number))
+    go (bodies.Prio b) is next small = absurd next
+    go (bodies.Ack b) is next small = absurd next
+    go (bodies.Weight b) is next small = absurd next
+    go (bodies.Kack b) is next small = absurd next
+    go (bodies.Epoch b) is next small = absurd next
 
 -- ---- a message is new
 
@@ -198,56 +218,68 @@ new_can_receive r flow src dst seq new here small = record {
   small = omega (arith, new.next, small);
 }
 
-new_can_push : (r : RelState) (m : Kept) (b : Rel) → m.body ≡ bodies.Rel b → IsNewRel r (flow_said (bodies.Rel b)) b.src b.dst b.seq
-    → is_to r (flow_said (bodies.Rel b)) ≡ false → b.seq ≤ MAX_SEQ
-    → CanPush r.me r.bound (flow_in r.flows (flow_said (bodies.Rel b))) m
-new_can_push r m b is new elsewhere small =
-    let flow = flow_said (bodies.Rel b) in
+new_can_push : (r : RelState) (m : Kept) (flow : Flow) (seq : ℕ) → IsNewRel r flow flow.src flow.dst seq → is_to r flow ≡ false → seq ≤ MAX_SEQ
+    → ((n : ℕ) → seq ≡ n → IsMessage flow n m.body)
+    → CanPush r.me r.bound (flow_in r.flows flow) m
+new_can_push r m flow seq new elsewhere small message =
     let f = flow_in r.flows flow in
     let found = found_ends r.flows flow in
-    let message : IsMessage (ends f) (f.at.have + 1) (bodies.Rel b) = (sym (ap (λ e. e.src) found), sym (ap (λ e. e.dst) found), new.next) in
     record {
       relay = end_of r flow false elsewhere;
       room = new.room;
       small = omega (arith, new.next, small);
-      next = subst (λ (body : Body). IsMessage (ends f) (f.at.have + 1) body) (sym is) message;
+      next = subst (λ (fl : Flow). IsMessage fl (f.at.have + 1) m.body) (sym found) (message (f.at.have + 1) new.next);
     }
 
 pub new_is_reliable : (r : RelState) (flow : Flow) (body : Body) → judge_rel_of r flow body ≡ rels.New → IsReliable body
 new_is_reliable r flow (bodies.Rel b) new = tt
+new_is_reliable r flow (bodies.Krel b) new = tt
 new_is_reliable r flow (bodies.Prio b) new = absurd (cc)
 new_is_reliable r flow (bodies.Ack b) new = absurd (cc)
 new_is_reliable r flow (bodies.Weight b) new = absurd (cc)
-new_is_reliable r flow (bodies.Krel b) new = absurd (cc)
 new_is_reliable r flow (bodies.Kack b) new = absurd (cc)
 new_is_reliable r flow (bodies.Epoch b) new = absurd (cc)
 
-pub can_receive : (r : RelState) (body : Body) → judge_rel_of r (flow_said body) body ≡ rels.New → HasGoodFields body
+pub can_receive : (r : RelState) (body : Body) → judge_rel_of r (flow_said body) body ≡ rels.New → FitsAFormat body
     → is_to r (flow_said body) ≡ true → CanReceive r.me r.bound (flow_in r.flows (flow_said body))
-can_receive r (bodies.Rel b) new good here = new_can_receive r (flow_said (bodies.Rel b)) b.src b.dst b.seq (new_rel r (flow_said
-    (bodies.Rel b)) b.src b.dst b.seq new) here (good_rel FORMAT_1 b good).seq.1
-can_receive r (bodies.Prio b) new good here = absurd (cc)
-can_receive r (bodies.Ack b) new good here = absurd (cc)
-can_receive r (bodies.Weight b) new good here = absurd (cc)
-can_receive r (bodies.Krel b) new good here = absurd (cc)
-can_receive r (bodies.Kack b) new good here = absurd (cc)
-can_receive r (bodies.Epoch b) new good here = absurd (cc)
-
-pub can_push : (r : RelState) (m : Kept) → judge_rel_of r (flow_said m.body) m.body ≡ rels.New → HasGoodFields m.body
-    → is_to r (flow_said m.body) ≡ false → CanPush r.me r.bound (flow_in r.flows (flow_said m.body)) m
-can_push r m new good elsewhere = go m.body refl new good elsewhere
+can_receive r body new good here = go body new here (small_number body good)
   where
-    go : (body : Body) → m.body ≡ body → judge_rel_of r (flow_said body) body ≡ rels.New → HasGoodFields body → is_to r (flow_said body) ≡ false
+    of_flow : (flow : Flow) (seq : ℕ) → judge_rel r flow flow.src flow.dst seq ≡ rels.New → is_to r flow ≡ true → seq ≤ MAX_SEQ
+        → CanReceive r.me r.bound (flow_in r.flows flow)
+    of_flow flow seq new here small = new_can_receive r flow flow.src flow.dst seq (new_rel r flow flow.src flow.dst seq new) here small
+
+    go : (body : Body) → judge_rel_of r (flow_said body) body ≡ rels.New → is_to r (flow_said body) ≡ true → number_said body ≤ MAX_SEQ
+        → CanReceive r.me r.bound (flow_in r.flows (flow_said body))
+    go (bodies.Rel b) new here small = of_flow (flow_said (bodies.Rel b)) b.seq new here small
+    go (bodies.Krel b) new here small = of_flow (flow_said (bodies.Krel b)) b.seq new here small
+    go (bodies.Prio b) new here small = absurd (cc)
+    go (bodies.Ack b) new here small = absurd (cc)
+    go (bodies.Weight b) new here small = absurd (cc)
+    go (bodies.Kack b) new here small = absurd (cc)
+    go (bodies.Epoch b) new here small = absurd (cc)
+
+pub can_push : (r : RelState) (m : Kept) → judge_rel_of r (flow_said m.body) m.body ≡ rels.New → FitsAFormat m.body
+    → is_to r (flow_said m.body) ≡ false → CanPush r.me r.bound (flow_in r.flows (flow_said m.body)) m
+can_push r m new good elsewhere = go m.body refl new elsewhere (small_number m.body good)
+  where
+    of_flow : (body : Body) → m.body ≡ body → (seq : ℕ) → judge_rel r (flow_said body) (flow_said body).src (flow_said body).dst seq ≡ rels.New
+        → is_to r (flow_said body) ≡ false → seq ≤ MAX_SEQ → ((n : ℕ) → seq ≡ n → IsMessage (flow_said body) n body)
         → CanPush r.me r.bound (flow_in r.flows (flow_said m.body)) m
-    go (bodies.Rel b) is new good elsewhere =
+    of_flow body is seq new elsewhere small message =
+        let flow = flow_said body in
         subst (λ (fl : Flow). CanPush r.me r.bound (flow_in r.flows fl) m) (sym (ap flow_said is))
-        (new_can_push r m b is (new_rel r (flow_said (bodies.Rel b)) b.src b.dst b.seq new) elsewhere (good_rel FORMAT_1 b good).seq.1)
-    go (bodies.Prio b) is new good elsewhere = absurd (cc)
-    go (bodies.Ack b) is new good elsewhere = absurd (cc)
-    go (bodies.Weight b) is new good elsewhere = absurd (cc)
-    go (bodies.Krel b) is new good elsewhere = absurd (cc)
-    go (bodies.Kack b) is new good elsewhere = absurd (cc)
-    go (bodies.Epoch b) is new good elsewhere = absurd (cc)
+        (new_can_push r m flow seq (new_rel r flow flow.src flow.dst seq new) elsewhere small
+        (λ n number. subst (IsMessage flow n) (sym is) (message n number)))
+
+    go : (body : Body) → m.body ≡ body → judge_rel_of r (flow_said body) body ≡ rels.New → is_to r (flow_said body) ≡ false
+        → number_said body ≤ MAX_SEQ → CanPush r.me r.bound (flow_in r.flows (flow_said m.body)) m
+    go (bodies.Rel b) is new elsewhere small = of_flow (bodies.Rel b) is b.seq new elsewhere small (λ n number. (refl, refl, number))
+    go (bodies.Krel b) is new elsewhere small = of_flow (bodies.Krel b) is b.seq new elsewhere small (λ n number. (refl, refl, number))
+    go (bodies.Prio b) is new elsewhere small = absurd (cc)
+    go (bodies.Ack b) is new elsewhere small = absurd (cc)
+    go (bodies.Weight b) is new elsewhere small = absurd (cc)
+    go (bodies.Kack b) is new elsewhere small = absurd (cc)
+    go (bodies.Epoch b) is new elsewhere small = absurd (cc)
 
 -- ---- an acknowledgement is new
 
@@ -266,20 +298,15 @@ new_ack r flow a new =
     let four = ack_passes (is_to r flow) acks.Ahead acks.New refl three.1 in
     record { ends = not_true (are_ends r flow a.src a.dst) one.0; sent = three.0; relay = four.0 }
 
-pub can_acknowledge : (r : RelState) (ack : Kept) → judge_ack_of r (flow_said ack.body) ack.body ≡ acks.New → HasGoodFields ack.body
+pub can_acknowledge : (r : RelState) (ack : Kept) → judge_ack_of r (flow_said ack.body) ack.body ≡ acks.New → FitsAFormat ack.body
     → CanAcknowledge r.me (flow_in r.flows (flow_said ack.body)) ack
-can_acknowledge r ack new good = go ack.body refl new good
+can_acknowledge r ack new good = record { relay = go ack.body new; small = small_number ack.body good }
   where
-    go : (body : Body) → ack.body ≡ body → judge_ack_of r (flow_said body) body ≡ acks.New → HasGoodFields body
-        → CanAcknowledge r.me (flow_in r.flows (flow_said ack.body)) ack
-    go (bodies.Ack a) is new good = record {
-      relay = subst (λ (fl : Flow). ((flow_in r.flows fl).dst.0 == r.me.0) ≡ false) (sym (ap flow_said is))
-          (end_of r (flow_said (bodies.Ack a)) false (new_ack r (flow_said (bodies.Ack a)) a new).relay);
-      small = rw is (good_ack FORMAT_1 a good).seq.1;
-    }
-    go (bodies.Rel b) is new good = absurd (cc)
-    go (bodies.Prio b) is new good = absurd (cc)
-    go (bodies.Weight b) is new good = absurd (cc)
-    go (bodies.Krel b) is new good = absurd (cc)
-    go (bodies.Kack b) is new good = absurd (cc)
-    go (bodies.Epoch b) is new good = absurd (cc)
+    go : (body : Body) → judge_ack_of r (flow_said body) body ≡ acks.New → ((flow_in r.flows (flow_said body)).dst.0 == r.me.0) ≡ false
+    go (bodies.Ack a) new = end_of r (flow_said (bodies.Ack a)) false (new_ack r (flow_said (bodies.Ack a)) a new).relay
+    go (bodies.Kack a) new = end_of r (flow_said (bodies.Kack a)) false (new_ack r (flow_said (bodies.Kack a)) (plain_ack a) new).relay
+    go (bodies.Rel b) new = absurd (cc)
+    go (bodies.Prio b) new = absurd (cc)
+    go (bodies.Weight b) new = absurd (cc)
+    go (bodies.Krel b) new = absurd (cc)
+    go (bodies.Epoch b) new = absurd (cc)

@@ -2,8 +2,14 @@
 use Rattle.std.specs.Prelude.{ℕ, ◌≡◌, ◌+◌, ◌==◌, ◌<◌, ◌≤◌, true, false, length}
 use Rattle.sp_base.specs.declared.id.NodeId.{NodeId}
 use Rattle.sp_base.specs.declared.limits.TheConstants.{MAX_SEQ}
+use Rattle.sp_msg.specs.Bodies.{HasGoodFieldsIn}
+use Rattle.sp_msg.specs.declared.body.Body.{Body}
 use Rattle.sp_msg.specs.declared.kept.Kept.{Kept}
 use Rattle.sp_rules.specs.Flow.{FlowState, IsMessage, ends, is_full, number_said}
+
+-- some format has the message
+abbrev pub FitsAFormat : Body → Type 0
+FitsAFormat body = (format : ℕ) × HasGoodFieldsIn format body
 
 -- the message is the next of the flow, there is room for it, and this isn't the destination
 pub record CanPush (me : NodeId) (bound : ℕ) (f : FlowState) (message : Kept) : Type 0 where

@@ -39,21 +39,26 @@ is_full bound f = f.at.have - f.at.base == bound
 
 -- ---- messages of a flow
 
--- the flow of a message or an acknowledgement. No other message has one
+-- the flow of a message or an acknowledgement, or of their like of K-path flows. No other message has one
 abbrev pub flow_said : Body → Flow
 flow_said (bodies.Rel r) = record { src = r.src; dst = r.dst }
 flow_said (bodies.Ack a) = record { src = a.src; dst = a.dst }
+flow_said (bodies.Krel k) = record { src = k.src; dst = k.dst }
+flow_said (bodies.Kack a) = record { src = a.src; dst = a.dst }
 flow_said _ = record { src = record { 0 = 0 }; dst = record { 0 = 0 } }
 
 -- its number
 abbrev pub number_said : Body → ℕ
 number_said (bodies.Rel r) = r.seq
 number_said (bodies.Ack a) = a.seq
+number_said (bodies.Krel k) = k.seq
+number_said (bodies.Kack a) = a.seq
 number_said _ = 0
 
--- it is a reliable message
+-- it is a message of a flow, plain or on K paths
 abbrev pub IsReliable : Body → Type 0
 IsReliable (bodies.Rel r) = Unit {0}
+IsReliable (bodies.Krel k) = Unit {0}
 IsReliable _ = ⊥
 
 -- ---- what events make of a flow
@@ -83,6 +88,7 @@ after_take f = record f { inbox = drop 1 f.inbox }
 -- the message of this number in the flow
 abbrev pub IsMessage : Flow → ℕ → Body → Type 0
 IsMessage flow number (bodies.Rel r) = (r.src ≡ flow.src) × (r.dst ≡ flow.dst) × (r.seq ≡ number)
+IsMessage flow number (bodies.Krel k) = (k.src ≡ flow.src) × (k.dst ≡ flow.dst) × (k.seq ≡ number)
 IsMessage flow number _ = ⊥
 
 -- the messages that follow this number, in order

@@ -52,9 +52,17 @@ after_answer l h answers.Fresh = kept l h.boot (pair_of h)
 abbrev pub after_frame : Link → Head → Bool → Link
 after_frame l h right = after_answer l h (link_answer l h right)
 
--- the head of my next frame
-abbrev pub next_head : Link → ℕ → Head
-next_head l topology = record { from = l.me; to = l.peer; boot = l.boot; echo = l.peer_boot; counter = l.sent + 1; topology = topology }
+-- the head of my next frame, under a topology of this version and format
+abbrev pub next_head : Link → (topology format : ℕ) → Head
+next_head l topology format = record {
+  from = l.me;
+  to = l.peer;
+  boot = l.boot;
+  echo = l.peer_boot;
+  counter = l.sent + 1;
+  topology = topology;
+  format = format;
+}
 
 -- the link after that frame
 abbrev pub advanced : Link → Link

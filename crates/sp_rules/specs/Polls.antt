@@ -1,5 +1,6 @@
 -- A poll: the next frame to a neighbour. It carries what is next in turn of each part, and moves each cycle by what it carried.
-use Rattle.std.specs.Prelude.{ℕ, List, ◌++◌, map}
+use Rattle.std.specs.Prelude.{ℕ, List, ◌++◌, map, None}
+use Rattle.sp_base.specs.declared.format.TheConstants.{FORMAT_1}
 use Rattle.sp_base.specs.declared.id.NodeId.{NodeId}
 use Rattle.sp_frame.specs.Sections.{Contents}
 use Rattle.sp_frame.specs.Views.{as_list}
@@ -18,19 +19,23 @@ as_message carried = (carried.0, carried.1.kept)
 
 abbrev pub contents_to : Fixed → Parts → NodeId → Contents
 contents_to f p v = record {
+  document = None;
   weights = as_list (next p.weights (place_of f v));
   prio_ack = (peer_in p.prio v.0).heard;
   prios = map as_message (next_prios p.prio v.0);
   slot = slot_for p.rel v;
+  paths = None;
+  probe = None;
+  epoch = None;
 }
 
 -- the parts after it went
 abbrev pub polled : Fixed → Parts → NodeId → Parts
 polled f p v = record { weights = moved p.weights (place_of f v); prio = carried p.prio v.0; rel = served p.rel v }
 
--- the bytes of the frame before its tag
+-- the bytes of the frame before its tag, of format 1, under which alone nodes run
 abbrev pub untagged : Arts → NodeState → NodeId → List ℕ
-untagged arts n v = arts.frame (next_head (link_in n v) n.fixed.topology.version) (contents_to n.fixed n.parts v)
+untagged arts n v = arts.frame (next_head (link_in n v) n.fixed.topology.version FORMAT_1) (contents_to n.fixed n.parts v)
 
 abbrev pub frame_to : Arts → NodeState → NodeId → List ℕ
 frame_to arts n v = untagged arts n v ++ arts.tag (link_in n v).key (untagged arts n v)

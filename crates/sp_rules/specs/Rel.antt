@@ -20,6 +20,7 @@ use Rattle.sp_msg.specs.Bodies.{payload_of}
 use Rattle.sp_msg.specs.declared.body.Ack.{Ack}
 use Rattle.sp_msg.specs.declared.body.Body.{Body}
 use Rattle.sp_msg.specs.declared.body.Body.TheVariants as bodies
+use Rattle.sp_msg.specs.declared.body.Kack.{Kack}
 use Rattle.sp_msg.specs.declared.effect.Effect.{Effect}
 use Rattle.sp_msg.specs.declared.effect.Effect.TheVariants.{Delivered}
 use Rattle.sp_msg.specs.declared.kept.Kept.{Kept}
@@ -153,6 +154,7 @@ room r dst =
 -- a message is the next of its flow from this node
 abbrev pub IsNextOwn : RelState → Body → Type 0
 IsNextOwn r (bodies.Rel m) = (m.src ≡ r.me) × (room r m.dst ≡ Ok m.seq)
+IsNextOwn r (bodies.Krel m) = (m.src ≡ r.me) × (room r m.dst ≡ Ok m.seq)
 IsNextOwn r _ = ⊥
 
 -- it is kept
@@ -179,9 +181,18 @@ judge_ack r flow ack =
     else if is_to r flow then acks.Ahead
     else acks.New
 
--- the same of a message. Only an acknowledgement is one
+-- a receipt of a K-path flow as the acknowledgement that it says. It names no boots
+abbrev pub plain_ack : Kack → Ack
+plain_ack a = record { src = a.src; dst = a.dst; sboot = 0; dboot = 0; seq = a.seq }
+
+abbrev pub plain : Body → Body
+plain (bodies.Kack a) = bodies.Ack (plain_ack a)
+plain body = body
+
+-- the same of a message. Only an acknowledgement or a receipt is one
 abbrev pub judge_ack_of : RelState → Flow → Body → AckJudged
 judge_ack_of r flow (bodies.Ack a) = judge_ack r flow a
+judge_ack_of r flow (bodies.Kack a) = judge_ack r flow (plain_ack a)
 judge_ack_of r flow _ = acks.BadEnd
 
 -- a new acknowledgement is kept
@@ -200,9 +211,10 @@ judge_rel r flow src dst seq =
     else if is_to r flow && (length f.inbox == r.bound) then rels.InboxFull
     else rels.New
 
--- the same of a message. Only a reliable one has a number in its flow
+-- the same of a message. Only a reliable one or one of a K-path flow has a number in its flow
 abbrev pub judge_rel_of : RelState → Flow → Body → RelJudged
 judge_rel_of r flow (bodies.Rel m) = judge_rel r flow m.src m.dst m.seq
+judge_rel_of r flow (bodies.Krel m) = judge_rel r flow m.src m.dst m.seq
 judge_rel_of r flow _ = rels.BadEnd
 
 -- a new message is delivered at the destination, and kept for the next node elsewhere
@@ -234,13 +246,15 @@ abbrev pub messages_after : {X : Type 0} → Position X → ℕ → List X
 messages_after at number = take MAX_MESSAGES (drop (number - at.base) at.list)
 
 -- where the flow stands, the kept acknowledgement unless the neighbour has its base, and, but at the destination, the first messages
--- after those that the neighbour has
+-- after those that the neighbour has. Its boots are 0
 abbrev pub slot_of : RelState → NodeId → Flow → Report
 slot_of r v flow =
     let f = flow_in r.flows flow in
     let w = view_in (peer_in r.peers v).views flow in
     record {
       flow = flow;
+      sboot = 0;
+      dboot = 0;
       base = f.at.base;
       have = f.at.have;
       ack = if nat_lt w.base f.at.base then f.ack else None;

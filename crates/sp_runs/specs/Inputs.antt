@@ -1,8 +1,10 @@
 -- What reaches the node that acts: what its clients and its clock say, and the bytes that the network and the adversary bring.
 use Rattle.std.specs.Prelude.{ℕ, ◌+◌, ◌-◌, ◌^◌, ◌==◌, nat_lt, Bool, false, List, [], ◌∷◌}
 use Rattle.std.specs.Prelude.{◌++◌, length, count_by, bit_xor, slice_index_or, slice_set, Option, None, Some, option_map, if◌then◌else◌}
+use Rattle.sp_base.specs.declared.format.TheConstants.{FORMAT_1}
 use Rattle.sp_base.specs.declared.id.Flow.{Flow}
 use Rattle.sp_base.specs.declared.id.NodeId.{NodeId}
+use Rattle.sp_frame.specs.Reliable.{Report}
 use Rattle.sp_frame.specs.Sections.{Contents}
 use Rattle.sp_frame.specs.declared.head.Head.{Head}
 use Rattle.sp_msg.specs.declared.body.Body.{Body}
@@ -40,20 +42,29 @@ crafted_head n c = record {
   echo = n.fixed.boot;
   counter = counter_after (link_in n c).seen.1;
   topology = n.fixed.topology.version;
+  format = FORMAT_1;
 }
+
+-- a report on this flow, with boots 0
+abbrev pub report_on : Flow → (base have : ℕ) → Option Kept → List Kept → Report
+report_on flow base have ack rels = record { flow = flow; sboot = 0; dboot = 0; base = base; have = have; ack = ack; rels = rels }
+
+-- these updates, priority messages and this report, and nothing else
+abbrev pub contents_with : List Kept → List (ℕ × Kept) → Option Report → Contents
+contents_with weights prios slot =
+    record { document = None; weights = weights; prio_ack = 0; prios = prios; slot = slot; paths = None; probe = None; epoch = None }
 
 -- a slot of this flow with a report, an acknowledgement and messages, and nothing else
 abbrev pub slot_alone : Flow → (base have : ℕ) → Option Kept → List Kept → Contents
-slot_alone flow base have ack rels =
-    record { weights = []; prio_ack = 0; prios = []; slot = Some (record { flow = flow; base = base; have = have; ack = ack; rels = rels }) }
+slot_alone flow base have ack rels = contents_with [] [] (Some (report_on flow base have ack rels))
 
 -- one object in its section. What format 1 lacks has none
 abbrev pub object_alone : Body → Kept → Contents
-object_alone (bodies.Prio p) o = record { weights = []; prio_ack = 0; prios = (1, o) ∷ []; slot = None }
+object_alone (bodies.Prio p) o = contents_with [] ((1, o) ∷ []) None
 object_alone (bodies.Rel r) o = slot_alone (flow_said (bodies.Rel r)) 0 0 None (o ∷ [])
 object_alone (bodies.Ack a) o = slot_alone (flow_said (bodies.Ack a)) 0 0 (Some o) []
-object_alone (bodies.Weight w) o = record { weights = o ∷ []; prio_ack = 0; prios = []; slot = None }
-object_alone _ o = record { weights = []; prio_ack = 0; prios = []; slot = None }
+object_alone (bodies.Weight w) o = contents_with (o ∷ []) [] None
+object_alone _ o = contents_with [] [] None
 
 -- a frame of this head with these sections, under the tag of this key
 abbrev pub sealed_frame : Arts → Head → (key : List ℕ) → Contents → List ℕ

@@ -2,6 +2,7 @@
 use Rattle.std.specs.Prelude.{ℕ, ◌++◌, List, codes, map}
 use Rattle.std.specs.List.{range_with_len}
 use Rattle.sha2.specs.Sha256.{sha256}
+use Rattle.sp_base.specs.declared.format.TheConstants.{FORMAT_1}
 use Rattle.sp_base.specs.declared.id.NodeId.{NodeId}
 use Rattle.sp_hmac.specs.Hmac.{hmac}
 use Rattle.sp_hss.specs.KeyTree.{public_key, signature_len, total}
@@ -32,7 +33,7 @@ node_key height seed u = record { id = numbered u; key = public_key (param_of he
 -- the topology that all nodes run under
 abbrev pub topology_of : Scenario → Topology
 topology_of s =
-    record { version = 1; height = s.height; nodes = map (node_key s.height s.seed) (range_with_len 1 s.graph.nodes); edges = s.graph.edges }
+    record { format = FORMAT_1; version = 1; height = s.height; nodes = map (node_key s.height s.seed) (range_with_len 1 s.graph.nodes); edges = s.graph.edges }
 
 -- the setting of a header
 abbrev pub setting_of : Scenario → Setting

@@ -5,7 +5,8 @@ use Rattle.std.proofs.lemmas.Bool.{and_parts, cases_Bool, eqb-true}
 use Rattle.std.proofs.lemmas.Bool.Decides.{nat_tests}
 use Rattle.std.proofs.lemmas.List.{map-append}
 use Rattle.sp_base.proofs.RefusalLemmas.{then_ok}
-use Rattle.sp_base.specs.declared.limits.TheConstants.{MAX_EVENTS}
+use Rattle.sp_base.specs.declared.format.TheConstants.{FORMAT_1}
+use Rattle.sp_base.specs.declared.limits.TheConstants.{MAX_EDGES, MAX_EVENTS}
 use Rattle.sp_base.specs.declared.id.NodeId.{NodeId}
 use Rattle.sp_text.specs.Spelling.{Word}
 use Rattle.sp_lines.specs.Cells.{Name, same}
@@ -92,14 +93,17 @@ above_means : (last : Option Edge) (e : Edge) → is_above last e ≡ true → I
 above_means None e is = tt
 above_means (Some f) e is = lower_means f e is
 
-next_means : (g : Graph) (e : Edge) → AreIn (edge_cells g.nodes) (e.low.0, (e.high.0, (e.weight, tt))) → is_next_edge g e ≡ true → IsNextEdge g e
+next_means : (g : Graph) (e : Edge) → AreIn (edge_cells g.nodes) (e.low.0, (e.high.0, (e.weight, tt))) → is_next_edge g e ≡ true
+    → IsNextEdge FORMAT_1 g e
 next_means g e are is =
-    let both = and_parts (nat_lt e.low.0 e.high.0) (is_above (last_edge g.edges) e) is in
+    let all = and_parts (nat_lt e.low.0 e.high.0 && is_above (last_edge g.edges) e) (nat_lt (length g.edges) MAX_EDGES) is in
+    let both = and_parts (nat_lt e.low.0 e.high.0) (is_above (last_edge g.edges) e) all.0 in
     let less : e.low.0 < e.high.0 = grind (arith, nat_tests, both.0) in
     record {
       ends = (are.0, less, are.2.1);
       weight = (are.2.2.0, are.2.2.1);
       ascends = above_means (last_edge g.edges) e both.1;
+      few = grind (arith, nat_tests, all.1);
     }
 
 -- ---- compromised nodes
@@ -156,16 +160,16 @@ edge_more s words next good none says_it =
     let found = then_ok (line_of (edge_cells s.graph.nodes) words) (λ x. if_next s.graph (edge_of s.graph.nodes x)) e step.1 in
     let read = line_read (edge_cells s.graph.nodes) words found.0 found.1 in
     let x = found.0 in
-    let all : IsNextEdge s.graph e × (words ≡ edge_words e) =
+    let all : IsNextEdge FORMAT_1 s.graph e × (words ≡ edge_words e) =
     elim (if_cases (is_next_edge s.graph (edge_of s.graph.nodes x)) (Ok (edge_of s.graph.nodes x)) (Err faults.Range) (Ok e) found.2) [
       | inl is ↦ (
           let is_e : edge_of s.graph.nodes x ≡ e = cc in
-          subst (λ (z : Edge). IsNextEdge s.graph z × (words ≡ edge_words z)) is_e (next_means s.graph (edge_of s.graph.nodes x) read.0 is.0, read.1))
+          subst (λ (z : Edge). IsNextEdge FORMAT_1 s.graph z × (words ≡ edge_words z)) is_e (next_means s.graph (edge_of s.graph.nodes x) read.0 is.0, read.1))
       | inr other ↦ absurd (let out = other.1 in cc)
     ] in
     subst (λ (z : Stage). (lines_to z ≡ scenario_lines s ++ words ∷ []) × AreGood z) step.2 (
       edge_lines s e none ∙ ap (λ (ws : List Word). scenario_lines s ++ ws ∷ []) (sym all.1),
-      (record { seed = good.seed; limits = good.limits; graph = graph_grows s.graph e good.graph all.0; bad = good.bad }, none),
+      (record { seed = good.seed; limits = good.limits; graph = graph_grows FORMAT_1 s.graph e good.graph all.0; bad = good.bad }, none),
     )
 
 event_said : (s : Scenario) (es : List Event) (words : List Word) (r : Result Event Fault) (next : Stage) → read_event s es words ≡ r → IsSchedule s es → length es < MAX_EVENTS → event_more s es r ≡ Ok next
@@ -221,7 +225,7 @@ says_more (stages.Bounds seed height limits) words next good is =
         record {
           seed = good.0;
           limits = good.1;
-          graph = record { nodes = (read.0.0, read.0.1); edges = λ k d inside. absurd (omega (arith, inside)); ascend = λ i j d less inside. absurd (omega (arith, inside)) };
+          graph = record { nodes = (read.0.0, read.0.1); few = omega arith; edges = λ k d inside. absurd (omega (arith, inside)); ascend = λ i j d less inside. absurd (omega (arith, inside)) };
           bad = tt;
         },
         refl,

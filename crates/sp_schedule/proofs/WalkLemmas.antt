@@ -1,12 +1,12 @@
 -- The lines of a schedule lead to its end, each good in its place.
 use Rattle.std.proofs.Common.{◌≡◌, ◌≤◌, ◌<◌, ◌+◌, ℕ, Bool, true, false, List, [], ◌∷◌, ◌++◌, length, map, Option, Some, None, Result, Ok, Err, inl, inr, refl, sym, ap, ◌∙◌, subst, arith, append_assoc, append-nil, length-append, if◌then◌else◌}
-use Rattle.std.specs.Prelude.{All, IfSome, nat_le, nat_lt, ◌==◌, ◌^◌}
+use Rattle.std.specs.Prelude.{All, IfSome, nat_le, nat_lt, ◌==◌, ◌&&◌, ◌^◌}
 use Rattle.std.proofs.lemmas.Bool.{and_from, cases_Bool, eq-eqb}
 use Rattle.std.proofs.lemmas.Bool.Decides.{nat_tests}
 use Rattle.std.proofs.lemmas.List.{map-append}
 use Rattle.std.proofs.lemmas.List.Elements.{All-append, All-cons, All-nil}
 use Rattle.sp_base.proofs.RefusalLemmas.{then_ok}
-use Rattle.sp_base.specs.declared.limits.TheConstants.{MAX_EVENTS, MAX_NODES}
+use Rattle.sp_base.specs.declared.limits.TheConstants.{MAX_EDGES, MAX_EVENTS, MAX_NODES}
 use Rattle.sp_base.specs.declared.id.NodeId.{NodeId}
 use Rattle.sp_text.specs.Spelling.{Word}
 use Rattle.sp_lines.specs.Rows.{AreIn, fits, line_of}
@@ -14,7 +14,8 @@ use Rattle.sp_lines.specs.Texts.{follow_all}
 use Rattle.sp_lines.proofs.RowLemmas.{line_back}
 use Rattle.sp_lines.proofs.TextLemmas.{IsGoodLine}
 use Rattle.sp_lines.proofs.WidthLemmas.{good_row_line}
-use Rattle.sp_graph.specs.Edges.{IsEdge, IsGraph, IsLower, IsNextEdge, last_edge}
+use Rattle.sp_base.specs.declared.format.TheConstants.{FORMAT_1}
+use Rattle.sp_graph.specs.Edges.{IsEdge, IsGraphIn, IsLower, IsNextEdge, last_edge}
 use Rattle.sp_graph.specs.declared.graph.Graph.{Graph}
 use Rattle.sp_graph.proofs.Texts.{next_of, with_edges}
 use Rattle.sp_topology.specs.declared.topology.Edge.{Edge}
@@ -103,10 +104,12 @@ above_is : (last : Option Edge) (e : Edge) → IfSome last (λ f. IsLower f e) �
 above_is None e is = refl
 above_is (Some f) e is = lower_is f e is
 
-next_is : (g : Graph) (e : Edge) → IsNextEdge g e → is_next_edge g e ≡ true
+next_is : (g : Graph) (e : Edge) → IsNextEdge FORMAT_1 g e → is_next_edge g e ≡ true
 next_is g e is =
     let less : nat_lt e.low.0 e.high.0 ≡ true = let h = is.ends.1 in grind (arith, nat_tests, h) in
-    and_from (nat_lt e.low.0 e.high.0) (is_above (last_edge g.edges) e) less (above_is (last_edge g.edges) e is.ascends)
+    let few : nat_lt (length g.edges) MAX_EDGES ≡ true = let h = is.few in grind (arith, nat_tests, h) in
+    and_from (nat_lt e.low.0 e.high.0 && is_above (last_edge g.edges) e) (nat_lt (length g.edges) MAX_EDGES)
+    (and_from (nat_lt e.low.0 e.high.0) (is_above (last_edge g.edges) e) less (above_is (last_edge g.edges) e is.ascends)) few
 
 -- the scenario with these edges alone, and no compromised node
 abbrev edges_so_far : Scenario → List Edge → Scenario
@@ -121,7 +124,8 @@ edge_in s e is = (is.0, omega (arith, is.1, is.2), (omega (arith, is.0, is.1), i
 edge_good : (s : Scenario) (e : Edge) → s.graph.nodes ≤ MAX_NODES → IsEdge s.graph.nodes e → IsGoodLine (edge_words e)
 edge_good s e few is = good_row_line (edge_cells s.graph.nodes) (edge_values s.graph.nodes e) (rw (few_nodes s.graph.nodes few) refl) (edge_in s e is)
 
-edge_line : (s : Scenario) (front : List Edge) (e : Edge) → s.graph.nodes ≤ MAX_NODES → IsEdge s.graph.nodes e → IsNextEdge (with_edges s.graph front) e
+edge_line : (s : Scenario) (front : List Edge) (e : Edge) → s.graph.nodes ≤ MAX_NODES → IsEdge s.graph.nodes e
+    → IsNextEdge FORMAT_1 (with_edges s.graph front) e
     → says (stages.Edges (edges_so_far s front)) (edge_words e) ≡ Ok (stages.Edges (edges_so_far s (front ++ e ∷ [])))
 edge_line s front e few is next =
     let room : s.graph.nodes < 2 ^ 64 = omega (arith, few) in
@@ -129,13 +133,13 @@ edge_line s front e few is next =
     line_back (edge_cells s.graph.nodes) (edge_values s.graph.nodes e) (room, (room, (omega arith, tt))) (edge_in s e is) in
     rw read (rw (next_is (with_edges s.graph front) e next) refl)
 
-edges_follow : (s : Scenario) (front back : List Edge) → IsGraph s.graph → s.graph.edges ≡ front ++ back
+edges_follow : (s : Scenario) (front back : List Edge) → IsGraphIn FORMAT_1 s.graph → s.graph.edges ≡ front ++ back
     → Follows (stages.Edges (edges_so_far s front)) (map edge_words back) (stages.Edges (edges_so_far s s.graph.edges))
 edges_follow s front [] good is =
     let all : front ≡ s.graph.edges = sym (is ∙ append-nil front) in
     subst (λ (es : List Edge). Follows (stages.Edges (edges_so_far s front)) [] (stages.Edges (edges_so_far s es))) all (none (stages.Edges (edges_so_far s front)))
 edges_follow s front (e ∷ back) good is =
-    let next = next_of s.graph front back e good is in
+    let next = next_of FORMAT_1 s.graph front back e good is in
     let few = good.nodes.1 in
     let first = one (stages.Edges (edges_so_far s front)) (stages.Edges (edges_so_far s (front ++ e ∷ []))) (edge_words e) (edge_good s e few next.0) (edge_line s front e few next.0 next.1) in
     both (edge_words e ∷ []) (map edge_words back) _ _ _ first (edges_follow s (front ++ e ∷ []) back good (is ∙ sym (append_assoc front (e ∷ []) back)))

@@ -19,7 +19,7 @@
 use Rattle.std.specs.Prelude.{ℕ, ◌≡◌, ◌&&◌, ◌||◌, ◌==◌, nat_le, nat_lt, Bool, true, if◌then◌else◌}
 use Rattle.std.specs.Prelude.{List, [], ◌∷◌, ◌++◌, length, Option, Some, None, Result, Ok, Err}
 use Rattle.sp_base.specs.Refusals.{◌>>=◌}
-use Rattle.sp_base.specs.declared.limits.TheConstants.{MAX_EVENTS}
+use Rattle.sp_base.specs.declared.limits.TheConstants.{MAX_EDGES, MAX_EVENTS}
 use Rattle.sp_base.specs.declared.id.NodeId.{NodeId}
 use Rattle.sp_base.specs.declared.id.Limits.{Limits}
 use Rattle.sp_text.specs.Spelling.{Word}
@@ -67,9 +67,9 @@ abbrev pub is_above : Option Edge → Edge → Bool
 is_above None e = true
 is_above (Some f) e = is_lower f e
 
--- the lower end comes first, and the edge stands after the edges so far
+-- the lower end comes first, and the edge stands after the edges so far, which aren't too many
 abbrev pub is_next_edge : Graph → Edge → Bool
-is_next_edge g e = nat_lt e.low.0 e.high.0 && is_above (last_edge g.edges) e
+is_next_edge g e = nat_lt e.low.0 e.high.0 && is_above (last_edge g.edges) e && nat_lt (length g.edges) MAX_EDGES
 
 -- ---- lines
 

@@ -4,7 +4,8 @@ use Rattle.sp_base.specs.Spelling.{AreBytes}
 use Rattle.sp_base.specs.declared.limits.TheConstants.{MAX_BUFFER, MAX_EVENTS, MAX_STORE}
 use Rattle.sp_base.specs.declared.id.NodeId.{NodeId}
 use Rattle.sp_base.specs.declared.id.Limits.{Limits}
-use Rattle.sp_graph.specs.Edges.{IsGraph}
+use Rattle.sp_base.specs.declared.format.TheConstants.{FORMAT_1}
+use Rattle.sp_graph.specs.Edges.{IsGraphIn}
 use Rattle.sp_schedule_events.specs.EventLines.{InRange}
 use Rattle.sp_schedule_events.specs.declared.scenario.Scenario.{Scenario}
 use Rattle.sp_schedule_events.specs.declared.event.Event.{Event}
@@ -25,7 +26,7 @@ Ascend low nodes (b ∷ bs) = (low ≤ b.0) × (b.0 ≤ nodes) × Ascend (b.0 + 
 pub record IsScenario (s : Scenario) : Type 0 where
   pub seed : IsSeed s.seed
   pub limits : AreBounds s.limits
-  pub graph : IsGraph s.graph
+  pub graph : IsGraphIn FORMAT_1 s.graph
   pub bad : Ascend 1 s.graph.nodes s.bad
 
 -- each event may come after those before it

@@ -11,7 +11,7 @@ ghost use Rattle.sp_schedule.specs.Header.{bounds_values, edge_values, height_nu
 ghost use Rattle.sp_schedule.specs.Lines.{is_above, is_lower, is_next_edge};
 
 use crate::{Edge, Graph, LmsHeight};
-use sp_base::{Limits, MAX_BUFFER, MAX_NODES, MAX_STORE, MAX_WEIGHT, NodeId};
+use sp_base::{Limits, MAX_BUFFER, MAX_EDGES, MAX_NODES, MAX_STORE, MAX_WEIGHT, NodeId};
 use sp_lines::{named, ranged};
 use sp_text::hex_array;
 
@@ -143,11 +143,13 @@ fn edge_of(nodes: u8, low: &[u8], high: &[u8], weight: &[u8]) -> Option<Edge>
     })
 }
 
-/// Whether the edge goes from a lower node to a higher one, and stands after the edges so far.
+/// Whether the edge goes from a lower node to a higher one, and stands after the edges so far, which aren't too many.
 pub fn is_next_edge(graph: &Graph, edge: &Edge) -> bool
     ensures { result ≡ is_next_edge graph.now edge.now }
 {
-    edge.low.0 < edge.high.0 && is_above(graph.edges.as_slice(), edge)
+    edge.low.0 < edge.high.0
+        && is_above(graph.edges.as_slice(), edge)
+        && graph.edges.as_slice().len() < usize::from(MAX_EDGES)
 }
 
 /// Whether the edge stands after the last of those so far.

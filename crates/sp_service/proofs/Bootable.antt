@@ -10,7 +10,8 @@ use Rattle.sp_recording.specs.declared.line.Opening.{Opening}
 use Rattle.sp_service.specs.Fits.{Fits}
 use Rattle.sp_service.specs.NodeParts.{node_signer}
 use Rattle.sp_topology.specs.Neighbours.{neighbours_from}
-use Rattle.sp_topology.specs.Ranges.{IsTopology}
+use Rattle.sp_base.specs.declared.format.TheConstants.{FORMAT_1}
+use Rattle.sp_topology.specs.InFormat.{IsTopologyIn}
 use Rattle.sp_topology.specs.declared.topology.Topology.{Topology}
 use Rattle.sp_service.specs.Starts.{IsOpening, node_config}
 
@@ -21,7 +22,7 @@ edges_of [] ps same = refl
 edges_of (n ∷ ns) [] same = absurd (cc)
 edges_of (n ∷ ns) (p ∷ ps) same = ap (λ (rest : List EdgeId). n.1 ∷ rest) (edges_of ns ps (let e : map (λ (q : Peer). q.id) ps ≡ map (λ (m : NodeId × EdgeId). m.0) ns = cc in e))
 
-pub bootable : (c : Config) (t : Topology) (o : Opening) → Fits c t → IsTopology t → IsOpening t o
+pub bootable : (c : Config) (t : Topology) (o : Opening) → Fits c t → IsTopologyIn FORMAT_1 t → IsOpening t o
     → IsBootable (node_config c t) (node_signer c t.height o.index o.bound) o.boot
 bootable c t o fits topology opening = record {
   topology = topology;

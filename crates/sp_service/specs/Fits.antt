@@ -5,8 +5,11 @@
 --     Me           the node isn't in the document
 --     Key          the node's key in the document isn't that of the seed
 --     Peer         the peers aren't just the neighbours, each once and ascending, or two of them have one port
-use Rattle.std.specs.Prelude.{ℕ, ◌≡◌, ◌≢◌, ◌==◌, ◌&&◌, Bool, true, not, List, [], ◌∷◌, map, take, drop, Some, None, Ok, Err}
+--     Withdrawn    an edge is withdrawn
+--     Format       the document is of format 2, under which no daemon runs yet
+use Rattle.std.specs.Prelude.{ℕ, ◌≡◌, ◌≢◌, ◌==◌, ◌&&◌, Bool, true, false, not, List, [], ◌∷◌, map, take, drop, Some, None, Ok, Err}
 use Rattle.std.specs.List.{list_any}
+use Rattle.sp_base.specs.declared.format.TheConstants.{FORMAT_1}
 use Rattle.sp_base.specs.declared.id.NodeId.{NodeId}
 use Rattle.sp_config.specs.declared.config.Config.{Config}
 use Rattle.sp_config.specs.declared.config.Peer.{Peer}
@@ -16,6 +19,7 @@ use Rattle.sp_sign.specs.Heights.{param_of}
 use Rattle.sp_topology.specs.Documents.{read_of}
 use Rattle.sp_topology.specs.Keys.{key_of}
 use Rattle.sp_topology.specs.Neighbours.{neighbours_from}
+use Rattle.sp_topology.specs.declared.topology.Edge.{Edge}
 use Rattle.sp_topology.specs.declared.topology.Topology.{Topology}
 use Rattle.sp_service.specs.declared.refused.SetupRefused.{SetupRefused}
 use Rattle.sp_service.specs.declared.refused.SetupRefused.TheVariants as refusals
@@ -44,6 +48,10 @@ pub record ArePeers (c : Config) (t : Topology) : Type 0 where
   pub neighbours_are : map (λ p. p.id) c.peers ≡ neighbours c t
   pub apart : have_own_ports c.peers ≡ true
 
+-- whether one of these edges is withdrawn
+abbrev pub has_withdrawn : List Edge → Bool
+has_withdrawn edges = list_any (λ e. e.weight == 0) edges
+
 -- ---- together
 
 -- the configuration fits this topology
@@ -53,6 +61,8 @@ pub record Fits (c : Config) (t : Topology) : Type 0 where
   pub signed : IsSigned c size
   pub own : HasOwnKey c t
   pub peers : ArePeers c t
+  pub standing : has_withdrawn t.edges ≡ false
+  pub format : t.format ≡ FORMAT_1
 
 -- the first judgement that a configuration with such a document fails
 abbrev pub Fails : Config → Topology → ℕ → SetupRefused → Type 0
@@ -60,6 +70,8 @@ Fails c t size refusals.Signature = ¬ IsSigned c size
 Fails c t size refusals.Me = IsSigned c size × IsStranger c t
 Fails c t size refusals.Key = IsSigned c size × ¬ IsStranger c t × ¬ HasOwnKey c t
 Fails c t size refusals.Peer = IsSigned c size × HasOwnKey c t × ¬ ArePeers c t
+Fails c t size refusals.Withdrawn = IsSigned c size × HasOwnKey c t × ArePeers c t × (has_withdrawn t.edges ≡ true)
+Fails c t size refusals.Format = IsSigned c size × HasOwnKey c t × ArePeers c t × (has_withdrawn t.edges ≡ false) × (t.format ≢ FORMAT_1)
 Fails c t size _ = ⊥
 
 -- why a configuration doesn't fit

@@ -66,6 +66,8 @@ fn misfit_word(refused: SetupRefused) -> &'static str
         SetupRefused::Me => "Me",
         SetupRefused::Key => "Key",
         SetupRefused::Peer => "Peer",
+        SetupRefused::Withdrawn => "Withdrawn",
+        SetupRefused::Format => "Format",
         SetupRefused::Memory => "",
     }
 }

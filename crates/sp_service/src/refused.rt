@@ -17,6 +17,10 @@ pub enum SetupRefused {
     Key,
     #[error("the peers aren't the neighbours, each once and ascending, or two have one port")]
     Peer,
+    #[error("an edge of the document is withdrawn")]
+    Withdrawn,
+    #[error("the document is of format 2")]
+    Format,
     #[error("no memory is left")]
     Memory,
 }

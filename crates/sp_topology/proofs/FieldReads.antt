@@ -9,6 +9,8 @@ use Rattle.sp_base.proofs.RefusalLemmas.{as_refusal_ok, then_ok}
 use Rattle.sp_base.specs.Reading.{number_at}
 use Rattle.sp_base.specs.Refusals.{◌>>=◌}
 use Rattle.sp_base.specs.Spelling.{AreBytes}
+use Rattle.sp_base.specs.Formats.{IsFormat, max_nodes}
+use Rattle.sp_base.specs.declared.format.TheConstants.{FORMAT_1, FORMAT_2}
 use Rattle.sp_topology.specs.declared.topology.LmsHeight.{LmsHeight}
 use Rattle.sp_topology.specs.declared.refused.TopologyRefused.{TopologyRefused}
 use Rattle.sp_topology.specs.declared.refused.TopologyRefused.TheVariants as refusals
@@ -96,35 +98,45 @@ exact x wanted refused e = elim (cases_Bool (x == wanted)) [
   | inr other ↦ absurd (let is = rw other at e in cc)
 ]
 
+is_format : (number : ℕ) → format_fault number ≡ None → IsFormat number
+is_format number e = elim (cases_Bool (number == FORMAT_1)) [
+  | inl one ↦ inl (eqb-true number FORMAT_1 one)
+  | inr other ↦ elim (cases_Bool (number == FORMAT_2)) [
+    | inl two ↦ inr (eqb-true number FORMAT_2 two)
+    | inr neither ↦ absurd (let is = rw (other, neither) at e in cc)
+  ]
+]
+
 pub record FrontRead (bytes : List ℕ) (f : Front) (rest : List ℕ) : Type 0 where
   pub begins : Begins bytes (front_bytes f) rest
+  pub format : IsFormat f.format
   pub version : f.version < 2 ^ 32
-  pub count : (2 ≤ f.count) × (f.count ≤ 16)
+  pub count : (2 ≤ f.count) × (f.count ≤ max_nodes f.format)
 
 -- the steps of the front, each with what comes after it
-abbrev after_height : ℕ → LmsHeight × List ℕ → Result (Front × List ℕ) TopologyRefused
-after_height version h = judged_at 1 node_count_fault h.1 >>= λ c. Ok (record { version = version; height = h.0; count = c.0 }, c.1)
+abbrev after_height : ℕ → ℕ → LmsHeight × List ℕ → Result (Front × List ℕ) TopologyRefused
+after_height format version h = judged_at 1 (node_count_fault format) h.1 >>= λ c. Ok (record { format = format; version = version; height = h.0; count = c.0 }, c.1)
 
-abbrev after_version : ℕ × List ℕ → Result (Front × List ℕ) TopologyRefused
-after_version v = height_field_at v.1 >>= λ h. after_height v.0 h
+abbrev after_version : ℕ → ℕ × List ℕ → Result (Front × List ℕ) TopologyRefused
+after_version format v = height_field_at v.1 >>= λ h. after_height format v.0 h
 
 abbrev after_format : ℕ × List ℕ → Result (Front × List ℕ) TopologyRefused
-after_format g = field_at 4 g.1 >>= λ v. after_version v
+after_format g = field_at 4 g.1 >>= λ v. after_version g.0 v
 
 abbrev after_name : ℕ × List ℕ → Result (Front × List ℕ) TopologyRefused
 after_name b = judged_at 1 format_fault b.1 >>= λ g. after_format g
 
 front_joined : (f : Front) (bytes named formatted versioned raised counted : List ℕ) → Begins bytes (big_bytes 4 name) named
-    → Begins named (big_bytes 1 1) formatted
+    → Begins named (big_bytes 1 f.format) formatted
     → Begins formatted (big_bytes 4 f.version) versioned → Begins versioned (big_bytes 1 (height_number f.height)) raised
     → Begins raised (big_bytes 1 f.count) counted
     → Begins bytes (front_bytes f) counted
 front_joined f bytes named formatted versioned raised counted one two three four five =
     let last = joined versioned (big_bytes 1 (height_number f.height)) raised (big_bytes 1 f.count) counted four five in
     let third = joined formatted (big_bytes 4 f.version) versioned (big_bytes 1 (height_number f.height) ++ big_bytes 1 f.count) counted three last in
-    let second = joined named (big_bytes 1 1) formatted (big_bytes 4 f.version ++
+    let second = joined named (big_bytes 1 f.format) formatted (big_bytes 4 f.version ++
     (big_bytes 1 (height_number f.height) ++ big_bytes 1 f.count)) counted two third in
-    joined bytes (big_bytes 4 name) named (big_bytes 1 1 ++ (big_bytes 4 f.version ++
+    joined bytes (big_bytes 4 name) named (big_bytes 1 f.format ++ (big_bytes 4 f.version ++
     (big_bytes 1 (height_number f.height) ++ big_bytes 1 f.count))) counted one second
 
 same_front : (bytes : List ℕ) (p q : Front × List ℕ) → p ≡ q → FrontRead bytes p.0 p.1 → FrontRead bytes q.0 q.1
@@ -135,23 +147,22 @@ unfolding front_at
 front_read bytes p are e =
     let s1 = then_ok (judged_at 4 name_fault bytes) after_name p e in
     let s2 = then_ok (judged_at 1 format_fault s1.0.1) after_format p s1.2 in
-    let s3 = then_ok (field_at 4 s2.0.1) after_version p s2.2 in
-    let s4 = then_ok (height_field_at s3.0.1) (after_height s3.0.0) p s3.2 in
-    let s5 = then_ok (judged_at 1 node_count_fault s4.0.1) (λ c. Ok (record { version = s3.0.0; height = s4.0.0; count = c.0 }, c.1)) p s4.2 in
-    let f : Front = record { version = s3.0.0; height = s4.0.0; count = s5.0.0 } in
+    let s3 = then_ok (field_at 4 s2.0.1) (after_version s2.0.0) p s2.2 in
+    let s4 = then_ok (height_field_at s3.0.1) (after_height s2.0.0 s3.0.0) p s3.2 in
+    let s5 = then_ok (judged_at 1 (node_count_fault s2.0.0) s4.0.1) (λ c. Ok (record { format = s2.0.0; version = s3.0.0; height = s4.0.0; count = c.0 }, c.1)) p s4.2 in
+    let f : Front = record { format = s2.0.0; version = s3.0.0; height = s4.0.0; count = s5.0.0 } in
     let j1 = judged_read 4 name_fault bytes s1.0 are s1.1 in
     let j2 = judged_read 1 format_fault s1.0.1 s2.0 j1.field.begins.are_bytes s2.1 in
     let j3 = field_read 4 s2.0.1 s3.0 j2.field.begins.are_bytes s3.1 in
     let j4 = height_read s3.0.1 s4.0 j3.begins.are_bytes s4.1 in
-    let j5 = judged_read 1 node_count_fault s4.0.1 s5.0 j4.are_bytes s5.1 in
+    let j5 = judged_read 1 (node_count_fault s2.0.0) s4.0.1 s5.0 j4.are_bytes s5.1 in
     let named : Begins bytes (big_bytes 4 name) s1.0.1 = subst (λ (x : ℕ). Begins bytes (big_bytes 4 x) s1.0.1)
     (exact s1.0.0 name refusals.Magic j1.passes) j1.field.begins in
-    let formatted : Begins s1.0.1 (big_bytes 1 1) s2.0.1 = subst (λ (x : ℕ). Begins s1.0.1 (big_bytes 1 x) s2.0.1)
-    (exact s2.0.0 1 refusals.Format j2.passes) j2.field.begins in
     let here : FrontRead bytes f s5.0.1 = record {
-      begins = front_joined f bytes s1.0.1 s2.0.1 s3.0.1 s4.0.1 s5.0.1 named formatted j3.begins j4 j5.field.begins;
+      begins = front_joined f bytes s1.0.1 s2.0.1 s3.0.1 s4.0.1 s5.0.1 named j2.field.begins j3.begins j4 j5.field.begins;
+      format = is_format s2.0.0 j2.passes;
       version = omega (arith, j3.small);
-      count = node_count_passed s5.0.0 j5.passes;
+      count = node_count_passed s2.0.0 s5.0.0 j5.passes;
     } in
     let pair : (f, s5.0.1) ≡ p = ok_same (f, s5.0.1) p s5.2 in
     same_front bytes (f, s5.0.1) p pair here

@@ -4,13 +4,14 @@ use Rattle.std.specs.Prelude.{Option}
 use Rattle.std.proofs.lemmas.Bool.{cases_Bool, cases_lt}
 use Rattle.std.proofs.lemmas.Bool.Decides.{nat_tests}
 use Rattle.byteorder.specs.Endian.{big_number}
+use Rattle.sp_base.specs.Formats.{max_edges, max_nodes}
 use Rattle.sp_base.specs.Spelling.{AreBytes}
 use Rattle.sp_topology.specs.declared.topology.LmsHeight.{LmsHeight}
 use Rattle.sp_topology.specs.declared.topology.LmsHeight.TheVariants.{Five, Ten}
 use Rattle.sp_topology.specs.declared.refused.TopologyRefused.{TopologyRefused}
 use Rattle.sp_topology.specs.Faults.{are_nodes, edge_count_fault, ends_fault, id_fault, is_below, key_fault, node_count_fault, weight_fault}
 use Rattle.sp_topology.specs.Heights.{height_at, height_number, typecode_of}
-use Rattle.sp_topology.specs.Ranges.{AreEnds, IsBelow, IsId, IsKey, IsWeight, has_id}
+use Rattle.sp_topology.specs.Ranges.{AreEnds, IsBelow, IsId, IsKey, IsWeight, has_id, least_weight}
 
 -- where none of two faults is there, the test failed and so did the others
 none_of : (b : Bool) (fault : TopologyRefused) (others : Option TopologyRefused) → cond b (Some fault) others ≡ None → (b ≡ false) × (others ≡ None)
@@ -23,12 +24,12 @@ passed false fault e = absurd (cc)
 
 -- ---- ids
 
-pub id_passes : (before id : ℕ) → IsId before id → id_fault before id ≡ None
-id_passes before id is = grind (arith, nat_tests)
+pub id_passes : (format : ℕ) → (before id : ℕ) → IsId format before id → id_fault format before id ≡ None
+id_passes format before id is = grind (arith, nat_tests)
 
-pub id_passed : (before id : ℕ) → id_fault before id ≡ None → IsId before id
-id_passed before id e =
-    let one = none_of (nat_lt id 1 || nat_lt 16 id || nat_lt id before) _ _ e in
+pub id_passed : (format : ℕ) → (before id : ℕ) → id_fault format before id ≡ None → IsId format before id
+id_passed format before id e =
+    let one = none_of (nat_lt id 1 || nat_lt (max_nodes format) id || nat_lt id before) _ _ e in
     let two = none_of (id == before) _ None one.1 in
     let first = one.0 in
     let second = two.0 in
@@ -36,28 +37,28 @@ id_passed before id e =
 
 -- ---- counts and weights
 
-pub node_count_passes : (count : ℕ) → 2 ≤ count → count ≤ 16 → node_count_fault count ≡ None
-node_count_passes count low high = grind (arith, nat_tests)
+pub node_count_passes : (format : ℕ) → (count : ℕ) → 2 ≤ count → count ≤ max_nodes format → node_count_fault format count ≡ None
+node_count_passes format count low high = grind (arith, nat_tests)
 
-pub node_count_passed : (count : ℕ) → node_count_fault count ≡ None → (2 ≤ count) × (count ≤ 16)
-node_count_passed count e =
+pub node_count_passed : (format : ℕ) → (count : ℕ) → node_count_fault format count ≡ None → (2 ≤ count) × (count ≤ max_nodes format)
+node_count_passed format count e =
     let one = none_of (nat_lt count 2) _ _ e in
-    let two = none_of (nat_lt 16 count) _ None one.1 in
+    let two = none_of (nat_lt (max_nodes format) count) _ None one.1 in
     let first = one.0 in
     let second = two.0 in
     (grind (arith, nat_tests), grind (arith, nat_tests))
 
-pub edge_count_passes : (count : ℕ) → count ≤ 120 → edge_count_fault count ≡ None
-edge_count_passes count high = grind (arith, nat_tests)
+pub edge_count_passes : (format : ℕ) → (count : ℕ) → count ≤ max_edges format → edge_count_fault format count ≡ None
+edge_count_passes format count high = grind (arith, nat_tests)
 
-pub edge_count_passed : (count : ℕ) → edge_count_fault count ≡ None → count ≤ 120
-edge_count_passed count e = let first = (none_of (nat_lt 120 count) _ None e).0 in grind (arith, nat_tests)
+pub edge_count_passed : (format : ℕ) → (count : ℕ) → edge_count_fault format count ≡ None → count ≤ max_edges format
+edge_count_passed format count e = let first = (none_of (nat_lt (max_edges format) count) _ None e).0 in grind (arith, nat_tests)
 
-pub weight_passes : (weight : ℕ) → IsWeight weight → weight_fault weight ≡ None
-weight_passes weight is = grind (arith, nat_tests)
+pub weight_passes : (format : ℕ) → (weight : ℕ) → IsWeight format weight → weight_fault format weight ≡ None
+weight_passes format weight is = grind (arith, nat_tests)
 
-pub weight_passed : (weight : ℕ) → weight_fault weight ≡ None → IsWeight weight
-weight_passed weight e = let is = passed (nat_le 1 weight && nat_le weight 1000000) _ e in (grind (arith, nat_tests), grind (arith, nat_tests))
+pub weight_passed : (format : ℕ) → (weight : ℕ) → weight_fault format weight ≡ None → IsWeight format weight
+weight_passed format weight e = let is = passed (nat_le (least_weight format) weight && nat_le weight 1000000) _ e in (grind (arith, nat_tests), grind (arith, nat_tests))
 
 -- ---- heights and keys
 

@@ -1,5 +1,6 @@
 pub mod FieldReads
 pub mod GraphLaws
+pub mod InFormat
 pub mod Judged
 pub mod NeighbourLemmas
 pub mod NoMemory

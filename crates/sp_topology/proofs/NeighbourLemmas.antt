@@ -36,17 +36,19 @@ rises_first : (node : ℕ) → Rises node (0, 0) 0
 rises_first node ends below ascend some = (λ is. some, λ is. omega arith)
 
 -- no id is 0
-no_zero : (height : LmsHeight) (before : ℕ) (nodes : List NodeKey) → AreNodes height before nodes → (id : ℕ) → has_id id (ids_of nodes) ≡ true → 0 < id
-no_zero height before [] are id has = absurd (cc)
-no_zero height before (n ∷ nodes) are id has = elim (cases_Bool (n.id.0 == id)) [
+no_zero : (format : ℕ) → (height : LmsHeight) (before : ℕ) (nodes : List NodeKey) → AreNodes format height before nodes → (id : ℕ)
+    → has_id id (ids_of nodes) ≡ true → 0 < id
+no_zero format height before [] are id has = absurd (cc)
+no_zero format height before (n ∷ nodes) are id has = elim (cases_Bool (n.id.0 == id)) [
   | inl here ↦ let same : n.id.0 ≡ id = eqb-true n.id.0 id here in omega (arith, same, are.0.0)
-  | inr elsewhere ↦ no_zero height n.id.0 nodes are.2 id (rw elsewhere at has)
+  | inr elsewhere ↦ no_zero format height n.id.0 nodes are.2 id (rw elsewhere at has)
 ]
 
-ascend_on : (node place bound : ℕ) (ids : List ℕ) (before : ℕ × ℕ) (edges : List Edge) → ((id : ℕ) → has_id id ids ≡ true → 0 < id) → AreEdges ids before edges
+ascend_on : (format : ℕ) → (node place bound : ℕ) (ids : List ℕ) (before : ℕ × ℕ) (edges : List Edge) → ((id : ℕ) → has_id id ids ≡ true → 0 < id)
+    → AreEdges format ids before edges
     → Rises node before bound → Ascend bound (neighbours_from node place edges)
-ascend_on node place bound ids before [] some are rises = tt
-ascend_on node place bound ids before (e ∷ edges) some are rises =
+ascend_on format node place bound ids before [] some are rises = tt
+ascend_on format node place bound ids before (e ∷ edges) some are rises =
     let ends = are.0 in
     let leads = rises (ends_of e) ends.after ends.ascend (some e.low.0 ends.low) in
     elim (cases_Bool (e.low.0 == node)) [
@@ -54,29 +56,31 @@ ascend_on node place bound ids before (e ∷ edges) some are rises =
           let same : e.low.0 ≡ node = eqb-true e.low.0 node from in
           let on : Rises node (ends_of e) e.high.0 = subst (λ (x : ℕ). Rises node (x, e.high.0) e.high.0) (sym same)
           (rises_from_higher node e.high.0 (omega (arith, same, ends.ascend))) in
-          rw from (leads.1 same, ascend_on node (place + 1) e.high.0 ids (ends_of e) edges some are.2 on)
+          rw from (leads.1 same, ascend_on format node (place + 1) e.high.0 ids (ends_of e) edges some are.2 on)
       | inr other ↦ elim (cases_Bool (e.high.0 == node)) [
         | inl to ↦
             let same : e.high.0 ≡ node = eqb-true e.high.0 node to in
             let on : Rises node (ends_of e) e.low.0 = subst (λ (x : ℕ). Rises node (e.low.0, x) e.low.0) (sym same)
             (rises_from_lower node e.low.0 (omega (arith, same, ends.ascend))) in
-            rw (other, to) (leads.0 same, ascend_on node (place + 1) e.low.0 ids (ends_of e) edges some are.2 on)
-        | inr neither ↦ rw (other, neither) (ascend_on node (place + 1) bound ids (ends_of e) edges some are.2
+            rw (other, to) (leads.0 same, ascend_on format node (place + 1) e.low.0 ids (ends_of e) edges some are.2 on)
+        | inr neither ↦ rw (other, neither) (ascend_on format node (place + 1) bound ids (ends_of e) edges some are.2
             (rises_later node before (ends_of e) bound ends.after rises))
       ]
     ]
 
-neighbours_ascend : (node : ℕ) (height : LmsHeight) (nodes : List NodeKey) (edges : List Edge) → AreNodes height 0 nodes → AreEdges (ids_of nodes) (0, 0) edges
+neighbours_ascend : (format : ℕ) → (node : ℕ) (height : LmsHeight) (nodes : List NodeKey) (edges : List Edge) → AreNodes format height 0 nodes
+    → AreEdges format (ids_of nodes) (0, 0) edges
     → Ascend 0 (neighbours_from node 0 edges)
-neighbours_ascend node height nodes edges are_nodes are_edges =
-    ascend_on node 0 0 (ids_of nodes) (0, 0) edges (no_zero height 0 nodes are_nodes) are_edges (rises_first node)
+neighbours_ascend format node height nodes edges are_nodes are_edges =
+    ascend_on format node 0 0 (ids_of nodes) (0, 0) edges (no_zero format height 0 nodes are_nodes) are_edges (rises_first node)
 
 -- those that were found when no edge is left
-pub found_ascend : (node place : ℕ) (height : LmsHeight) (nodes : List NodeKey) (edges : List Edge) (found : List (NodeId × EdgeId)) → AreNodes height 0 nodes
-    → AreEdges (ids_of nodes) (0, 0) edges → length edges ≤ place
+pub found_ascend : (format : ℕ) → (node place : ℕ) (height : LmsHeight) (nodes : List NodeKey) (edges : List Edge) (found : List (NodeId × EdgeId))
+    → AreNodes format height 0 nodes
+    → AreEdges format (ids_of nodes) (0, 0) edges → length edges ≤ place
     → found ++ neighbours_from node place (drop place edges) ≡ neighbours_from node 0 edges → Ascend 0 found
-found_ascend node place height nodes edges found are_nodes are_edges past all =
+found_ascend format node place height nodes edges found are_nodes are_edges past all =
     let none : drop place edges ≡ [] = drop_all place edges past in
     let same : found ≡ neighbours_from node 0 edges = sym (append-nil found) ∙ ap (λ (rest : List Edge). found ++ neighbours_from node place rest)
     (sym none) ∙ all in
-    rw same (neighbours_ascend node height nodes edges are_nodes are_edges)
+    rw same (neighbours_ascend format node height nodes edges are_nodes are_edges)

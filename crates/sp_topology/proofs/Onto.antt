@@ -31,24 +31,24 @@ one_left count done more = omega arith
 
 -- ---- nodes
 
-pub nodes_stop : (height : LmsHeight) (count done before : ℕ) (bytes : List ℕ) (items : List NodeKey) (refused : TopologyRefused)
-    → done < count → node_at height before bytes ≡ Err refused → onto items (nodes_at height (count - done) before bytes) ≡ Err refused
-nodes_stop height count done before bytes items refused more stops = rw (one_left count done more, stops) refl
+pub nodes_stop : (format : ℕ) → (height : LmsHeight) (count done before : ℕ) (bytes : List ℕ) (items : List NodeKey) (refused : TopologyRefused)
+    → done < count → node_at format height before bytes ≡ Err refused → onto items (nodes_at format height (count - done) before bytes) ≡ Err refused
+nodes_stop format height count done before bytes items refused more stops = rw (one_left count done more, stops) refl
 
-pub nodes_go : (height : LmsHeight) (count done before : ℕ) (bytes rest : List ℕ) (items : List NodeKey) (n : NodeKey)
-    → done < count → node_at height before bytes ≡ Ok (n, rest)
-    → onto items (nodes_at height (count - done) before bytes) ≡ onto (items ++ n ∷ []) (nodes_at height (count - (done + 1)) n.id.0 rest)
-nodes_go height count done before bytes rest items n more goes =
-    rw (one_left count done more, goes) (onto_one items n (nodes_at height (count - (done + 1)) n.id.0 rest))
+pub nodes_go : (format : ℕ) → (height : LmsHeight) (count done before : ℕ) (bytes rest : List ℕ) (items : List NodeKey) (n : NodeKey)
+    → done < count → node_at format height before bytes ≡ Ok (n, rest)
+    → onto items (nodes_at format height (count - done) before bytes) ≡ onto (items ++ n ∷ []) (nodes_at format height (count - (done + 1)) n.id.0 rest)
+nodes_go format height count done before bytes rest items n more goes =
+    rw (one_left count done more, goes) (onto_one items n (nodes_at format height (count - (done + 1)) n.id.0 rest))
 
 -- ---- edges
 
-pub edges_stop : (ids : List ℕ) (count done : ℕ) (before : ℕ × ℕ) (bytes : List ℕ) (items : List Edge) (refused : TopologyRefused)
-    → done < count → edge_at ids before bytes ≡ Err refused → onto items (edges_at ids (count - done) before bytes) ≡ Err refused
-edges_stop ids count done before bytes items refused more stops = rw (one_left count done more, stops) refl
+pub edges_stop : (format : ℕ) → (ids : List ℕ) (count done : ℕ) (before : ℕ × ℕ) (bytes : List ℕ) (items : List Edge) (refused : TopologyRefused)
+    → done < count → edge_at format ids before bytes ≡ Err refused → onto items (edges_at format ids (count - done) before bytes) ≡ Err refused
+edges_stop format ids count done before bytes items refused more stops = rw (one_left count done more, stops) refl
 
-pub edges_go : (ids : List ℕ) (count done : ℕ) (before : ℕ × ℕ) (bytes rest : List ℕ) (items : List Edge) (e : Edge)
-    → done < count → edge_at ids before bytes ≡ Ok (e, rest)
-    → onto items (edges_at ids (count - done) before bytes) ≡ onto (items ++ e ∷ []) (edges_at ids (count - (done + 1)) (ends_of e) rest)
-edges_go ids count done before bytes rest items e more goes =
-    rw (one_left count done more, goes) (onto_one items e (edges_at ids (count - (done + 1)) (ends_of e) rest))
+pub edges_go : (format : ℕ) → (ids : List ℕ) (count done : ℕ) (before : ℕ × ℕ) (bytes rest : List ℕ) (items : List Edge) (e : Edge)
+    → done < count → edge_at format ids before bytes ≡ Ok (e, rest)
+    → onto items (edges_at format ids (count - done) before bytes) ≡ onto (items ++ e ∷ []) (edges_at format ids (count - (done + 1)) (ends_of e) rest)
+edges_go format ids count done before bytes rest items e more goes =
+    rw (one_left count done more, goes) (onto_one items e (edges_at format ids (count - (done + 1)) (ends_of e) rest))

@@ -1,16 +1,18 @@
 -- The document of a topology, byte by byte. Numbers have their high byte first.
 --
---     4 name, "MTMW" | 1 format, 1 | 4 version | 1 height, 5 or 10 | 1 node count
+--     4 name, "MTMW" | 1 format, 1 or 2 | 4 version | 1 height, 5 or 10 | 1 node count
 --     per node    1 id | 60 key
 --     2 edge count
 --     per edge    1 low end | 1 high end | 4 weight
 --
 -- It is read from the left. What is wrong is told where it stands, before what comes after it is asked for.
-use Rattle.std.specs.Prelude.{ℕ, zero, suc, ◌≡◌, ◌≢◌, ◌-◌, ◌==◌, List, [], ◌∷◌, ◌++◌, length, flat_map, Option, Some, None, Result, Ok, Err, if◌then◌else◌}
+use Rattle.std.specs.Prelude.{ℕ, zero, suc, ◌≡◌, ◌≢◌, ◌-◌, ◌==◌, ◌||◌, List, [], ◌∷◌, ◌++◌, length, flat_map, Option, Some, None, Result, Ok, Err}
+use Rattle.std.specs.Prelude.{if◌then◌else◌}
 use Rattle.byteorder.specs.Endian.{big_bytes}
 use Rattle.sp_base.specs.Reading.{number_at, piece_at}
 use Rattle.sp_base.specs.Spelling.{AreBytes}
 use Rattle.sp_base.specs.Refusals.{◌>>=◌, as_refusal}
+use Rattle.sp_base.specs.declared.format.TheConstants.{FORMAT_1, FORMAT_2}
 use Rattle.sp_topology.specs.declared.topology.LmsHeight.{LmsHeight}
 use Rattle.sp_topology.specs.declared.topology.Edge.{Edge}
 use Rattle.sp_topology.specs.declared.topology.NodeKey.{NodeKey}
@@ -35,15 +37,16 @@ edge_bytes e = big_bytes 1 e.low.0 ++ (big_bytes 1 e.high.0 ++ big_bytes 4 e.wei
 
 -- what stands before the nodes
 pub record Front : Type 0 where
+  pub format : ℕ
   pub version : ℕ
   pub height : LmsHeight
   pub count : ℕ
 
 abbrev pub front_bytes : Front → List ℕ
-front_bytes f = big_bytes 4 name ++ (big_bytes 1 1 ++ (big_bytes 4 f.version ++ (big_bytes 1 (height_number f.height) ++ big_bytes 1 f.count)))
+front_bytes f = big_bytes 4 name ++ (big_bytes 1 f.format ++ (big_bytes 4 f.version ++ (big_bytes 1 (height_number f.height) ++ big_bytes 1 f.count)))
 
 abbrev pub front_of : Topology → Front
-front_of t = record { version = t.version; height = t.height; count = length t.nodes }
+front_of t = record { format = t.format; version = t.version; height = t.height; count = length t.nodes }
 
 abbrev pub document : Topology → List ℕ
 document t = front_bytes (front_of t) ++ (flat_map node_bytes t.nodes ++ (big_bytes 2 (length t.edges) ++ flat_map edge_bytes t.edges))
@@ -67,7 +70,7 @@ abbrev pub name_fault : ℕ → Option TopologyRefused
 name_fault number = if number == name then None else Some refusals.Magic
 
 abbrev pub format_fault : ℕ → Option TopologyRefused
-format_fault number = if number == 1 then None else Some refusals.Format
+format_fault number = if (number == FORMAT_1) || (number == FORMAT_2) then None else Some refusals.Format
 
 -- a height by its number
 abbrev pub height_or_refusal : Option LmsHeight → List ℕ → Result (LmsHeight × List ℕ) TopologyRefused
@@ -83,25 +86,25 @@ front_at bytes = do
   format ← judged_at 1 format_fault begins.1
   version ← field_at 4 format.1
   height ← height_field_at version.1
-  count ← judged_at 1 node_count_fault height.1
-  Ok (record { version = version.0; height = height.0; count = count.0 }, count.1)
+  count ← judged_at 1 (node_count_fault format.0) height.1
+  Ok (record { format = format.0; version = version.0; height = height.0; count = count.0 }, count.1)
 
 -- a key, judged
 unfoldable pub key_at : LmsHeight → List ℕ → Result (List ℕ × List ℕ) TopologyRefused
 key_at height bytes = as_refusal refusals.Short (piece_at 60 bytes) >>= λ key. unless (key_fault height key.0) key
 
 -- a node after one of this id
-unfoldable pub node_at : LmsHeight → ℕ → List ℕ → Result (NodeKey × List ℕ) TopologyRefused
-node_at height before bytes = do
-  id ← judged_at 1 (id_fault before) bytes
+unfoldable pub node_at : (format : ℕ) → LmsHeight → ℕ → List ℕ → Result (NodeKey × List ℕ) TopologyRefused
+node_at format height before bytes = do
+  id ← judged_at 1 (id_fault format before) bytes
   key ← key_at height id.1
   Ok (record { id = record { 0 = id.0 }; key = key.0 }, key.1)
 
 -- so many nodes
-abbrev pub nodes_at : LmsHeight → ℕ → ℕ → List ℕ → Result (List NodeKey × List ℕ) TopologyRefused
-nodes_at height zero before bytes = Ok ([], bytes)
-nodes_at height (suc count) before bytes =
-    node_at height before bytes >>= λ node. nodes_at height count node.0.id.0 node.1 >>= λ nodes. Ok (node.0 ∷ nodes.0, nodes.1)
+abbrev pub nodes_at : (format : ℕ) → LmsHeight → ℕ → ℕ → List ℕ → Result (List NodeKey × List ℕ) TopologyRefused
+nodes_at format height zero before bytes = Ok ([], bytes)
+nodes_at format height (suc count) before bytes =
+    node_at format height before bytes >>= λ node. nodes_at format height count node.0.id.0 node.1 >>= λ nodes. Ok (node.0 ∷ nodes.0, nodes.1)
 
 -- the two ends of an edge, judged together
 unfoldable pub ends_at : List ℕ → ℕ × ℕ → List ℕ → Result ((ℕ × ℕ) × List ℕ) TopologyRefused
@@ -111,26 +114,26 @@ ends_at ids before bytes = do
   unless (ends_fault (are_nodes ids (low.0, high.0)) before (low.0, high.0)) ((low.0, high.0), high.1)
 
 -- an edge between two of these nodes, after one with these ends
-unfoldable pub edge_at : List ℕ → ℕ × ℕ → List ℕ → Result (Edge × List ℕ) TopologyRefused
-edge_at ids before bytes = do
+unfoldable pub edge_at : (format : ℕ) → List ℕ → ℕ × ℕ → List ℕ → Result (Edge × List ℕ) TopologyRefused
+edge_at format ids before bytes = do
   ends ← ends_at ids before bytes
-  weight ← judged_at 4 weight_fault ends.1
+  weight ← judged_at 4 (weight_fault format) ends.1
   Ok (record { low = record { 0 = ends.0.0 }; high = record { 0 = ends.0.1 }; weight = weight.0 }, weight.1)
 
 -- so many edges
-abbrev pub edges_at : List ℕ → ℕ → ℕ × ℕ → List ℕ → Result (List Edge × List ℕ) TopologyRefused
-edges_at ids zero before bytes = Ok ([], bytes)
-edges_at ids (suc count) before bytes =
-    edge_at ids before bytes >>= λ edge. edges_at ids count (ends_of edge.0) edge.1 >>= λ edges. Ok (edge.0 ∷ edges.0, edges.1)
+abbrev pub edges_at : (format : ℕ) → List ℕ → ℕ → ℕ × ℕ → List ℕ → Result (List Edge × List ℕ) TopologyRefused
+edges_at format ids zero before bytes = Ok ([], bytes)
+edges_at format ids (suc count) before bytes =
+    edge_at format ids before bytes >>= λ edge. edges_at format ids count (ends_of edge.0) edge.1 >>= λ edges. Ok (edge.0 ∷ edges.0, edges.1)
 
 -- the topology and the bytes after its document, or the first refusal
 unfoldable pub topology_at : List ℕ → Result (Topology × List ℕ) TopologyRefused
 topology_at bytes = do
   front ← front_at bytes
-  nodes ← nodes_at front.0.height front.0.count 0 front.1
-  count ← judged_at 2 edge_count_fault nodes.1
-  edges ← edges_at (ids_of nodes.0) count.0 (0, 0) count.1
-  Ok (record { version = front.0.version; height = front.0.height; nodes = nodes.0; edges = edges.0 }, edges.1)
+  nodes ← nodes_at front.0.format front.0.height front.0.count 0 front.1
+  count ← judged_at 2 (edge_count_fault front.0.format) nodes.1
+  edges ← edges_at front.0.format (ids_of nodes.0) count.0 (0, 0) count.1
+  Ok (record { format = front.0.format; version = front.0.version; height = front.0.height; nodes = nodes.0; edges = edges.0 }, edges.1)
 
 -- the topology whose document the bytes begin with, and the length of that document
 abbrev pub read_of : List ℕ → Result (Topology × ℕ) TopologyRefused

@@ -2,8 +2,9 @@
 use Rattle.std.specs.Prelude.{ℕ, ◌≡◌, ◌<◌, ◌≤◌, ◌^◌, ◌==◌, ◌⊎◌, Bool, true, List, [], ◌∷◌, length, map, drop}
 use Rattle.std.specs.List.{list_any}
 use Rattle.byteorder.specs.Endian.{big_number}
+use Rattle.sp_base.specs.Formats.{IsFormat, by_format, max_edges, max_nodes}
 use Rattle.sp_base.specs.Spelling.{AreBytes}
-use Rattle.sp_base.specs.declared.limits.TheConstants.{MAX_EDGES, MAX_NODES, MAX_WEIGHT}
+use Rattle.sp_base.specs.declared.limits.TheConstants.{MAX_WEIGHT}
 use Rattle.sp_topology.specs.declared.topology.LmsHeight.{LmsHeight}
 use Rattle.sp_topology.specs.declared.topology.Edge.{Edge}
 use Rattle.sp_topology.specs.declared.topology.NodeKey.{NodeKey}
@@ -23,16 +24,16 @@ pub record IsKey (height : LmsHeight) (key : List ℕ) : Type 0 where
   pub one_time : big_number 4 (drop 8 key) ≡ 3
 
 -- the id comes after that of the node before; 0 stands before the first
-abbrev pub IsId : ℕ → ℕ → Type 0
-IsId before id = (before < id) × (id ≤ MAX_NODES)
+abbrev pub IsId : (format : ℕ) → ℕ → ℕ → Type 0
+IsId format before id = (before < id) × (id ≤ max_nodes format)
 
-abbrev pub AreIds : ℕ → List ℕ → Type 0
-AreIds before [] = Unit {0}
-AreIds before (id ∷ ids) = IsId before id × AreIds id ids
+abbrev pub AreIds : (format : ℕ) → ℕ → List ℕ → Type 0
+AreIds format before [] = Unit {0}
+AreIds format before (id ∷ ids) = IsId format before id × AreIds format id ids
 
-abbrev pub AreNodes : LmsHeight → ℕ → List NodeKey → Type 0
-AreNodes height before [] = Unit {0}
-AreNodes height before (n ∷ nodes) = IsId before n.id.0 × IsKey height n.key × AreNodes height n.id.0 nodes
+abbrev pub AreNodes : (format : ℕ) → LmsHeight → ℕ → List NodeKey → Type 0
+AreNodes format height before [] = Unit {0}
+AreNodes format height before (n ∷ nodes) = IsId format before n.id.0 × IsKey height n.key × AreNodes format height n.id.0 nodes
 
 abbrev pub ids_of : List NodeKey → List ℕ
 ids_of nodes = map (λ n. n.id.0) nodes
@@ -57,22 +58,27 @@ pub record AreEnds (ids : List ℕ) (before ends : ℕ × ℕ) : Type 0 where
   pub low : has_id ends.0 ids ≡ true
   pub high : has_id ends.1 ids ≡ true
 
-abbrev pub IsWeight : ℕ → Type 0
-IsWeight weight = (1 ≤ weight) × (weight ≤ MAX_WEIGHT)
+-- the weight 0 is that of an edge that is withdrawn, in format 2
+abbrev pub least_weight : ℕ → ℕ
+least_weight format = by_format format 1 0
 
-abbrev pub AreEdges : List ℕ → ℕ × ℕ → List Edge → Type 0
-AreEdges ids before [] = Unit {0}
-AreEdges ids before (e ∷ edges) = AreEnds ids before (ends_of e) × IsWeight e.weight × AreEdges ids (ends_of e) edges
+abbrev pub IsWeight : (format : ℕ) → ℕ → Type 0
+IsWeight format weight = (least_weight format ≤ weight) × (weight ≤ MAX_WEIGHT)
+
+abbrev pub AreEdges : (format : ℕ) → List ℕ → ℕ × ℕ → List Edge → Type 0
+AreEdges format ids before [] = Unit {0}
+AreEdges format ids before (e ∷ edges) = AreEnds ids before (ends_of e) × IsWeight format e.weight × AreEdges format ids (ends_of e) edges
 
 -- ---- whole topologies
 
 -- between two and so many nodes, and so many edges between them
-pub record IsGraph (ids : List ℕ) (edges : List Edge) : Type 0 where
-  pub node_count : (2 ≤ length ids) × (length ids ≤ MAX_NODES)
-  pub edge_count : length edges ≤ MAX_EDGES
-  pub are_edges : AreEdges ids (0, 0) edges
+pub record IsGraph (format : ℕ) (ids : List ℕ) (edges : List Edge) : Type 0 where
+  pub node_count : (2 ≤ length ids) × (length ids ≤ max_nodes format)
+  pub edge_count : length edges ≤ max_edges format
+  pub are_edges : AreEdges format ids (0, 0) edges
 
 pub record IsTopology (t : Topology) : Type 0 where
+  pub format : IsFormat t.format
   pub version : t.version < 2 ^ 32
-  pub nodes : AreNodes t.height 0 t.nodes
-  pub graph : IsGraph (ids_of t.nodes) t.edges
+  pub nodes : AreNodes t.format t.height 0 t.nodes
+  pub graph : IsGraph t.format (ids_of t.nodes) t.edges

@@ -3,9 +3,6 @@
 /// The name of a document, "MTMW".
 pub const NAME: u32 = 0x4d54_4d57;
 
-/// The format of a document.
-pub const FORMAT: u8 = 1;
-
 /// The bytes of a key of two levels (RFC 8554, section 6.1).
 pub const KEY_BYTES: usize = 60;
 

@@ -6,12 +6,12 @@ ghost use Rattle.sp_topology.specs.Documents.{GivesInMemory, edge_at, edges_at, 
 ghost use Rattle.sp_topology.specs.Faults.{edge_count_fault};
 ghost use Rattle.sp_topology.specs.Ranges.{IsTopology, has_id, ids_of};
 
-use crate::document::{FORMAT, KEY_BYTES, NAME};
+use crate::document::{KEY_BYTES, NAME};
 use crate::fault::{
     edge_count_fault, ends_fault, id_fault, key_fault, node_count_fault, weight_fault,
 };
 use crate::{Edge, LmsHeight, NodeKey, Topology, TopologyRefused};
-use sp_base::{Listed, Memory, NodeId, Reader, push};
+use sp_base::{FORMAT_1, FORMAT_2, Listed, Memory, NodeId, Reader, push};
 use std::alloc::Global;
 
 impl Topology {
@@ -25,10 +25,11 @@ impl Topology {
     {
         let mut reader = Reader::new(bytes);
         let front = read_front(&mut reader)?;
-        let nodes = read_nodes(alloc, &mut reader, front.height, front.count)?;
-        let count = read_edge_count(&mut reader)?;
-        let edges = read_edges(alloc, &mut reader, nodes.as_slice(), count)?;
+        let nodes = read_nodes(alloc, &mut reader, front.format, front.height, front.count)?;
+        let count = read_edge_count(&mut reader, front.format)?;
+        let edges = read_edges(alloc, &mut reader, front.format, nodes.as_slice(), count)?;
         let topology = Topology {
+            format: front.format,
             version: front.version,
             height: front.height,
             nodes: Listed::from_vec(nodes),
@@ -41,6 +42,7 @@ impl Topology {
 /// What stands before the nodes.
 #[derive(Clone, Copy)]
 struct Front {
+    format: u8,
     version: u32,
     height: LmsHeight,
     count: u8,
@@ -48,12 +50,13 @@ struct Front {
 
 #[tactic(auto, unfolding(crate::specs::Documents::front_at, crate::specs::Documents::judged_at, crate::specs::Documents::height_field_at))]
 fn read_front(reader: &mut Reader<'_>) -> Result<Front, TopologyRefused>
-    ensures { Gives (λ f. (record { version = f.version; height = f.height; count = f.count }, reader.new)) result (front_at reader.old) }
+    ensures { Gives (λ f. (record { format = f.format; version = f.version; height = f.height; count = f.count }, reader.new)) result (front_at reader.old) }
 {
     if reader.u32()? != NAME {
         return Err(TopologyRefused::Magic);
     }
-    if reader.u8()? != FORMAT {
+    let format = reader.u8()?;
+    if format != FORMAT_1 && format != FORMAT_2 {
         return Err(TopologyRefused::Format);
     }
     let version = reader.u32()?;
@@ -61,10 +64,11 @@ fn read_front(reader: &mut Reader<'_>) -> Result<Front, TopologyRefused>
         return Err(TopologyRefused::Height);
     };
     let count = reader.u8()?;
-    if let Some(fault) = node_count_fault(count as usize) {
+    if let Some(fault) = node_count_fault(format, count as usize) {
         return Err(fault);
     }
     Ok(Front {
+        format,
         version,
         height,
         count,
@@ -75,15 +79,16 @@ fn read_front(reader: &mut Reader<'_>) -> Result<Front, TopologyRefused>
 fn read_nodes(
     alloc: Global,
     reader: &mut Reader<'_>,
+    format: u8,
     height: LmsHeight,
     count: u8,
 ) -> Result<Vec<NodeKey>, TopologyRefused>
-    ensures { GivesInMemory (λ nodes. (nodes.items, reader.new)) result (nodes_at height count 0 reader.old) }
+    ensures { GivesInMemory (λ nodes. (nodes.items, reader.new)) result (nodes_at format height count 0 reader.old) }
 {
     let mut nodes = Vec::with_capacity(alloc, count as usize).map_err(Memory::from)?;
     let mut before = 0;
     'nodes: for _done in 0..count {
-        let node = read_node(reader, height, before)?;
+        let node = read_node(reader, format, height, before)?;
         before = node.id.0;
         push(&mut nodes, node)?;
     }
@@ -94,13 +99,14 @@ fn read_nodes(
 #[tactic(auto, unfolding(crate::specs::Documents::node_at, crate::specs::Documents::judged_at, crate::specs::Documents::key_at))]
 fn read_node(
     reader: &mut Reader<'_>,
+    format: u8,
     height: LmsHeight,
     before: u8,
 ) -> Result<NodeKey, TopologyRefused>
-    ensures { Gives (λ n. (n, reader.new)) result (node_at height before reader.old) }
+    ensures { Gives (λ n. (n, reader.new)) result (node_at format height before reader.old) }
 {
     let id = reader.u8()?;
-    if let Some(fault) = id_fault(before, id) {
+    if let Some(fault) = id_fault(format, before, id) {
         return Err(fault);
     }
     let piece = reader.take(KEY_BYTES)?;
@@ -116,11 +122,11 @@ fn read_node(
 }
 
 #[tactic(auto, unfolding(crate::specs::Documents::judged_at))]
-fn read_edge_count(reader: &mut Reader<'_>) -> Result<u16, TopologyRefused>
-    ensures { Gives (λ count. (count, reader.new)) result (judged_at 2 edge_count_fault reader.old) }
+fn read_edge_count(reader: &mut Reader<'_>, format: u8) -> Result<u16, TopologyRefused>
+    ensures { Gives (λ count. (count, reader.new)) result (judged_at 2 (edge_count_fault format) reader.old) }
 {
     let count = reader.u16()?;
-    if let Some(fault) = edge_count_fault(count as usize) {
+    if let Some(fault) = edge_count_fault(format, count as usize) {
         return Err(fault);
     }
     Ok(count)
@@ -130,15 +136,16 @@ fn read_edge_count(reader: &mut Reader<'_>) -> Result<u16, TopologyRefused>
 fn read_edges(
     alloc: Global,
     reader: &mut Reader<'_>,
+    format: u8,
     nodes: &[NodeKey],
     count: u16,
 ) -> Result<Vec<Edge>, TopologyRefused>
-    ensures { GivesInMemory (λ edges. (edges.items, reader.new)) result (edges_at (ids_of nodes.now) count (0, 0) reader.old) }
+    ensures { GivesInMemory (λ edges. (edges.items, reader.new)) result (edges_at format (ids_of nodes.now) count (0, 0) reader.old) }
 {
     let mut edges = Vec::with_capacity(alloc, count as usize).map_err(Memory::from)?;
     let mut before = (0, 0);
     'edges: for _done in 0..count {
-        let edge = read_edge(reader, nodes, before)?;
+        let edge = read_edge(reader, format, nodes, before)?;
         before = (edge.low.0, edge.high.0);
         push(&mut edges, edge)?;
     }
@@ -149,10 +156,11 @@ fn read_edges(
 #[tactic(auto, unfolding(crate::specs::Documents::edge_at, crate::specs::Documents::judged_at, crate::specs::Documents::ends_at))]
 fn read_edge(
     reader: &mut Reader<'_>,
+    format: u8,
     nodes: &[NodeKey],
     before: (u8, u8),
 ) -> Result<Edge, TopologyRefused>
-    ensures { Gives (λ e. (e, reader.new)) result (edge_at (ids_of nodes.now) before reader.old) }
+    ensures { Gives (λ e. (e, reader.new)) result (edge_at format (ids_of nodes.now) before reader.old) }
 {
     let low = reader.u8()?;
     let high = reader.u8()?;
@@ -161,7 +169,7 @@ fn read_edge(
         return Err(fault);
     }
     let weight = reader.u32()?;
-    if let Some(fault) = weight_fault(weight) {
+    if let Some(fault) = weight_fault(format, weight) {
         return Err(fault);
     }
     Ok(Edge {

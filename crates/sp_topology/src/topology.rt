@@ -24,9 +24,12 @@ pub struct Edge {
 }
 
 /// Who is there and how they are joined: the nodes ascend by their ids, and the edges by their two ends.
-/// The place of an edge is its `EdgeId`. Its weight is the least that a link may be given.
+/// The place of an edge is its `EdgeId`. Its weight is the least that a link may be given, and in format 2
+/// 0 where the edge is withdrawn.
 #[derive(Debug, Drop)]
 pub struct Topology {
+    /// The format of the document, and of every object, frame, graph and schedule under it.
+    pub format: u8,
     pub version: u32,
     pub height: LmsHeight,
     pub nodes: Listed<NodeKey>,

@@ -1,11 +1,11 @@
 // The document of a topology, written.
 ghost use Rattle.std.specs.Prelude.{◌≡◌, ◌≤◌, ◌++◌, IfErr, IfOk, OnOk, flat_map, length};
 ghost use Rattle.byteorder.specs.Endian.{big_bytes};
-ghost use Rattle.sp_base.specs.declared.limits.TheConstants.{MAX_NODES};
-ghost use Rattle.sp_topology.specs.Documents.{document, edge_bytes, front_bytes, front_of, node_bytes};
+ghost use Rattle.sp_base.specs.declared.limits.TheConstants.{MAX_NODES_2};
+ghost use Rattle.sp_topology.specs.Documents.{document, edge_bytes, front_bytes, front_of, name, node_bytes};
 ghost use Rattle.sp_topology.specs.Ranges.{IsTopology};
 
-use crate::document::{EDGE_BYTES, FORMAT, FRONT_BYTES, NAME, NODE_BYTES};
+use crate::document::{EDGE_BYTES, FRONT_BYTES, NAME, NODE_BYTES};
 use crate::{Edge, NodeKey, Topology, TopologyRefused};
 use byteorder::{BigEndian, ByteOrder};
 use sp_base::{Bytes, Listed, Memory};
@@ -13,6 +13,7 @@ use std::alloc::Global;
 
 impl Topology {
     /// The document of the topology, which has no other. Only want of memory refuses.
+    #[tactic(auto, using(sp_base::proofs::FormatLemmas::few_nodes, sp_base::proofs::FormatLemmas::few_edges))]
     pub fn write(&self, alloc: Global) -> Result<Bytes, TopologyRefused>
         requires { IsTopology self.now }
         ensures document { IfOk result (λ bytes. bytes ≡ document self.now) }
@@ -31,14 +32,21 @@ impl Topology {
 }
 
 fn push_front(out: &mut Vec<u8>, topology: &Topology) -> Result<(), Memory>
-    requires { length topology.now.nodes ≤ MAX_NODES }
+    requires { length topology.now.nodes ≤ MAX_NODES_2 }
     ensures { OnOk result (out.new.items ≡ out.old.items ++ front_bytes (front_of topology.now)) }
 {
-    push_u32(out, NAME)?;
-    push_u8(out, FORMAT)?;
-    push_u32(out, topology.version)?;
+    push_start(out, topology)?;
     push_u8(out, topology.height.number())?;
     push_u8(out, topology.nodes.as_slice().len() as u8)
+}
+
+/// The name, the format and the version.
+fn push_start(out: &mut Vec<u8>, topology: &Topology) -> Result<(), Memory>
+    ensures { OnOk result (out.new.items ≡ out.old.items ++ (big_bytes 4 name ++ (big_bytes 1 topology.now.format ++ big_bytes 4 topology.now.version))) }
+{
+    push_u32(out, NAME)?;
+    push_u8(out, topology.format)?;
+    push_u32(out, topology.version)
 }
 
 fn push_nodes(out: &mut Vec<u8>, nodes: &[NodeKey]) -> Result<(), Memory>

@@ -3,7 +3,8 @@ ghost use Rattle.std.specs.Prelude.{◌≡◌, ◌+◌, ◌*◌, ◌<◌, ◌≤
 ghost use Rattle.sp_msg.specs.Bodies.{HasGoodFields};
 ghost use Rattle.sp_rules.specs.Handle.{offer_of};
 ghost use Rattle.sp_rules.specs.Weights.{cycle_at, effective, held, moved, next, next_row, next_seq, offer, start};
-ghost use Rattle.sp_topology.specs.Ranges.{IsTopology};
+ghost use Rattle.sp_base.specs.declared.format.TheConstants.{FORMAT_1};
+ghost use Rattle.sp_topology.specs.InFormat.{IsTopologyIn};
 
 use crate::held::{effective_by, held_in, row_in, row_of, seq_in};
 use sp_base::{Cursor, EdgeId, Memory, NodeId};
@@ -41,7 +42,7 @@ impl Model for Weights {
 impl Weights {
     /// No update is held yet.
     pub fn new(alloc: Global, topology: &Topology) -> Result<Weights, Memory>
-        requires { IsTopology topology.now }
+        requires { IsTopologyIn FORMAT_1 topology.now }
         ensures { IfOk result (λ weights. weights ≡ start topology.now) }
     {
         let edges = Vec::from_slice(alloc, topology.edges.as_slice())?;

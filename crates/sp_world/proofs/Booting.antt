@@ -10,7 +10,8 @@ use Rattle.std.proofs.lemmas.List.FromFn.{map-range_with_len_more}
 use Rattle.sp_adversary.specs.Keys.{whole_signer}
 use Rattle.sp_base.specs.declared.limits.TheConstants.{MAX_EDGES}
 use Rattle.sp_base.specs.declared.id.NodeId.{NodeId}
-use Rattle.sp_graph.specs.Edges.{IsGraph}
+use Rattle.sp_base.specs.declared.format.TheConstants.{FORMAT_1}
+use Rattle.sp_graph.specs.Edges.{IsGraphIn}
 use Rattle.sp_node_state.specs.Boots.{IsBootable, booted_of}
 use Rattle.sp_node_state.specs.States.{signer_in}
 use Rattle.sp_node_state.specs.declared.boot.NodeConfig.{NodeConfig}
@@ -51,7 +52,7 @@ keys_are h seed u (id ∷ ids) there = elim (cases_Bool (eqb id u.0)) [
   | inr t ↦ rw t (keys_are h seed u ids (rw t at there))
 ]
 
-pub is_bootable : (s : Scenario) (own : NodeSigner) → IsGraph s.graph → IsOwn s own → IsTrue (is_correct (setting_of s) own.node)
+pub is_bootable : (s : Scenario) (own : NodeSigner) → IsGraphIn FORMAT_1 s.graph → IsOwn s own → IsTrue (is_correct (setting_of s) own.node)
     → IsBootable (config_of s own.node) own 1
 is_bootable s own graph mine correct = record {
   topology = topologies_fit s graph;
@@ -113,10 +114,10 @@ signers_more s n old items own signer before pushed is whole =
     pushed ∙ ap₂ (λ (xs : List NodeSigner) (x : NodeSigner). xs ++ x ∷ []) before one
     ∙ sym (map-range_with_len_more (signer_at s) 1 n (n + 1) (omega arith))
 
-pub few_edges : (s : Scenario) → IsGraph s.graph → length s.graph.edges ≤ MAX_EDGES
+pub few_edges : (s : Scenario) → IsGraphIn FORMAT_1 s.graph → length s.graph.edges ≤ MAX_EDGES
 few_edges s graph = (topologies_fit s graph).graph.edge_count
 
-pub may_boot : (s : Scenario) (own : NodeSigner) (config : NodeConfig) → config ≡ config_of s own.node → IsGraph s.graph → IsOwn s own
+pub may_boot : (s : Scenario) (own : NodeSigner) (config : NodeConfig) → config ≡ config_of s own.node → IsGraphIn FORMAT_1 s.graph → IsOwn s own
     → IsTrue (is_correct (setting_of s) own.node) → IsBootable config own 1
 may_boot s own config is graph mine correct = subst (λ (c : NodeConfig). IsBootable c own 1) (sym is) (is_bootable s own graph mine correct)
 

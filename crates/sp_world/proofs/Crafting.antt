@@ -8,6 +8,7 @@ use Rattle.std.proofs.lemmas.Option.{same_Some}
 use Rattle.std.specs.Prelude.{position}
 use Rattle.std.proofs.lemmas.Bool.Decides.{nat_tests}
 use Rattle.sp_base.proofs.RowLemmas.{first_where-put, first_where-put_other}
+use Rattle.sp_base.specs.declared.format.TheConstants.{FORMAT_1}
 use Rattle.sp_base.specs.declared.id.NodeId.{NodeId}
 use Rattle.sp_adversary.specs.Crafters.{Crafters, Used, is_used, most, used}
 use Rattle.sp_adversary.specs.Crafting.{AreAfter, Crafts, object_of, one_more}
@@ -192,7 +193,7 @@ signature_long h seed index message =
       lms.length-signature h W4 (tree_id seed (Lower t)) (tree_seed seed (Lower t)) q message,
     )
 
-pub object_is_writable : (cs : Crafters) (key : NodeId) (body : Body) → HasGoodFields body → IsWritable (object_of cs key body)
+pub object_is_writable : (cs : Crafters) (key : NodeId) (body : Body) → HasGoodFields body → IsWritable FORMAT_1 (object_of cs key body)
 object_is_writable cs key body good =
     let long = signature_long (param_of cs.height) (node_seed cs.seed key.0) (used cs key) (encoded body) in
     let short = signatures_are_short cs.height in
@@ -215,13 +216,13 @@ pub spent_is : (s : Scenario) (es : List Event) (c v key : NodeId) (object : Cra
 spent_is s es c v key object count old new are done = spent_comes s es (at_start (setting_of s)) c v key object old count are done.0 done.1
 
 pub object_writable : (key : NodeId) (body : Body) (object : Kept) (old new : Crafters) → HasGoodFields body
-    → Crafts old key body (Ok (answers.Signed object)) new → IsWritable object
-object_writable key body object old new good done = subst IsWritable (sym done.1) (object_is_writable old key body good)
+    → Crafts old key body (Ok (answers.Signed object)) new → IsWritable FORMAT_1 object
+object_writable key body object old new good done = subst (IsWritable FORMAT_1) (sym done.1) (object_is_writable old key body good)
 
 -- ---- the head and the key of a crafted frame
 
 pub head_is : (nodes : List NodeState) (c v : NodeId) (n : NodeState) (counter : ℕ) (head : Head) → IsAtFirst nodes v → node_in nodes v ≡ Some n
-    → counter ≡ (link_in n c).seen.1 → head ≡ record { from = c; to = v; boot = 1; echo = 1; counter = counter_after counter; topology = 1 }
+    → counter ≡ (link_in n c).seen.1 → head ≡ record { from = c; to = v; boot = 1; echo = 1; counter = counter_after counter; topology = 1; format = FORMAT_1 }
     → head ≡ crafted_head n c
 head_is nodes c v n counter head first there seen is =
     let same : first.node ≡ n = same_Some first.node n (sym first.is_there ∙ there) in

@@ -3,7 +3,8 @@ use Rattle.std.proofs.Common.{◌≡◌, ℕ, List, [], ◌∷◌, ◌++◌, Opt
 use Rattle.sp_adversary.specs.Crafters.{Crafters}
 use Rattle.sp_adversary.specs.Crafting.{AreAfter, no_crafts}
 use Rattle.sp_base.specs.declared.limits.TheConstants.{MAX_EVENTS}
-use Rattle.sp_graph.specs.Edges.{IsGraph}
+use Rattle.sp_base.specs.declared.format.TheConstants.{FORMAT_1}
+use Rattle.sp_graph.specs.Edges.{IsGraphIn}
 use Rattle.sp_journal.specs.declared.entry.Entry.{Entry}
 use Rattle.sp_node_format.specs.Format.{format}
 use Rattle.sp_runs.specs.Inputs.{acting}
@@ -88,7 +89,7 @@ goes_on s es es' js js' w w' e j told events_are journal_is = record {
 }
 
 -- before the first event
-pub kept_at_first : (s : Scenario) (nodes : List NodeState) (ds : List Direction) (len : ℕ) (c : Crafters) → IsGraph s.graph
+pub kept_at_first : (s : Scenario) (nodes : List NodeState) (ds : List Direction) (len : ℕ) (c : Crafters) → IsGraphIn FORMAT_1 s.graph
     → nodes ≡ map (node_at_boot (setting_of s)) (correct_nodes (setting_of s)) → ds ≡ [] → len ≡ (setting_of s).signature_len → c ≡ no_crafts s
     → IsKept (going s [] [] (record { nodes = nodes; directions = ds })) len c
 kept_at_first s nodes ds len c graph booted none long fresh = rw (booted, none, fresh) (record {

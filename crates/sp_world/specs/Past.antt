@@ -1,7 +1,8 @@
 -- What a world keeps, and what an event makes of it.
 use Rattle.std.specs.Prelude.{ℕ, ◌≡◌, ◌⊎◌, ◌+◌, List, [], ◌∷◌, ◌++◌, length, Option, None, Some}
 use Rattle.sp_base.specs.declared.id.NodeId.{NodeId}
-use Rattle.sp_graph.specs.Edges.{IsGraph}
+use Rattle.sp_base.specs.declared.format.TheConstants.{FORMAT_1}
+use Rattle.sp_graph.specs.Edges.{IsGraphIn}
 use Rattle.sp_journal.specs.declared.entry.Entry.{Entry}
 use Rattle.sp_node_format.specs.Format.{format}
 use Rattle.sp_runs.specs.Inputs.{acting}
@@ -40,7 +41,7 @@ IsLeft (Some (refusals.Forged number what)) last now = (u : NodeId) × (now ≡ 
 -- The events are a run in which nothing is forged, and the entries are its journal. The nodes and frames are those at the end of the run, also
 -- where the world has stopped for want of memory. Where something of the next event is forged, the node that acted in it is gone.
 pub record IsPast (p : Past) : Type 0 where
-  pub graph : IsGraph p.scenario.graph
+  pub graph : IsGraphIn FORMAT_1 p.scenario.graph
   pub last : World
   pub clean : Clean format (setting_of p.scenario) p.events p.journal last
   pub left : IsLeft p.stopped last p.world

@@ -2,7 +2,8 @@
 use Rattle.std.specs.Prelude.{ℕ, ◌≡◌, ◌≤◌, ◌<◌, List, None, Some, length, position}
 use Rattle.sp_base.specs.declared.id.NodeId.{NodeId}
 use Rattle.sp_base.specs.declared.limits.TheConstants.{MAX_EDGES, MAX_EVENTS}
-use Rattle.sp_graph.specs.Edges.{IsGraph}
+use Rattle.sp_base.specs.declared.format.TheConstants.{FORMAT_1}
+use Rattle.sp_graph.specs.Edges.{IsGraphIn}
 use Rattle.sp_journal.specs.declared.entry.Entry.{Entry}
 use Rattle.sp_node_format.specs.Format.{format}
 use Rattle.sp_rules.specs.Node.{NodeState, link_in}
@@ -24,7 +25,7 @@ use Rattle.sp_world.specs.declared.acts.Done.TheVariants as dones
 
 -- nothing is forged in the events so far, they led to this world, and the next one is in its range
 pub record Stands (s : Scenario) (es : List Event) (js : List Entry) (w : World) (event : Event) : Type 0 where
-  pub graph : IsGraph s.graph
+  pub graph : IsGraphIn FORMAT_1 s.graph
   pub clean : Clean format (setting_of s) es js w
   pub range : InRange (setting_of s) es event
   pub few : length es < MAX_EVENTS

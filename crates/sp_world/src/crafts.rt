@@ -1,6 +1,7 @@
 // The bytes that a compromised neighbour crafts: fresh to the node that acts, and under the right tag.
 ghost use Rattle.sp_topology.specs.Neighbours.{joins};
 ghost use Rattle.std.specs.Prelude.{ℕ, position, ◌≡◌, ◌∷◌, ◌++◌, [], List, IfOk, None as Nothing, OnOk, Some as There};
+ghost use Rattle.sp_base.specs.declared.format.TheConstants.{FORMAT_1};
 ghost use Rattle.sp_adversary.specs.Crafting.{AreAfter, Crafts, HasRoom};
 ghost use Rattle.sp_msg.specs.Bodies.{HasGoodFields};
 ghost use Rattle.sp_node_format.specs.Format.{format};
@@ -101,7 +102,8 @@ pub fn status(
 #[tactic(auto, using(crate::proofs::Crafting::head_is))]
 fn head_for(nodes: &[Member], c: NodeId, v: NodeId) -> Head
     requires { IsAtFirst nodes.now v }
-    ensures { (n : NodeState) → node_in nodes.now v ≡ There n → result ≡ crafted_head n c }
+    ensures head { (n : NodeState) → node_in nodes.now v ≡ There n → result ≡ crafted_head n c }
+    ensures format { result.format ≡ FORMAT_1 }
 {
     let Some(member) = member_of(nodes, v) else {
         unreachable!()

@@ -6,6 +6,7 @@ use Rattle.std.proofs.lemmas.List.Elements.{All-append, All-drop, All-map, All-n
 use Rattle.laws_node.proofs.Objects.{objects_are_answered}
 use Rattle.laws_node.specs.Objects.{objects_in, objects_of}
 use Rattle.sp_base.specs.Spelling.{AreBytes}
+use Rattle.sp_base.specs.declared.format.TheConstants.{FORMAT_1}
 use Rattle.sp_base.specs.declared.id.NodeId.{NodeId}
 use Rattle.sp_frame.proofs.SectionLemmas.{read_is_spelled}
 use Rattle.sp_frame.specs.Frames.{sections_part, tagged_part}
@@ -74,23 +75,23 @@ pub record AreObjects (os : List Kept) : Type 0 where
 none_are : AreObjects []
 none_are = record { few = omega arith; good = All-nil IsGood }
 
-ack_is : (len : ℕ) (o : Option Kept) → IfSome o (IsObject kinds.Ack len) → (length (as_list o) ≤ most kinds.Ack) × All IsGood (as_list o)
+ack_is : (len : ℕ) (o : Option Kept) → IfSome o (IsObject FORMAT_1 kinds.Ack len) → (length (as_list o) ≤ most FORMAT_1 kinds.Ack) × All IsGood (as_list o)
 ack_is len None is = (omega arith, All-nil IsGood)
 ack_is len (Some o) is = (omega arith, All-cons IsGood o [] is.fields (All-nil IsGood))
 
-slot_is : (len : ℕ) (slot : Option Report) → IfSome slot (IsReport len)
-    → (length (slot_objects slot) ≤ most kinds.Ack + most kinds.Rel) × All IsGood (slot_objects slot)
+slot_is : (len : ℕ) (slot : Option Report) → IfSome slot (IsReport FORMAT_1 kinds.Ack kinds.Rel len)
+    → (length (slot_objects slot) ≤ most FORMAT_1 kinds.Ack + most FORMAT_1 kinds.Rel) × All IsGood (slot_objects slot)
 slot_is len None is = (omega arith, All-nil IsGood)
 slot_is len (Some r) is =
     let ack = ack_is len r.ack is.ack in
-    let rels = All-weaker (IsObject kinds.Rel len) IsGood (λ o h. h.fields) r.rels is.rels in
+    let rels = All-weaker (IsObject FORMAT_1 kinds.Rel len) IsGood (λ o h. h.fields) r.rels is.rels in
     (omega (arith, ack.0, is.few, length-append (as_list r.ack) r.rels), All-append IsGood (as_list r.ack) r.rels ack.1 rels)
 
 contents_are : (len : ℕ) (s : Contents) → IsContents len s → AreObjects (objects_in (pieces_of s))
 contents_are len s is =
     let slot = slot_is len s.slot is.slot in
-    let weights = All-weaker (IsObject kinds.Weight len) IsGood (λ o h. h.fields) s.weights is.weights in
-    let prios = All-map IsGood (λ m. m.1) s.prios (All-weaker (IsNumbered len) (λ (m : ℕ × Kept). IsGood m.1) (λ m h. h.object.fields) s.prios is.prios) in
+    let weights = All-weaker (IsObject FORMAT_1 kinds.Weight len) IsGood (λ o h. h.fields) s.weights is.weights in
+    let prios = All-map IsGood (λ m. m.1) s.prios (All-weaker (IsNumbered FORMAT_1 len) (λ (m : ℕ × Kept). IsGood m.1) (λ m h. h.object.fields) s.prios is.prios) in
     let rest = map (λ (m : ℕ × Kept). m.1) s.prios ++ slot_objects s.slot in
     subst AreObjects (sym (of_contents s)) (record {
       few = omega (
@@ -112,7 +113,7 @@ part_are bytes are = All-drop (λ (b : ℕ). b < 256) 33 (tagged_part bytes) (Al
 
 sections_are : (len : ℕ) (bytes : List ℕ) (r : Result Contents SectionRefused) → AreBytes bytes
     → sections_of len (sections_part bytes) ≡ r → AreObjects (objects_in (pieces_in r))
-sections_are len bytes (Ok s) are is = contents_are len s (read_is_spelled len (sections_part bytes) s (part_are bytes are) is).1
+sections_are len bytes (Ok s) are is = contents_are len s (read_is_spelled FORMAT_1 len (sections_part bytes) s (part_are bytes are) is).1
 sections_are len bytes (Err refused) are is = none_are
 
 where_are : (pieces : List Piece) (reply : LinkReply) → AreObjects (objects_in pieces) → AreObjects (objects_in (pieces_where reply pieces))

@@ -8,4 +8,8 @@ mod format_2;
 #[cfg(test)]
 mod format_2_rows;
 #[cfg(test)]
+mod frames;
+#[cfg(test)]
+mod frames_rows;
+#[cfg(test)]
 mod told;

@@ -14,6 +14,7 @@ use std::test::Fail;
 const FAR: i64 = 1 << 40;
 
 /// The graph of the text.
+#[tactic(auto, using(sp_graph::proofs::GraphLemmas::graph_of_any))]
 pub(crate) fn graph_of(alloc: Global, text: &str) -> Result<Graph, Fail>
     ensures { IfOk result IsGraph }
 {

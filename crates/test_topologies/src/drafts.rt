@@ -1,7 +1,7 @@
 // Drafts of a topology held against the first fault of each.
 
 use crate::topologies::name_of;
-use sp_base::NodeId;
+use sp_base::{FORMAT_1, FORMAT_2, NodeId};
 use sp_topology::{Edge, first_fault};
 use std::alloc::Global;
 use std::process::Abort;
@@ -34,6 +34,21 @@ fn draft_rows() -> &'static str {
 1 2 4|1-2-0 1-1-10|Weight"
 }
 
+/// The same in format 2.
+fn draft_rows_in_format_2() -> &'static str {
+    "\
+1 17 32|1-17-10 17-32-1000000|no fault
+1 17 32|1-17-0 17-32-0|no fault
+1 17 33|1-17-10|Order
+0 17 32|1-17-10|Order
+1 1 32|1-17-10|Twice
+1 17 32|1-1-10|Loop
+1 17 32|32-1-10|Order
+1 17 32|1-18-10|Unknown
+1 17 32|1-17-0 1-17-0|Twice
+1 17 32|1-17-1000001|Weight"
+}
+
 /// The nodes of a row.
 fn nodes_of(alloc: Global, written: &str) -> Result<Vec<NodeId>, Fail> {
     let mut nodes = Vec::new(alloc);
@@ -58,9 +73,14 @@ fn edges_of(alloc: Global, written: &str) -> Result<Vec<Edge>, Fail> {
     Ok(edges)
 }
 
-/// The first fault of a draft.
+/// The first fault of a draft of format 1.
 fn fault_name(nodes: &[NodeId], edges: &[Edge]) -> &'static str {
-    match first_fault(nodes, edges) {
+    fault_in(FORMAT_1, nodes, edges)
+}
+
+/// The first fault of a draft of a format.
+fn fault_in(format: u8, nodes: &[NodeId], edges: &[Edge]) -> &'static str {
+    match first_fault(format, nodes, edges) {
         Some(fault) => name_of(fault),
         None => "no fault",
     }
@@ -75,6 +95,19 @@ fn a_draft_is_judged_as_its_document_would_be(rt: HostRuntime) -> Result<(), Fai
         let nodes = nodes_of(alloc, nodes)?;
         let edges = edges_of(alloc, edges)?;
         assert_eq!(rt; fault_name(&nodes, &edges), answer, "{row}");
+    }
+    Ok(())
+}
+
+#[test]
+fn a_draft_of_format_2_is_judged_as_its_document_would_be(rt: HostRuntime) -> Result<(), Fail> {
+    let alloc = rt.alloc();
+    for row in draft_rows_in_format_2().lines() {
+        let (nodes, rest) = row.split_once('|').ok_or("no edges")?;
+        let (edges, answer) = rest.split_once('|').ok_or("no answer")?;
+        let nodes = nodes_of(alloc, nodes)?;
+        let edges = edges_of(alloc, edges)?;
+        assert_eq!(rt; fault_in(FORMAT_2, &nodes, &edges), answer, "{row}");
     }
     Ok(())
 }

@@ -4,4 +4,8 @@
 #[cfg(test)]
 mod drafts;
 #[cfg(test)]
+mod format_2;
+#[cfg(test)]
+mod format_2_rows;
+#[cfg(test)]
 mod topologies;

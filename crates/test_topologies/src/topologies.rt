@@ -31,7 +31,7 @@ fn bad_fronts() -> &'static str {
     "\
 Magic|another name|4d544d580100000001050301[01]02[02]04[04]000201020000000a020400000001
 Format|format 0|4d544d570000000001050301[01]02[02]04[04]000201020000000a020400000001
-Format|format 2|4d544d570200000001050301[01]02[02]04[04]000201020000000a020400000001
+Format|format 3|4d544d570300000001050301[01]02[02]04[04]000201020000000a020400000001
 Height|height 0|4d544d570100000001000301[01]02[02]04[04]000201020000000a020400000001
 Height|height 4|4d544d570100000001040301[01]02[02]04[04]000201020000000a020400000001
 Height|height 6|4d544d570100000001060301[01]02[02]04[04]000201020000000a020400000001
@@ -164,7 +164,7 @@ pub fn name_of(refused: TopologyRefused) -> &'static str {
 }
 
 /// What the bytes are refused for.
-fn refusal_of(alloc: Global, bytes: &[u8]) -> &'static str {
+pub fn refusal_of(alloc: Global, bytes: &[u8]) -> &'static str {
     match Topology::read(alloc, bytes) {
         Ok(_) => "read",
         Err(refused) => name_of(refused),

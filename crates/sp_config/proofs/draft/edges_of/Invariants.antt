@@ -8,6 +8,6 @@ use Rattle.sp_config.proofs.draft.edges_of.Given as goal
 
 abbrev pub invariant-edges : goal.invariant-edges
 invariant-edges l = record {
-  good : AreGood edge_keys l.bound (tables_of (items_view (drop l.value-index l.values)));
+  good : AreGood edge_keys l.ranges (tables_of (items_view (drop l.value-index l.values)));
   done : l.edges.items ++ map edge_of (tables_of (items_view (drop l.value-index l.values))) ≡ map edge_of (tables_of (items_view l.values));
 }

@@ -8,6 +8,6 @@ use Rattle.sp_config.proofs.draft.nodes_of.Given as goal
 
 abbrev pub invariant-nodes : goal.invariant-nodes
 invariant-nodes l = record {
-  good : AreGood node_keys l.bound (tables_of (items_view (drop l.value-index l.values)));
+  good : AreGood node_keys l.ranges (tables_of (items_view (drop l.value-index l.values)));
   done : l.nodes.items ++ map node_of (tables_of (items_view (drop l.value-index l.values))) ≡ map node_of (tables_of (items_view l.values));
 }

@@ -6,4 +6,4 @@ use Rattle.sp_config.proofs.walks.out_of_range_in.Given as goal
 
 abbrev pub invariant-rows : goal.invariant-rows
 invariant-rows l =
-    out_of_range_in l.bound (map row_of l.rows) (table_view l.table) ≡ out_of_range_in l.bound (map row_of (drop l.row-index l.rows)) (table_view l.table)
+    out_of_range_in l.ranges (map row_of l.rows) (table_view l.table) ≡ out_of_range_in l.ranges (map row_of (drop l.row-index l.rows)) (table_view l.table)

@@ -18,17 +18,17 @@ returns-in_default-clause-len t c =
 pub push_u64-requires : goal.push_u64-requires
 push_u64-requires t c =
     let at = sym c.get.ensures.value ∙ ap option_copied c.in-Some.is in
-    omega (arith, numbered_from c.args.prios.now (λ q. (q.0, q.1.now)) c.args.place c.in-Some.field-0.now at, c.requires.room)
+    omega (arith, numbered_from c.args.format c.args.prios.now (λ q. (q.0, q.1.now)) c.args.place c.in-Some.field-0.now at, c.requires.room)
 
 pub push_object-requires-clause-fits : goal.push_object-requires-clause-fits
 push_object-requires-clause-fits t c =
     let at = sym c.get.ensures.value ∙ ap option_copied c.in-Some.is in
-    at_place (λ p. IsWritable p.1.now) c.args.prios.now c.args.place c.in-Some.field-0.now c.requires.fits at
+    at_place (λ p. IsWritable c.args.format p.1.now) c.args.prios.now c.args.place c.in-Some.field-0.now c.requires.fits at
 
 pub push_object-requires-clause-room : goal.push_object-requires-clause-room
 push_object-requires-clause-room t c =
     let at = sym c.get.ensures.value ∙ ap option_copied c.in-Some.is in
-    omega (arith, numbered_from c.args.prios.now (λ q. (q.0, q.1.now)) c.args.place c.in-Some.field-0.now at, c.push_u64.ensures.len, c.push_u64.ensures.capacity, c.requires.room)
+    omega (arith, numbered_from c.args.format c.args.prios.now (λ q. (q.0, q.1.now)) c.args.place c.in-Some.field-0.now at, c.push_u64.ensures.len, c.push_u64.ensures.capacity, c.requires.room)
 
 pub push_numbered-requires : goal.push_numbered-requires
 push_numbered-requires t c =
@@ -38,7 +38,7 @@ push_numbered-requires t c =
         c.requires.fits,
         omega (
           arith,
-          numbered_from c.args.prios.now (λ q. (q.0, q.1.now)) c.args.place c.in-Some.field-0.now at,
+          numbered_from c.args.format c.args.prios.now (λ q. (q.0, q.1.now)) c.args.place c.in-Some.field-0.now at,
           c.push_u64.ensures.len,
           c.push_u64.ensures.capacity,
           c.push_object.ensures.len,

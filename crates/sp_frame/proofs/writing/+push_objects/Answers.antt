@@ -18,12 +18,12 @@ returns-in_default-clause-len t c =
 pub push_object-requires-clause-fits : goal.push_object-requires-clause-fits
 push_object-requires-clause-fits t c =
     let at = sym c.get.ensures.value ∙ ap option_copied c.in-Some.is in
-    at_place (λ o. IsWritable o.now) c.args.rels.now c.args.place c.in-Some.message.now c.requires.fits at
+    at_place (λ o. IsWritable c.args.format o.now) c.args.rels.now c.args.place c.in-Some.message.now c.requires.fits at
 
 pub push_object-requires-clause-room : goal.push_object-requires-clause-room
 push_object-requires-clause-room t c =
     let at = sym c.get.ensures.value ∙ ap option_copied c.in-Some.is in
-    omega (arith, objects_from c.args.rels.now (λ o. o.now) c.args.place c.in-Some.message.now at, c.requires.room)
+    omega (arith, objects_from c.args.format c.args.rels.now (λ o. o.now) c.args.place c.in-Some.message.now at, c.requires.room)
 
 pub push_objects-requires : goal.push_objects-requires
 push_objects-requires t c =
@@ -33,7 +33,7 @@ push_objects-requires t c =
         c.requires.fits,
         omega (
           arith,
-          objects_from c.args.rels.now (λ o. o.now) c.args.place c.in-Some.message.now at,
+          objects_from c.args.format c.args.rels.now (λ o. o.now) c.args.place c.in-Some.message.now at,
           c.push_object.ensures.len,
           c.push_object.ensures.capacity,
           c.requires.room,

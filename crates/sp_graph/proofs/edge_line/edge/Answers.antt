@@ -6,4 +6,4 @@ use Rattle.sp_graph.proofs.edge_line.edge.Goals as goal
 pub returns-else-is_next : goal.returns-else-is_next
 returns-else-is_next c =
     let right = c.in_ok-edge.ensures in
-    not_next c.args.graph.now _ c.in_ok-edge.edge (omega arith) right.0 right.1 right.2 (iff_false c.is_next.ensures c.if-is_next.false)
+    not_next c.args.format c.args.graph.now _ c.in_ok-edge.edge (omega arith) right.0 right.1 right.2 (iff_false c.is_next.ensures c.if-is_next.false)

@@ -14,7 +14,7 @@ returns-in_default c =
 
 pub returns-in_err-edge : goal.returns-in_err-edge
 returns-in_err-edge c =
-    bad_edge c.args.graph _ _ c.in-Some.low.now c.in-Some.high.now c.in-Some.weight.now c.from_residual.result c.in_err-edge.field-0.0 c.from_residual.ensures.1
+    bad_edge c.args.format c.args.graph _ _ c.in-Some.low.now c.in-Some.high.now c.in-Some.weight.now c.from_residual.result c.in_err-edge.field-0.0 c.from_residual.ensures.1
     c.in-Some.ensures.found c.in_err-edge.ensures.fields
 
 pub returns-then-not-is_next : goal.returns-then-not-is_next

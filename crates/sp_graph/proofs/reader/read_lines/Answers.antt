@@ -1,5 +1,7 @@
-use Rattle.std.proofs.Common.{ap, arith, ◌∙◌, ◌+◌, List, map, ℕ}
+use Rattle.std.proofs.Common.{ap, arith, ◌∙◌, ◌+◌, Err, List, map, subst, ℕ}
 use Rattle.sp_text.specs.Spelling.{Word}
+use Rattle.sp_graph.specs.Lines.{Says}
+use Rattle.sp_graph.specs.Refusals.{UnlessMemory}
 use Rattle.sp_graph.proofs.ReadingLemmas.{ends, goes_on, line_refused, none_left, stage_refused, taken, words_refused}
 use Rattle.sp_graph.proofs.reader.read_lines.Goals as goal
 
@@ -22,7 +24,8 @@ pub returns-in_err-stage : goal.returns-in_err-stage
 returns-in_err-stage c =
     stage_refused c.args.text.now c.lines.stage c.lines.count c.lines.lines c.next.new.self c.in-Some.line (map (λ w. w.now) c.as_slice.result.now) c.from_residual-in_err-stage.result
     c.in_err-stage.field-0.0 c.lines.invariant.goes_on c.lines.invariant.given (rw c.in-Some.is at c.in_ok-line.ensures) (rw c.as_slice.ensures.value c.in_ok-words.ensures)
-    c.in_err-stage.ensures c.from_residual-in_err-stage.ensures.1
+    (subst (λ (f : ℕ). UnlessMemory (Says f (c.lines.count + 1) (map (λ w. w.now) c.as_slice.result.now) c.lines.stage) (Err c.in_err-stage.field-0.0)) c.requires.format
+    c.in_err-stage.ensures) c.from_residual-in_err-stage.ensures.1
 
 pub lines-smaller : goal.lines-smaller
 lines-smaller c =
@@ -37,7 +40,8 @@ lines-preserved c =
       given = takes.1 ∙ ap (λ (n : ℕ). n + 1) c.lines.invariant.given;
       fits = omega (arith, line.less, c.lines.invariant.fits);
       goes_on = goes_on c.args.text.now c.lines.stage c.in_ok-stage.stage c.lines.count c.lines.lines c.next.new.self c.in-Some.line (map (λ w. w.now) c.as_slice.result.now)
-          c.lines.invariant.goes_on c.lines.invariant.given takes (rw c.as_slice.ensures.value c.in_ok-words.ensures) c.in_ok-stage.ensures;
+          c.lines.invariant.goes_on c.lines.invariant.given takes (rw c.as_slice.ensures.value c.in_ok-words.ensures)
+          (rw c.requires.format at c.in_ok-stage.ensures);
     }
 
 pub returns : goal.returns

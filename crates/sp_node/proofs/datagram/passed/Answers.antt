@@ -12,18 +12,19 @@ pub returns-clause-reply : goal.returns-clause-reply
 unfolding is_right
 returns-clause-reply c =
     passed_reply c.args.state.now c.args.from c.args.bytes.now c.in-Ok.frame c.state.inside.fixed c.link_at-link.result c.accept-answer.result c.after_link-reply.result.0
-    c.in-Ok.ensures (ap (λ (n : NodeState). n.fixed) c.state.view_is) c.link_at-link.ensures c.accept-answer.ensures.answer c.after_link-reply.ensures.reply
+    c.in-Ok.ensures.opened (ap (λ (n : NodeState). n.fixed) c.state.view_is) c.link_at-link.ensures c.accept-answer.ensures.answer
+    c.after_link-reply.ensures.reply
 
 pub returns-clause-link : goal.returns-clause-link
 unfolding is_right
 returns-clause-link c =
     passed_link c.args.state.now c.args.from c.args.bytes.now c.in-Ok.frame c.link_at-link.result c.accept-answer.new.self
-    c.in-Ok.ensures c.link_at-link.ensures c.accept-answer.ensures.link
+    c.in-Ok.ensures.opened c.link_at-link.ensures c.accept-answer.ensures.link
 
 pub returns-clause-pieces : goal.returns-clause-pieces
 returns-clause-pieces c =
     passed_pieces c.args.state.now c.args.from c.args.bytes.now c.in-Ok.frame c.state.inside.fixed c.after_link-reply.result.0 (pieces_with c.after_link-reply.result.1)
-    c.in-Ok.ensures (ap (λ (n : NodeState). n.fixed) c.state.view_is) (returns-clause-reply c) c.after_link-reply.ensures.pieces
+    c.in-Ok.ensures.opened (ap (λ (n : NodeState). n.fixed) c.state.view_is) (returns-clause-reply c) c.after_link-reply.ensures.pieces
 
 pub returns-clause-work : goal.returns-clause-work
 returns-clause-work c =

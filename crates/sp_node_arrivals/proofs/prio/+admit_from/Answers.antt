@@ -1,9 +1,12 @@
 use Rattle.std.proofs.Common.{rules, ◌≡◌, ◌≤◌, ◌+◌, ◌-◌, ◌*◌, ℕ, suc, [], ◌∷◌, drop, length, map, sym, ap, ◌∙◌, subst, arith}
 use Rattle.std.specs.Option.{option_copied}
 use Rattle.std.proofs.lemmas.List.{length-drop, length-map}
-use Rattle.sp_base.proofs.FewLemmas.{drop_first}
+use Rattle.sp_base.proofs.FewLemmas.{at_place, drop_first}
+use Rattle.sp_base.specs.declared.format.TheConstants.{FORMAT_1}
 use Rattle.sp_base.specs.declared.limits.TheConstants.{MAX_MESSAGES}
+use Rattle.sp_frame.specs.OfFormat.{IsOf}
 use Rattle.sp_frame.specs.Views.{as_numbered, as_object}
+use Rattle.sp_frame.specs.declared.object.ObjectRef.{ObjectRef}
 use Rattle.sp_rules.specs.Parts.{Parts}
 use Rattle.sp_rules.specs.Pieces.{PrioPiece, prio_piece}
 use Rattle.sp_rules.specs.Prio.{PrioState}
@@ -44,6 +47,11 @@ admit_one-item-requires-clause-ready t c =
     (ready_in_turn (as_arrival c.args.at.now) c.args.parts.now.prio c.args.prios.now c.args.place c.in-Some-get.field-0.now c.args.ready c.in-Some.others
     c.in-Some.first (sym c.get.ensures.value ∙ ap option_copied c.in-Some-get.is) (sym c.split.ensures ∙ c.in-Some.is) c.requires.ready).0
 
+pub admit_one-item-requires-clause-format : goal.admit_one-item-requires-clause-format
+admit_one-item-requires-clause-format t c =
+    at_place (λ (p : ℕ × ObjectRef). IsOf FORMAT_1 p.1) c.args.prios.now c.args.place c.in-Some-get.field-0.now c.requires.formats
+    (sym c.get.ensures.value ∙ ap option_copied c.in-Some-get.is)
+
 pub admit_from-items-requires : goal.admit_from-items-requires
 admit_from-items-requires t c =
     let at = as_arrival c.args.at.now in
@@ -61,7 +69,7 @@ admit_from-items-requires t c =
       search rules,
       (
         prios_follow at p.prio new.parts.prio (map as_numbered (drop (c.args.place + 1) c.args.prios.now)) c.in-Some.others follows both.1,
-        room_after count p.prio new.parts.prio c.args.out.now.room new.out.room follows ids room c.admit_one-item.ensures.room,
+        (c.requires.formats, room_after count p.prio new.parts.prio c.args.out.now.room new.out.room follows ids room c.admit_one-item.ensures.room),
       ),
     )
 

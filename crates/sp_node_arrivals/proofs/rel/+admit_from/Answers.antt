@@ -2,7 +2,9 @@ use Rattle.std.proofs.Common.{rules, ◌+◌, [], ◌∷◌, false, drop, length
 use Rattle.std.specs.Option.{option_copied}
 use Rattle.std.specs.Prelude.{is_some}
 use Rattle.std.proofs.lemmas.List.{length-drop, length-map}
-use Rattle.sp_base.proofs.FewLemmas.{drop_first}
+use Rattle.sp_base.proofs.FewLemmas.{at_place, drop_first}
+use Rattle.sp_base.specs.declared.format.TheConstants.{FORMAT_1}
+use Rattle.sp_frame.specs.OfFormat.{IsOf}
 use Rattle.sp_frame.specs.Views.{as_object}
 use Rattle.sp_rules.specs.Pieces.{RelPiece}
 use Rattle.sp_node_arrivals.proofs.DoneLemmas.{done_then, none_done}
@@ -42,6 +44,11 @@ admit_one-item-requires-clause-ready t c =
     c.args.ready c.in-Some.others c.in-Some.first (sym c.get.ensures.value ∙ ap option_copied c.in-Some-get.is) (sym c.split.ensures ∙ c.in-Some.is)
     c.requires.ready).0
 
+pub admit_one-item-requires-clause-format : goal.admit_one-item-requires-clause-format
+admit_one-item-requires-clause-format t c =
+    at_place (IsOf FORMAT_1) c.args.rels.now c.args.place c.in-Some-get.object.now c.requires.formats
+    (sym c.get.ensures.value ∙ ap option_copied c.in-Some-get.is)
+
 pub admit_from-items-requires : goal.admit_from-items-requires
 admit_from-items-requires t c =
     let keys = c.args.at.now.fixed.now.topology.nodes in
@@ -53,7 +60,7 @@ admit_from-items-requires t c =
         (
           first_stays (is_some c.in-Some.first) keys c.args.row.flow c.args.parts.now.rel c.admit_one-item.new.parts.rel
               (map as_object (drop (c.args.place + 1) c.args.rels.now)) c.in-Some.others c.admit_one-item.ensures.stays both.1,
-          omega (arith, c.requires.room, c.admit_one-item.ensures.room, c.in-Some-get.ensures.within, c.in-Some-get.ensures.few),
+          (c.requires.formats, omega (arith, c.requires.room, c.admit_one-item.ensures.room, c.in-Some-get.ensures.within, c.in-Some-get.ensures.few)),
         ),
       ),
     )

@@ -1,7 +1,9 @@
 use Rattle.std.proofs.Common.{◌≡◌, Bool, length, length-drop, ap, sym, ◌∙◌, arith}
 use Rattle.std.specs.Prelude.{◌||◌}
 use Rattle.std.specs.Option.{option_copied}
-use Rattle.sp_base.proofs.FewLemmas.{drop_past}
+use Rattle.sp_base.proofs.FewLemmas.{at_place, drop_past}
+use Rattle.sp_base.specs.declared.format.TheConstants.{FORMAT_1}
+use Rattle.sp_frame.specs.OfFormat.{IsOf}
 use Rattle.sp_frame.specs.Views.{as_object}
 use Rattle.sp_node_arrivals.specs.Rel.{is_followed}
 use Rattle.sp_node_arrivals.proofs.WorkLemmas.{moved_here, moved_on, rels_from, rels_then}
@@ -17,6 +19,10 @@ pub returns-in_default-clause-many : goal.returns-in_default-clause-many
 returns-in_default-clause-many t c =
     let none = sym c.get.ensures.value ∙ ap option_copied c.in_default.is in
     ap length c.new.ensures ∙ sym (ap length (drop_past c.args.rels.now c.args.place none)) ∙ length-drop c.args.place c.args.rels.now
+
+pub ready_one-requires-clause-format : goal.ready_one-requires-clause-format
+ready_one-requires-clause-format t c =
+    at_place (IsOf FORMAT_1) c.args.rels.now c.args.place c.in-Some.object.now c.requires.formats (sym c.get.ensures.value ∙ ap option_copied c.in-Some.is)
 
 pub returns-in_err-first-clause-work : goal.returns-in_err-first-clause-work
 returns-in_err-first-clause-work t c =

@@ -1,5 +1,5 @@
 use Rattle.std.proofs.Common.{◌≡◌, refl, ap, sym, ◌∙◌, ◌∷◌, ◌++◌, subst, map}
-use Rattle.std.specs.Prelude.{is_some, option_map}
+use Rattle.std.specs.Prelude.{IfSome, is_some, option_map}
 use Rattle.sp_base.specs.declared.id.Flow.{Flow}
 use Rattle.sp_frame.specs.Views.{as_list, as_object}
 use Rattle.sp_rel.specs.declared.place.Place.{Place}
@@ -8,12 +8,26 @@ use Rattle.sp_rules.specs.Parts.{Parts}
 use Rattle.sp_rules.specs.Pieces.{AckPiece, RelPiece, ReportPiece}
 use Rattle.sp_rules.specs.Rel.{RelState, reported}
 use Rattle.sp_node_arrivals.proofs.DoneLemmas.{quiet_then}
-use Rattle.sp_node_arrivals.proofs.RelLemmas.{slot_stays}
+use Rattle.sp_node_arrivals.proofs.RelLemmas.{ack_reported, slot_stays}
 use Rattle.sp_node_arrivals.specs.Done.{IsDone}
 use Rattle.sp_node_arrivals.specs.Arrival.{as_arrival}
+use Rattle.sp_node_arrivals.specs.Ack.{IsAckReady}
 use Rattle.sp_node_arrivals.specs.Rel.{AreRelsReady}
 use Rattle.sp_node_format.specs.Format.{format}
 use Rattle.sp_node_arrivals.proofs.slot.admit_slot.Goals as goal
+
+pub admit-ack-requires-clause-ready : goal.admit-ack-requires-clause-ready
+admit-ack-requires-clause-ready c =
+    let s = c.args.slot.now in
+    let row = c.place-row.result in
+    let keys = c.args.at.now.fixed.now.topology.nodes in
+    let from = c.args.at.now.from in
+    let ack = option_map as_object s.ack in
+    let own : row.flow ≡ s.flow = ap (λ (p : Place). p.flow) c.place-row.ensures in
+    let left = c.report.ensures.table ∙ ap (λ (p : Parts). reported p.rel from row.flow s.base s.have) c.parts.view_is in
+    subst (λ (r : RelState). IfSome ack (λ o. IsAckReady keys r row.flow o c.args.ready.ack)) (sym left)
+    (ack_reported keys c.args.parts.now.rel from row.flow s.base s.have row.flow ack c.args.ready.ack
+    (subst (λ (f : Flow). IfSome ack (λ o. IsAckReady keys c.args.parts.now.rel f o c.args.ready.ack)) (sym own) c.requires.ready.acknowledgement))
 
 pub admit_from-rels-requires-clause-ready : goal.admit_from-rels-requires-clause-ready
 admit_from-rels-requires-clause-ready c =

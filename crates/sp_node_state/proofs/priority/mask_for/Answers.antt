@@ -9,11 +9,12 @@ use Rattle.sp_rules.specs.Parts.{nodes_of}
 use Rattle.sp_rules.specs.Prio.{is_node}
 use Rattle.sp_rules.specs.Weights.{effective}
 use Rattle.sp_topology.specs.Keys.{key_of}
-use Rattle.sp_topology.specs.Ranges.{IsTopology}
+use Rattle.sp_base.specs.declared.format.TheConstants.{FORMAT_1}
+use Rattle.sp_topology.specs.InFormat.{IsTopologyIn}
 use Rattle.sp_node_state.proofs.priority.mask_for.Goals as goal
 
 pub choose-requires-clause-topology : goal.choose-requires-clause-topology
-choose-requires-clause-topology c = subst (λ (n : NodeState). IsTopology n.fixed.topology) (sym c.state.view_is) c.requires.kept.fixed.topology
+choose-requires-clause-topology c = subst (λ (n : NodeState). IsTopologyIn FORMAT_1 n.fixed.topology) (sym c.state.view_is) c.requires.kept.fixed.topology
 
 pub choose-requires-clause-edges : goal.choose-requires-clause-edges
 choose-requires-clause-edges c =

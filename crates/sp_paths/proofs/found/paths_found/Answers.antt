@@ -1,7 +1,7 @@
 use Rattle.std.proofs.Common.{◌≡◌, ◌<◌, ◌≤◌, ◌∙◌, ℕ, List, length, map, pos, sym, ap, subst}
 use Rattle.std.specs.Prelude.{ℤ}
 use Rattle.std.specs.List.{All}
-use Rattle.sp_base.specs.declared.limits.TheConstants.{MAX_NODES}
+use Rattle.sp_base.specs.declared.limits.TheConstants.{MAX_NODES_2}
 use Rattle.sp_graph.specs.declared.part.Part.{Part}
 use Rattle.sp_graph.specs.Certificates.{IsCertificate}
 use Rattle.sp_graph.specs.Split.{parts_of}
@@ -14,8 +14,8 @@ use Rattle.sp_paths.proofs.found.paths_found.Goals as goal
 pub potentials-requires-clause-parts : goal.potentials-requires-clause-parts
 potentials-requires-clause-parts c =
     let small = parts_small c.args.graph.now c.args.s c.args.t c.requires.graph in
-    let long = subst (λ (n : ℕ). All (λ part. ((node_of part).0 ≤ MAX_NODES) × (number part < n)) (parts_of c.args.graph.now c.args.s c.args.t)) (sym c.requires.found.numbers) small in
-    subst (λ (ps : List Part). All (λ part. ((node_of part).0 ≤ MAX_NODES) × (number part < length c.args.found.potential)) ps) (sym (c.as_slice.ensures.value ∙ c.in_ok-parts.ensures)) long
+    let long = subst (λ (n : ℕ). All (λ part. ((node_of part).0 ≤ MAX_NODES_2) × (number part < n)) (parts_of c.args.graph.now c.args.s c.args.t)) (sym c.requires.found.numbers) small in
+    subst (λ (ps : List Part). All (λ part. ((node_of part).0 ≤ MAX_NODES_2) × (number part < length c.args.found.potential)) ps) (sym (c.as_slice.ensures.value ∙ c.in_ok-parts.ensures)) long
 
 pub cost-cost-requires-clause-short : goal.cost-cost-requires-clause-short
 cost-cost-requires-clause-short c =

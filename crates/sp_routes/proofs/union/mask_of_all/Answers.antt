@@ -1,6 +1,5 @@
 use Rattle.std.proofs.Common.{◌∙◌, ◌||◌, Bool, Some, false, ap, arith}
 use Rattle.std.proofs.lemmas.List.{get_or-replicate}
-use Rattle.sp_graph.proofs.MaskLemmas.{few_edges}
 use Rattle.sp_msg.specs.Masks.{bits}
 use Rattle.sp_routes.specs.Joined.{flag_place}
 use Rattle.sp_routes.specs.declared.joined.TheConstants.{FLAGS}
@@ -9,7 +8,7 @@ use Rattle.sp_routes.proofs.JoinedLemmas.{mask_is}
 use Rattle.sp_routes.proofs.union.mask_of_all.Goals as goal
 
 pub mask_of_joined-requires-clause-few : goal.mask_of_joined-requires-clause-few
-mask_of_joined-requires-clause-few c = rw c.as_slice.ensures (few_edges c.args.graph.now c.requires)
+mask_of_joined-requires-clause-few c = rw c.as_slice.ensures c.requires.few
 
 pub returns : goal.returns
 returns c =

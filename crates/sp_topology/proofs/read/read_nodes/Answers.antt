@@ -7,13 +7,13 @@ use Rattle.sp_topology.proofs.read.read_nodes.Goals as goal
 pub returns-in_err-node : goal.returns-in_err-node
 returns-in_err-node c =
     handed_on _ _ _ c.in_err-node.field-0.0 c.from_residual-in_err-node.ensures.1
-    (c.nodes.invariant ∙ nodes_stop c.args.height c.args.count c.nodes._done c.nodes.before c.nodes.reader c.nodes.nodes.items _ c.nodes-test.true
+    (c.nodes.invariant ∙ nodes_stop c.args.format c.args.height c.args.count c.nodes._done c.nodes.before c.nodes.reader c.nodes.nodes.items _ c.nodes-test.true
     c.in_err-node.ensures)
 
 pub nodes-preserved : goal.nodes-preserved
 nodes-preserved c =
     c.nodes.invariant
-    ∙ nodes_go c.args.height c.args.count c.nodes._done c.nodes.before c.nodes.reader c.read_node.new.reader c.nodes.nodes.items c.in_ok-node.node
+    ∙ nodes_go c.args.format c.args.height c.args.count c.nodes._done c.nodes.before c.nodes.reader c.read_node.new.reader c.nodes.nodes.items c.in_ok-node.node
     c.nodes-test.true c.in_ok-node.ensures
-    ∙ ap (λ (items : List NodeKey). onto items (nodes_at c.args.height
+    ∙ ap (λ (items : List NodeKey). onto items (nodes_at c.args.format c.args.height
     (c.args.count - (c.nodes._done + 1)) c.in_ok-node.node.id.0 c.read_node.new.reader)) (sym c.in_ok-push.ensures.items)

@@ -1,10 +1,9 @@
-use Rattle.std.proofs.Common.{arith}
 use Rattle.sp_msg.specs.Masks.{bits}
-use Rattle.sp_graph.proofs.MaskLemmas.{few_edges, next_step}
+use Rattle.sp_graph.proofs.MaskLemmas.{next_step}
 use Rattle.sp_graph.proofs.graph.Graph.mask_of.Goals as goal
 
 pub mask_between-requires : goal.mask_between-requires
-mask_between-requires c = rw c.as_slice-edges.ensures (let few = few_edges c.args.self.now c.requires in omega (arith, few))
+mask_between-requires c = rw c.as_slice-edges.ensures c.requires.few
 
 pub steps-preserved : goal.steps-preserved
 steps-preserved c =
