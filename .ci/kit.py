@@ -399,8 +399,8 @@ def main():
         sys.exit("usage: python3 .ci/kit.py PATH/TO/spinesd")
     with tempfile.TemporaryDirectory() as folder:
         kit = Kit(os.path.abspath(sys.argv[1]), folder)
-        for look in (explains, endings_of_conformance, statuses, bodies, sections, several_messages, many_folders, cut_recordings, follows, broken_off, views, keys,
-                     kit_next.look, kit_house.look, kit_daemons.daemons, kit_busy.look):
+        for look in (explains, endings_of_conformance, statuses, bodies, sections, several_messages, many_folders, cut_recordings,
+                     follows, broken_off, views, keys, kit_next.look, kit_house.look, kit_daemons.daemons, kit_busy.look):
             look(kit)
     print(f"{kit.looks - kit.wrong} looks at the operator's kit as wanted, {kit.wrong} not")
     sys.exit(1 if kit.wrong else 0)
