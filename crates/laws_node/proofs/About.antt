@@ -20,6 +20,7 @@ use Rattle.sp_rules.specs.Parts.{Fixed, edge_to, nodes_of}
 use Rattle.sp_rules.specs.Prio.{is_node}
 use Rattle.sp_rules.specs.Rel.{RelState, due, own_flow, pairs_of, room}
 use Rattle.sp_rules.specs.Sends.{PrioSend, edge_or, mask_in, no_paths, no_room, prio_body, prio_refusal, rel_body, rel_refusal, send_prio_refusal, signer_refusal, weight_body, weight_refusal, weight_refusal_at}
+use Rattle.sp_rules.specs.Ticks.{due_now}
 use Rattle.sp_topology.specs.Keys.{key_of}
 use Rattle.sp_topology.specs.Neighbours.{joins}
 use Rattle.sp_topology.specs.declared.topology.NodeKey.{NodeKey}
@@ -31,8 +32,8 @@ use Rattle.laws_node.specs.Nodes.{NodeHolds}
 use Rattle.laws_node.specs.Sizes.{Sizes}
 use Rattle.laws_node.proofs.Boot.{flows_have}
 use Rattle.laws_node.proofs.Masks.{mask_within}
-use Rattle.laws_node.proofs.Own.{either, if_none, prio_sent_fits, rel_sent_fits, split, there_is_room, weight_sent_fits}
-use Rattle.laws_node.proofs.Reliable.{due_fits, due_row}
+use Rattle.laws_node.proofs.Own.{in_own_format, either, if_none, prio_sent_fits, rel_sent_fits, split, there_is_room, weight_sent_fits}
+use Rattle.laws_node.proofs.Reliable.{dated_due, due_now_fits, due_row}
 use Rattle.laws_node.proofs.Tables.{all_get, all_weaker, or_right}
 use Rattle.laws_node.proofs.Updates.{place_within}
 
@@ -76,7 +77,8 @@ rel_about k n dst payload e h =
 pub rel_good : (arts : Arts) (k : Sizes) (n : NodeState) (dst : NodeId) (payload : List ℕ) → ArtsFit arts n.fixed n.signer
     → length payload ≤ MAX_PAYLOAD_BYTES → rel_refusal n dst ≡ None → NodeHolds k n → IsTrue (arts.is_good (rel_body n dst payload))
 rel_good arts k n dst payload fits short e h =
-    fits.own (rel_body n dst payload) (rel_sent_fits k n dst payload short e h).fields (rel_about k n dst payload e h)
+    fits.own (rel_body n dst payload) (in_own_format k n (rel_body n dst payload) h (rel_sent_fits k n dst payload short e h).fields)
+    (rel_about k n dst payload e h)
 
 -- ---- a priority message
 
@@ -98,7 +100,7 @@ pub prio_good : (arts : Arts) (k : Sizes) (n : NodeState) (m : PrioSend) (choice
     → send_prio_refusal n m choice ≡ None → IsChoice (graph_of n.fixed.topology n.parts.weights) n.fixed.me m.dst m.paths choice → NodeHolds k n
     → IsTrue (arts.is_good (prio_body n m (mask_in choice)))
 prio_good arts k n m choice fits sizes e is h =
-    fits.own (prio_body n m (mask_in choice)) (prio_sent_fits k n m choice sizes e is h).fields
+    fits.own (prio_body n m (mask_in choice)) (in_own_format k n (prio_body n m (mask_in choice)) h (prio_sent_fits k n m choice sizes e is h).fields)
     (prio_about k n m choice (me_is_there arts n.fixed n.signer fits) e is h)
 
 -- ---- a weight
@@ -118,7 +120,8 @@ weight_about n v weight me e = go (edge_to n.fixed v) refl e
 pub weight_good : (arts : Arts) (k : Sizes) (n : NodeState) (v : NodeId) (weight : ℕ) → ArtsFit arts n.fixed n.signer → 1 ≤ weight → weight ≤ MAX_WEIGHT
     → weight_refusal n v weight ≡ None → NodeHolds k n → IsTrue (arts.is_good (weight_body n v weight))
 weight_good arts k n v weight fits least most e h =
-    fits.own (weight_body n v weight) (weight_sent_fits k n v weight least most e h).fields (weight_about n v weight (me_is_there arts n.fixed n.signer fits) e)
+    fits.own (weight_body n v weight) (in_own_format k n (weight_body n v weight) h (weight_sent_fits k n v weight least most e h).fields)
+    (weight_about n v weight (me_is_there arts n.fixed n.signer fits) e)
 
 -- ---- an acknowledgement
 
@@ -139,8 +142,14 @@ ack_about k index t r ack nodes e h =
     (flows_have (HasNode t) (nodes_of t) (nodes_of t) each each) there in
     subst (λ (a : Ack). IsAbout t (bodies.Ack a)) (sym at.is) both
 
-pub ack_good : (arts : Arts) (k : Sizes) (n : NodeState) (ack : Ack) → ArtsFit arts n.fixed n.signer → due n.parts.rel ≡ Some ack → NodeHolds k n
+-- the same of what is signed at a tick
+pub due_now_about : (k : Sizes) (n : NodeState) (ack : Ack) → due_now n ≡ Some ack → NodeHolds k n → IsAbout n.fixed.topology (bodies.Ack ack)
+due_now_about k n ack e h =
+    let d = dated_due n ack e in
+    subst (λ (a : Ack). IsAbout n.fixed.topology (bodies.Ack a)) (sym d.is)
+    (ack_about k n.signer.index n.fixed.topology n.parts.rel d.raw h.fixed.nodes d.is_due h.parts.rel)
+
+pub ack_good : (arts : Arts) (k : Sizes) (n : NodeState) (ack : Ack) → ArtsFit arts n.fixed n.signer → due_now n ≡ Some ack → NodeHolds k n
     → IsTrue (arts.is_good (bodies.Ack ack))
 ack_good arts k n ack fits e h =
-    fits.own (bodies.Ack ack) (due_fits k n.signer.index n.parts.rel ack e h.parts.rel).fields
-    (ack_about k n.signer.index n.fixed.topology n.parts.rel ack h.fixed.nodes e h.parts.rel)
+    fits.own (bodies.Ack ack) (in_own_format k n (bodies.Ack ack) h (due_now_fits k n ack e h.parts).fields) (due_now_about k n ack e h)

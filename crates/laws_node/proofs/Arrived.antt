@@ -1,14 +1,13 @@
 -- What of a datagram is handled: pieces in their ranges, and few of them messages.
-use Rattle.std.proofs.Common.{◌≡◌, ◌≤◌, ℕ, ◌+◌, List, [], ◌∷◌, ◌++◌, length, map, Option, Some, None, Result, Ok, Err, refl, ◌∙◌, arith}
+use Rattle.std.proofs.Common.{◌≡◌, ◌≤◌, ℕ, ◌+◌, List, [], ◌∷◌, ◌++◌, length, map, Option, Some, None, Result, Ok, Err, refl, subst, true, ◌∙◌, arith}
 use Rattle.std.specs.Prelude.{IfSome}
 use Rattle.std.specs.List.{All}
 use Rattle.std.proofs.lemmas.List.Elements.{All-cons, All-head, All-tail}
 use Rattle.sp_base.specs.Spelling.{AreBytes}
-use Rattle.sp_base.specs.declared.format.TheConstants.{FORMAT_1}
 use Rattle.sp_base.specs.declared.id.NodeId.{NodeId}
 use Rattle.sp_base.specs.declared.limits.TheConstants.{MAX_MESSAGES}
-use Rattle.sp_frame.specs.Objects.{IsObject}
-use Rattle.sp_frame.specs.Ranges.{IsContents, IsNumbered, IsReport}
+use Rattle.sp_frame.specs.Objects.{IsObject, is_of}
+use Rattle.sp_frame.specs.Ranges.{IsContentsIn, IsNumbered, IsReport}
 use Rattle.sp_frame.specs.Reliable.{Report}
 use Rattle.sp_frame.specs.Sections.{Contents}
 use Rattle.sp_frame.specs.Views.{as_list}
@@ -16,7 +15,7 @@ use Rattle.sp_frame.specs.declared.kind.Kind.{Kind}
 use Rattle.sp_frame.specs.declared.kind.Kind.TheVariants as kinds
 use Rattle.sp_frame.specs.declared.refused.SectionRefused.{SectionRefused}
 use Rattle.sp_msg.specs.declared.kept.Kept.{Kept}
-use Rattle.sp_msg.specs.Bodies.{HasGoodFields}
+use Rattle.sp_msg.specs.Bodies.{HasGoodFieldsIn}
 use Rattle.sp_rules.specs.Arrivals.{pieces_in, pieces_where, reply_at, sections_in}
 use Rattle.sp_rules.specs.Arts.{Arts}
 use Rattle.sp_rules.specs.Node.{NodeState, Signer}
@@ -41,38 +40,41 @@ join_fits : (k : Sizes) (ps qs : List Piece) → AllFit k ps → AllFit k qs →
 join_fits k [] qs one two = two
 join_fits k (p ∷ ps) qs one two = (one.0, join_fits k ps qs one.1 two)
 
-list_of : (k : Sizes) (o : Option Kept) → IfSome o (InRange k) → All (InRange k) (as_list o)
-list_of k None fits = λ i d within. absurd (omega (arith, within))
-list_of k (Some o) fits = All-cons (InRange k) o [] fits (λ i d within. absurd (omega (arith, within)))
-
-in_range : (k : Sizes) (kind : Kind) (len : ℕ) → len ≡ k.signature_len → (o : Kept) → IsObject FORMAT_1 kind len o → InRange k o
+in_range : (k : Sizes) (kind : Kind) (len : ℕ) → len ≡ k.signature_len → (o : Kept) → IsObject k.format kind len o → InRange k o
 in_range k kind len same o is = record { fields = is.fields; long = is.long ∙ same }
 
-prio_pieces : (k : Sizes) (len : ℕ) → len ≡ k.signature_len → (ms : List (ℕ × Kept)) → All (IsNumbered FORMAT_1 len) ms → AllFit k (map prio_piece ms)
+prio_pieces : (k : Sizes) (len : ℕ) → len ≡ k.signature_len → (ms : List (ℕ × Kept)) → All (IsNumbered k.format len) ms → AllFit k (map prio_piece ms)
 prio_pieces k len same [] all = tt
 prio_pieces k len same (m ∷ ms) all =
-    let first = All-head (IsNumbered FORMAT_1 len) m ms all in
-    ((first.number, in_range k kinds.Prio len same m.1 first.object), prio_pieces k len same ms (All-tail (IsNumbered FORMAT_1 len) m ms all))
+    let first = All-head (IsNumbered k.format len) m ms all in
+    ((first.number, in_range k kinds.Prio len same m.1 first.object), prio_pieces k len same ms (All-tail (IsNumbered k.format len) m ms all))
 
-report_pieces : (k : Sizes) (len : ℕ) → len ≡ k.signature_len → (slot : Option Report) → IfSome slot (IsReport FORMAT_1 kinds.Ack kinds.Rel len)
+report_pieces : (k : Sizes) (len : ℕ) → len ≡ k.signature_len → (slot : Option Report) → IfSome slot (IsReport k.format kinds.Ack kinds.Rel len)
     → AllFit k (slot_pieces slot)
 report_pieces k len same None is = tt
 report_pieces k len same (Some r) is = (
   tt,
   join_fits k (map (AckPiece r.flow) (as_list r.ack)) (map (RelPiece r.flow) r.rels)
-      (all_pieces k (AckPiece r.flow) (λ o fits. fits) (as_list r.ack) (list_of k r.ack (in_some r.ack is.ack)))
-      (all_pieces k (RelPiece r.flow) (λ o fits. fits) r.rels
-      (all_weaker (IsObject FORMAT_1 kinds.Rel len) (InRange k) r.rels (in_range k kinds.Rel len same) is.rels)),
+      (of_some r.ack is.ack)
+      (of_kind (RelPiece r.flow) kinds.Rel (λ o fits. fits) r.rels is.rels),
 )
   where
-    in_some : (o : Option Kept) → IfSome o (IsObject FORMAT_1 kinds.Ack len) → IfSome o (InRange k)
-    in_some None is = tt
-    in_some (Some o) is = in_range k kinds.Ack len same o is
+    -- each with its kind
+    of_kind : (one : Kept → Piece) (kind : Kind) → ((o : Kept) → InRange k o × (is_of kind o.body ≡ true) → PieceFits k (one o)) → (os : List Kept)
+        → All (IsObject k.format kind len) os → AllFit k (map one os)
+    of_kind one kind fits [] all = tt
+    of_kind one kind fits (o ∷ os) all =
+        let first = All-head (IsObject k.format kind len) o os all in
+        (fits o (in_range k kind len same o first, first.is), of_kind one kind fits os (All-tail (IsObject k.format kind len) o os all))
 
-contents_fit : (k : Sizes) (len : ℕ) → len ≡ k.signature_len → (s : Contents) → IsContents len s → AllFit k (pieces_of s)
+    of_some : (o : Option Kept) → IfSome o (IsObject k.format kinds.Ack len) → AllFit k (map (AckPiece r.flow) (as_list o))
+    of_some None is = tt
+    of_some (Some o) is = ((in_range k kinds.Ack len same o is, is.is), tt)
+
+contents_fit : (k : Sizes) (len : ℕ) → len ≡ k.signature_len → (s : Contents) → IsContentsIn k.format len s → AllFit k (pieces_of s)
 contents_fit k len same s is =
     join_fits k (map WeightPiece s.weights) _
-    (all_pieces k WeightPiece (λ o fits. fits) s.weights (all_weaker (IsObject FORMAT_1 kinds.Weight len) (InRange k) s.weights (in_range k kinds.Weight len same) is.weights))
+    (all_pieces k WeightPiece (λ o fits. fits) s.weights (all_weaker (IsObject k.format kinds.Weight len) (InRange k) s.weights (in_range k kinds.Weight len same) is.weights))
     (tt, join_fits k (map prio_piece s.prios) (slot_pieces s.slot) (prio_pieces k len same s.prios is.prios) (report_pieces k len same s.slot is.slot))
 
 -- how many priority messages are among them
@@ -95,8 +97,8 @@ slot_messages (Some r) =
     let rels = no_messages (RelPiece r.flow) (λ o. refl) r.rels in
     omega (arith, acks, rels, messages_both (map (AckPiece r.flow) (as_list r.ack)) (map (RelPiece r.flow) r.rels))
 
-few_messages : (len : ℕ) (s : Contents) → IsContents len s → messages (pieces_of s) ≤ MAX_MESSAGES
-few_messages len s is =
+few_messages : (format len : ℕ) (s : Contents) → IsContentsIn format len s → messages (pieces_of s) ≤ MAX_MESSAGES
+few_messages format len s is =
     let weights = no_messages WeightPiece (λ o. refl) s.weights in
     let prios = prio_messages s.prios in
     let slot = slot_messages s.slot in
@@ -112,12 +114,12 @@ pub record FewFit (k : Sizes) (pieces : List Piece) : Type 0 where
 none_fit : (k : Sizes) → FewFit k []
 none_fit k = record { fit = tt; few = omega arith }
 
-pub sections_fit : (k : Sizes) (arts : Arts) (f : Fixed) (signer : Signer) (bytes : List ℕ) → ArtsFit arts f signer → AreBytes bytes → f.signature_len ≡ k.signature_len
-    → (s : Result Contents SectionRefused) → sections_in arts f bytes ≡ s → FewFit k (pieces_in s)
-sections_fit k arts f signer bytes fits are same (Ok s) is =
-    let contents = fits.sections bytes s are is in
-    record { fit = contents_fit k f.signature_len same s contents; few = few_messages f.signature_len s contents }
-sections_fit k arts f signer bytes fits are same (Err e) is = none_fit k
+pub sections_fit : (k : Sizes) (arts : Arts) (f : Fixed) (signer : Signer) (bytes : List ℕ) → ArtsFit arts f signer → AreBytes bytes → f.topology.format ≡ k.format
+    → f.signature_len ≡ k.signature_len → (s : Result Contents SectionRefused) → sections_in arts f bytes ≡ s → FewFit k (pieces_in s)
+sections_fit k arts f signer bytes fits are format same (Ok s) is =
+    let contents = subst (λ (n : ℕ). IsContentsIn n f.signature_len s) format (fits.sections bytes s are is) in
+    record { fit = contents_fit k f.signature_len same s contents; few = few_messages k.format f.signature_len s contents }
+sections_fit k arts f signer bytes fits are format same (Err e) is = none_fit k
 
 pub where_fits : (k : Sizes) (pieces : List Piece) (reply : LinkReply) → FewFit k pieces → FewFit k (pieces_where reply pieces)
 where_fits k pieces replies.Fresh h = h
@@ -134,21 +136,21 @@ where_fits k pieces (replies.Section refused) h = none_fit k
 
 -- ---- what is new has its fields in their ranges
 
-fit_pieces : (k : Sizes) (pieces : List Piece) → AllFit k pieces → AllKeep (λ o. HasGoodFields o.body) pieces
+fit_pieces : (k : Sizes) (pieces : List Piece) → AllFit k pieces → AllKeep (λ o. HasGoodFieldsIn k.format o.body) pieces
 fit_pieces k [] h = tt
 fit_pieces k (piece ∷ pieces) h = (one piece h.0, fit_pieces k pieces h.1)
   where
-    one : (p : Piece) → PieceFits k p → PieceKeeps (λ o. HasGoodFields o.body) p
+    one : (p : Piece) → PieceFits k p → PieceKeeps (λ o. HasGoodFieldsIn k.format o.body) p
     one (WeightPiece o) h = h.fields
     one (PrioAckPiece number) h = tt
     one (PrioPiece number o) h = h.1.fields
-    one (ReportPiece flow base have) h = tt
-    one (AckPiece flow o) h = h.fields
-    one (RelPiece flow o) h = h.fields
+    one (ReportPiece flow sboot dboot base have) h = tt
+    one (AckPiece flow o) h = h.0.fields
+    one (RelPiece flow o) h = h.0.fields
 
 -- in a step, too
 pub step_fields : (k : Sizes) (arts : Arts) (n : NodeState) (v : NodeId) (bytes : List ℕ) → ArtsFit arts n.fixed n.signer → AreBytes bytes → NodeHolds k n
-    → AllKeep (λ o. HasGoodFields o.body) (pieces_where (reply_at arts n v bytes) (pieces_in (sections_in arts n.fixed bytes)))
+    → AllKeep (λ o. HasGoodFieldsIn k.format o.body) (pieces_where (reply_at arts n v bytes) (pieces_in (sections_in arts n.fixed bytes)))
 step_fields k arts n v bytes fits are h =
     fit_pieces k _ (where_fits k (pieces_in (sections_in arts n.fixed bytes)) (reply_at arts n v bytes)
-    (sections_fit k arts n.fixed n.signer bytes fits are h.fixed.signature_len (sections_in arts n.fixed bytes) refl)).fit
+    (sections_fit k arts n.fixed n.signer bytes fits are h.fixed.format h.fixed.signature_len (sections_in arts n.fixed bytes) refl)).fit

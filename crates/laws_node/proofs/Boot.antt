@@ -6,11 +6,11 @@ use Rattle.std.proofs.lemmas.Bool.Decides.{nat_tests}
 use Rattle.std.proofs.lemmas.List.Concat.{flat_map-cons}
 use Rattle.std.proofs.lemmas.List.Elements.{All-cons, All-head, All-nil, All-tail}
 use Rattle.std.proofs.lemmas.List.Kept.{AllPairs-cons, AllPairs-filter}
-use Rattle.sp_base.specs.declared.format.TheConstants.{FORMAT_1}
+use Rattle.sp_base.proofs.FormatLemmas.{few_nodes}
+use Rattle.sp_base.specs.Formats.{max_nodes}
 use Rattle.sp_base.specs.declared.id.EdgeId.{EdgeId}
 use Rattle.sp_base.specs.declared.id.Flow.{Flow}
 use Rattle.sp_base.specs.declared.id.NodeId.{NodeId}
-use Rattle.sp_base.specs.declared.limits.TheConstants.{MAX_NODES}
 use Rattle.sp_msg.specs.declared.kept.Kept.{Kept}
 use Rattle.sp_rules.specs.Flow.{ends, no_flow}
 use Rattle.sp_rules.specs.Node.{Signer, booted, link_of}
@@ -24,6 +24,7 @@ use Rattle.sp_topology.specs.Ranges.{AreEdges, AreNodes, has_id, ids_of}
 use Rattle.sp_topology.specs.declared.topology.Edge.{Edge}
 use Rattle.sp_topology.specs.declared.topology.LmsHeight.{LmsHeight}
 use Rattle.sp_topology.specs.declared.topology.NodeKey.{NodeKey}
+use Rattle.laws_node.proofs.HeldBoots.{no_lives_hold}
 use Rattle.laws_node.specs.Flows.{Differ, FlowHolds}
 use Rattle.laws_node.specs.Laws.{BootKeeps}
 use Rattle.laws_node.specs.Inputs.{Boots}
@@ -41,26 +42,27 @@ use Rattle.laws_node.proofs.Tables.{all_weaker, cond_either, or_where}
 abbrev Other : NodeId → NodeId → Type 0
 Other u v = ¬ (u ≡ v)
 
-pub nodes_hold : (height : LmsHeight) (before : ℕ) (nodes : List NodeKey) → AreNodes FORMAT_1 height before nodes → All IsNode (map (λ n. n.id) nodes)
-nodes_hold height before [] are = All-nil IsNode
-nodes_hold height before (n ∷ nodes) are =
-    All-cons IsNode n.id (map (λ m. m.id) nodes) (omega (arith, are.0.0), are.0.1) (nodes_hold height n.id.0 nodes are.2)
+pub nodes_hold : (format : ℕ) (height : LmsHeight) (before : ℕ) (nodes : List NodeKey) → AreNodes format height before nodes
+    → All (IsNode format) (map (λ n. n.id) nodes)
+nodes_hold format height before [] are = All-nil (IsNode format)
+nodes_hold format height before (n ∷ nodes) are =
+    All-cons (IsNode format) n.id (map (λ m. m.id) nodes) (omega (arith, are.0.0), are.0.1) (nodes_hold format height n.id.0 nodes are.2)
 
-above : (height : LmsHeight) (before : ℕ) (nodes : List NodeKey) → AreNodes FORMAT_1 height before nodes
+above : (format : ℕ) (height : LmsHeight) (before : ℕ) (nodes : List NodeKey) → AreNodes format height before nodes
     → All (λ (u : NodeId). before < u.0) (map (λ n. n.id) nodes)
-above height before [] are = All-nil (λ (u : NodeId). before < u.0)
-above height before (n ∷ nodes) are =
+above format height before [] are = All-nil (λ (u : NodeId). before < u.0)
+above format height before (n ∷ nodes) are =
     All-cons (λ (u : NodeId). before < u.0) n.id (map (λ m. m.id) nodes) are.0.0
     (all_weaker (λ (u : NodeId). n.id.0 < u.0) (λ (u : NodeId). before < u.0) (map (λ m. m.id) nodes) (λ u far. omega (arith, far, are.0.0))
-    (above height n.id.0 nodes are.2))
+    (above format height n.id.0 nodes are.2))
 
-pub nodes_once : (height : LmsHeight) (before : ℕ) (nodes : List NodeKey) → AreNodes FORMAT_1 height before nodes → AllPairs Other (map (λ n. n.id) nodes)
-nodes_once height before [] are = λ i j d below within. absurd (omega (arith, within))
-nodes_once height before (n ∷ nodes) are =
+pub nodes_once : (format : ℕ) (height : LmsHeight) (before : ℕ) (nodes : List NodeKey) → AreNodes format height before nodes → AllPairs Other (map (λ n. n.id) nodes)
+nodes_once format height before [] are = λ i j d below within. absurd (omega (arith, within))
+nodes_once format height before (n ∷ nodes) are =
     AllPairs-cons Other n.id (map (λ m. m.id) nodes)
     (all_weaker (λ (u : NodeId). n.id.0 < u.0) (Other n.id) (map (λ m. m.id) nodes) (λ u far same. omega (arith, far, ap (λ (w : NodeId). w.0) same))
-    (above height n.id.0 nodes are.2))
-    (nodes_once height n.id.0 nodes are.2)
+    (above format height n.id.0 nodes are.2))
+    (nodes_once format height n.id.0 nodes are.2)
 
 -- ---- the flows
 
@@ -136,40 +138,40 @@ same_ends (f ∷ flows) = ap (λ (fs : List Flow). f ∷ fs) (same_ends flows)
 
 -- ---- the links
 
-small_id : (height : LmsHeight) (before : ℕ) (nodes : List NodeKey) (id : ℕ) → AreNodes FORMAT_1 height before nodes → has_id id (ids_of nodes) ≡ true
-    → id ≤ MAX_NODES
-small_id height before [] id are e = absurd (cc)
-small_id height before (n ∷ nodes) id are e =
+small_id : (format : ℕ) (height : LmsHeight) (before : ℕ) (nodes : List NodeKey) (id : ℕ) → AreNodes format height before nodes → has_id id (ids_of nodes) ≡ true
+    → id ≤ max_nodes format
+small_id format height before [] id are e = absurd (cc)
+small_id format height before (n ∷ nodes) id are e =
     or_where (n.id.0 == id) (has_id id (ids_of nodes)) (λ is. let same : n.id.0 ≡ id = grind (arith, nat_tests, is) in omega (arith, same, are.0.1))
-    (small_id height n.id.0 nodes id are.2) e
+    (small_id format height n.id.0 nodes id are.2) e
 
-abbrev SmallId : NodeId × EdgeId → Type 0
-SmallId n = n.0.0 ≤ MAX_NODES
+abbrev SmallId : ℕ → NodeId × EdgeId → Type 0
+SmallId format n = n.0.0 ≤ max_nodes format
 
-neighbours_small : (ids : List ℕ) → ((id : ℕ) → has_id id ids ≡ true → id ≤ MAX_NODES) → (me place : ℕ) (before : ℕ × ℕ) (edges : List Edge)
-    → AreEdges FORMAT_1 ids before edges → All SmallId (neighbours_from me place edges)
-neighbours_small ids small me place before [] are = All-nil SmallId
-neighbours_small ids small me place before (e ∷ edges) are =
-    all_join SmallId (neighbour place (other_end me e)) (neighbours_from me (place + 1) edges) (one (other_end me e) (end_small me))
-    (neighbours_small ids small me (place + 1) _ edges are.2)
+neighbours_small : (format : ℕ) (ids : List ℕ) → ((id : ℕ) → has_id id ids ≡ true → id ≤ max_nodes format) → (me place : ℕ) (before : ℕ × ℕ) (edges : List Edge)
+    → AreEdges format ids before edges → All (SmallId format) (neighbours_from me place edges)
+neighbours_small format ids small me place before [] are = All-nil (SmallId format)
+neighbours_small format ids small me place before (e ∷ edges) are =
+    all_join (SmallId format) (neighbour place (other_end me e)) (neighbours_from me (place + 1) edges) (one (other_end me e) (end_small me))
+    (neighbours_small format ids small me (place + 1) _ edges are.2)
   where
-    end_small : (me : ℕ) → IfSome (other_end me e) (λ (v : NodeId). v.0 ≤ MAX_NODES)
+    end_small : (me : ℕ) → IfSome (other_end me e) (λ (v : NodeId). v.0 ≤ max_nodes format)
     end_small me =
-        cond_either (λ (o : Option NodeId). IfSome o (λ (v : NodeId). v.0 ≤ MAX_NODES)) (e.low.0 == me) (Some e.high) _ (small e.high.0 are.0.high)
-        (cond_either (λ (o : Option NodeId). IfSome o (λ (v : NodeId). v.0 ≤ MAX_NODES)) (e.high.0 == me) (Some e.low) None (small e.low.0 are.0.low) tt)
+        cond_either (λ (o : Option NodeId). IfSome o (λ (v : NodeId). v.0 ≤ max_nodes format)) (e.low.0 == me) (Some e.high) _ (small e.high.0 are.0.high)
+        (cond_either (λ (o : Option NodeId). IfSome o (λ (v : NodeId). v.0 ≤ max_nodes format)) (e.high.0 == me) (Some e.low) None (small e.low.0 are.0.low) tt)
 
-    one : (o : Option NodeId) → IfSome o (λ (v : NodeId). v.0 ≤ MAX_NODES) → All SmallId (neighbour place o)
-    one None is = All-nil SmallId
-    one (Some v) is = All-cons SmallId (v, record { 0 = place }) [] is (All-nil SmallId)
+    one : (o : Option NodeId) → IfSome o (λ (v : NodeId). v.0 ≤ max_nodes format) → All (SmallId format) (neighbour place o)
+    one None is = All-nil (SmallId format)
+    one (Some v) is = All-cons (SmallId format) (v, record { 0 = place }) [] is (All-nil (SmallId format))
 
-links_hold : (f : Fixed) → IsNode f.me → f.boot < 2 ^ 64 → (ns : List (NodeId × EdgeId)) (keys : List (List ℕ)) → All SmallId ns
+links_hold : (format : ℕ) (f : Fixed) → IsNode format f.me → f.boot < 2 ^ 64 → (ns : List (NodeId × EdgeId)) (keys : List (List ℕ)) → All (SmallId format) ns
     → All (LinkHolds 0) (map (link_of f) (zip ns keys))
-links_hold f me boot [] keys all = All-nil (LinkHolds 0)
-links_hold f me boot (n ∷ ns) [] all = All-nil (LinkHolds 0)
-links_hold f me boot (n ∷ ns) (key ∷ keys) all =
+links_hold format f me boot [] keys all = All-nil (LinkHolds 0)
+links_hold format f me boot (n ∷ ns) [] all = All-nil (LinkHolds 0)
+links_hold format f me boot (n ∷ ns) (key ∷ keys) all =
     All-cons (LinkHolds 0) (link_of f (n, key)) (map (link_of f) (zip ns keys))
-    (record { me = omega (arith, me); peer = let small = All-head SmallId n ns all in omega (arith, small); boot = boot; peer_boot = omega arith; sent = omega arith })
-    (links_hold f me boot ns keys (All-tail SmallId n ns all))
+    (record { me = omega (arith, me, few_nodes format); peer = let small = All-head (SmallId format) n ns all in omega (arith, small, few_nodes format); boot = boot; peer_boot = omega arith; sent = omega arith })
+    (links_hold format f me boot ns keys (All-tail (SmallId format) n ns all))
 
 -- ---- the rest
 
@@ -196,12 +198,13 @@ boot_holds P f signer keys buffer store boots =
     let t = f.topology in
     let n = booted f signer keys buffer store in
     let k = sizes_of P n in
-    let nodes = nodes_hold t.height 0 t.nodes boots.topology.nodes in
-    let once = nodes_once t.height 0 t.nodes boots.topology.nodes in
+    let nodes = nodes_hold t.format t.height 0 t.nodes boots.topology.ranges.nodes in
+    let once = nodes_once t.format t.height 0 t.nodes boots.topology.ranges.nodes in
     let pairs = pairs_of (nodes_of t) in
     record {
       fixed = record {
         me = refl;
+        format = refl;
         nodes = refl;
         edges = refl;
         is_node = boots.me;
@@ -212,8 +215,8 @@ boot_holds P f signer keys buffer store boots =
       };
       now = omega arith;
       calls = omega arith;
-      links = links_hold f boots.me boots.boot (neighbours_of f) keys
-          (neighbours_small (ids_of t.nodes) (λ id. small_id t.height 0 t.nodes id boots.topology.nodes) f.me.0 0 (0, 0) t.edges boots.topology.graph.are_edges);
+      links = links_hold t.format f boots.me boots.boot (neighbours_of f) keys
+          (neighbours_small t.format (ids_of t.nodes) (λ id. small_id t.format t.height 0 t.nodes id boots.topology.ranges.nodes) f.me.0 0 (0, 0) t.edges boots.topology.ranges.graph.are_edges);
       signer = boots.signer;
       parts = record {
         weights = record { edges = refl; rows = λ row. none_held (UpdateHolds k signer.index) (2 * length t.edges) row };
@@ -233,11 +236,12 @@ boot_holds P f signer keys buffer store boots =
           bound = refl;
           nodes = nodes;
           known = refl;
-          flows = all_map (λ (fl : Flow). IsNode fl.src × IsNode fl.dst) (FlowHolds k signer.index) no_flow (λ fl both. no_flow_holds k signer.index fl both.0 both.1) pairs
-              (flows_have IsNode (nodes_of t) (nodes_of t) nodes nodes);
+          flows = all_map (λ (fl : Flow). IsNode t.format fl.src × IsNode t.format fl.dst) (FlowHolds k signer.index) no_flow (λ fl both. no_flow_holds k signer.index fl both.0 both.1) pairs
+              (flows_have (IsNode t.format) (nodes_of t) (nodes_of t) nodes nodes);
           keys = same_ends pairs;
           once = subst (AllPairs Differ) (sym (same_ends pairs)) (flows_once (nodes_of t) (nodes_of t) once once);
         };
+        lives = no_lives_hold k (nodes_of t);
       };
     }
 

@@ -1,11 +1,13 @@
 -- What a poll carries is kept by the node, so all holds of it that is asked of messages that are kept.
-use Rattle.std.proofs.Common.{ℕ, ◌-◌, nat_lt, max, List, [], ◌∷◌, ◌++◌, map, drop, Option, Some, None}
+use Rattle.std.proofs.Common.{ℕ, zero, suc, take, ◌-◌, nat_lt, max, List, [], ◌∷◌, ◌++◌, map, drop, Option, Some, None}
 use Rattle.std.specs.Prelude.{IfSome}
 use Rattle.std.specs.List.{All, slice_get}
 use Rattle.std.specs.Option.{option_and_then, option_map}
 use Rattle.std.proofs.lemmas.List.Elements.{All-head, All-tail, All-take}
+use Rattle.sp_base.specs.Formats.{max_rels}
 use Rattle.sp_base.specs.declared.id.NodeId.{NodeId}
 use Rattle.sp_base.specs.declared.limits.TheConstants.{MAX_MESSAGES}
+use Rattle.sp_frame.specs.Reliable.{Report}
 use Rattle.sp_frame.specs.Views.{as_list}
 use Rattle.sp_msg.specs.declared.kept.Kept.{Kept}
 use Rattle.sp_rules.specs.Arts.{Arts}
@@ -14,12 +16,13 @@ use Rattle.sp_rules.specs.Handle.{Arrival, handle, handle_all}
 use Rattle.sp_rules.specs.Node.{NodeState}
 use Rattle.sp_rules.specs.Parts.{Parts, place_of}
 use Rattle.sp_rules.specs.Pieces.{Piece, WeightPiece, PrioAckPiece, PrioPiece, ReportPiece, AckPiece, RelPiece, pieces_of, prio_piece, slot_pieces}
-use Rattle.sp_rules.specs.Polls.{as_message, contents_to}
+use Rattle.sp_rules.specs.Polls.{as_message, contents_to, dated}
 use Rattle.sp_rules.specs.Prio.{is_peer, no_peer, peer_in}
 use Rattle.sp_rules.specs.PrioPeer as rows
 use Rattle.sp_rules.specs.PrioPeer.{PrioPeer}
 use Rattle.sp_rules.specs.Rel.{RelState, flow_at, flow_in, is_to, messages_after, next_place, peer_in as rel_peer_in, slot_for, slot_of, view_in}
 use Rattle.sp_rules.specs.Weights.{WeightState, held_in, next, next_row}
+use Rattle.sp_rules.specs.declared.lives.Life.{Life}
 use Rattle.sp_rules.specs.declared.store.Entry.{Entry}
 use Rattle.laws_node.specs.Flows.{AckKept, FlowHolds, RelHolds}
 use Rattle.laws_node.specs.Nodes.{NodeHolds}
@@ -41,7 +44,7 @@ abbrev pub PieceKeeps : (Kept → Type 0) → Piece → Type 0
 PieceKeeps P (WeightPiece o) = P o
 PieceKeeps P (PrioAckPiece number) = Unit {0}
 PieceKeeps P (PrioPiece number o) = P o
-PieceKeeps P (ReportPiece flow base have) = Unit {0}
+PieceKeeps P (ReportPiece flow sboot dboot base have) = Unit {0}
 PieceKeeps P (AckPiece flow o) = P o
 PieceKeeps P (RelPiece flow o) = P o
 
@@ -61,7 +64,7 @@ all_less P Q less (piece ∷ pieces) h = (one piece h.0, all_less P Q less piece
     one (WeightPiece o) h = less o h
     one (PrioAckPiece number) h = tt
     one (PrioPiece number o) h = less o h
-    one (ReportPiece flow base have) h = tt
+    one (ReportPiece flow sboot dboot base have) h = tt
     one (AckPiece flow o) h = less o h
     one (RelPiece flow o) h = less o h
 
@@ -70,7 +73,7 @@ piece_new : (P : Kept → Type 0) (arts : Arts) (at : Arrival) (p : Parts) (piec
 piece_new P arts at p (WeightPiece o) h = (λ new. h, tt)
 piece_new P arts at p (PrioAckPiece number) h = tt
 piece_new P arts at p (PrioPiece number o) h = (λ new. h, tt)
-piece_new P arts at p (ReportPiece flow base have) h = tt
+piece_new P arts at p (ReportPiece flow sboot dboot base have) h = tt
 piece_new P arts at p (AckPiece flow o) h = (λ new. h, tt)
 piece_new P arts at p (RelPiece flow o) h = (λ new. h, tt)
 
@@ -145,6 +148,30 @@ module _ (k : Sizes) where
       go None = tt
       go (Some place) = at (slice_get r.flows place) (get_holds (FlowHolds k index) r.flows place h.flows)
 
+  -- the first of many
+  first_kept : (one : Kept → Piece) (count : ℕ) (os : List Kept) → AllKeep k.keeps (map one os) → AllKeep k.keeps (map one (take count os))
+  first_kept one zero os h = tt
+  first_kept one (suc count) [] h = tt
+  first_kept one (suc count) (o ∷ os) h = (h.0, first_kept one count os h.1)
+
+  left_kept : (ps qs : List Piece) → AllKeep k.keeps (ps ++ qs) → AllKeep k.keeps ps
+  left_kept [] qs h = tt
+  left_kept (p ∷ ps) qs h = (h.0, left_kept ps qs h.1)
+
+  right_kept : (ps qs : List Piece) → AllKeep k.keeps (ps ++ qs) → AllKeep k.keeps qs
+  right_kept [] qs h = h
+  right_kept (p ∷ ps) qs h = right_kept ps qs h.1
+
+  dated_kept : (format : ℕ) (lives : List Life) (o : Option Report) → AllKeep k.keeps (slot_pieces o)
+      → AllKeep k.keeps (slot_pieces (option_map (dated format lives) o))
+  dated_kept format lives None h = tt
+  dated_kept format lives (Some r) h = (
+    tt,
+    all_both k.keeps (map (AckPiece r.flow) (as_list r.ack)) (map (RelPiece r.flow) (take (max_rels format) r.rels))
+        (left_kept (map (AckPiece r.flow) (as_list r.ack)) (map (RelPiece r.flow) r.rels) h.1)
+        (first_kept (RelPiece r.flow) (max_rels format) r.rels (right_kept (map (AckPiece r.flow) (as_list r.ack)) (map (RelPiece r.flow) r.rels) h.1)),
+  )
+
   -- what it carries to a neighbour
   pub contents_kept : (n : NodeState) (v : NodeId) → NodeHolds k n → AllKeep k.keeps (pieces_of (contents_to n.fixed n.parts v))
   contents_kept n v h =
@@ -156,5 +183,5 @@ module _ (k : Sizes) where
         all_both k.keeps (map prio_piece s.prios) (slot_pieces s.slot)
             (messages_kept (numbers_after n.calls) _ q (all_first (PrioPeerHolds k (numbers_after n.calls) _) (is_peer v.0) no_peer n.parts.prio.peers
             h.parts.prio.peers (no_peer_holds k (numbers_after n.calls) _)))
-            (slot_kept n.signer.index n.parts.rel v h.parts.rel),
+            (dated_kept n.fixed.topology.format n.parts.lives (slot_for n.parts.rel v) (slot_kept n.signer.index n.parts.rel v h.parts.rel)),
       )

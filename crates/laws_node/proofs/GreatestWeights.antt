@@ -33,7 +33,7 @@ pub greatest : EffectiveIsGreatest
 greatest t messages edge e good there =
     let least : minimum (after (start t) messages) edge ≡ e.weight = ap (λ (es : List Edge). minimum_of (slice_get es edge)) (edges_after (start t) messages) ∙ ap minimum_of there in
     let low = from_start t messages edge e.low.0 (2 * edge) (record { joined = e; there = there; placed = low_row edge e }) in
-    let below = ends_differ (ids_of t.nodes) (0, 0) t.edges edge e good.graph.are_edges there in
+    let below = ends_differ t.format (ids_of t.nodes) (0, 0) t.edges edge e good.graph.are_edges there in
     let high = from_start t messages edge e.high.0 (2 * edge + 1) (record { joined = e; there = there; placed = high_row edge e below }) in
     ap (λ (m : ℕ). max m (max (said (after (start t) messages) (2 * edge)) (said (after (start t) messages) (2 * edge + 1)))) least
     ∙ ap (λ (m : ℕ). max e.weight (max m (said (after (start t) messages) (2 * edge + 1)))) low

@@ -3,17 +3,20 @@ use Rattle.std.proofs.Common.{◌≡◌, ◌<◌, ◌≤◌, ℕ, ◌+◌, ◌^�
 use Rattle.std.specs.Prelude.{IsTrue}
 use Rattle.sp_base.specs.declared.id.Flow.{Flow}
 use Rattle.sp_base.specs.declared.id.NodeId.{NodeId}
-use Rattle.sp_msg.specs.Bodies.{HasGoodFields}
+use Rattle.sp_frame.specs.Objects.{is_of}
+use Rattle.sp_frame.specs.declared.kind.Kind.TheVariants as kinds
+use Rattle.sp_msg.specs.Bodies.{HasGoodFieldsIn}
 use Rattle.sp_msg.specs.declared.body.Body.{Body}
 use Rattle.sp_msg.specs.declared.body.Body.TheVariants as bodies
 use Rattle.sp_msg.specs.declared.kept.Kept.{Kept}
 use Rattle.sp_rules.specs.Answers.{ack_answer, is_new, prio_answer, rel_answer, weight_answer}
 use Rattle.sp_rules.specs.Arts.{Arts}
 use Rattle.sp_rules.specs.Handle.{Arrival, handle, handle_all, heard_where, offer_to}
+use Rattle.sp_rules.specs.Lives.{are_held, is_dated}
 use Rattle.sp_rules.specs.Parts.{Parts, is_signed}
 use Rattle.sp_rules.specs.Pieces.{Piece, WeightPiece, PrioAckPiece, PrioPiece, ReportPiece, AckPiece, RelPiece}
 use Rattle.sp_rules.specs.Prio.{PrioState, admit_prio, heard, judge_prio}
-use Rattle.sp_rules.specs.Rel.{admit_ack, admit_rel, judge_ack_of, judge_rel_of}
+use Rattle.sp_rules.specs.Rel.{admit_ack, admit_rel, judge_ack_of, judge_rel_of, reported}
 use Rattle.sp_rules.specs.Weights.{held}
 use Rattle.sp_rules.specs.declared.answers.Item.TheVariants as items
 use Rattle.sp_rules.specs.declared.answers.PrioAnswer.{PrioAnswer}
@@ -33,23 +36,23 @@ use Rattle.laws_node.specs.Asked.{NewKeep}
 use Rattle.laws_node.proofs.AskedLemmas.{new_both, new_left, new_right}
 use Rattle.laws_node.proofs.Priority.{acked_holds, admit_holds, heard_holds, prio_more}
 use Rattle.laws_node.proofs.Reliable.{admit_ack_holds, admit_rel_holds, reported_holds}
-use Rattle.laws_node.proofs.Tables.{cond_where}
+use Rattle.laws_node.proofs.Tables.{cond_either, cond_where}
 use Rattle.laws_node.proofs.Updates.{held_holds, new_update}
 
 -- ---- what is asked of pieces
 
 -- an object whose fields are in their ranges, with a signature of the right length
 pub record InRange (k : Sizes) (o : Kept) : Type 0 where
-  pub fields : HasGoodFields o.body
+  pub fields : HasGoodFieldsIn k.format o.body
   pub long : length o.signature ≡ k.signature_len
 
 abbrev pub PieceFits : Sizes → Piece → Type 0
 PieceFits k (WeightPiece o) = InRange k o
 PieceFits k (PrioAckPiece number) = Unit {0}
 PieceFits k (PrioPiece number o) = (number < 2 ^ 64) × InRange k o
-PieceFits k (ReportPiece flow base have) = Unit {0}
-PieceFits k (AckPiece flow o) = InRange k o
-PieceFits k (RelPiece flow o) = InRange k o
+PieceFits k (ReportPiece flow sboot dboot base have) = Unit {0}
+PieceFits k (AckPiece flow o) = InRange k o × (is_of kinds.Ack o.body ≡ true)
+PieceFits k (RelPiece flow o) = InRange k o × (is_of kinds.Rel o.body ≡ true)
 
 abbrev pub AllFit : Sizes → List Piece → Type 0
 AllFit k [] = Unit {0}
@@ -75,29 +78,44 @@ new_weight right offers.Foreign e = absurd (cc)
 new_weight right (offers.Low least) e = absurd (cc)
 new_weight right (offers.Old seq) e = absurd (cc)
 
-pub new_prio : (right : Bool) (j : PrioJudged) → is_new (items.Prio (prio_answer right j)) ≡ true → (right ≡ true) × (j ≡ judged.New)
-new_prio true judged.New e = (refl, refl)
-new_prio false judged.New e = absurd (cc)
-new_prio right judged.BadEnd e = absurd (cc)
-new_prio right judged.Expired e = absurd (cc)
-new_prio right judged.Seen e = absurd (cc)
+pub new_prio : (right dated : Bool) (j : PrioJudged) → is_new (items.Prio (prio_answer right dated j)) ≡ true
+    → (right ≡ true) × (j ≡ judged.New) × (dated ≡ true)
+new_prio true true judged.New e = (refl, refl, refl)
+new_prio false true judged.New e = absurd (cc)
+new_prio right false judged.New e = absurd (cc)
+new_prio right dated judged.BadEnd e = absurd (cc)
+new_prio right true judged.Expired e = absurd (cc)
+new_prio right false judged.Expired e = absurd (cc)
+new_prio right true judged.Seen e = absurd (cc)
+new_prio right false judged.Seen e = absurd (cc)
 
-pub new_ack : (right : Bool) (j : AckJudged) → is_new (items.Ack (ack_answer right j)) ≡ true → (right ≡ true) × (j ≡ acks.New)
-new_ack true acks.New e = (refl, refl)
-new_ack false acks.New e = absurd (cc)
-new_ack right acks.BadEnd e = absurd (cc)
-new_ack right acks.Old e = absurd (cc)
-new_ack right acks.Ahead e = absurd (cc)
+pub new_ack : (right dated : Bool) (j : AckJudged) → is_new (items.Ack (ack_answer right dated j)) ≡ true
+    → (right ≡ true) × (j ≡ acks.New) × (dated ≡ true)
+new_ack true true acks.New e = (refl, refl, refl)
+new_ack false true acks.New e = absurd (cc)
+new_ack right false acks.New e = absurd (cc)
+new_ack right dated acks.BadEnd e = absurd (cc)
+new_ack right true acks.Old e = absurd (cc)
+new_ack right false acks.Old e = absurd (cc)
+new_ack right true acks.Ahead e = absurd (cc)
+new_ack right false acks.Ahead e = absurd (cc)
 
-pub new_rel : (right : Bool) (j : RelJudged) → is_new (items.Rel (rel_answer right j)) ≡ true → (right ≡ true) × (j ≡ rels.New)
-new_rel true rels.New e = (refl, refl)
-new_rel false rels.New e = absurd (cc)
-new_rel right rels.BadEnd e = absurd (cc)
-new_rel right rels.Old e = absurd (cc)
-new_rel right rels.Ahead e = absurd (cc)
-new_rel right rels.Gap e = absurd (cc)
-new_rel right rels.Full e = absurd (cc)
-new_rel right rels.InboxFull e = absurd (cc)
+pub new_rel : (right dated : Bool) (j : RelJudged) → is_new (items.Rel (rel_answer right dated j)) ≡ true
+    → (right ≡ true) × (j ≡ rels.New) × (dated ≡ true)
+new_rel true true rels.New e = (refl, refl, refl)
+new_rel false true rels.New e = absurd (cc)
+new_rel right false rels.New e = absurd (cc)
+new_rel right dated rels.BadEnd e = absurd (cc)
+new_rel right true rels.Old e = absurd (cc)
+new_rel right false rels.Old e = absurd (cc)
+new_rel right true rels.Ahead e = absurd (cc)
+new_rel right false rels.Ahead e = absurd (cc)
+new_rel right true rels.Gap e = absurd (cc)
+new_rel right false rels.Gap e = absurd (cc)
+new_rel right true rels.Full e = absurd (cc)
+new_rel right false rels.Full e = absurd (cc)
+new_rel right true rels.InboxFull e = absurd (cc)
+new_rel right false rels.InboxFull e = absurd (cc)
 
 pub is_prio : (p : PrioState) (body : Body) (now : ℕ) → judge_prio p body now ≡ judged.New → IsPrio body
 is_prio p (bodies.Prio b) now e = tt
@@ -116,6 +134,7 @@ module _ (k : Sizes) (arts : Arts) (at : Arrival) (me : at.fixed.me ≡ k.me) (n
     weights = h.weights;
     prio = prio_more k numbers numbers ids more index index p.prio (omega arith) up (omega arith) h.prio;
     rel = h.rel;
+    lives = h.lives;
   }
 
   weight_holds : (ids index : ℕ) (p : Parts) (o : Kept) → (is_new (items.Weight (weight_answer (is_signed arts at.fixed o) (offer_to at.fixed.me p.weights o.body))) ≡ true → k.keeps o) → InRange k o → PartsHold k numbers ids index p
@@ -127,32 +146,32 @@ module _ (k : Sizes) (arts : Arts) (at : Arrival) (me : at.fixed.me ≡ k.me) (n
       let both = new_weight (is_signed arts at.fixed o) (offer_to at.fixed.me p.weights o.body) new in
       let offered : offer_to k.me p.weights o.body ≡ offers.New = ap (λ (u : NodeId). offer_to u p.weights o.body) (sym me) ∙ both.1 in
       let update = new_update k index p.weights o offered (fits_where k o (keeps new) range) h.weights in
-      record { weights = held_holds k index index update.row p.weights o (omega arith) update.holds h.weights; prio = h.prio; rel = h.rel })
+      record { weights = held_holds k index index update.row p.weights o (omega arith) update.holds h.weights; prio = h.prio; rel = h.rel; lives = h.lives })
       (λ old. h)
 
-  ack_holds : (ids index : ℕ) (p : Parts) (flow : Flow) (o : Kept) → (is_new (items.Ack (ack_answer (is_signed arts at.fixed o) (judge_ack_of p.rel flow o.body))) ≡ true → k.keeps o) → InRange k o → PartsHold k numbers ids index p
-      → PartsHold k numbers ids index (handle arts at p (AckPiece flow o)).parts
-  ack_holds ids index p flow o keeps range h =
-      cond_where (PartsHold k numbers ids index) (is_new (items.Ack (ack_answer (is_signed arts at.fixed o) (judge_ack_of p.rel flow o.body))))
+  ack_holds : (ids index : ℕ) (p : Parts) (flow : Flow) (o : Kept) → (is_new (items.Ack (ack_answer (is_signed arts at.fixed o) (is_dated p.lives o.body) (judge_ack_of p.rel flow o.body))) ≡ true → k.keeps o) → InRange k o
+      → is_of kinds.Ack o.body ≡ true → PartsHold k numbers ids index p → PartsHold k numbers ids index (handle arts at p (AckPiece flow o)).parts
+  ack_holds ids index p flow o keeps range is h =
+      cond_where (PartsHold k numbers ids index) (is_new (items.Ack (ack_answer (is_signed arts at.fixed o) (is_dated p.lives o.body) (judge_ack_of p.rel flow o.body))))
       (record p { rel = admit_ack p.rel o }) p
       (λ new.
-      let both = new_ack (is_signed arts at.fixed o) (judge_ack_of p.rel flow o.body) new in
-      record { weights = h.weights; prio = h.prio; rel = admit_ack_holds k index p.rel flow o both.1 (fits_where k o (keeps new) range) h.rel })
+      let both = new_ack (is_signed arts at.fixed o) (is_dated p.lives o.body) (judge_ack_of p.rel flow o.body) new in
+      record { weights = h.weights; prio = h.prio; rel = admit_ack_holds k index p.rel flow o both.1 (fits_where k o (keeps new) range) is h.rel; lives = h.lives })
       (λ old. h)
 
-  rel_holds : (ids index : ℕ) (p : Parts) (flow : Flow) (o : Kept) → (is_new (items.Rel (rel_answer (is_signed arts at.fixed o) (judge_rel_of p.rel flow o.body))) ≡ true → k.keeps o) → InRange k o → PartsHold k numbers ids index p
-      → PartsHold k numbers ids index (handle arts at p (RelPiece flow o)).parts
-  rel_holds ids index p flow o keeps range h =
-      cond_where (PartsHold k numbers ids index) (is_new (items.Rel (rel_answer (is_signed arts at.fixed o) (judge_rel_of p.rel flow o.body))))
+  rel_holds : (ids index : ℕ) (p : Parts) (flow : Flow) (o : Kept) → (is_new (items.Rel (rel_answer (is_signed arts at.fixed o) (is_dated p.lives o.body) (judge_rel_of p.rel flow o.body))) ≡ true → k.keeps o) → InRange k o
+      → is_of kinds.Rel o.body ≡ true → PartsHold k numbers ids index p → PartsHold k numbers ids index (handle arts at p (RelPiece flow o)).parts
+  rel_holds ids index p flow o keeps range is h =
+      cond_where (PartsHold k numbers ids index) (is_new (items.Rel (rel_answer (is_signed arts at.fixed o) (is_dated p.lives o.body) (judge_rel_of p.rel flow o.body))))
       (record p { rel = admit_rel p.rel o }) p
       (λ new.
-      let both = new_rel (is_signed arts at.fixed o) (judge_rel_of p.rel flow o.body) new in
-      record { weights = h.weights; prio = h.prio; rel = admit_rel_holds k index p.rel flow o both.1 (fits_where k o (keeps new) range) h.rel })
+      let both = new_rel (is_signed arts at.fixed o) (is_dated p.lives o.body) (judge_rel_of p.rel flow o.body) new in
+      record { weights = h.weights; prio = h.prio; rel = admit_rel_holds k index p.rel flow o both.1 (fits_where k o (keeps new) range) is h.rel; lives = h.lives })
       (λ old. h)
 
   with_prio : (ids index : ℕ) (p : Parts) (q : PrioState) → PrioHolds k numbers ids index q → PartsHold k numbers ids index p
       → PartsHold k numbers ids index (record p { prio = q })
-  with_prio ids index p q new h = record { weights = h.weights; prio = new; rel = h.rel }
+  with_prio ids index p q new h = record { weights = h.weights; prio = new; rel = h.rel; lives = h.lives }
 
   heard_where_holds : (ids index : ℕ) (answer : PrioAnswer) (number : ℕ) (p : Parts) → number < 2 ^ 64 → PartsHold k numbers ids index p
       → PartsHold k numbers ids index (heard_where answer at.from number p)
@@ -163,21 +182,23 @@ module _ (k : Sizes) (arts : Arts) (at : Arrival) (me : at.fixed.me ≡ k.me) (n
   heard_where_holds ids index prios.BadEnd number p small h = h
   heard_where_holds ids index prios.Expired number p small h = h
   heard_where_holds ids index prios.BadSig number p small h = h
+  heard_where_holds ids index prios.Epoch number p small h = h
 
-  prio_holds : (ids index : ℕ) (p : Parts) (number : ℕ) (o : Kept) → number < 2 ^ 64 → (is_new (items.Prio (prio_answer (is_signed arts at.fixed o) (judge_prio p.prio o.body at.now))) ≡ true → k.keeps o) → InRange k o → PartsHold k numbers ids index p
+  prio_holds : (ids index : ℕ) (p : Parts) (number : ℕ) (o : Kept) → number < 2 ^ 64 → (is_new (items.Prio (prio_answer (is_signed arts at.fixed o) (is_dated p.lives o.body) (judge_prio p.prio o.body at.now))) ≡ true → k.keeps o) → InRange k o → PartsHold k numbers ids index p
       → PartsHold k numbers (ids + 1) index (handle arts at p (PrioPiece number o)).parts
   prio_holds ids index p number o small keeps range h =
       let right = is_signed arts at.fixed o in
-      let answer = prio_answer right (judge_prio p.prio o.body at.now) in
+      let answer = prio_answer right (is_dated p.lives o.body) (judge_prio p.prio o.body at.now) in
       let admitted = record p { prio = admit_prio p.prio o (Some at.from) } in
       heard_where_holds (ids + 1) index answer number (cond (is_new (items.Prio answer)) admitted p) small
       (cond_where (PartsHold k numbers (ids + 1) index) (is_new (items.Prio answer)) admitted p
       (λ new.
-      let both = new_prio right (judge_prio p.prio o.body at.now) new in
+      let both = new_prio right (is_dated p.lives o.body) (judge_prio p.prio o.body at.now) new in
       record {
         weights = h.weights;
         prio = admit_holds k numbers ids index p.prio o at.from (is_prio p.prio o.body at.now both.1) (fits_where k o (keeps new) range) h.prio;
         rel = h.rel;
+        lives = h.lives;
       })
       (λ old. parts_more ids (ids + 1) index p (omega arith) h))
 
@@ -189,17 +210,17 @@ module _ (k : Sizes) (arts : Arts) (at : Arrival) (me : at.fixed.me ≡ k.me) (n
     weights = h.weights;
     prio = prio_more k numbers numbers ids (ids + 0) index index _ (omega arith) (omega arith) (omega arith) (acked_holds k numbers ids index p.prio at.from.0 number h.prio);
     rel = h.rel;
+    lives = h.lives;
   }
   handle_holds ids index p (PrioPiece number o) new fits h = prio_holds ids index p number o fits.0 new.0 fits.1 h
-  handle_holds ids index p (ReportPiece flow base have) new fits h = record {
-    weights = h.weights;
-    prio = prio_more k numbers numbers ids (ids + 0) index index p.prio (omega arith) (omega arith) (omega arith) h.prio;
-    rel = reported_holds k index p.rel at.from flow base have h.rel;
-  }
+  handle_holds ids index p (ReportPiece flow sboot dboot base have) new fits h =
+      parts_more ids (ids + 0) index (handle arts at p (ReportPiece flow sboot dboot base have)).parts (omega arith)
+      (cond_either (PartsHold k numbers ids index) (are_held p.lives flow sboot dboot) (record p { rel = reported p.rel at.from flow base have }) p
+      (record { weights = h.weights; prio = h.prio; rel = reported_holds k index p.rel at.from flow base have h.rel; lives = h.lives }) h)
   handle_holds ids index p (AckPiece flow o) new fits h =
-      parts_more ids (ids + 0) index (handle arts at p (AckPiece flow o)).parts (omega arith) (ack_holds ids index p flow o new.0 fits h)
+      parts_more ids (ids + 0) index (handle arts at p (AckPiece flow o)).parts (omega arith) (ack_holds ids index p flow o new.0 fits.0 fits.1 h)
   handle_holds ids index p (RelPiece flow o) new fits h =
-      parts_more ids (ids + 0) index (handle arts at p (RelPiece flow o)).parts (omega arith) (rel_holds ids index p flow o new.0 fits h)
+      parts_more ids (ids + 0) index (handle arts at p (RelPiece flow o)).parts (omega arith) (rel_holds ids index p flow o new.0 fits.0 fits.1 h)
 
   pub all_hold : (ids index : ℕ) (p : Parts) (pieces : List Piece) → NewKeep k.keeps (handle_all arts at p pieces).answered → AllFit k pieces → PartsHold k numbers ids index p
       → PartsHold k numbers (ids + messages pieces) index (handle_all arts at p pieces).parts
@@ -219,10 +240,10 @@ IsRight arts at o = IsTrue (is_signed arts at.fixed o)
 piece_is_signed : (arts : Arts) (at : Arrival) (p : Parts) (piece : Piece) → NewKeep (IsRight arts at) (handle arts at p piece).answered
 piece_is_signed arts at p (WeightPiece o) = (λ new. (new_weight (is_signed arts at.fixed o) (offer_to at.fixed.me p.weights o.body) new).0, tt)
 piece_is_signed arts at p (PrioAckPiece number) = tt
-piece_is_signed arts at p (PrioPiece number o) = (λ new. (new_prio (is_signed arts at.fixed o) (judge_prio p.prio o.body at.now) new).0, tt)
-piece_is_signed arts at p (ReportPiece flow base have) = tt
-piece_is_signed arts at p (AckPiece flow o) = (λ new. (new_ack (is_signed arts at.fixed o) (judge_ack_of p.rel flow o.body) new).0, tt)
-piece_is_signed arts at p (RelPiece flow o) = (λ new. (new_rel (is_signed arts at.fixed o) (judge_rel_of p.rel flow o.body) new).0, tt)
+piece_is_signed arts at p (PrioPiece number o) = (λ new. (new_prio (is_signed arts at.fixed o) (is_dated p.lives o.body) (judge_prio p.prio o.body at.now) new).0, tt)
+piece_is_signed arts at p (ReportPiece flow sboot dboot base have) = tt
+piece_is_signed arts at p (AckPiece flow o) = (λ new. (new_ack (is_signed arts at.fixed o) (is_dated p.lives o.body) (judge_ack_of p.rel flow o.body) new).0, tt)
+piece_is_signed arts at p (RelPiece flow o) = (λ new. (new_rel (is_signed arts at.fixed o) (is_dated p.lives o.body) (judge_rel_of p.rel flow o.body) new).0, tt)
 
 pub new_is_signed : (arts : Arts) (at : Arrival) (p : Parts) (pieces : List Piece) → NewKeep (λ o. IsTrue (is_signed arts at.fixed o)) (handle_all arts at p pieces).answered
 new_is_signed arts at p [] = tt

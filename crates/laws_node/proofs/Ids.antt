@@ -24,7 +24,8 @@ use Rattle.sp_rules.specs.Rel as rel
 use Rattle.sp_rules.specs.Sends.{own_prio, rel_refusal, send_prio_refusal, signer_refusal, weight_refusal}
 use Rattle.sp_rules.specs.Steps.{Input, NodeStep, Output, Poll, Datagram, Tick, SendRel, SendPrio, SetWeight, TakeRel, TakePrio}
 use Rattle.sp_rules.specs.Store.{Store, arriving, evicted, has_id, is_expired, less_expired, next_besides, put, removed, without}
-use Rattle.sp_rules.specs.Ticks.{at_time, settled_by, time_after}
+use Rattle.sp_rules.specs.Lives.{are_held, is_dated}
+use Rattle.sp_rules.specs.Ticks.{due_now, at_time, settled_by, time_after}
 use Rattle.sp_rules.specs.declared.answers.Item.TheVariants as items
 use Rattle.sp_rules.specs.declared.answers.PrioAnswer.{PrioAnswer}
 use Rattle.sp_rules.specs.declared.answers.PrioAnswer.TheVariants as prios
@@ -145,6 +146,7 @@ module _ (given : ℕ → ℕ) where
   heard_keeps prios.BadEnd v number p h = h
   heard_keeps prios.Expired v number p h = h
   heard_keeps prios.BadSig v number p h = h
+  heard_keeps prios.Epoch v number p h = h
 
   unless_new : (t : Bool) (new old : Parts) → new.prio ≡ old.prio → Rise old → Rise (cond t new old)
   unless_new true new old same h = subst (AllRise given) (sym same) h
@@ -154,10 +156,10 @@ module _ (given : ℕ → ℕ) where
   piece arts at p (WeightPiece o) h = unless_new _ _ p refl h
   piece arts at p (PrioAckPiece number) h = one_peer p.prio at.from.0 (λ q. rows.acked q number) (acked_rises number) h
   piece arts at p (PrioPiece number o) h =
-      let answer = prio_answer (is_signed arts at.fixed o) (prio.judge_prio p.prio o.body at.now) in
+      let answer = prio_answer (is_signed arts at.fixed o) (is_dated p.lives o.body) (prio.judge_prio p.prio o.body at.now) in
       let new = record p { prio = prio.admit_prio p.prio o (Some at.from) } in
       heard_keeps answer at.from number (cond (is_new (items.Prio answer)) new p) (which (is_new (items.Prio answer)) new p (admitted p.prio o (Some at.from) h) h)
-  piece arts at p (ReportPiece flow base have) h = h
+  piece arts at p (ReportPiece flow sboot dboot base have) h = unless_new (are_held p.lives flow sboot dboot) _ p refl h
   piece arts at p (AckPiece flow o) h = unless_new _ _ p refl h
   piece arts at p (RelPiece flow o) h = unless_new _ _ p refl h
 
@@ -186,7 +188,7 @@ module _ (given : ℕ → ℕ) where
       subst Whole (sym s.1) (or_kept (call_refusal n v) n (called n (with_link n v (link_after arts n v bytes)) (handled arts n v bytes).parts) h (pieces arts (arrival_at n v) n.parts xs h))
   step_rises arts n (Tick now) output new s h =
       let time = time_after n now in
-      subst Whole (sym s.1) (settled_keeps arts (at_time n now) (rel.due n.parts.rel) (signer_refusal n.signer)
+      subst Whole (sym s.1) (settled_keeps arts (at_time n now) (due_now n) (signer_refusal n.signer)
       (record { inbox = expired_out (given 0) n.parts.prio.inbox time h.inbox; peers = each_changes (λ q. rows.expired q time) (λ q k. expired_out (given q.peer) q.store time k) n.parts.prio.peers h.peers }))
   step_rises arts n (SendRel dst payload) output new s h = subst Whole (sym s.1) (or_kept (rel_refusal n dst) n _ h h)
   step_rises arts n (SendPrio m) output new s h =

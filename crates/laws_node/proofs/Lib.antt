@@ -8,6 +8,7 @@ pub mod Flows
 pub mod Flight
 pub mod Frames
 pub mod Handles
+pub mod HeldBoots
 pub mod Ids
 pub mod LifeLinks
 pub mod LifeWeights

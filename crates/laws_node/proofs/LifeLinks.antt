@@ -21,10 +21,9 @@ use Rattle.sp_rules.specs.Link.{Link, advanced, after_answer, is_above, new_link
 use Rattle.sp_rules.specs.Node.{NodeState, booted, call_refusal, called, is_link, is_neighbour, kept_or, link_in, link_of, with_link}
 use Rattle.sp_rules.specs.Parts.{Fixed, neighbours_of}
 use Rattle.sp_rules.specs.Polls.{polled}
-use Rattle.sp_rules.specs.Rel.{due}
 use Rattle.sp_rules.specs.Sends.{rel_refusal, send_prio_refusal, signer_refusal, weight_refusal}
 use Rattle.sp_rules.specs.Steps.{Input, NodeStep, Output, Poll, Datagram, Tick, SendRel, SendPrio, SetWeight, TakeRel, TakePrio, arrived, refused_call}
-use Rattle.sp_rules.specs.Ticks.{at_time, settled_by}
+use Rattle.sp_rules.specs.Ticks.{at_time, due_now, settled_by}
 use Rattle.sp_rules.specs.declared.link.LinkAnswer.{LinkAnswer}
 use Rattle.sp_rules.specs.declared.link.LinkAnswer.TheVariants as answers
 use Rattle.sp_rules.specs.declared.node.LinkReply.TheVariants as replies
@@ -169,7 +168,7 @@ step_goes arts v n (Datagram u bytes) output new s known =
         one_link n u v (link_after arts n u bytes) (pair_told (pair_of (arts.head bytes)) (reply_at arts n u bytes)) (neighbours n u _ e)
         (comes_peer arts (link_in n u) bytes (arts.opened bytes)) known (λ k. comes arts n.fixed (link_in n u) bytes (arts.opened bytes) k)
 step_goes arts v n (Tick now) output new s known =
-    subst (λ (m : NodeState). Goes (link_in n v) [] (link_in m v)) (sym s.1) (go (due n.parts.rel) (signer_refusal n.signer))
+    subst (λ (m : NodeState). Goes (link_in n v) [] (link_in m v)) (sym s.1) (go (due_now n) (signer_refusal n.signer))
   where
     go : (a : Option Ack) (r : Option SendRefused) → Goes (link_in n v) [] (link_in (settled_by arts (at_time n now) a r) v)
     go None r = rests (link_in n v) (link_in n v) refl refl known

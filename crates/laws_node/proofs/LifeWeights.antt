@@ -19,7 +19,7 @@ use Rattle.sp_rules.specs.Answers.{ack_answer, is_new, prio_answer, rel_answer, 
 use Rattle.sp_rules.specs.Arrivals.{arrival_at, handled, link_after, pieces_in, pieces_where, reply_at, sections_in}
 use Rattle.sp_rules.specs.Arts.{Arts}
 use Rattle.sp_rules.specs.Flow.{flow_said}
-use Rattle.sp_rules.specs.Handle.{Arrival, handle, handle_all, heard_where, offer_of, offer_to, weight_effects}
+use Rattle.sp_rules.specs.Handle.{Arrival, handle, handle_all, heard_where, offer_of, offer_to, reported_where, weight_effects}
 use Rattle.sp_rules.specs.Link.{advanced}
 use Rattle.sp_rules.specs.Node.{NodeState, booted, call_refusal, called, kept_or, link_in, signed_now, signed_once, with_link}
 use Rattle.sp_rules.specs.Parts.{Parts, edge_to, is_signed}
@@ -29,11 +29,12 @@ use Rattle.sp_rules.specs.Prio as prio
 use Rattle.sp_rules.specs.Prio.{PrioState, admit_prio, judge_prio, prio_effects}
 use Rattle.sp_rules.specs.PrioPeer as rows
 use Rattle.sp_rules.specs.PrioPeer.{PrioPeer}
-use Rattle.sp_rules.specs.Rel.{admit_ack, admit_rel, delivery, due, is_to, judge_ack_of, judge_rel_of, pushed_in, rel_effects}
+use Rattle.sp_rules.specs.Rel.{admit_ack, admit_rel, delivery, is_to, judge_ack_of, judge_rel_of, pushed_in, rel_effects, reported}
 use Rattle.sp_rules.specs.Sends.{after_take_prio, after_take_rel, edge_or, mask_in, own_prio, prio_body, prio_sent, rel_body, rel_number, rel_refusal, rel_sent, send_prio_refusal, signed_effect, signer_refusal, weight_body, weight_number, weight_refusal, weight_refusal_at, weight_sent}
 use Rattle.sp_rules.specs.Steps.{Input, NodeStep, Output, Poll, Datagram, Tick, SendRel, SendPrio, SetWeight, TakeRel, TakePrio, Frame, accepted, arrived, refused_call, refused_send, replied}
 use Rattle.sp_rules.specs.Store.{Store, entry_in, evicted, expired_entries, oldest, removed}
-use Rattle.sp_rules.specs.Ticks.{ack_effects, at_time, settled_by, time_after}
+use Rattle.sp_rules.specs.Lives.{are_held, is_dated}
+use Rattle.sp_rules.specs.Ticks.{ack_effects, at_time, due_now, settled_by, time_after}
 use Rattle.sp_rules.specs.Weights.{WeightState, held, held_in, minimum, minimum_of, offer, row_for, row_in, row_of, start, weight_of}
 use Rattle.sp_rules.specs.declared.answers.Item.TheVariants as items
 use Rattle.sp_rules.specs.declared.answers.PrioAnswer.{PrioAnswer}
@@ -213,6 +214,7 @@ heard prios.Seen v number p = refl
 heard prios.BadEnd v number p = refl
 heard prios.Expired v number p = refl
 heard prios.BadSig v number p = refl
+heard prios.Epoch v number p = refl
 
 still : (p : Parts) (w : WeightState) (es : List Effect) → Silent es → w ≡ p.weights → HasRows p.weights → Turns p.weights es w
 still p w es none e h = stays p.weights w es none (ap (λ (s : WeightState). s.edges) e) (ap (λ (s : WeightState). s.rows) e) h
@@ -234,19 +236,21 @@ one_turns arts at p (PrioAckPiece number) h =
     let q = prio.peer_in p.prio at.from.0 in
     still p p.weights (rows.acked_effects q number) (silent_left q.peer q.store (rows.landed q number)) refl h
 one_turns arts at p (PrioPiece number o) h =
-    let answer = prio_answer (is_signed arts at.fixed o) (judge_prio p.prio o.body at.now) in
+    let answer = prio_answer (is_signed arts at.fixed o) (is_dated p.lives o.body) (judge_prio p.prio o.body at.now) in
     let t = is_new (items.Prio answer) in
     let admitted = record p { prio = admit_prio p.prio o (Some at.from) } in
     still p (heard_where answer at.from number (cond t admitted p)).weights (cond t (prio_effects p.prio o (Some at.from)) [])
     (silent_either t (prio_effects p.prio o (Some at.from)) (silent_prio p.prio o (Some at.from)))
     (heard answer at.from number (cond t admitted p) ∙ either t admitted p refl) h
-one_turns arts at p (ReportPiece flow base have) h = still p p.weights [] nothing refl h
+one_turns arts at p (ReportPiece flow sboot dboot base have) h =
+    let t = are_held p.lives flow sboot dboot in
+    still p (reported_where t at.from flow base have p).weights [] nothing (either t (record p { rel = reported p.rel at.from flow base have }) p refl) h
 one_turns arts at p (AckPiece flow o) h =
-    let t = is_new (items.Ack (ack_answer (is_signed arts at.fixed o) (judge_ack_of p.rel flow o.body))) in
+    let t = is_new (items.Ack (ack_answer (is_signed arts at.fixed o) (is_dated p.lives o.body) (judge_ack_of p.rel flow o.body))) in
     still p (cond t (record p { rel = admit_ack p.rel o }) p).weights (cond t [] []) (silent_either t [] nothing)
     (either t (record p { rel = admit_ack p.rel o }) p refl) h
 one_turns arts at p (RelPiece flow o) h =
-    let t = is_new (items.Rel (rel_answer (is_signed arts at.fixed o) (judge_rel_of p.rel flow o.body))) in
+    let t = is_new (items.Rel (rel_answer (is_signed arts at.fixed o) (is_dated p.lives o.body) (judge_rel_of p.rel flow o.body))) in
     still p (cond t (record p { rel = admit_rel p.rel o }) p).weights (cond t (rel_effects p.rel o) [])
     (silent_either t (rel_effects p.rel o) (silent_rel (is_to p.rel (flow_said o.body)) o.body)) (either t (record p { rel = admit_rel p.rel o }) p refl) h
 
@@ -312,9 +316,9 @@ step_turns arts n (Datagram v bytes) output new s same h = go (call_refusal n v)
         (all_turns arts (arrival_at n v) n.parts (pieces_where (reply_at arts n v bytes) (pieces_in (sections_in arts n.fixed bytes))) h)
     go (Some refused) e f = by n output new n [] e f (plain n [] nothing h)
 step_turns arts n (Tick now) output new s same h =
-    by n output new (settled_by arts (at_time n now) (due n.parts.rel) (signer_refusal n.signer))
-    (prio.expired_effects n.parts.prio (time_after n now) ++ ack_effects arts (due n.parts.rel) (signer_refusal n.signer)) (ap (λ (o : Output). o.effects) s.0) s.1
-    (go (due n.parts.rel) (signer_refusal n.signer))
+    by n output new (settled_by arts (at_time n now) (due_now n) (signer_refusal n.signer))
+    (prio.expired_effects n.parts.prio (time_after n now) ++ ack_effects arts (due_now n) (signer_refusal n.signer)) (ap (λ (o : Output). o.effects) s.0) s.1
+    (go (due_now n) (signer_refusal n.signer))
   where
     expired : List Effect
     expired = prio.expired_effects n.parts.prio (time_after n now)
@@ -396,7 +400,7 @@ weights_of_lives arts f signer keys buffer store steps last good life edge e the
     let told = effects_of_life steps in
     let turns = life_turns arts (booted f signer keys buffer store) steps last life refl (record { rows = length-replicate (2 * length t.edges) None }) in
     let here : slice_get s.edges edge ≡ Some e = ap (λ (es : List Edge). slice_get es edge) turns.edges ∙ there in
-    let below = ends_differ (ids_of t.nodes) (0, 0) t.edges edge e good.graph.are_edges there in
+    let below = ends_differ t.format (ids_of t.nodes) (0, 0) t.edges edge e good.graph.are_edges there in
     let low : row_said s (2 * edge) ≡ last_told edge e.low.0 0 told =
     turns.said edge e.low.0 (2 * edge) (record { joined = e; there = there; placed = low_row edge e })
     ∙ ap (λ (w : ℕ). last_told edge e.low.0 w told) (nothing_held (2 * length t.edges) (2 * edge)) in

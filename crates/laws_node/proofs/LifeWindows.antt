@@ -1,5 +1,5 @@
 -- What each step marks of a source, and a life of all of them.
-use Rattle.std.proofs.Common.{◌≡◌, ℕ, zero, suc, ◌+◌, ◌==◌, true, false, cond, List, [], ◌∷◌, ◌++◌, length, replicate, Option, Some, None, refl, sym, ap, subst, ◌∙◌, inl, inr, arith}
+use Rattle.std.proofs.Common.{Bool, true, false, ◌≡◌, ℕ, zero, suc, ◌+◌, ◌==◌, true, false, cond, List, [], ◌∷◌, ◌++◌, length, replicate, Option, Some, None, refl, sym, ap, subst, ◌∙◌, inl, inr, arith}
 use Rattle.std.specs.Prelude.{fold, slice_index_or}
 use Rattle.std.specs.List.{flat_map}
 use Rattle.std.proofs.lemmas.Bool.{cases_Bool, eqb-true, eq-eqb}
@@ -18,7 +18,8 @@ use Rattle.sp_msg.specs.declared.refused.SendRefused.{SendRefused}
 use Rattle.sp_rules.specs.Answers.{ack_answer, is_new, prio_answer, rel_answer, weight_answer}
 use Rattle.sp_rules.specs.Arrivals.{arrival_at, handled, link_after, pieces_in, pieces_where, reply_at, sections_in}
 use Rattle.sp_rules.specs.Arts.{Arts}
-use Rattle.sp_rules.specs.Handle.{Arrival, handle, handle_all, heard_where, offer_to}
+use Rattle.sp_rules.specs.Handle.{Arrival, handle, handle_all, heard_where, offer_to, reported_where}
+use Rattle.sp_rules.specs.Lives.{are_held, is_dated}
 use Rattle.sp_rules.specs.Link.{advanced}
 use Rattle.sp_rules.specs.Node.{NodeState, booted, call_refusal, called, kept_or, link_in, signed_now, signed_once, with_link}
 use Rattle.sp_rules.specs.Parts.{Parts, is_signed, nodes_of}
@@ -26,11 +27,11 @@ use Rattle.sp_rules.specs.Pieces.{Piece, WeightPiece, PrioAckPiece, PrioPiece, R
 use Rattle.sp_rules.specs.Polls.{frame_to, polled}
 use Rattle.sp_rules.specs.Prio as prio
 use Rattle.sp_rules.specs.Prio.{PrioState, admit_prio, is_here, is_node, judge_prio, marked, place_of, spread, window_at, window_in, windows_with}
-use Rattle.sp_rules.specs.Rel.{RelState, admit_ack, admit_rel, due, judge_ack_of, judge_rel_of, pushed_in}
+use Rattle.sp_rules.specs.Rel.{RelState, admit_ack, admit_rel, judge_ack_of, judge_rel_of, pushed_in}
 use Rattle.sp_rules.specs.Sends.{own_prio, prio_sent, rel_body, rel_number, rel_refusal, rel_sent, send_prio_refusal, signer_refusal, weight_body, weight_number, weight_refusal, weight_sent}
 use Rattle.sp_rules.specs.Steps.{Input, NodeStep, Output, Poll, Datagram, Tick, SendRel, SendPrio, SetWeight, TakeRel, TakePrio, Frame, accepted, arrived, refused_call, refused_send, replied}
 use Rattle.sp_rules.specs.Store.{put, said}
-use Rattle.sp_rules.specs.Ticks.{at_time, settled_by}
+use Rattle.sp_rules.specs.Ticks.{at_time, due_now, settled_by}
 use Rattle.sp_rules.specs.Weights.{WeightState, held}
 use Rattle.sp_rules.specs.Window.{with_mark}
 use Rattle.sp_rules.specs.declared.answers.Item.{Item}
@@ -225,6 +226,7 @@ module _ (src : ℕ) where
   heard prios.BadEnd v number p = none p.prio p.prio refl refl
   heard prios.Expired v number p = none p.prio p.prio refl refl
   heard prios.BadSig v number p = none p.prio p.prio refl refl
+  heard prios.Epoch v number p = none p.prio p.prio refl refl
 
   one_piece : (arts : Arts) (at : Arrival) (p : Parts) (piece : Piece) → HasWindows p.prio → is_node p.prio.nodes src ≡ true
       → Marks src p.prio (told (handle arts at p piece).answered) (handle arts at p piece).parts.prio
@@ -236,14 +238,14 @@ module _ (src : ℕ) where
   one_piece arts at p (PrioAckPiece number) h there = none p.prio (prio.acked p.prio at.from.0 number) refl refl
   one_piece arts at p (PrioPiece number o) h there =
       let right = is_signed arts at.fixed o in
-      let answer = prio_answer right (judge_prio p.prio o.body at.now) in
+      let answer = prio_answer right (is_dated p.lives o.body) (judge_prio p.prio o.body at.now) in
       let new = record p { prio = admit_prio p.prio o (Some at.from) } in
       let t = is_new (items.Prio answer) in
       let qs = told ((o, items.Prio answer) ∷ []) in
       let first : Marks src p.prio qs (cond t new p).prio =
       elim (cases_Bool t) [
         | inl is ↦
-            let judge = (new_prio right (judge_prio p.prio o.body at.now) is).1 in
+            let judge = (new_prio right (is_dated p.lives o.body) (judge_prio p.prio o.body at.now) is).1 in
             let same : cond (said (λ p. p.src.0) o.body == src) (said (λ p. p.seq) o.body ∷ []) [] ≡ qs =
             number_is p.prio o.body at.now judge ∙ sym (one_told o (items.Prio answer) ∙ rw is refl) in
             subst (λ (xs : List ℕ). Marks src p.prio xs (cond t new p).prio) same (rw is (admitted p.prio o (Some at.from) h there))
@@ -253,15 +255,19 @@ module _ (src : ℕ) where
       ] in
       subst (λ (xs : List ℕ). Marks src p.prio xs (heard_where answer at.from number (cond t new p)).prio) (append-nil qs)
       (on p.prio (cond t new p).prio (heard_where answer at.from number (cond t new p)).prio qs [] first (heard answer at.from number (cond t new p)))
-  one_piece arts at p (ReportPiece flow base have) h there = none p.prio p.prio refl refl
+  one_piece arts at p (ReportPiece flow sboot dboot base have) h there = by (are_held p.lives flow sboot dboot)
+    where
+      by : (t : Bool) → Marks src p.prio [] (reported_where t at.from flow base have p).prio
+      by true = none p.prio p.prio refl refl
+      by false = none p.prio p.prio refl refl
   one_piece arts at p (AckPiece flow o) h there =
       let right = is_signed arts at.fixed o in
-      unmarked p o (items.Ack (ack_answer right (judge_ack_of p.rel flow o.body))) (record p { rel = admit_ack p.rel o }) p refl refl
-      (λ new. ack_number p.rel flow o.body (new_ack right (judge_ack_of p.rel flow o.body) new).1)
+      unmarked p o (items.Ack (ack_answer right (is_dated p.lives o.body) (judge_ack_of p.rel flow o.body))) (record p { rel = admit_ack p.rel o }) p refl refl
+      (λ new. ack_number p.rel flow o.body (new_ack right (is_dated p.lives o.body) (judge_ack_of p.rel flow o.body) new).1)
   one_piece arts at p (RelPiece flow o) h there =
       let right = is_signed arts at.fixed o in
-      unmarked p o (items.Rel (rel_answer right (judge_rel_of p.rel flow o.body))) (record p { rel = admit_rel p.rel o }) p refl refl
-      (λ new. rel_number_of p.rel flow o.body (new_rel right (judge_rel_of p.rel flow o.body) new).1)
+      unmarked p o (items.Rel (rel_answer right (is_dated p.lives o.body) (judge_rel_of p.rel flow o.body))) (record p { rel = admit_rel p.rel o }) p refl refl
+      (λ new. rel_number_of p.rel flow o.body (new_rel right (is_dated p.lives o.body) (judge_rel_of p.rel flow o.body) new).1)
 
   all_pieces : (arts : Arts) (at : Arrival) (p : Parts) (pieces : List Piece) → HasWindows p.prio → is_node p.prio.nodes src ≡ true
       → Marks src p.prio (told (handle_all arts at p pieces).answered) (handle_all arts at p pieces).parts.prio
@@ -312,7 +318,7 @@ module _ (src : ℕ) where
           subst (λ (xs : List ℕ). Marks src n.parts.prio xs done.parts.prio) (sym (append-nil (told (handled arts n v bytes).answered)))
           (all_pieces arts (arrival_at n v) n.parts (pieces_where (reply_at arts n v bytes) (pieces_in (sections_in arts n.fixed bytes))) h there)
       go (Some refused) = none n.parts.prio n.parts.prio refl refl
-  step_marks arts n (Tick now) output new s h there = by n (Tick now) output _ new _ s.0 s.1 (go (due n.parts.rel) (signer_refusal n.signer))
+  step_marks arts n (Tick now) output new s h there = by n (Tick now) output _ new _ s.0 s.1 (go (due_now n) (signer_refusal n.signer))
     where
       go : (a : Option Ack) (r : Option SendRefused) → Marks src n.parts.prio [] (settled_by arts (at_time n now) a r).parts.prio
       go None r = none n.parts.prio (at_time n now).parts.prio refl refl

@@ -1,14 +1,20 @@
 -- The mask of an own message names edges alone, so it has room in its field.
-use Rattle.std.proofs.Common.{◌≡◌, ◌<◌, ◌≤◌, ℕ, zero, suc, ◌+◌, ◌*◌, ◌-◌, ◌^◌, ◌/◌, ◌%◌, false, List, [], ◌∷◌, length, refl, sym, ap, ◌∙◌, subst, arith}
+use Rattle.std.proofs.Common.{◌≡◌, ◌<◌, ◌≤◌, ℕ, zero, suc, ◌+◌, ◌*◌, ◌-◌, ◌^◌, ◌/◌, ◌%◌, ◌==◌, Bool, true, false, if◌then◌else◌, List, [], ◌∷◌, length, refl, sym, ap, ◌∙◌, subst, arith}
 use Rattle.std.proofs.Math.Nat.{pow-suc}
 use Rattle.std.specs.Int.{bit_at}
 use Rattle.std.proofs.lemmas.Bool.Decides.{nat_tests}
 use Rattle.std.proofs.lemmas.Nat.Bits.{bit_at-lt, bit_at-suc, bit_at_lowest}
 use Rattle.std.proofs.lemmas.Option.{slice_get_past}
+use Rattle.sp_base.specs.Formats.{max_edges}
+use Rattle.sp_base.specs.declared.format.TheConstants.{FORMAT_1}
 use Rattle.sp_base.specs.declared.id.NodeId.{NodeId}
-use Rattle.sp_base.specs.declared.limits.TheConstants.{MAX_EDGES}
+use Rattle.sp_base.specs.declared.limits.TheConstants.{MAX_EDGES, MAX_EDGES_2}
 use Rattle.sp_graph.specs.declared.graph.Graph.{Graph}
+use Rattle.sp_msg.proofs.GoodFields.{GoodMask}
+use Rattle.sp_msg.specs.Fields.{IsInRange, free, ranged}
+use Rattle.sp_msg.specs.Masks.{HALF, mask_from}
 use Rattle.sp_msg.specs.Views.{names_edge}
+use Rattle.sp_msg.specs.declared.refused.Field.TheVariants as fields
 use Rattle.sp_rules.proofs.MaskLemmas.{none_used}
 use Rattle.sp_rules.specs.Masks.{IsChoice, IsMaskOf, Mask, all_edges, graph_of, is_used, weighed}
 use Rattle.sp_rules.specs.Weights.{WeightState}
@@ -70,10 +76,23 @@ mask_within t w s d count mask is = subst (λ (n : ℕ). mask < 2 ^ n) (length_w
     go (suc more) is = small mask mask (length (weighed w 0 t.edges)) (below_its_power mask) (past_none (graph_of t w) is.paths mask is.mask_of)
 
 -- so it has room in its field
-pub mask_small : (t : Topology) (w : WeightState) (s d : NodeId) (count mask : ℕ) → length t.edges ≤ MAX_EDGES
-    → IsChoice (graph_of t w) s d count (Mask mask) → mask < 2 ^ MAX_EDGES
-mask_small t w s d count mask few is =
-    let more = powers (length t.edges) (MAX_EDGES - length t.edges) in
-    let same : length t.edges + (MAX_EDGES - length t.edges) ≡ MAX_EDGES = omega (arith, few) in
-    let room : 2 ^ length t.edges ≤ 2 ^ MAX_EDGES = subst (λ (n : ℕ). 2 ^ length t.edges ≤ 2 ^ n) same more in
+mask_small : (t : Topology) (w : WeightState) (s d : NodeId) (count mask most : ℕ) → length t.edges ≤ most
+    → IsChoice (graph_of t w) s d count (Mask mask) → mask < 2 ^ most
+mask_small t w s d count mask most few is =
+    let more = powers (length t.edges) (most - length t.edges) in
+    let same : length t.edges + (most - length t.edges) ≡ most = omega (arith, few) in
+    let room : 2 ^ length t.edges ≤ 2 ^ most = subst (λ (n : ℕ). 2 ^ length t.edges ≤ 2 ^ n) same more in
     omega (arith, mask_within t w s d count mask is, room)
+
+-- its halves have room in theirs
+halves_small : (format n : ℕ) → n < 2 ^ max_edges format → GoodMask format (mask_from n)
+halves_small format n small = let both = go (format == FORMAT_1) small in record { high = both.0; low = both.1 }
+  where
+    go : (b : Bool) → n < 2 ^ (if b then MAX_EDGES else MAX_EDGES_2)
+        → IsInRange (free (if b then 0 else 16)) (n / HALF) × IsInRange (if b then ranged fields.Mask 16 0 (2 ^ MAX_EDGES - 1) else free 16) (n % HALF)
+    go true small = (omega (arith, small), (omega arith, omega (arith, small)))
+    go false small = (omega (arith, small), omega arith)
+
+pub good_mask : (format : ℕ) (t : Topology) (w : WeightState) (s d : NodeId) (count mask : ℕ) → length t.edges ≤ max_edges format
+    → IsChoice (graph_of t w) s d count (Mask mask) → GoodMask format (mask_from mask)
+good_mask format t w s d count mask few is = halves_small format mask (mask_small t w s d count mask (max_edges format) few is)

@@ -3,12 +3,13 @@ use Rattle.std.proofs.Common.{◌≡◌, ◌<◌, ◌≤◌, ℕ, ◌+◌, ◌^�
 use Rattle.std.specs.Prelude.{IsTrue}
 use Rattle.std.proofs.lemmas.Bool.Decides.{nat_tests}
 use Rattle.sp_base.specs.Cursor.{or_else}
+use Rattle.sp_base.specs.Formats.{max_edges}
 use Rattle.sp_base.specs.declared.id.Flow.{Flow}
 use Rattle.sp_base.specs.declared.id.NodeId.{NodeId}
-use Rattle.sp_base.specs.declared.limits.TheConstants.{MAX_EDGES, MAX_PAYLOAD_BYTES, MAX_WEIGHT}
-use Rattle.sp_base.specs.declared.format.TheConstants.{FORMAT_1}
-use Rattle.sp_msg.proofs.GoodFields.{first_mask, no_boot, prio_is_good, rel_is_good, weight_is_good}
-use Rattle.sp_msg.specs.Bodies.{HasGoodFields}
+use Rattle.sp_base.specs.declared.limits.TheConstants.{MAX_PAYLOAD_BYTES, MAX_WEIGHT}
+use Rattle.sp_msg.proofs.GoodFields.{GoodMask, prio_is_good, rel_is_good, weight_is_good}
+use Rattle.sp_msg.specs.Bodies.{HasGoodFieldsIn}
+use Rattle.sp_msg.specs.Masks.{mask_from}
 use Rattle.sp_msg.specs.Views.{signer_of}
 use Rattle.sp_msg.specs.declared.body.Body.{Body}
 use Rattle.sp_msg.specs.declared.body.Body.TheVariants as bodies
@@ -22,7 +23,7 @@ use Rattle.sp_rules.specs.Node.{NodeState, Signer, signed_now}
 use Rattle.sp_rules.specs.Parts.{edge_to, is_signed, is_signed_by}
 use Rattle.sp_rules.specs.Prio.{is_node}
 use Rattle.sp_rules.specs.Rel.{IsNextOwn, flow_in, own_flow, room}
-use Rattle.sp_rules.specs.Sends.{PrioSend, edge_or, mask_in, no_paths, no_room, prio_body, prio_of, prio_refusal, rel_body, rel_number, rel_refusal, send_prio_refusal, signer_refusal, weight_body, weight_refusal, weight_refusal_at}
+use Rattle.sp_rules.specs.Sends.{PrioSend, edge_or, mask_in, no_paths, no_room, prio_body, prio_of, prio_refusal, rel_body, rel_number, rel_of, rel_refusal, send_prio_refusal, signer_refusal, weight_body, weight_refusal, weight_refusal_at}
 use Rattle.sp_rules.specs.Weights.{minimum, next_seq, row_for, row_in}
 use Rattle.sp_rules.specs.declared.rel.RelRefused.{RelRefused}
 use Rattle.sp_rules.specs.declared.rel.RelRefused.TheVariants as rels
@@ -34,7 +35,8 @@ use Rattle.laws_node.specs.Inputs.{ArtsFit, PrioSendFits}
 use Rattle.laws_node.specs.Nodes.{NodeHolds, SignerHolds}
 use Rattle.laws_node.specs.Sizes.{Fits, Sizes}
 use Rattle.laws_node.specs.Updates.{OwnUpTo}
-use Rattle.laws_node.proofs.Masks.{mask_small}
+use Rattle.laws_node.proofs.HeldBoots.{boot_fits}
+use Rattle.laws_node.proofs.Masks.{good_mask}
 use Rattle.laws_node.proofs.Reliable.{in_range, read}
 use Rattle.laws_node.proofs.Updates.{own_next_seq, own_row, place_within}
 
@@ -59,12 +61,16 @@ left s h e = omega (arith, free s h e, h.bound)
 
 -- an own message is in its ranges, and is asked what is asked of it
 pub own_fits : (arts : Arts) (n : NodeState) (k : Sizes) (body : Body) → ArtsFit arts n.fixed n.signer → n.fixed.signature_len ≡ k.signature_len
-    → k.keeps (signed_now arts n body) → HasGoodFields body → Fits k (signed_now arts n body)
+    → k.keeps (signed_now arts n body) → HasGoodFieldsIn k.format body → Fits k (signed_now arts n body)
 own_fits arts n k body arts_fit long keeps fields = record {
   fields = fields;
   long = arts_fit.long n.signer.index (arts.spell body) ∙ long;
   holds = keeps;
 }
+
+-- the sizes have the format of its topology
+pub in_own_format : (k : Sizes) (n : NodeState) (body : Body) → NodeHolds k n → HasGoodFieldsIn k.format body → HasGoodFieldsIn n.fixed.topology.format body
+in_own_format k n body h = subst (λ (format : ℕ). HasGoodFieldsIn format body) (sym h.fixed.format)
 
 -- it has its signature
 pub own_is_signed : (arts : Arts) (n : NodeState) (body : Body) → ArtsFit arts n.fixed n.signer → n.signer.index < n.signer.total → signer_of body ≡ n.fixed.me
@@ -87,7 +93,7 @@ there_is_room (Err rels.Memory) e = absurd (cc)
 pub record RelSent (k : Sizes) (n : NodeState) (dst : NodeId) (payload : List ℕ) : Type 0 where
   pub free : signer_refusal n.signer ≡ None
   pub next : IsNextOwn n.parts.rel (rel_body n dst payload)
-  pub fields : HasGoodFields (rel_body n dst payload)
+  pub fields : HasGoodFieldsIn k.format (rel_body n dst payload)
 
 pub rel_sent_fits : (k : Sizes) (n : NodeState) (dst : NodeId) (payload : List ℕ) → length payload ≤ MAX_PAYLOAD_BYTES → rel_refusal n dst ≡ None
     → NodeHolds k n → RelSent k n dst payload
@@ -98,8 +104,8 @@ rel_sent_fits k n dst payload short e h =
     let facts = room_is r dst number.0 number.1 in
     let nodes = both_nodes r (own_flow r dst) r.me dst facts.0 in
     let me_too : r.me ≡ n.fixed.me = h.parts.rel.me ∙ sym h.fixed.me in
-    let to = in_range r.nodes dst h.parts.rel.nodes nodes.1 in
-    let from = in_range r.nodes r.me h.parts.rel.nodes nodes.0 in
+    let to = in_range k.format r.nodes dst h.parts.rel.nodes nodes.1 in
+    let from = in_range k.format r.nodes r.me h.parts.rel.nodes nodes.0 in
     let f = flow_in r.flows (own_flow r dst) in
     let there = read k n.signer.index r.flows (own_flow r dst) from to h.parts.rel.flows in
     let same : f.src.0 ≡ k.me.0 = ap (λ (e : Flow). e.src.0) (found_ends r.flows (own_flow r dst)) ∙ ap (λ (u : NodeId). u.0) h.parts.rel.me in
@@ -107,11 +113,11 @@ rel_sent_fits k n dst payload short e h =
     record {
       free = both.1;
       next = (sym me_too, number.1 ∙ ap (λ (q : ℕ). Ok q) facts.1);
-      fields = rel_is_good FORMAT_1 (record { src = n.fixed.me; dst = dst; sboot = 0; dboot = 0; seq = rel_number n dst; payload = payload }) (record {
+      fields = rel_is_good k.format (rel_of n dst payload) (record {
         src = h.fixed.is_node;
         dst = to;
-        sboot = no_boot;
-        dboot = no_boot;
+        sboot = boot_fits k n.parts.lives n.fixed.me h.parts.lives;
+        dboot = boot_fits k n.parts.lives dst h.parts.lives;
         seq = (omega arith, omega (arith, own, h.signer.index, h.signer.bound, h.signer.total));
         payload = short;
       });
@@ -122,9 +128,9 @@ rel_sent_fits k n dst payload short e h =
 
 -- ---- a priority message
 
-pub record PrioSent (n : NodeState) (m : PrioSend) (choice : Choice) : Type 0 where
+pub record PrioSent (k : Sizes) (n : NodeState) (m : PrioSend) (choice : Choice) : Type 0 where
   pub free : signer_refusal n.signer ≡ None
-  pub fields : HasGoodFields (prio_body n m (mask_in choice))
+  pub fields : HasGoodFieldsIn k.format (prio_body n m (mask_in choice))
 
 pub split : (a b : Bool) → (a || not b) ≡ false → b ≡ true
 split true b e = absurd (cc)
@@ -132,29 +138,31 @@ split false true e = refl
 split false false e = absurd (cc)
 
 mask_fits : (k : Sizes) (n : NodeState) (m : PrioSend) (choice : Choice) → no_paths choice ≡ None → NodeHolds k n
-    → IsChoice (graph_of n.fixed.topology n.parts.weights) n.fixed.me m.dst m.paths choice → mask_in choice < 2 ^ MAX_EDGES
-mask_fits k n m (Mask mask) e h is = mask_small n.fixed.topology n.parts.weights n.fixed.me m.dst m.paths mask h.fixed.topology.graph.edge_count is
+    → IsChoice (graph_of n.fixed.topology n.parts.weights) n.fixed.me m.dst m.paths choice → GoodMask k.format (mask_from (mask_in choice))
+mask_fits k n m (Mask mask) e h is =
+    good_mask k.format n.fixed.topology n.parts.weights n.fixed.me m.dst m.paths mask
+    (subst (λ (f : ℕ). length n.fixed.topology.edges ≤ max_edges f) h.fixed.format h.fixed.topology.ranges.graph.edge_count) is
 mask_fits k n m (OnlyPaths found) e h is = absurd (cc)
 
 pub prio_sent_fits : (k : Sizes) (n : NodeState) (m : PrioSend) (choice : Choice) → PrioSendFits m → send_prio_refusal n m choice ≡ None
-    → IsChoice (graph_of n.fixed.topology n.parts.weights) n.fixed.me m.dst m.paths choice → NodeHolds k n → PrioSent n m choice
+    → IsChoice (graph_of n.fixed.topology n.parts.weights) n.fixed.me m.dst m.paths choice → NodeHolds k n → PrioSent k n m choice
 prio_sent_fits k n m choice fits e is h =
     let both = either (prio_refusal n m) (no_paths choice) e in
     let one = if_none ((m.dst.0 == n.fixed.me.0) || not (is_node n.parts.prio.nodes m.dst.0)) refusals.BadEnd _ both.0 in
     let two = if_none (nat_lt m.expiry n.now) (refusals.Expired n.now) (signer_refusal n.signer) one.1 in
     let node = split (m.dst.0 == n.fixed.me.0) (is_node n.parts.prio.nodes m.dst.0) one.0 in
-    let to = in_range n.parts.prio.nodes m.dst h.parts.prio.nodes node in
+    let to = in_range k.format n.parts.prio.nodes m.dst h.parts.prio.nodes node in
     let mask = mask_fits k n m choice both.1 h is in
     record {
       free = two.1;
-      fields = prio_is_good FORMAT_1 (prio_of n m (mask_in choice)) (record {
+      fields = prio_is_good k.format (prio_of n m (mask_in choice)) (record {
         src = h.fixed.is_node;
         dst = to;
-        sboot = no_boot;
+        sboot = boot_fits k n.parts.lives n.fixed.me h.parts.lives;
         seq = (h.parts.prio.least, omega (arith, h.parts.prio.next, h.signer.index, h.signer.bound, h.signer.total));
         prio = (fits.0, fits.1);
         expiry = omega (arith, fits.2);
-        mask = first_mask (mask_in choice) mask;
+        mask = mask;
         payload = fits.3;
       });
     }
@@ -163,7 +171,7 @@ prio_sent_fits k n m choice fits e is h =
 
 pub record WeightSent (k : Sizes) (n : NodeState) (v : NodeId) (weight : ℕ) : Type 0 where
   pub free : signer_refusal n.signer ≡ None
-  pub fields : HasGoodFields (weight_body n v weight)
+  pub fields : HasGoodFieldsIn k.format (weight_body n v weight)
   pub row : ℕ
   pub place : row_for k.edges (weight_body n v weight) ≡ Some row
   pub own : OwnUpTo k.me (MAX_OWN_HEARD + (n.signer.index + 1)) (weight_body n v weight)
@@ -183,9 +191,9 @@ weight_sent_fits k n v weight least most e h = go (edge_to n.fixed v) refl e
         let within = place_within (joins n.fixed.me.0 v.0) n.fixed.topology.edges edge is in
         record {
           free = free;
-          fields = subst HasGoodFields (sym same) (weight_is_good FORMAT_1 update (record {
+          fields = subst (HasGoodFieldsIn k.format) (sym same) (weight_is_good k.format update (record {
             origin = h.fixed.is_node;
-            edge = omega (arith, within, h.fixed.topology.graph.edge_count);
+            edge = omega (arith, within, subst (λ (f : ℕ). length n.fixed.topology.edges ≤ max_edges f) h.fixed.format h.fixed.topology.ranges.graph.edge_count);
             seq = (number.0, omega (arith, number.1, h.signer.index, h.signer.bound, h.signer.total));
             weight = (least, most);
           }));

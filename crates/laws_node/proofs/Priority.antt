@@ -5,9 +5,9 @@ use Rattle.std.proofs.lemmas.Bool.Decides.{nat_tests}
 use Rattle.std.proofs.lemmas.List.Elements.{All-cons, All-head, All-nil, All-tail}
 use Rattle.sp_base.specs.declared.id.NodeId.{NodeId}
 use Rattle.sp_base.specs.declared.limits.TheConstants.{MAX_MESSAGES}
-use Rattle.sp_base.specs.declared.format.TheConstants.{FORMAT_1}
+use Rattle.sp_base.proofs.FormatLemmas.{few_nodes}
 use Rattle.sp_msg.proofs.GoodFields.{good_prio}
-use Rattle.sp_msg.specs.Bodies.{HasGoodFields}
+use Rattle.sp_msg.specs.Bodies.{HasGoodFieldsIn}
 use Rattle.sp_msg.specs.declared.body.Body.{Body}
 use Rattle.sp_msg.specs.declared.body.Body.TheVariants as bodies
 use Rattle.sp_msg.specs.declared.kept.Kept.{Kept}
@@ -34,8 +34,8 @@ entry_more k last more e up h = record { id = omega (arith, up, h.id); kind = h.
 pub store_more : (k : Sizes) (ids more : ℕ) (s : Store) → ids ≤ more → StoreHolds k ids s → StoreHolds k more s
 store_more k ids more s up h = record { last = omega (arith, up, h.last); bounded = h.bounded; capacity = h.capacity; entries = h.entries }
 
-small_source : (k : Sizes) (last : ℕ) (body : Body) → IsPrio body → HasGoodFields body → said (λ p. p.src.0) body < IDS
-small_source k last (bodies.Prio p) is good = omega (arith, (good_prio FORMAT_1 p good).src.1)
+small_source : (k : Sizes) (last : ℕ) (body : Body) → IsPrio body → HasGoodFieldsIn k.format body → said (λ p. p.src.0) body < IDS
+small_source k last (bodies.Prio p) is good = let small = (good_prio k.format p good).src.1 in omega (arith, small, few_nodes k.format)
 small_source k last (bodies.Rel r) is good = absurd is
 small_source k last (bodies.Ack a) is good = absurd is
 small_source k last (bodies.Weight w) is good = absurd is

@@ -36,7 +36,9 @@ use Rattle.sp_rules.specs.Rel.{RelPeer, RelState, View}
 use Rattle.sp_rules.specs.Sends.{own_prio, rel_body, rel_refusal, send_prio_refusal, signer_refusal, weight_body, weight_refusal}
 use Rattle.sp_rules.specs.Steps.{Poll, Datagram, Tick, SendRel, SendPrio, SetWeight, TakeRel, TakePrio}
 use Rattle.sp_rules.specs.Store.{Store, next_besides, put, removed}
-use Rattle.sp_rules.specs.Ticks.{at_time, settled_by, time_after}
+use Rattle.sp_rules.specs.Lives.{are_held, is_dated, no_life}
+use Rattle.sp_rules.specs.declared.lives.Life.{Life}
+use Rattle.sp_rules.specs.Ticks.{due_now, at_time, settled_by, time_after}
 use Rattle.sp_rules.specs.Weights as weights
 use Rattle.sp_rules.specs.Weights.{WeightState}
 use Rattle.sp_rules.specs.declared.answers.PrioAnswer.{PrioAnswer}
@@ -232,21 +234,22 @@ record PartsShape : Type 0 where
   weights : WeightShape
   prio : PrioShape
   rel : RelShape
+  lives : List NodeId
 
 abbrev parts_shape : Parts → PartsShape
-parts_shape p = record { weights = weight_shape p.weights; prio = prio_shape p.prio; rel = rel_shape p.rel }
+parts_shape p = record { weights = weight_shape p.weights; prio = prio_shape p.prio; rel = rel_shape p.rel; lives = map (λ l. l.node) p.lives }
 
-abbrev parts_with : WeightShape → PrioShape → RelShape → PartsShape
-parts_with w s r = record { weights = w; prio = s; rel = r }
+abbrev parts_with : List NodeId → WeightShape → PrioShape → RelShape → PartsShape
+parts_with ls w s r = record { weights = w; prio = s; rel = r; lives = ls }
 
 of_weights : (p : Parts) (w : WeightState) → weight_shape w ≡ weight_shape p.weights → parts_shape (record p { weights = w }) ≡ parts_shape p
-of_weights p w e = ap (λ (x : WeightShape). parts_with x (prio_shape p.prio) (rel_shape p.rel)) e
+of_weights p w e = ap (λ (x : WeightShape). parts_with (map (λ l. l.node) p.lives) x (prio_shape p.prio) (rel_shape p.rel)) e
 
 of_prio : (p : Parts) (s : PrioState) → prio_shape s ≡ prio_shape p.prio → parts_shape (record p { prio = s }) ≡ parts_shape p
-of_prio p s e = ap (λ (x : PrioShape). parts_with (weight_shape p.weights) x (rel_shape p.rel)) e
+of_prio p s e = ap (λ (x : PrioShape). parts_with (map (λ l. l.node) p.lives) (weight_shape p.weights) x (rel_shape p.rel)) e
 
 of_rel : (p : Parts) (r : RelState) → rel_shape r ≡ rel_shape p.rel → parts_shape (record p { rel = r }) ≡ parts_shape p
-of_rel p r e = ap (λ (x : RelShape). parts_with (weight_shape p.weights) (prio_shape p.prio) x) e
+of_rel p r e = ap (λ (x : RelShape). parts_with (map (λ l. l.node) p.lives) (weight_shape p.weights) (prio_shape p.prio) x) e
 
 either : (t : Bool) (new old : Parts) → parts_shape new ≡ parts_shape old → parts_shape (cond t new old) ≡ parts_shape old
 either true new old e = e
@@ -258,21 +261,24 @@ heard_shape prios.Seen v number p = of_prio p (prio.heard p.prio v.0 number) (on
 heard_shape prios.BadEnd v number p = refl
 heard_shape prios.Expired v number p = refl
 heard_shape prios.BadSig v number p = refl
+heard_shape prios.Epoch v number p = refl
 
 piece_shape : (arts : Arts) (at : Arrival) (p : Parts) (piece : Piece) → parts_shape (handle arts at p piece).parts ≡ parts_shape p
 piece_shape arts at p (WeightPiece o) =
     either (is_new (items.Weight (weight_answer (is_signed arts at.fixed o) (offer_to at.fixed.me p.weights o.body)))) (record p { weights = weights.held p.weights o }) p (of_weights p (weights.held p.weights o) (held_shape p.weights o))
 piece_shape arts at p (PrioAckPiece number) = of_prio p (prio.acked p.prio at.from.0 number) (one_peer p.prio at.from.0 (λ q. rows.acked q number) (acked_shape number))
 piece_shape arts at p (PrioPiece number o) =
-    let answer = prio_answer (is_signed arts at.fixed o) (prio.judge_prio p.prio o.body at.now) in
+    let answer = prio_answer (is_signed arts at.fixed o) (is_dated p.lives o.body) (prio.judge_prio p.prio o.body at.now) in
     let admitted = record p { prio = prio.admit_prio p.prio o (Some at.from) } in
     heard_shape answer at.from number (cond (is_new (items.Prio answer)) admitted p)
     ∙ either (is_new (items.Prio answer)) admitted p (of_prio p (prio.admit_prio p.prio o (Some at.from)) (admitted_shape p.prio o (Some at.from)))
-piece_shape arts at p (ReportPiece flow base have) = of_rel p (rel.reported p.rel at.from flow base have) (reported_shape p.rel at.from flow base have)
+piece_shape arts at p (ReportPiece flow sboot dboot base have) =
+    either (are_held p.lives flow sboot dboot) (record p { rel = rel.reported p.rel at.from flow base have }) p
+    (of_rel p (rel.reported p.rel at.from flow base have) (reported_shape p.rel at.from flow base have))
 piece_shape arts at p (AckPiece flow o) =
-    either (is_new (items.Ack (ack_answer (is_signed arts at.fixed o) (rel.judge_ack_of p.rel flow o.body)))) (record p { rel = rel.admit_ack p.rel o }) p (of_rel p (rel.admit_ack p.rel o) (acknowledged_shape p.rel o))
+    either (is_new (items.Ack (ack_answer (is_signed arts at.fixed o) (is_dated p.lives o.body) (rel.judge_ack_of p.rel flow o.body)))) (record p { rel = rel.admit_ack p.rel o }) p (of_rel p (rel.admit_ack p.rel o) (acknowledged_shape p.rel o))
 piece_shape arts at p (RelPiece flow o) =
-    either (is_new (items.Rel (rel_answer (is_signed arts at.fixed o) (rel.judge_rel_of p.rel flow o.body)))) (record p { rel = rel.admit_rel p.rel o }) p (of_rel p (rel.admit_rel p.rel o) (new_rel_shape p.rel o))
+    either (is_new (items.Rel (rel_answer (is_signed arts at.fixed o) (is_dated p.lives o.body) (rel.judge_rel_of p.rel flow o.body)))) (record p { rel = rel.admit_rel p.rel o }) p (of_rel p (rel.admit_rel p.rel o) (new_rel_shape p.rel o))
 
 pieces_shape : (arts : Arts) (at : Arrival) (p : Parts) (pieces : List Piece) → parts_shape (handle_all arts at p pieces).parts ≡ parts_shape p
 pieces_shape arts at p [] = refl
@@ -283,7 +289,7 @@ pieces_shape arts at p (piece ∷ pieces) = pieces_shape arts at (handle arts at
 -- the shape of a node from those of its links and its parts
 abbrev node_shape : (n : NodeState) (ls : List LinkShape) (p : PartsShape) → Shape
 node_shape n ls p =
-    record { fixed = n.fixed; seed = n.signer.seed; bound = n.signer.bound; total = n.signer.total; links = ls; weights = p.weights; prio = p.prio; rel = p.rel }
+    record { fixed = n.fixed; seed = n.signer.seed; bound = n.signer.bound; total = n.signer.total; links = ls; weights = p.weights; prio = p.prio; rel = p.rel; lives = p.lives }
 
 done : (n : NodeState) (ls : List Link) (p : Parts) → map link_shape ls ≡ map link_shape n.links → parts_shape p ≡ parts_shape n.parts
     → node_shape n (map link_shape ls) (parts_shape p) ≡ shape_of n
@@ -320,7 +326,7 @@ shapes_stay arts n (Datagram v bytes) output new s =
     ap shape_of s.1 ∙ or_kept (call_refusal n v) n (called n ls p) (done n ls p (links_arrived arts n v bytes) (pieces_shape arts (arrival_at n v) n.parts pieces))
 shapes_stay arts n (Tick now) output new s =
     let m = at_time n now in
-    ap shape_of s.1 ∙ (settled_node arts m (rel.due n.parts.rel) (signer_refusal n.signer)
+    ap shape_of s.1 ∙ (settled_node arts m (due_now n) (signer_refusal n.signer)
     ∙ done n n.links m.parts refl (of_prio n.parts m.parts.prio (expired_shape n.parts.prio (time_after n now))))
 shapes_stay arts n (SendRel dst payload) output new s =
     let o = signed_now arts n (rel_body n dst payload) in
@@ -357,6 +363,10 @@ same_flows : (flows : List Flow) → map ends (map no_flow flows) ≡ flows
 same_flows [] = refl
 same_flows (f ∷ flows) = ap (λ (fs : List Flow). f ∷ fs) (same_flows flows)
 
+same_lives : (nodes : List NodeId) → map (λ (l : Life). l.node) (map no_life nodes) ≡ nodes
+same_lives [] = refl
+same_lives (v ∷ nodes) = ap (λ (us : List NodeId). v ∷ us) (same_lives nodes)
+
 pub shapes_begin : ShapesBegin
 shapes_begin f signer keys buffer store =
     let t = f.topology in
@@ -380,7 +390,9 @@ shapes_begin f signer keys buffer store =
     let reliable : rel_shape (rel.start f.me nodes (map (λ n. n.0) ns) buffer) ≡ start.rel =
     ap₂ (λ (fs : List Flow) (ps : List RelPeerShape). record { me = f.me; nodes = nodes; bound = buffer; flows = fs; peers = ps })
     (same_flows (rel.pairs_of nodes)) peers in
-    let parts : parts_shape (empty_parts f buffer store) ≡ parts_with start.weights start.prio start.rel =
-    ap (λ (w : WeightShape). parts_with w (prio_shape (empty_parts f buffer store).prio) (rel_shape (empty_parts f buffer store).rel)) updates
-    ∙ ap₂ (λ (s : PrioShape) (r : RelShape). parts_with start.weights s r) urgent reliable in
+    let rows : map (λ l. l.node) (map no_life nodes) ≡ nodes = same_lives nodes in
+    let parts : parts_shape (empty_parts f buffer store) ≡ parts_with nodes start.weights start.prio start.rel =
+    ap₂ (λ (ls : List NodeId) (w : WeightShape). parts_with ls w (prio_shape (empty_parts f buffer store).prio) (rel_shape (empty_parts f buffer store).rel))
+    rows updates
+    ∙ ap₂ (λ (s : PrioShape) (r : RelShape). parts_with nodes start.weights s r) urgent reliable in
     ap₂ (λ (ls : List LinkShape) (p : PartsShape). node_shape (booted f signer keys buffer store) ls p) links parts

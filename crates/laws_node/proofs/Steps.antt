@@ -4,13 +4,14 @@ use Rattle.std.specs.Prelude.{IsTrue}
 use Rattle.std.proofs.lemmas.Bool.Decides.{nat_tests}
 use Rattle.sp_base.specs.Spelling.{AreBytes}
 use Rattle.sp_base.specs.declared.id.NodeId.{NodeId}
+use Rattle.sp_base.proofs.FormatLemmas.{few_nodes}
 use Rattle.sp_msg.specs.declared.body.Ack.{Ack}
 use Rattle.sp_msg.specs.declared.body.Body.TheVariants as bodies
 use Rattle.sp_msg.specs.declared.kept.Kept.{Kept}
 use Rattle.sp_msg.specs.declared.effect.Effect.{Effect}
 use Rattle.sp_msg.specs.declared.effect.Effect.TheVariants.{Signed}
 use Rattle.sp_msg.specs.declared.refused.SendRefused.{SendRefused}
-use Rattle.sp_msg.specs.Bodies.{HasGoodFields, payload_of}
+use Rattle.sp_msg.specs.Bodies.{HasGoodFieldsIn, payload_of}
 use Rattle.sp_msg.specs.Views.{signer_of}
 use Rattle.sp_msg.specs.declared.body.Body.{Body}
 use Rattle.sp_rules.specs.Arrivals.{arrival_at, handled, link_after, pieces_in, pieces_where, reply_at, sections_in}
@@ -22,10 +23,11 @@ use Rattle.sp_rules.specs.Parts.{Fixed, Parts, is_signed, nodes_of, place_of}
 use Rattle.sp_rules.specs.Polls.{polled}
 use Rattle.sp_rules.specs.Handle.{weight_effects}
 use Rattle.sp_rules.specs.Prio.{admit_prio, expired_effects, prio_effects}
-use Rattle.sp_rules.specs.Rel.{due, pushed_in, settled}
+use Rattle.sp_rules.specs.Lives.{held_boot}
+use Rattle.sp_rules.specs.Rel.{pushed_in, settled}
 use Rattle.sp_rules.specs.Sends.{PrioSend, mask_in, no_paths, own_prio, prio_body, prio_refusal, prio_sent, rel_body, rel_number, rel_refusal, rel_sent, send_prio_refusal, signer_refusal, weight_body, weight_number, weight_refusal, weight_sent}
 use Rattle.sp_rules.specs.Steps.{Input, NodeStep, Output, accepted, arrived, refused_call, refused_send, tick_output, Poll, Datagram, Tick, SendRel, SendPrio, SetWeight, TakeRel, TakePrio}
-use Rattle.sp_rules.specs.Ticks.{ack_effects, after_tick, at_time, settled_by, time_after}
+use Rattle.sp_rules.specs.Ticks.{ack_effects, after_tick, at_time, due_now, settled_by, time_after}
 use Rattle.sp_rules.specs.Weights.{held}
 use Rattle.sp_rules.specs.declared.node.NodeRefused.{NodeRefused}
 use Rattle.sp_rules.specs.declared.node.NodeRefused.TheVariants as refusals
@@ -39,14 +41,14 @@ use Rattle.laws_node.specs.Shapes.{Shape}
 use Rattle.laws_node.specs.Sizes.{Sizes, ids_after, numbers_after}
 use Rattle.laws_node.specs.Stores.{PrioHolds}
 use Rattle.laws_node.specs.Asked.{NewKeep, OwnKeep, WhatIsNewIsKept, payload_in}
-use Rattle.laws_node.proofs.About.{ack_about, me_is_there, prio_about, rel_about, weight_about}
+use Rattle.laws_node.proofs.About.{due_now_about, me_is_there, prio_about, rel_about, weight_about}
 use Rattle.laws_node.proofs.Arrived.{sections_fit, where_fits}
 use Rattle.laws_node.proofs.AskedLemmas.{none_new}
 use Rattle.laws_node.proofs.Handles.{all_hold, new_is_signed}
 use Rattle.laws_node.proofs.Links.{advanced_holds, link_after_holds, with_link_holds}
-use Rattle.laws_node.proofs.Own.{either, free, left, own_fits, own_is_signed, prio_sent_fits, rel_sent_fits, weight_sent_fits}
+use Rattle.laws_node.proofs.Own.{in_own_format, either, free, left, own_fits, own_is_signed, prio_sent_fits, rel_sent_fits, weight_sent_fits}
 use Rattle.laws_node.proofs.Priority.{carried_holds, expired_holds, prio_more, sent_holds, taken_holds}
-use Rattle.laws_node.proofs.Reliable.{due_fits, pushed_in_holds, rel_more, served_holds, settled_holds, took_holds}
+use Rattle.laws_node.proofs.Reliable.{dated_due, due_now_fits, pushed_in_holds, rel_more, served_holds, settled_holds, took_holds}
 use Rattle.laws_node.proofs.Shapes.{shapes_stay}
 use Rattle.laws_node.proofs.Updates.{held_holds, moved_holds, weights_more}
 
@@ -56,6 +58,7 @@ use Rattle.laws_node.proofs.Updates.{held_holds, moved_holds, weights_more}
 abbrev sizes_with : (Kept → Type 0) → Fixed → (buffer store : ℕ) → Sizes
 sizes_with P f buffer store = record {
   me = f.me;
+  format = f.topology.format;
   nodes = nodes_of f.topology;
   edges = f.topology.edges;
   signature_len = f.signature_len;
@@ -86,7 +89,7 @@ not_worn n v e most =
 -- ---- a poll
 
 small_me : (k : Sizes) (n : NodeState) → NodeHolds k n → n.fixed.me.0 < 256
-small_me k n h = omega (arith, h.fixed.is_node)
+small_me k n h = omega (arith, h.fixed.is_node, few_nodes k.format)
 
 -- the parts, where more may have been given
 parts_more : (k : Sizes) (numbers more ids further index : ℕ) (p : Parts) → numbers ≤ more → ids ≤ further → PartsHold k numbers ids index p
@@ -95,6 +98,7 @@ parts_more k numbers more ids further index p one two h = record {
   weights = h.weights;
   prio = prio_more k numbers more ids further index index p.prio one two (omega arith) h.prio;
   rel = h.rel;
+  lives = h.lives;
 }
 
 poll_keeps : (k : Sizes) (n : NodeState) (v : NodeId) → n.calls + 1 ≤ MAX_CALLS → NodeHolds k n
@@ -110,6 +114,7 @@ poll_keeps k n v most h = record {
         weights = moved_holds k n.signer.index n.parts.weights (place_of n.fixed v) h.parts.weights;
         prio = carried_holds k (numbers_after n.calls) (ids_after n.calls n.signer.index) n.signer.index n.parts.prio v.0 h.parts.prio;
         rel = served_holds k n.signer.index n.parts.rel v h.parts.rel;
+        lives = h.parts.lives;
       });
 }
 
@@ -120,7 +125,7 @@ datagram_keeps : (k : Sizes) (arts : Arts) (n : NodeState) (v : NodeId) (bytes :
     → NodeHolds k (called n (with_link n v (link_after arts n v bytes)) (handled arts n v bytes).parts)
 datagram_keeps k arts n v bytes fits are new most h =
     let pieces = where_fits k (pieces_in (sections_in arts n.fixed bytes)) (reply_at arts n v bytes)
-    (sections_fit k arts n.fixed n.signer bytes fits are h.fixed.signature_len (sections_in arts n.fixed bytes) refl) in
+    (sections_fit k arts n.fixed n.signer bytes fits are h.fixed.format h.fixed.signature_len (sections_in arts n.fixed bytes) refl) in
     let done = all_hold k arts (arrival_at n v) h.fixed.me (numbers_after n.calls) (ids_after n.calls n.signer.index) n.signer.index n.parts
     (pieces_where (reply_at arts n v bytes) (pieces_in (sections_in arts n.fixed bytes))) new pieces.fit h.parts in
     record {
@@ -137,7 +142,7 @@ datagram_keeps k arts n v bytes fits are new most h =
 
 -- what is asked of the message that is signed next
 abbrev Owns : Sizes → Arts → NodeState → Body → Type 0
-Owns k arts n body = signer_of body ≡ n.fixed.me → HasGoodFields body → IsAbout n.fixed.topology body → n.signer.index < n.signer.total → k.keeps (signed_now arts n body)
+Owns k arts n body = signer_of body ≡ n.fixed.me → HasGoodFieldsIn n.fixed.topology.format body → IsAbout n.fixed.topology body → n.signer.index < n.signer.total → k.keeps (signed_now arts n body)
 
 signed_once_holds : (s : Signer) → s.index < s.bound → SignerHolds s → SignerHolds (record s { index = s.index + 1 })
 signed_once_holds s below h = record { index = omega (arith, below); bound = h.bound; total = h.total }
@@ -155,7 +160,7 @@ rel_sent_keeps : (k : Sizes) (arts : Arts) (n : NodeState) (dst : NodeId) (paylo
 rel_sent_keeps k arts n dst payload fits short own_keeps e h =
     let sent = rel_sent_fits k n dst payload short e h in
     let own = own_fits arts n k (rel_body n dst payload) fits h.fixed.signature_len
-    (own_keeps refl sent.fields (rel_about k n dst payload e h) (left n.signer h.signer sent.free)) sent.fields in
+    (own_keeps refl (in_own_format k n (rel_body n dst payload) h sent.fields) (rel_about k n dst payload e h) (left n.signer h.signer sent.free)) sent.fields in
     record {
       fixed = h.fixed;
       now = h.now;
@@ -165,7 +170,8 @@ rel_sent_keeps k arts n dst payload fits short own_keeps e h =
       parts = record {
         weights = weights_more k n.signer.index (n.signer.index + 1) n.parts.weights (omega arith) h.parts.weights;
         prio = signed_beside k n h.parts.prio;
-        rel = pushed_in_holds k n.signer.index n.parts.rel (signed_now arts n (rel_body n dst payload)) sent.next own h.parts.rel;
+        rel = pushed_in_holds k n.signer.index n.parts.rel (signed_now arts n (rel_body n dst payload)) sent.next own tt h.parts.rel;
+        lives = h.parts.lives;
       };
     }
 
@@ -176,7 +182,7 @@ prio_sent_keeps : (k : Sizes) (arts : Arts) (n : NodeState) (m : PrioSend) (choi
 prio_sent_keeps k arts n m choice fits sizes own_keeps e is h =
     let sent = prio_sent_fits k n m choice sizes e is h in
     let own = own_fits arts n k (prio_body n m (mask_in choice)) fits h.fixed.signature_len
-    (own_keeps refl sent.fields (prio_about k n m choice (me_is_there arts n.fixed n.signer fits) e is h) (left n.signer h.signer sent.free)) sent.fields in
+    (own_keeps refl (in_own_format k n (prio_body n m (mask_in choice)) h sent.fields) (prio_about k n m choice (me_is_there arts n.fixed n.signer fits) e is h) (left n.signer h.signer sent.free)) sent.fields in
     record {
       fixed = h.fixed;
       now = h.now;
@@ -190,6 +196,7 @@ prio_sent_keeps k arts n m choice fits sizes own_keeps e is h =
             (sent_holds k (numbers_after n.calls) (ids_after n.calls n.signer.index) n.signer.index n.parts.prio (own_prio arts n m choice) tt own refl
             h.parts.prio);
         rel = rel_more k n.signer.index (n.signer.index + 1) n.parts.rel (omega arith) h.parts.rel;
+        lives = h.parts.lives;
       };
     }
 
@@ -199,7 +206,7 @@ weight_sent_keeps : (k : Sizes) (arts : Arts) (n : NodeState) (v : NodeId) (weig
 weight_sent_keeps k arts n v weight fits least most own_keeps e h =
     let sent = weight_sent_fits k n v weight least most e h in
     let own = own_fits arts n k (weight_body n v weight) fits h.fixed.signature_len
-    (own_keeps refl sent.fields (weight_about n v weight (me_is_there arts n.fixed n.signer fits) e) (left n.signer h.signer sent.free)) sent.fields in
+    (own_keeps refl (in_own_format k n (weight_body n v weight) h sent.fields) (weight_about n v weight (me_is_there arts n.fixed n.signer fits) e) (left n.signer h.signer sent.free)) sent.fields in
     record {
       fixed = h.fixed;
       now = h.now;
@@ -211,6 +218,7 @@ weight_sent_keeps k arts n v weight fits least most own_keeps e h =
             (record { kind = tt; place = sent.place; fits = own; own = sent.own }) h.parts.weights;
         prio = signed_beside k n h.parts.prio;
         rel = rel_more k n.signer.index (n.signer.index + 1) n.parts.rel (omega arith) h.parts.rel;
+        lives = h.parts.lives;
       };
     }
 
@@ -227,17 +235,19 @@ at_time_holds k n now small h = record {
     weights = h.parts.weights;
     prio = expired_holds k (numbers_after n.calls) (ids_after n.calls n.signer.index) n.signer.index n.parts.prio (time_after n now) h.parts.prio;
     rel = h.parts.rel;
+    lives = h.parts.lives;
   };
 }
 
 settled_keeps : (k : Sizes) (arts : Arts) (n : NodeState) (ack : Ack) → ArtsFit arts n.fixed n.signer
-    → Owns k arts n (bodies.Ack ack) → due n.parts.rel ≡ Some ack → signer_refusal n.signer ≡ None → NodeHolds k n
+    → Owns k arts n (bodies.Ack ack) → due_now n ≡ Some ack → signer_refusal n.signer ≡ None → NodeHolds k n
     → NodeHolds k (signed_once n (record n.parts { rel = settled n.parts.rel (signed_now arts n (bodies.Ack ack)) }))
 settled_keeps k arts n ack fits own_keeps is e h =
-    let facts = due_fits k n.signer.index n.parts.rel ack is h.parts.rel in
+    let d = dated_due n ack is in
+    let facts = due_now_fits k n ack is h.parts in
     let own = own_fits arts n k (bodies.Ack ack) fits h.fixed.signature_len
-    (own_keeps (facts.mine ∙ sym h.fixed.me) facts.fields (ack_about k n.signer.index n.fixed.topology n.parts.rel ack h.fixed.nodes is h.parts.rel)
-    (left n.signer h.signer e)) facts.fields in
+    (own_keeps (facts.mine ∙ sym h.fixed.me) (in_own_format k n (bodies.Ack ack) h facts.fields) (due_now_about k n ack is h) (left n.signer h.signer e))
+    facts.fields in
     record {
       fixed = h.fixed;
       now = h.now;
@@ -248,7 +258,9 @@ settled_keeps k arts n ack fits own_keeps is e h =
         weights = weights_more k n.signer.index (n.signer.index + 1) n.parts.weights (omega arith) h.parts.weights;
         prio = signed_beside k n h.parts.prio;
         rel = rel_more k n.signer.index (n.signer.index + 1) _ (omega arith)
-            (settled_holds k n.signer.index n.parts.rel ack (signed_now arts n (bodies.Ack ack)) is refl own h.parts.rel);
+            (settled_holds k n.signer.index n.parts.rel d.raw (held_boot n.parts.lives d.raw.src) (held_boot n.parts.lives d.raw.dst)
+            (signed_now arts n (bodies.Ack ack)) d.is_due (ap bodies.Ack d.is) own h.parts.rel);
+        lives = h.parts.lives;
       };
     }
 
@@ -267,12 +279,12 @@ first_own k arts n input output body after payload told own mine fields about le
 -- after what expired
 tick_holds : (k : Sizes) (arts : Arts) (n : NodeState) (now : ℕ) (output : Output) → ArtsFit arts n.fixed n.signer → now < 2 ^ 64 → output ≡ tick_output arts n now
     → OwnKeep arts k.keeps n (Tick now) output.effects → NodeHolds k n → NodeHolds k (after_tick arts n now)
-tick_holds k arts n now output fits small is own h = go (due n.parts.rel) refl (signer_refusal n.signer) refl
+tick_holds k arts n now output fits small is own h = go (due_now n) refl (signer_refusal n.signer) refl
   where
     later : NodeHolds k (at_time n now)
     later = at_time_holds k n now small h
 
-    go : (o : Option Ack) → due n.parts.rel ≡ o → (r : Option SendRefused) → signer_refusal n.signer ≡ r → NodeHolds k (settled_by arts (at_time n now) o r)
+    go : (o : Option Ack) → due_now n ≡ o → (r : Option SendRefused) → signer_refusal n.signer ≡ r → NodeHolds k (settled_by arts (at_time n now) o r)
     go None is_due r e = later
     go (Some ack) is_due (Some refusal) e = later
     go (Some ack) is_due None e =
@@ -325,7 +337,7 @@ step_holds k arts n (TakeRel src) output new fits input news own s h =
       calls = h.calls;
       links = h.links;
       signer = h.signer;
-      parts = record { weights = h.parts.weights; prio = h.parts.prio; rel = took_holds k n.signer.index n.parts.rel src h.parts.rel };
+      parts = record { weights = h.parts.weights; prio = h.parts.prio; rel = took_holds k n.signer.index n.parts.rel src h.parts.rel; lives = h.parts.lives };
     })
 step_holds k arts n TakePrio output new fits input news own s h =
     subst (NodeHolds k) (sym s.1) (record {
@@ -338,6 +350,7 @@ step_holds k arts n TakePrio output new fits input news own s h =
         weights = h.parts.weights;
         prio = taken_holds k (numbers_after n.calls) (ids_after n.calls n.signer.index) n.signer.index n.parts.prio h.parts.prio;
         rel = h.parts.rel;
+        lives = h.parts.lives;
       };
     })
 

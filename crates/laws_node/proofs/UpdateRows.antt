@@ -59,8 +59,8 @@ nothing_held (suc n) zero = refl
 nothing_held (suc n) (suc row) = nothing_held n row
 
 -- the lower end of an edge is another node than the higher one
-pub ends_differ : (ids : List ℕ) (before : ℕ × ℕ) (edges : List Edge) (edge : ℕ) (e : Edge) → AreEdges FORMAT_1 ids before edges
+pub ends_differ : (format : ℕ) (ids : List ℕ) (before : ℕ × ℕ) (edges : List Edge) (edge : ℕ) (e : Edge) → AreEdges format ids before edges
     → slice_get edges edge ≡ Some e → e.low.0 < e.high.0
-ends_differ ids before [] edge e good at = absurd cc
-ends_differ ids before (f ∷ edges) zero e good at = let same : f ≡ e = cc in subst (λ (g : Edge). g.low.0 < g.high.0) same good.0.ascend
-ends_differ ids before (f ∷ edges) (suc edge) e good at = ends_differ ids _ edges edge e good.2 at
+ends_differ format ids before [] edge e good at = absurd cc
+ends_differ format ids before (f ∷ edges) zero e good at = let same : f ≡ e = cc in subst (λ (g : Edge). g.low.0 < g.high.0) same good.0.ascend
+ends_differ format ids before (f ∷ edges) (suc edge) e good at = ends_differ format ids _ edges edge e good.2 at

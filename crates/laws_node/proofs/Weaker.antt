@@ -1,13 +1,16 @@
 -- What is asked of the messages that a node keeps may be asked less.
 use Rattle.std.proofs.Common.{ℕ, Option, None, Some}
 use Rattle.std.specs.Prelude.{IfSome}
+use Rattle.sp_base.specs.declared.id.NodeId.{NodeId}
 use Rattle.sp_msg.specs.declared.kept.Kept.{Kept}
 use Rattle.sp_rules.specs.Flow.{FlowState, ends}
 use Rattle.sp_rules.specs.Node.{NodeState}
 use Rattle.sp_rules.specs.PrioPeer.{PrioPeer}
 use Rattle.sp_rules.specs.Store.{Store}
+use Rattle.sp_rules.specs.declared.lives.Life.{Life}
 use Rattle.sp_rules.specs.declared.store.Entry.{Entry}
 use Rattle.laws_node.specs.Flows.{AckKept, FlowHolds}
+use Rattle.laws_node.specs.HeldBoots.{EpochKept, LifeHolds}
 use Rattle.laws_node.specs.Nodes.{NodeHolds}
 use Rattle.laws_node.specs.Sizes.{Fits, Sizes, numbers_after}
 use Rattle.laws_node.specs.Stores.{EntryHolds, PrioPeerHolds, StoreHolds}
@@ -34,6 +37,7 @@ module _ (k : Sizes) (Q : Kept → Type 0) (less : (o : Kept) → k.keeps o → 
     busy = h.busy;
     own = h.own;
     messages = all_weaker (Fits k) (Fits (asking Q k)) f.at.list fits_weaker h.messages;
+    reliable = h.reliable;
     ack = ack_weaker f f.ack h.ack;
     inbox = h.inbox;
   }
@@ -56,10 +60,18 @@ module _ (k : Sizes) (Q : Kept → Type 0) (less : (o : Kept) → k.keeps o → 
   update_weaker index row None h = tt
   update_weaker index row (Some o) h = record { kind = h.kind; place = h.place; fits = fits_weaker o h.fits; own = h.own }
 
+  epoch_weaker : (v : NodeId) (o : Option Kept) → IfSome o (EpochKept k v) → IfSome o (EpochKept (asking Q k) v)
+  epoch_weaker v None h = tt
+  epoch_weaker v (Some o) h = record { kind = h.kind; fits = fits_weaker o h.fits }
+
+  life_weaker : (l : Life) → LifeHolds k l → LifeHolds (asking Q k) l
+  life_weaker l h = record { object = epoch_weaker l.node l.object h.object }
+
   pub node_weaker : (n : NodeState) → NodeHolds k n → NodeHolds (asking Q k) n
   node_weaker n h = record {
     fixed = record {
       me = h.fixed.me;
+      format = h.fixed.format;
       nodes = h.fixed.nodes;
       edges = h.fixed.edges;
       is_node = h.fixed.is_node;
@@ -94,5 +106,6 @@ module _ (k : Sizes) (Q : Kept → Type 0) (less : (o : Kept) → k.keeps o → 
         keys = h.parts.rel.keys;
         once = h.parts.rel.once;
       };
+      lives = all_weaker (LifeHolds k) (LifeHolds (asking Q k)) n.parts.lives life_weaker h.parts.lives;
     };
   }

@@ -1,6 +1,6 @@
 -- What is asked of each message that a node takes or signs: where each new one and each own one has it, all that the node keeps has it.
 use Rattle.std.specs.Prelude.{ℕ, ◌≡◌, ◌<◌, Bool, true, IsTrue, List, [], ◌∷◌, ◌++◌}
-use Rattle.sp_msg.specs.Bodies.{HasGoodFields, payload_of}
+use Rattle.sp_msg.specs.Bodies.{HasGoodFieldsIn, payload_of}
 use Rattle.sp_msg.specs.Views.{signer_of}
 use Rattle.sp_msg.specs.declared.body.Body.{Body}
 use Rattle.sp_msg.specs.declared.effect.Effect.{Effect}
@@ -29,7 +29,7 @@ payload_in _ = []
 -- the node signed this message in a step on this input with these effects
 pub record IsOwn (arts : Arts) (n : NodeState) (input : Input) (effects : List Effect) (body : Body) : Type 0 where
   pub mine : signer_of body ≡ n.fixed.me
-  pub fields : HasGoodFields body
+  pub fields : HasGoodFieldsIn n.fixed.topology.format body
   pub about : IsAbout n.fixed.topology body
   pub payload : payload_of body ≡ payload_in input
   pub left : n.signer.index < n.signer.total

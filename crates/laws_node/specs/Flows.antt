@@ -15,6 +15,11 @@ abbrev pub IsAckOf : Flow → Body → Type 0
 IsAckOf flow (bodies.Ack a) = (a.src ≡ flow.src) × (a.dst ≡ flow.dst)
 IsAckOf flow _ = ⊥
 
+-- a reliable message
+abbrev pub IsRel : Body → Type 0
+IsRel (bodies.Rel r) = Unit {0}
+IsRel _ = ⊥
+
 abbrev pub IsShort : List ℕ → Type 0
 IsShort payload = length payload ≤ MAX_PAYLOAD_BYTES
 
@@ -24,14 +29,16 @@ pub record AckKept (k : Sizes) (flow : Flow) (o : Kept) : Type 0 where
 
 -- index: so many messages were signed at most
 pub record FlowHolds (k : Sizes) (index : ℕ) (f : FlowState) : Type 0 where
-  pub src : IsNode f.src
-  pub dst : IsNode f.dst
+  pub src : IsNode k.format f.src
+  pub dst : IsNode k.format f.dst
   -- its numbers are bounded, and its list has the messages of their numbers
   pub standing : IsStanding k.me k.buffer f
   -- an active flow has something
   pub busy : f.active ≡ true → 1 ≤ f.at.have
   pub own : (f.src.0 == k.me.0) ≡ true → f.at.have ≤ index
   pub messages : All (Fits k) f.at.list
+  -- none of a K-path flow
+  pub reliable : All (λ m. IsRel m.body) f.at.list
   pub ack : IfSome f.ack (AckKept k (ends f))
   pub inbox : All IsShort f.inbox
 
@@ -41,7 +48,7 @@ Differ f g = ¬ (f ≡ g)
 pub record RelHolds (k : Sizes) (index : ℕ) (r : RelState) : Type 0 where
   pub me : r.me ≡ k.me
   pub bound : r.bound ≡ k.buffer
-  pub nodes : All IsNode r.nodes
+  pub nodes : All (IsNode k.format) r.nodes
   pub known : r.nodes ≡ k.nodes
   pub flows : All (FlowHolds k index) r.flows
   -- the rows are those of the ordered pairs of two nodes, in their order, and so each flow has one row

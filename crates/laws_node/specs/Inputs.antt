@@ -2,9 +2,9 @@
 use Rattle.std.specs.Prelude.{ℕ, ◌≡◌, ◌<◌, ◌≤◌, ◌^◌, IsTrue, List, Ok, Some, length}
 use Rattle.sp_base.specs.Spelling.{AreBytes}
 use Rattle.sp_base.specs.declared.limits.TheConstants.{MAX_PAYLOAD_BYTES, MAX_PRIORITY, MAX_WEIGHT}
-use Rattle.sp_frame.specs.Ranges.{IsContents, IsHead}
+use Rattle.sp_frame.specs.Ranges.{IsContentsIn, IsHead}
 use Rattle.sp_frame.specs.Sections.{Contents}
-use Rattle.sp_msg.specs.Bodies.{HasGoodFields}
+use Rattle.sp_msg.specs.Bodies.{HasGoodFieldsIn}
 use Rattle.sp_msg.specs.declared.body.Body.{Body}
 use Rattle.sp_rules.specs.Arts.{Arts}
 use Rattle.sp_rules.specs.Node.{Signer}
@@ -12,8 +12,7 @@ use Rattle.sp_rules.specs.Parts.{Fixed}
 use Rattle.sp_rules.specs.Sends.{PrioSend}
 use Rattle.sp_rules.specs.Steps.{Input, Poll, Datagram, Tick, SendRel, SendPrio, SetWeight, TakeRel, TakePrio}
 use Rattle.sp_topology.specs.Keys.{key_of}
-use Rattle.sp_base.specs.declared.format.TheConstants.{FORMAT_1}
-use Rattle.sp_topology.specs.InFormat.{IsTopologyIn}
+use Rattle.sp_rules.specs.Topologies.{IsRunnable}
 use Rattle.laws_node.specs.About.{IsAbout}
 use Rattle.laws_node.specs.Nodes.{SignerHolds}
 use Rattle.laws_node.specs.Sizes.{IsNode}
@@ -26,8 +25,9 @@ pub record ArtsFit (arts : Arts) (f : Fixed) (s : Signer) : Type 0 where
   pub is_mine : key_of f.me.0 f.topology.nodes ≡ Some key
   pub valid : (index : ℕ) (message : List ℕ) → index < s.total → IsTrue (arts.valid key message (arts.sign f.topology.height s.seed index message))
   pub heads : (bytes : List ℕ) → AreBytes bytes → IsHead (arts.head bytes)
-  pub sections : (bytes : List ℕ) (s : Contents) → AreBytes bytes → arts.sections f.signature_len bytes ≡ Ok s → IsContents f.signature_len s
-  pub own : (body : Body) → HasGoodFields body → IsAbout f.topology body → IsTrue (arts.is_good body)
+  pub sections : (bytes : List ℕ) (s : Contents) → AreBytes bytes → arts.sections f.signature_len bytes ≡ Ok s
+      → IsContentsIn f.topology.format f.signature_len s
+  pub own : (body : Body) → HasGoodFieldsIn f.topology.format body → IsAbout f.topology body → IsTrue (arts.is_good body)
 
 -- each good message is read back from its bytes, so no other good one has them
 abbrev pub ReadsBack : Arts → Type 0
@@ -49,8 +49,8 @@ InputFits TakePrio = Unit {0}
 
 -- what a life begins with is in its ranges
 pub record Boots (f : Fixed) (s : Signer) : Type 0 where
-  pub me : IsNode f.me
+  pub me : IsNode f.topology.format f.me
   pub boot : f.boot < 2 ^ 64
-  pub topology : IsTopologyIn FORMAT_1 f.topology
+  pub topology : IsRunnable f.topology
   pub short : f.signature_len < 65536
   pub signer : SignerHolds s

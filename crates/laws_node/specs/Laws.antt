@@ -1,7 +1,7 @@
 -- What each step of a node keeps.
 use Rattle.std.specs.Prelude.{ℕ, ◌≤◌, List}
 use Rattle.sp_base.specs.declared.id.NodeId.{NodeId}
-use Rattle.sp_frame.specs.Ranges.{IsContents}
+use Rattle.sp_frame.specs.Ranges.{IsContentsIn}
 use Rattle.sp_rules.specs.Arts.{Arts}
 use Rattle.sp_rules.specs.Node.{NodeState, Signer, booted, extended}
 use Rattle.sp_rules.specs.Parts.{Fixed}
@@ -26,4 +26,5 @@ ExtendKeeps = (arts : Arts) (n : NodeState) (upto : ℕ) → n.signer.bound ≤ 
 
 -- what a poll writes is in the ranges of a frame, so it is read back as it is
 abbrev pub FramesFit : Type 0
-FramesFit = (arts : Arts) (n : NodeState) (v : NodeId) → IsKept arts n → IsContents n.fixed.signature_len (contents_to n.fixed n.parts v)
+FramesFit = (arts : Arts) (n : NodeState) (v : NodeId) → IsKept arts n
+    → IsContentsIn n.fixed.topology.format n.fixed.signature_len (contents_to n.fixed n.parts v)

@@ -19,6 +19,7 @@ pub mod WithoutRows
 -- ---- laws of its parts
 pub mod LinkArrivals
 pub mod LinkLaws
+pub mod HeldBoots
 pub mod HeldUpdates
 pub mod WeightLaws
 pub mod PriorityLaws

@@ -8,8 +8,7 @@ use Rattle.sp_rules.specs.Prio.{is_node, window_in}
 use Rattle.sp_rules.specs.Steps.{Input, Output}
 use Rattle.sp_rules.specs.Weights.{effective}
 use Rattle.sp_rules.specs.Window.{window_of}
-use Rattle.sp_base.specs.declared.format.TheConstants.{FORMAT_1}
-use Rattle.sp_topology.specs.InFormat.{IsTopologyIn}
+use Rattle.sp_topology.specs.Ranges.{IsTopology}
 use Rattle.sp_topology.specs.declared.topology.Edge.{Edge}
 use Rattle.laws_node.specs.LinkArrivals.{greatest}
 use Rattle.laws_node.specs.Lives.{Life, effects_of_life, last_told, marks_of_life, pairs_of_life}
@@ -25,7 +24,7 @@ PairsOfLives =
 -- the effective weight of an edge is the greatest of the minimum and the last weight of each end that was told as held
 abbrev pub WeightsOfLives : Type 0
 WeightsOfLives = (arts : Arts) (f : Fixed) (signer : Signer) (keys : List (List ℕ)) (buffer store : ℕ) (steps : List (Input × Output)) (last : NodeState)
-    → IsTopologyIn FORMAT_1 f.topology → Life arts (booted f signer keys buffer store) steps last
+    → IsTopology f.topology → Life arts (booted f signer keys buffer store) steps last
     → (edge : ℕ) (e : Edge) → slice_get f.topology.edges edge ≡ Some e
     → let told = effects_of_life steps in
     effective last.parts.weights edge ≡ max e.weight (max (last_told edge e.low.0 0 told) (last_told edge e.high.0 0 told))

@@ -7,9 +7,9 @@ use Rattle.sp_rules.specs.Link.{Link}
 use Rattle.sp_rules.specs.Node.{NodeState, Signer}
 use Rattle.sp_rules.specs.Parts.{Fixed, Parts, is_signed, nodes_of}
 use Rattle.sp_rules.specs.declared.node.TheConstants.{MAX_CALLS}
-use Rattle.sp_base.specs.declared.format.TheConstants.{FORMAT_1}
-use Rattle.sp_topology.specs.InFormat.{IsTopologyIn}
+use Rattle.sp_rules.specs.Topologies.{IsRunnable}
 use Rattle.laws_node.specs.Flows.{RelHolds}
+use Rattle.laws_node.specs.HeldBoots.{LifeHolds}
 use Rattle.laws_node.specs.Sizes.{IsNode, Sizes, ids_after, most_indexes, numbers_after}
 use Rattle.laws_node.specs.Stores.{PrioHolds}
 use Rattle.laws_node.specs.Updates.{WeightsHold}
@@ -24,11 +24,12 @@ pub record LinkHolds (calls : ℕ) (l : Link) : Type 0 where
 
 pub record FixedHolds (k : Sizes) (f : Fixed) : Type 0 where
   pub me : f.me ≡ k.me
+  pub format : f.topology.format ≡ k.format
   pub nodes : nodes_of f.topology ≡ k.nodes
   pub edges : f.topology.edges ≡ k.edges
-  pub is_node : IsNode f.me
+  pub is_node : IsNode k.format f.me
   pub boot : f.boot < 2 ^ 64
-  pub topology : IsTopologyIn FORMAT_1 f.topology
+  pub topology : IsRunnable f.topology
   pub signature_len : f.signature_len ≡ k.signature_len
   pub short : f.signature_len < 65536
 
@@ -41,6 +42,7 @@ pub record PartsHold (k : Sizes) (numbers ids index : ℕ) (p : Parts) : Type 0 
   pub weights : WeightsHold k index p.weights
   pub prio : PrioHolds k numbers ids index p.prio
   pub rel : RelHolds k index p.rel
+  pub lives : All (LifeHolds k) p.lives
 
 pub record NodeHolds (k : Sizes) (n : NodeState) : Type 0 where
   pub fixed : FixedHolds k n.fixed
@@ -54,6 +56,7 @@ pub record NodeHolds (k : Sizes) (n : NodeState) : Type 0 where
 abbrev pub sizes_of : (Kept → Type 0) → NodeState → Sizes
 sizes_of keeps n = record {
   me = n.fixed.me;
+  format = n.fixed.topology.format;
   nodes = nodes_of n.fixed.topology;
   edges = n.fixed.topology.edges;
   signature_len = n.fixed.signature_len;

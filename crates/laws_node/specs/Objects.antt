@@ -11,7 +11,7 @@ abbrev pub objects_of : Piece → List Kept
 objects_of (WeightPiece o) = o ∷ []
 objects_of (PrioAckPiece number) = []
 objects_of (PrioPiece number o) = o ∷ []
-objects_of (ReportPiece flow base have) = []
+objects_of (ReportPiece flow sboot dboot base have) = []
 objects_of (AckPiece flow o) = o ∷ []
 objects_of (RelPiece flow o) = o ∷ []
 

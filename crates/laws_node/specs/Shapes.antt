@@ -85,6 +85,7 @@ pub record Shape : Type 0 where
   pub weights : WeightShape
   pub prio : PrioShape
   pub rel : RelShape
+  pub lives : List NodeId
 
 -- a node without what changes of it
 abbrev pub shape_of : NodeState → Shape
@@ -97,6 +98,7 @@ shape_of n = record {
   weights = weight_shape n.parts.weights;
   prio = prio_shape n.parts.prio;
   rel = rel_shape n.parts.rel;
+  lives = map (λ l. l.node) n.parts.lives;
 }
 
 -- ---- the laws
@@ -105,7 +107,8 @@ abbrev pub ShapesStay : Type 0
 ShapesStay = (arts : Arts) (old : NodeState) (input : Input) (output : Output) (new : NodeState) → NodeStep arts old input output new
     → shape_of new ≡ shape_of old
 
--- rows for the ordered pairs of two nodes and for the neighbours, each with a view of each pair, a window for each node, and the bounds that were given
+-- rows for the ordered pairs of two nodes and for the neighbours, each with a view of each pair, a window and a life for each node, and the bounds that
+-- were given
 abbrev pub shape_at_start : Fixed → Signer → List (List ℕ) → (buffer store : ℕ) → Shape
 shape_at_start f signer keys buffer store =
     let nodes = nodes_of f.topology in
@@ -131,6 +134,7 @@ shape_at_start f signer keys buffer store =
         flows = pairs_of nodes;
         peers = map (λ n. record { peer = n.0; views = pairs_of nodes }) ns;
       };
+      lives = nodes;
     }
 
 abbrev pub ShapesBegin : Type 0

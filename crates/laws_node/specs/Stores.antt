@@ -36,7 +36,7 @@ pub record PrioPeerHolds (k : Sizes) (numbers ids : ℕ) (q : PrioPeer) : Type 0
 
 pub record PrioHolds (k : Sizes) (numbers ids index : ℕ) (p : PrioState) : Type 0 where
   pub me : p.me ≡ k.me.0
-  pub nodes : All IsNode p.nodes
+  pub nodes : All (IsNode k.format) p.nodes
   pub known : p.nodes ≡ k.nodes
   pub capacity : p.inbox.capacity ≡ k.store
   pub inbox : StoreHolds k ids p.inbox

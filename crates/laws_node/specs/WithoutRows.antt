@@ -1,5 +1,6 @@
 -- An example: tables without rows take what is new and forget it, so it is new again. No node has such tables.
 use Rattle.std.specs.Prelude.{ℕ, ◌≡◌, ◌≢◌, List, [], ◌∷◌, Some, length}
+use Rattle.sp_base.specs.declared.format.TheConstants.{FORMAT_1}
 use Rattle.sp_base.specs.declared.id.Flow.{Flow}
 use Rattle.sp_base.specs.declared.id.NodeId.{NodeId}
 use Rattle.sp_msg.specs.Masks.{mask_from}
@@ -54,7 +55,7 @@ urgent = record { body = bodies.Prio (record { src = node 1; dst = node 2; sboot
 
 -- the sizes of node 2
 abbrev pub sizes : Sizes
-sizes = record { me = node 2; nodes = both; edges = []; signature_len = 4756; buffer = 2; store = 4; keeps = λ o. Unit {0} }
+sizes = record { me = node 2; format = FORMAT_1; nodes = both; edges = []; signature_len = 4756; buffer = 2; store = 4; keeps = λ o. Unit {0} }
 
 pub record RowsAreNeeded : Type 0 where
   -- without a row a message is new, its delivery is told, and it is new again; so is a priority message without a window

@@ -81,14 +81,16 @@ pub record Arrived (arts : Arts) (x : Setting) (w : World) (u v : NodeId) (n : N
   pub framed : Framed arts x u v (k + 1) from.node bytes
   pub came : Came arts n u (k + 1) bytes
 
-pub frame_arrived : (arts : Arts) (x : Setting) (es : List Event) (js : List Entry) (w : World) → SettingFits arts x → ComesThrough arts x.signature_len → Clean arts x es js w
+pub frame_arrived : (arts : Arts) (x : Setting) (es : List Event) (js : List Entry) (w : World) → SettingFits arts x
+    → ComesThrough x.topology.format arts x.signature_len → Clean arts x es js w
     → (u v : NodeId) → IsHop x u v → (n : NodeState) → node_in w.nodes v ≡ Some n → (k : ℕ) (bytes : List ℕ) → slice_get (frames_in w.directions u v) k ≡ Some bytes → Arrived arts x w u v n bytes k
 frame_arrived arts x es js w fits reads run u v hop n at k bytes there =
     let o = origin arts x es js w run u v k bytes there in
     let f = framed arts x fits reads u v (k + 1) hop.joined bytes o in
     record { there = there; from = o; framed = f; came = came arts x es js w fits reads run u v (k + 1) hop n at o.node bytes f }
 
-pub arrives : (arts : Arts) (x : Setting) (es : List Event) (js : List Entry) (w : World) → SettingFits arts x → ComesThrough arts x.signature_len → Clean arts x es js w
+pub arrives : (arts : Arts) (x : Setting) (es : List Event) (js : List Entry) (w : World) → SettingFits arts x
+    → ComesThrough x.topology.format arts x.signature_len → Clean arts x es js w
     → (u v : NodeId) → IsHop x u v → (n : NodeState) → node_in w.nodes v ≡ Some n → (bytes : List ℕ) → has_forged_tag arts x w n (Datagram u bytes) ≡ false
     → Untold arts n u bytes ⊎ ((k : ℕ) × Arrived arts x w u v n bytes k)
 arrives arts x es js w fits reads run u v hop n at bytes none = elim (cases_Bool (is_tagged (reply_at arts n u bytes))) [
@@ -120,7 +122,8 @@ came_seen arts n u v number bytes head low s (Learns off link reply) = subst See
 came_seen arts n u v number bytes head low s (Too_late on below link reply) = subst SeenIs (sym link) s
 came_seen arts n u v number bytes head low s (Taken on above link reply) = subst SeenIs (sym link) (inr (head.boot, head.boot))
 
-seen_after : (arts : Arts) (x : Setting) (es : List Event) (js : List Entry) (w : World) → SettingFits arts x → ComesThrough arts x.signature_len → Clean arts x es js w
+seen_after : (arts : Arts) (x : Setting) (es : List Event) (js : List Entry) (w : World) → SettingFits arts x
+    → ComesThrough x.topology.format arts x.signature_len → Clean arts x es js w
     → (u v : NodeId) → IsHop x u v → (n m : NodeState) → node_in w.nodes v ≡ Some n → (i : Input) → has_forged_tag arts x w n i ≡ false → LinkAfter arts n i m u
     → SeenIs (link_in n u) → SeenIs (link_in m u)
 seen_after arts x es js w fits reads run u v hop n m at i none (Rests quiet same) s = subst SeenIs (sym same) s
@@ -132,7 +135,8 @@ seen_after arts x es js w fits reads run u v hop n m at i none (Hears bytes is s
     ]
 
 -- v's link to u
-pub seen_is : (arts : Arts) (x : Setting) (es : List Event) (js : List Entry) (w : World) → SettingFits arts x → ComesThrough arts x.signature_len → Clean arts x es js w
+pub seen_is : (arts : Arts) (x : Setting) (es : List Event) (js : List Entry) (w : World) → SettingFits arts x
+    → ComesThrough x.topology.format arts x.signature_len → Clean arts x es js w
     → (u v : NodeId) → IsHop x u v → (n : NodeState) → node_in w.nodes v ≡ Some n → SeenIs (link_in n u)
 seen_is arts x es js w fits reads Starts u v hop n at = inl (boot_seen x v u n at)
 seen_is arts x es js w fits reads (Turned {es = es'} {js = js'} {old = old} {e = e} {j = j} run range (Moves m) unforged) u v hop n at =
@@ -151,7 +155,8 @@ seen_is arts x es js w fits reads (Turned {es = es'} {js = js'} {old = old} {e =
 seen_is arts x es js w fits reads (Turned {es = es'} {js = js'} {old = old} {e = e} {j = j} run range (Stays s) unforged) u v hop n at =
     seen_is arts x es' js' old fits reads run u v hop n (ap (λ (z : World). node_in z.nodes v) (sym s.world) ∙ at)
 
-pub seen_known : (arts : Arts) (x : Setting) (all : List Event) (flow : Flow) → SettingFits arts x → ComesThrough arts x.signature_len → (w : State arts x all) (u v : NodeId) → IsHop x u v
+pub seen_known : (arts : Arts) (x : Setting) (all : List Event) (flow : Flow) → SettingFits arts x → ComesThrough x.topology.format arts x.signature_len
+    → (w : State arts x all) (u v : NodeId) → IsHop x u v
     → 1 ≤ (wires arts x all flow).seen w v u → (sight arts x all flow).knows w v u ≡ true
 seen_known arts x all flow fits reads w u v hop some = go (node_in w.world.nodes v) refl some
   where

@@ -68,7 +68,8 @@ pub record Unmoved (arts : Arts) (x : Setting) (all : List Event) (w y : State a
   pub same : node_in y.world.nodes u ≡ node_in w.world.nodes u
   pub why : (acting e ≡ u → ⊥) ⊎ ((key : NodeId) × IsCraftOf key e)
 
-pub change : (arts : Arts) (x : Setting) (all : List Event) → SettingFits arts x → Carries arts → (w y : State arts x all) (e : Event) → Follows arts x all w e y → (u : NodeId)
+pub change : (arts : Arts) (x : Setting) (all : List Event) → SettingFits arts x → Carries x.topology.format arts → (w y : State arts x all) (e : Event)
+    → Follows arts x all w e y → (u : NodeId)
     → Unmoved arts x all w y e u ⊎ Acted arts x all w y e u
 change arts x all fits reads w y e (Follow j events journal range (Stays s) unforged) u = inl (record { same = ap (λ z. node_in z.nodes u) s.world; why = inr (s.key, s.is_craft) })
 change arts x all fits reads w y e (Follow j events journal range (Moves m) unforged) u =
@@ -95,7 +96,8 @@ change arts x all fits reads w y e (Follow j events journal range (Moves m) unfo
 
 -- ---- flows only go on
 
-pub flow_later : (arts : Arts) (x : Setting) (all : List Event) (flow : Flow) → SettingFits arts x → Carries arts → (w y : State arts x all) (e : Event) → Follows arts x all w e y → (u : NodeId)
+pub flow_later : (arts : Arts) (x : Setting) (all : List Event) (flow : Flow) → SettingFits arts x → Carries x.topology.format arts
+    → (w y : State arts x all) (e : Event) → Follows arts x all w e y → (u : NodeId)
     → FlowLater (flow_seen arts x all flow w u) (flow_seen arts x all flow y u)
 flow_later arts x all flow fits reads w y e follows u = elim (change arts x all fits reads w y e follows u) [
   | inl q ↦ subst (λ o. FlowLater (flow_seen arts x all flow w u) (seen_at (no_flow flow) (λ n. flow_in n.parts.rel.flows flow) o)) (sym q.same) (same_later _)
@@ -105,14 +107,17 @@ flow_later arts x all flow fits reads w y e follows u = elim (change arts x all 
       (subst (λ o. FlowLater (seen_at (no_flow flow) (λ n. flow_in n.parts.rel.flows flow) o) (flow_in a.after.parts.rel.flows flow)) (sym a.there) later)
 ]
 
-pub base_rises : (arts : Arts) (x : Setting) (all : List Event) (flow : Flow) → SettingFits arts x → Carries arts → (w y : State arts x all) (e : Event) (u : NodeId) → Follows arts x all w e y
+pub base_rises : (arts : Arts) (x : Setting) (all : List Event) (flow : Flow) → SettingFits arts x → Carries x.topology.format arts
+    → (w y : State arts x all) (e : Event) (u : NodeId) → Follows arts x all w e y
     → (sight arts x all flow).base w u ≤ (sight arts x all flow).base y u
 base_rises arts x all flow fits reads w y e u follows = (flow_later arts x all flow fits reads w y e follows u).base
 
-pub have_rises : (arts : Arts) (x : Setting) (all : List Event) (flow : Flow) → SettingFits arts x → Carries arts → (w y : State arts x all) (e : Event) (u : NodeId) → Follows arts x all w e y
+pub have_rises : (arts : Arts) (x : Setting) (all : List Event) (flow : Flow) → SettingFits arts x → Carries x.topology.format arts
+    → (w y : State arts x all) (e : Event) (u : NodeId) → Follows arts x all w e y
     → (sight arts x all flow).have w u ≤ (sight arts x all flow).have y u
 have_rises arts x all flow fits reads w y e u follows = (flow_later arts x all flow fits reads w y e follows u).have
 
-pub taken_rises : (arts : Arts) (x : Setting) (all : List Event) (flow : Flow) → SettingFits arts x → Carries arts → (w y : State arts x all) (e : Event) → Follows arts x all w e y
+pub taken_rises : (arts : Arts) (x : Setting) (all : List Event) (flow : Flow) → SettingFits arts x → Carries x.topology.format arts
+    → (w y : State arts x all) (e : Event) → Follows arts x all w e y
     → (sight arts x all flow).taken w ≤ (sight arts x all flow).taken y
 taken_rises arts x all flow fits reads w y e follows = (flow_later arts x all flow fits reads w y e follows flow.dst).taken

@@ -125,7 +125,8 @@ apart_at (g ∷ fs) (suc i) f apart at = apart_at fs i f apart.1 at
 -- ---- the bound
 
 -- a client sent to each active flow between correct nodes
-pub asked_at : (arts : Arts) (x : Setting) (es : List Event) (js : List Entry) (w : World) → SettingFits arts x → Carries arts → Clean arts x es js w → (u : NodeId) (n : NodeState)
+pub asked_at : (arts : Arts) (x : Setting) (es : List Event) (js : List Entry) (w : World) → SettingFits arts x → Carries x.topology.format arts
+    → Clean arts x es js w → (u : NodeId) (n : NodeState)
     → node_in w.nodes u ≡ Some n → (i : ℕ) (f : FlowState) → slice_get n.parts.rel.flows i ≡ Some f → f.active ≡ true → has_correct_ends x (ends f) ≡ true
     → list_any (is_send (ends f)) es ≡ true
 asked_at arts x es js w fits reads run u n at i f there on correct =
@@ -140,7 +141,8 @@ asked_at arts x es js w fits reads run u n at i f there on correct =
     let same = ap (λ (g : FlowState). g.at.have) (found flows i f rel.once there) in
     asked_in (ends f) es js (omega (arith, busy, have, same))
 
-pub few_at : (arts : Arts) (x : Setting) (all : List Event) → SettingFits arts x → Carries arts → (w : State arts x all) (u : NodeId) (n : NodeState) → node_in w.world.nodes u ≡ Some n
+pub few_at : (arts : Arts) (x : Setting) (all : List Event) → SettingFits arts x → Carries x.topology.format arts
+    → (w : State arts x all) (u : NodeId) (n : NodeState) → node_in w.world.nodes u ≡ Some n
     → number_on (map (λ f. f.active) n.parts.rel.flows) ≤ flow_count x all
 few_at arts x all fits reads w u n at =
     let rel = ((signs arts x w.events w.journal w.world fits reads w.run).nodes u n at).holds.parts.rel in
@@ -159,7 +161,8 @@ few_at arts x all fits reads w u n at =
     subst (λ fs. number_on (map (λ f. f.active) flows) ≤ length (filter p fs) + length (filter q fs)) keys count in
     omega (arith, bound, length-filter p (pairs_of (nodes_of x.topology)), length-filter q (pairs_of (nodes_of x.topology)))
 
-pub few : (arts : Arts) (x : Setting) (all : List Event) (flow : Flow) → SettingFits arts x → Carries arts → (w : State arts x all) (u : NodeId)
+pub few : (arts : Arts) (x : Setting) (all : List Event) (flow : Flow) → SettingFits arts x → Carries x.topology.format arts
+    → (w : State arts x all) (u : NodeId)
     → number_on ((sight arts x all flow).actives w u) ≤ flow_count x all
 few arts x all flow fits reads w u = go (node_in w.world.nodes u) refl
   where

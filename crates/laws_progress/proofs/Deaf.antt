@@ -10,13 +10,14 @@ use Rattle.sp_rules.specs.Answers.{ack_answer, is_new, prio_answer, rel_answer, 
 use Rattle.sp_rules.specs.Arts.{Arts}
 use Rattle.sp_rules.specs.Arrivals.{arrival_at, pieces_in, pieces_where, reply_at, sections_in}
 use Rattle.sp_rules.specs.Handle.{Arrival, handle, handle_all, offer_to, prio_handled}
+use Rattle.sp_rules.specs.Lives.{are_held, is_dated}
 use Rattle.sp_rules.specs.Node.{NodeState, call_refusal, kept_or, signed_now}
 use Rattle.sp_rules.specs.Parts.{Parts, is_signed}
 use Rattle.sp_rules.specs.Pieces.{Piece, AckPiece, PrioAckPiece, PrioPiece, RelPiece, ReportPiece, WeightPiece}
-use Rattle.sp_rules.specs.Rel.{RelState, admit_ack, admit_rel, due, due_place, flow_in, judge_ack_of, judge_rel_of, next_place, peer_in, reported, served, served_at, settled, settled_at, told, with_peer}
+use Rattle.sp_rules.specs.Rel.{RelState, admit_ack, admit_rel, due_place, flow_in, judge_ack_of, judge_rel_of, next_place, peer_in, reported, served, served_at, settled, settled_at, told, with_peer}
 use Rattle.sp_rules.specs.Sends.{rel_refusal, send_prio_refusal, signer_refusal, weight_refusal}
 use Rattle.sp_rules.specs.Steps.{Input, NodeStep, Output, Poll, Datagram, Tick, SendRel, SendPrio, SetWeight, TakeRel, TakePrio}
-use Rattle.sp_rules.specs.Ticks.{at_time, settled_by}
+use Rattle.sp_rules.specs.Ticks.{at_time, due_now, settled_by}
 use Rattle.sp_rules.specs.Prio.{judge_prio}
 use Rattle.sp_rules.specs.Weights.{held}
 use Rattle.sp_rules.specs.declared.answers.Item.TheVariants as items
@@ -79,7 +80,7 @@ settled_view u flow w0 r o h = go (due_place r)
 piece_view : (u : NodeId) (flow : Flow) (w0 : View) (arts : Arts) (at : Arrival) (p : Parts) (piece : Piece) → (at.from ≡ u → ⊥) → ViewIs u flow w0 p.rel → ViewIs u flow w0 (handle arts at p piece).parts.rel
 piece_view u flow w0 arts at p (WeightPiece o) away h = cond_either (λ (q : Parts). ViewIs u flow w0 q.rel) (is_new (items.Weight (weight_answer (is_signed arts at.fixed o) (offer_to at.fixed.me p.weights o.body)))) (record p { weights = held p.weights o }) p h h
 piece_view u flow w0 arts at p (PrioAckPiece number) away h = h
-piece_view u flow w0 arts at p (PrioPiece number o) away h = go (prio_answer (is_signed arts at.fixed o) (judge_prio p.prio o.body at.now))
+piece_view u flow w0 arts at p (PrioPiece number o) away h = go (prio_answer (is_signed arts at.fixed o) (is_dated p.lives o.body) (judge_prio p.prio o.body at.now))
   where
     go : (answer : PrioAnswer) → ViewIs u flow w0 (prio_handled at.from answer number o p).parts.rel
     go prios.New = h
@@ -87,9 +88,12 @@ piece_view u flow w0 arts at p (PrioPiece number o) away h = go (prio_answer (is
     go prios.BadEnd = h
     go prios.Expired = h
     go prios.BadSig = h
-piece_view u flow w0 arts at p (ReportPiece fl base have) away h = reported_view u flow w0 p.rel at.from fl base have away h
-piece_view u flow w0 arts at p (AckPiece fl o) away h = cond_either (λ (q : Parts). ViewIs u flow w0 q.rel) (is_new (items.Ack (ack_answer (is_signed arts at.fixed o) (judge_ack_of p.rel fl o.body)))) (record p { rel = admit_ack p.rel o }) p h h
-piece_view u flow w0 arts at p (RelPiece fl o) away h = cond_either (λ (q : Parts). ViewIs u flow w0 q.rel) (is_new (items.Rel (rel_answer (is_signed arts at.fixed o) (judge_rel_of p.rel fl o.body)))) (record p { rel = admit_rel p.rel o }) p h h
+    go prios.Epoch = h
+piece_view u flow w0 arts at p (ReportPiece fl sboot dboot base have) away h =
+    cond_either (λ (q : Parts). ViewIs u flow w0 q.rel) (are_held p.lives fl sboot dboot) (record p { rel = reported p.rel at.from fl base have }) p
+    (reported_view u flow w0 p.rel at.from fl base have away h) h
+piece_view u flow w0 arts at p (AckPiece fl o) away h = cond_either (λ (q : Parts). ViewIs u flow w0 q.rel) (is_new (items.Ack (ack_answer (is_signed arts at.fixed o) (is_dated p.lives o.body) (judge_ack_of p.rel fl o.body)))) (record p { rel = admit_ack p.rel o }) p h h
+piece_view u flow w0 arts at p (RelPiece fl o) away h = cond_either (λ (q : Parts). ViewIs u flow w0 q.rel) (is_new (items.Rel (rel_answer (is_signed arts at.fixed o) (is_dated p.lives o.body) (judge_rel_of p.rel fl o.body)))) (record p { rel = admit_rel p.rel o }) p h h
 
 pub pieces_view : (u : NodeId) (flow : Flow) (w0 : View) (arts : Arts) (at : Arrival) (p : Parts) (pieces : List Piece) → (at.from ≡ u → ⊥) → ViewIs u flow w0 p.rel → ViewIs u flow w0 (handle_all arts at p pieces).parts.rel
 pieces_view u flow w0 arts at p [] away h = h
@@ -106,9 +110,9 @@ step_view u flow w0 arts n (Poll v) output new s there quiet h = subst (λ (m : 
 step_view u flow w0 arts n (Datagram v bytes) output new s there quiet h =
     subst (λ (m : NodeState). ViewIs u flow w0 m.parts.rel) (sym s.1) (kept_view u flow w0 (call_refusal n v) n _ h
     (pieces_view u flow w0 arts (arrival_at n v) n.parts (pieces_where (reply_at arts n v bytes) (pieces_in (sections_in arts n.fixed bytes))) quiet h))
-step_view u flow w0 arts n (Tick now) output new s there quiet h = subst (λ (m : NodeState). ViewIs u flow w0 m.parts.rel) (sym s.1) (go (due n.parts.rel) refl (signer_refusal n.signer))
+step_view u flow w0 arts n (Tick now) output new s there quiet h = subst (λ (m : NodeState). ViewIs u flow w0 m.parts.rel) (sym s.1) (go (due_now n) refl (signer_refusal n.signer))
   where
-    go : (o : Option Ack) → due n.parts.rel ≡ o → (r : Option SendRefused) → ViewIs u flow w0 (settled_by arts (at_time n now) o r).parts.rel
+    go : (o : Option Ack) → due_now n ≡ o → (r : Option SendRefused) → ViewIs u flow w0 (settled_by arts (at_time n now) o r).parts.rel
     go None e r = h
     go (Some ack) e (Some refusal) = h
     go (Some ack) e None = settled_view u flow w0 n.parts.rel (signed_now arts (at_time n now) (bodies.Ack ack)) h

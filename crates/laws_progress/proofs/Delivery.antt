@@ -73,7 +73,8 @@ record Split (arts : Arts) (x : Setting) (all : List Event) (es : List Event) (j
   world : mid.world ≡ w
   goes : Goes (State arts x all) (Follows arts x all) mid after y
 
-split : (arts : Arts) (x : Setting) (flow : Flow) → SettingFits arts x → ComesThrough arts x.signature_len → (es after : List Event) (js more : List Entry) (w v : World)
+split : (arts : Arts) (x : Setting) (flow : Flow) → SettingFits arts x → ComesThrough x.topology.format arts x.signature_len
+    → (es after : List Event) (js more : List Entry) (w v : World)
     → Clean arts x es js w → (run : Clean arts x (es ++ after) (js ++ more) v)
     → Split arts x (es ++ after) es js w after (last_state arts x (es ++ after) (js ++ more) v run)
 split arts x flow fits through es after js more w v early run =
@@ -187,7 +188,8 @@ is_delivered S T D rest (suc i) same numbered pos sent long =
 
 -- ---- the laws
 
-claims : (arts : Arts) (x : Setting) (s d : NodeId) → SettingFits arts x → ComesThrough arts x.signature_len → IsRight x (record { src = s; dst = d })
+claims : (arts : Arts) (x : Setting) (s d : NodeId) → SettingFits arts x → ComesThrough x.topology.format arts x.signature_len
+    → IsRight x (record { src = s; dst = d })
     → (es : List Event) (js : List Entry) (w : World) → Clean arts x es js w → FlowClaims arts x s d es js w
 claims arts x s d fits through right es js w run =
     flows_are_kept arts x es js w fits through.carries run s d (both _ _ right.from).0 right.to (λ same. right.different same)
@@ -195,7 +197,8 @@ claims arts x s d fits through right es js w run =
 abbrev FactsOf : Arts → Setting → List Event → Flow → ℕ → Type 0
 FactsOf arts x all flow least = Facts (State arts x all) (Follows arts x all) (IsHop x) (sight arts x all flow) (place_at x flow) x.buffer least flow.src flow.dst
 
-facts : (arts : Arts) (x : Setting) (all : List Event) (flow : Flow) → SettingFits arts x → ComesThrough arts x.signature_len → 1 ≤ x.buffer → IsRight x flow
+facts : (arts : Arts) (x : Setting) (all : List Event) (flow : Flow) → SettingFits arts x → ComesThrough x.topology.format arts x.signature_len
+    → 1 ≤ x.buffer → IsRight x flow
     → (least : ℕ) → flow_count x all ≤ least → FactsOf arts x all flow least
 facts arts x all flow fits through one right least enough =
     facts_of (State arts x all) (Follows arts x all) (IsHop x) (sight arts x all flow) (wires arts x all flow) (place_at x flow) x.buffer least flow.src flow.dst

@@ -2,9 +2,8 @@
 use Rattle.std.proofs.Common.{◌≡◌, ℕ, ◌+◌, ◌==◌, Bool, true, false, List, max, Some, Ok, refl, sym, ap, subst, ◌∙◌, inl, inr, Option, None}
 use Rattle.std.specs.Prelude.{IsTrue, unwrap_or}
 use Rattle.std.proofs.lemmas.Bool.{cases_Bool, eq-eqb}
-use Rattle.sp_base.specs.declared.format.TheConstants.{FORMAT_1}
 use Rattle.sp_base.specs.declared.id.NodeId.{NodeId}
-use Rattle.sp_frame.specs.Ranges.{IsContents}
+use Rattle.sp_frame.specs.Ranges.{IsContentsIn}
 use Rattle.sp_frame.specs.declared.head.Head.{Head}
 use Rattle.sp_rules.specs.Arts.{Arts, is_right}
 use Rattle.sp_rules.proofs.ArrivalLemmas.{link_with, of_frame, of_link}
@@ -46,7 +45,8 @@ pub record Framed (arts : Arts) (x : Setting) (u v : NodeId) (number : ℕ) (nod
   pub opens : arts.opened bytes ≡ Ok bytes
   pub right : is_right arts (x.link_key (first_edge u v 0 x.topology.edges)) bytes ≡ true
 
-pub frame_at : (arts : Arts) (x : Setting) (es : List Event) (js : List Entry) (w : World) → SettingFits arts x → ComesThrough arts x.signature_len → Clean arts x es js w
+pub frame_at : (arts : Arts) (x : Setting) (es : List Event) (js : List Entry) (w : World) → SettingFits arts x
+    → ComesThrough x.topology.format arts x.signature_len → Clean arts x es js w
     → (u v : NodeId) → is_hop x u v ≡ true → (n : NodeState) → node_in w.nodes u ≡ Some n → Framed arts x u v (polls es u v + 1) n (frame_to arts n v)
 frame_at arts x es js w fits reads run u v hop n at =
     let is = (signs arts x es js w fits reads.carries run).nodes u n at in
@@ -55,10 +55,11 @@ frame_at arts x es js w fits reads run u v hop n at =
     let link = links_at arts x es js w fits reads.carries run u v hop n at in
     let l = link_in n v in
     let version = n.fixed.topology.version in
-    let h = next_head l version FORMAT_1 in
+    let h = next_head l version n.fixed.topology.format in
+    let format : n.fixed.topology.format ≡ x.topology.format = ap (λ (f : Fixed). f.topology.format) is.fixed in
     let s = contents_to n.fixed n.parts v in
-    let len : n.fixed.signature_len ≡ x.signature_len = ap (λ (f : Fixed). f.signature_len) is.fixed in
-    let few : IsContents x.signature_len s = subst (λ k. IsContents k s) len (contents_fit (sizes_at x (Good arts x es js) u) n v is.holds) in
+    let few : IsContentsIn x.topology.format x.signature_len s =
+    subst (λ (f : Fixed). IsContentsIn f.topology.format f.signature_len s) is.fixed (contents_fit (sizes_at x (Good arts x es js) u) n v is.holds) in
     let kept = contents_kept (sizes_at x (Good arts x es js) u) n v is.holds in
     let goods : HasGoodMessages arts s =
     all_of (λ o. IsTrue (arts.is_good o.body)) (pieces_of s) (all_less (Good arts x es js) (λ o. IsTrue (arts.is_good o.body)) (λ o is_it. is_it.good) (pieces_of s) kept) in
@@ -67,12 +68,13 @@ frame_at arts x es js w fits reads run u v hop n at =
       head = made_head arts n u v es reads.heads range link;
       topology = ap (λ (g : Head). g.topology) read ∙ ap (λ (f : Fixed). f.topology.version) is.fixed;
       echo = ap (λ (g : Head). g.echo) read;
-      sections = reads.carries.back x.signature_len h s l.key few goods;
-      opens = reads.opens h s l.key range refl few goods;
+      sections = reads.carries.back x.signature_len h s l.key format few goods;
+      opens = reads.opens h s l.key range format (record { document = refl; paths = refl; probe = refl; epoch = refl }) few goods;
       right = subst (λ k. is_right arts k (frame_to arts n v) ≡ true) (keys_are arts x es js w fits reads.carries run u v hop n at) (reads.tags_are_right h s l.key);
     }
 
-pub framed : (arts : Arts) (x : Setting) → SettingFits arts x → ComesThrough arts x.signature_len → (u v : NodeId) (number : ℕ) → is_hop x u v ≡ true → (bytes : List ℕ) → (o : Origin arts x u v number bytes) → Framed arts x u v number o.node bytes
+pub framed : (arts : Arts) (x : Setting) → SettingFits arts x → ComesThrough x.topology.format arts x.signature_len → (u v : NodeId) (number : ℕ)
+    → is_hop x u v ≡ true → (bytes : List ℕ) → (o : Origin arts x u v number bytes) → Framed arts x u v number o.node bytes
 framed arts x fits reads u v number hop bytes o =
     subst (λ k. Framed arts x u v k o.node bytes) o.number_is
     (subst (Framed arts x u v (polls o.events u v + 1) o.node) (sym o.is) (frame_at arts x o.events o.journal o.world fits reads o.run u v hop o.node o.there))
@@ -108,7 +110,8 @@ pub data Came (arts : Arts) (n : NodeState) (u : NodeId) (number : ℕ) (bytes :
   Taken : ((arts.head bytes).echo == 1) ≡ true → is_above (1, number) (link_in n u).seen ≡ true → link_after arts n u bytes ≡ after_answer (link_in n u) (arts.head bytes) answers.Fresh
       → reply_at arts n u bytes ≡ replies.Fresh → Came arts n u number bytes
 
-pub came : (arts : Arts) (x : Setting) (es : List Event) (js : List Entry) (w : World) → SettingFits arts x → ComesThrough arts x.signature_len → Clean arts x es js w
+pub came : (arts : Arts) (x : Setting) (es : List Event) (js : List Entry) (w : World) → SettingFits arts x
+    → ComesThrough x.topology.format arts x.signature_len → Clean arts x es js w
     → (u v : NodeId) (number : ℕ) → IsHop x u v → (n : NodeState) → node_in w.nodes v ≡ Some n → (node : NodeState) (bytes : List ℕ) → Framed arts x u v number node bytes → Came arts n u number bytes
 came arts x es js w fits reads run u v number hop n at node bytes f =
     let is = (signs arts x es js w fits reads.carries run).nodes v n at in

@@ -1,12 +1,12 @@
 -- The head of each frame that a correct node made for a neighbour: from whom to whom, at boot 1, under its number.
-use Rattle.std.proofs.Common.{◌≡◌, ℕ, ◌+◌, Bool, true, false, List, [], ◌∷◌, Some, sym, ap, subst, ◌∙◌, inl, inr, arith}
+use Rattle.std.proofs.Common.{◌≡◌, ◌<◌, ℕ, ◌+◌, Bool, true, false, List, [], ◌∷◌, Some, sym, ap, subst, ◌∙◌, inl, inr, arith}
 use Rattle.std.specs.Prelude.{All, slice_get}
 use Rattle.std.specs.List.{list_any}
 use Rattle.std.proofs.lemmas.Bool.{cases_Bool}
 use Rattle.std.proofs.lemmas.List.Elements.{All-head, All-tail}
 use Rattle.sp_base.proofs.ListLemmas.{get_push}
 use Rattle.sp_base.specs.Rows.{first_where}
-use Rattle.sp_base.specs.declared.format.TheConstants.{FORMAT_1}
+use Rattle.sp_base.specs.Formats.{IsFormat}
 use Rattle.sp_base.specs.declared.id.NodeId.{NodeId}
 use Rattle.sp_frame.specs.Ranges.{IsHead}
 use Rattle.sp_frame.specs.declared.head.Head.{Head}
@@ -45,10 +45,10 @@ pub record HeadIs (u v : NodeId) (number : ℕ) (h : Head) : Type 0 where
   pub counter : h.counter ≡ number
 
 pub made_head : (arts : Arts) (n : NodeState) (u v : NodeId) (es : List Event) → HeadsReadBack arts
-    → IsHead (next_head (link_in n v) n.fixed.topology.version FORMAT_1) → LinkAt es u v (link_in n v)
+    → IsHead (next_head (link_in n v) n.fixed.topology.version n.fixed.topology.format) → LinkAt es u v (link_in n v)
     → HeadIs u v (polls es u v + 1) (arts.head (frame_to arts n v))
 made_head arts n u v es heads range l =
-    subst (HeadIs u v (polls es u v + 1)) (sym (heads (next_head (link_in n v) n.fixed.topology.version FORMAT_1) (contents_to n.fixed n.parts v) (link_in n v).key range)) (record {
+    subst (HeadIs u v (polls es u v + 1)) (sym (heads (next_head (link_in n v) n.fixed.topology.version n.fixed.topology.format) (contents_to n.fixed n.parts v) (link_in n v).key range)) (record {
       from = l.me;
       to = link_is n v;
       boot = l.boot;
@@ -62,23 +62,28 @@ first_there P p none (x ∷ xs) all there = elim (cases_Bool (p x)) [
   | inr t ↦ rw t (first_there P p none xs (All-tail P x xs all) (rw t at there))
 ]
 
+small_format : (format : ℕ) → IsFormat format → format < 256
+small_format format (inl one) = omega (arith, one)
+small_format format (inr two) = omega (arith, two)
+
 pub head_range : (x : Setting) (P : Kept → Type 0) (u : NodeId) (n : NodeState) (v : NodeId) → NodeHolds (sizes_at x P u) n
-    → list_any (is_link v) n.links ≡ true → IsHead (next_head (link_in n v) n.fixed.topology.version FORMAT_1)
+    → list_any (is_link v) n.links ≡ true → IsHead (next_head (link_in n v) n.fixed.topology.version n.fixed.topology.format)
 head_range x P u n v h there =
     let l = first_there (LinkHolds n.calls) (is_link v) (new_link n.fixed.me v 0 []) n.links h.links there in
     record {
-      format = omega arith;
+      format = small_format n.fixed.topology.format h.fixed.topology.ranges.format;
       from = l.me;
       to = l.peer;
       boot = l.boot;
       echo = l.peer_boot;
       counter = let sent = l.sent in let calls = h.calls in omega (arith, sent, calls);
-      topology = h.fixed.topology.version;
+      topology = h.fixed.topology.ranges.version;
     }
 
 -- ---- over a run
 
-pub heads_are : (arts : Arts) (x : Setting) (es : List Event) (js : List Entry) (w : World) → SettingFits arts x → Carries arts → HeadsReadBack arts → Clean arts x es js w
+pub heads_are : (arts : Arts) (x : Setting) (es : List Event) (js : List Entry) (w : World) → SettingFits arts x → Carries x.topology.format arts
+    → HeadsReadBack arts → Clean arts x es js w
     → (u v : NodeId) → is_hop x u v ≡ true → (k : ℕ) (bytes : List ℕ) → slice_get (frames_in w.directions u v) k ≡ Some bytes → HeadIs u v (k + 1) (arts.head bytes)
 heads_are arts x es js w fits reads heads Starts u v hop k bytes at = absurd cc
 heads_are arts x es js w fits reads heads (Turned {es = es'} {js = js'} {old = old} {e = e} {j = j} run range (Moves m) unforged) u v hop k bytes at =

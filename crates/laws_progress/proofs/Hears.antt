@@ -16,10 +16,11 @@ use Rattle.sp_rules.specs.Link.{Link, after_answer, is_above, kept}
 use Rattle.sp_rules.specs.Node.{NodeState, link_in}
 use Rattle.sp_rules.specs.Parts.{Fixed, Parts}
 use Rattle.sp_rules.specs.Pieces.{AckPiece, Piece, PrioAckPiece, RelPiece, WeightPiece, pieces_of, prio_piece, slot_pieces}
-use Rattle.sp_rules.specs.Polls.{contents_to}
+use Rattle.sp_rules.specs.Polls.{contents_to, dated}
 use Rattle.sp_rules.specs.Rel.{RelState, next_flow, slot_for, slot_of}
 use Rattle.sp_rules.specs.Steps.{Input, NodeStep, Poll, Datagram, Tick, SendRel, SendPrio, SetWeight, TakeRel, TakePrio}
 use Rattle.sp_rules.specs.declared.link.LinkAnswer.TheVariants as answers
+use Rattle.sp_rules.specs.declared.lives.Life.{Life}
 use Rattle.laws_node.specs.Flows.{RelHolds}
 use Rattle.laws_node.specs.Sizes.{Sizes}
 use Rattle.laws_node.proofs.Carried.{AllKeep}
@@ -31,6 +32,7 @@ use Rattle.sp_runs.specs.Settings.{Setting, SettingFits, fixed_of}
 use Rattle.sp_runs.specs.Worlds.{World, frames_in}
 use Rattle.sp_schedule_events.specs.declared.event.Event.{Event}
 use Rattle.laws_runs.specs.Premises.{ComesThrough}
+use Rattle.laws_runs.specs.Unborn.{Unborn}
 use Rattle.laws_progress.proofs.States.{IsHop, State}
 use Rattle.laws_runs.proofs.Acks.{RelAck}
 use Rattle.laws_progress.proofs.Arrives.{Arrived, SeenIs, arrives, seen_is}
@@ -39,7 +41,7 @@ use Rattle.laws_progress.proofs.Deaf.{NoHear, step_view}
 use Rattle.laws_progress.proofs.Framed.{Came, Framed, Learns, Too_late, Taken}
 use Rattle.laws_progress.proofs.KnownRuns.{low_boot}
 use Rattle.laws_progress.proofs.Links.{LinkAfter, Rests, Sends, Hears, link_step}
-use Rattle.laws_progress.proofs.Makes.{SlotAck, SlotMade, SlotRel, mine_is, slot_made}
+use Rattle.laws_progress.proofs.Makes.{SlotAck, SlotMade, SlotRel, SlotUnborn, mine_is, slot_dated, slot_made, slot_unborn}
 use Rattle.laws_progress.proofs.Origins.{Origin}
 use Rattle.laws_progress.proofs.Passes.{datagram_after, datagram_link}
 use Rattle.laws_progress.proofs.Polls.{both_ways}
@@ -50,18 +52,34 @@ use Rattle.laws_progress.proofs.Wires.{is_mine}
 
 -- ---- what a slot of the flow has
 
-pub slot_parts : (k : Sizes) (index : ℕ) (r : RelState) (v : NodeId) (flow : Flow) (t : Report) → RelHolds k index r → RelAck r → slot_for r v ≡ Some t → is_mine flow t.flow ≡ true
+pub slot_parts : (k : Sizes) (index : ℕ) (r : RelState) (v : NodeId) (format : ℕ) (ls : List Life) (flow : Flow) (t : Report) → RelHolds k index r → RelAck r
+    → option_map (dated format ls) (slot_for r v) ≡ Some t → is_mine flow t.flow ≡ true
     → (t.flow ≡ flow) × SlotAck flow t.base t.ack × SlotRel flow t.rels
-slot_parts k index r v flow t h acks is mine = go (next_flow r v) is
+slot_parts k index r v format ls flow t h acks is mine = go (next_flow r v) is
   where
-    go : (o : Option Flow) → option_map (slot_of r v) o ≡ Some t → (t.flow ≡ flow) × SlotAck flow t.base t.ack × SlotRel flow t.rels
+    go : (o : Option Flow) → option_map (dated format ls) (option_map (slot_of r v) o) ≡ Some t
+        → (t.flow ≡ flow) × SlotAck flow t.base t.ack × SlotRel flow t.rels
     go None e = absurd (let f : None ≡ Some t = e in cc)
     go (Some fl) e =
-        let f : Some (slot_of r v fl) ≡ Some t = e in
-        let same : slot_of r v fl ≡ t = cc in
+        let f : Some (dated format ls (slot_of r v fl)) ≡ Some t = e in
+        let same : dated format ls (slot_of r v fl) ≡ t = cc in
         let its : fl ≡ flow = mine_is flow fl (ap (λ (z : Report). is_mine flow z.flow) same ∙ mine) in
-        let s : SlotMade flow r v t = subst (SlotMade flow r v) same (subst (λ g. SlotMade flow r v (slot_of r v g)) (sym its) (slot_made k index r v flow h acks)) in
-        (ap (λ (z : Report). z.flow) (sym same) ∙ its, s.ack, s.rels)
+        let s : SlotMade flow r v (slot_of r v fl) = subst (λ g. SlotMade flow r v (slot_of r v g)) (sym its) (slot_made k index r v flow h acks) in (
+          ap (λ (z : Report). z.flow) (sym same) ∙ its,
+          subst (λ (z : Report). SlotAck flow z.base z.ack) same s.ack,
+          subst (λ (z : Report). SlotRel flow z.rels) same (slot_dated flow format ls (slot_of r v fl) s.rels),
+        )
+
+-- it names no boot, where the node holds none
+pub slot_names : (p : Parts) (v : NodeId) (format : ℕ) (t : Report) → Unborn p → option_map (dated format p.lives) (slot_for p.rel v) ≡ Some t → SlotUnborn t
+slot_names p v format t h is = go (next_flow p.rel v) is
+  where
+    go : (o : Option Flow) → option_map (dated format p.lives) (option_map (slot_of p.rel v) o) ≡ Some t → SlotUnborn t
+    go None e = absurd (let f : None ≡ Some t = e in cc)
+    go (Some fl) e =
+        let f : Some (dated format p.lives (slot_of p.rel v fl)) ≡ Some t = e in
+        let same : dated format p.lives (slot_of p.rel v fl) ≡ t = cc in
+        subst SlotUnborn same (slot_unborn p v fl format h)
 
 pub keep_right : (P : Kept → Type 0) (xs ys : List Piece) → AllKeep P (xs ++ ys) → AllKeep P ys
 keep_right P [] ys h = h
@@ -92,7 +110,7 @@ pub record HearingAt (arts : Arts) (x : Setting) (w : World) (n m : NodeState) (
   pub framed : Framed arts x u v (k + 1) from.node bytes
   pub above : (link_in n u).seen.1 < k + 1
   pub seen : (link_in m u).seen.1 ≡ k + 1
-  pub rel : m.parts.rel ≡ after_slot arts n.fixed n.parts.rel u (slot_for from.node.parts.rel v)
+  pub rel : m.parts.rel ≡ after_slot arts n.fixed n.parts.lives n.parts.rel u (contents_to from.node.fixed from.node.parts v).slot
 
 hears_or : (u : NodeId) (i : Input) → NoHear u i ⊎ ((bytes : List ℕ) × (i ≡ Datagram u bytes))
 hears_or u (Datagram from bytes) = elim (cases_eq from.0 u.0) [
@@ -124,7 +142,8 @@ above_seen : (k : ℕ) (l : Link) → is_above (1, k + 1) l.seen ≡ true → Se
 above_seen k l above (inl none) = let z = ap (λ (p : ℕ × ℕ). p.1) none in omega (arith, z)
 above_seen k l above (inr some) = let e : nat_lt l.seen.1 (k + 1) ≡ true = ap (λ z. is_above (1, k + 1) (z, l.seen.1)) (sym some.0) ∙ above in ltb-true l.seen.1 (k + 1) e
 
-pub hearing : (arts : Arts) (x : Setting) (all : List Event) (flow : Flow) → SettingFits arts x → ComesThrough arts x.signature_len → (w y : State arts x all) (e : Event) (u v : NodeId) → IsHop x u v → (a : Acted arts x all w y e v)
+pub hearing : (arts : Arts) (x : Setting) (all : List Event) (flow : Flow) → SettingFits arts x → ComesThrough x.topology.format arts x.signature_len
+    → (w y : State arts x all) (e : Event) (u v : NodeId) → IsHop x u v → (a : Acted arts x all w y e v)
     → DeafAt flow a.node a.after u ⊎ ((k : ℕ) × HearingAt arts x w.world a.node a.after u v k)
 hearing arts x all flow fits reads w y e u v hop a =
     let n = a.node in

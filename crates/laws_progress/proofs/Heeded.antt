@@ -15,9 +15,11 @@ use Rattle.sp_rules.proofs.FlowJudged.{found_ends}
 use Rattle.sp_rules.specs.Answers.{ack_answer, is_new, rel_answer}
 use Rattle.sp_rules.specs.Arts.{Arts}
 use Rattle.sp_rules.specs.Flow.{FlowState, IsMessage, acknowledged_by, ends, flow_said, is_flow, is_full, no_flow, number_said, pushed, received}
+use Rattle.sp_rules.specs.Lives.{is_dated}
 use Rattle.sp_rules.specs.Parts.{Fixed, is_signed}
 use Rattle.sp_rules.specs.Rel.{RelState, admit_ack, admit_rel, are_ends, flow_in, is_from, is_to, judge_ack_of, judge_rel, judge_rel_of, with_flow}
 use Rattle.sp_rules.specs.declared.answers.Item.TheVariants as items
+use Rattle.sp_rules.specs.declared.lives.Life.{Life}
 use Rattle.sp_rules.specs.declared.rel.AckJudged.TheVariants as acks
 use Rattle.sp_rules.specs.declared.rel.RelJudged.TheVariants as rels
 use Rattle.laws_node.specs.Flows.{IsAckOf}
@@ -72,24 +74,28 @@ none_true false h = refl
 put_base : (r : RelState) (flow : Flow) (g : FlowState) → list_any (is_flow flow) r.flows ≡ true → ends g ≡ flow → flow_in (with_flow r flow g).flows flow ≡ g
 put_base r flow g row is = first_replaced (is_flow flow) (no_flow flow) g r.flows (is_its g flow is) row
 
-pub ack_later : (arts : Arts) (f : Fixed) (r : RelState) (flow : Flow) (o : Kept) → RelLater r (after_ack arts f r flow o)
-ack_later arts f r flow o = cond_either (RelLater r) (is_new (items.Ack (ack_answer (is_signed arts f o) (judge_ack_of r flow o.body)))) (admit_ack r o) r (admit_ack_later r o) (rel_same r)
+pub ack_later : (arts : Arts) (f : Fixed) (ls : List Life) (r : RelState) (flow : Flow) (o : Kept) → RelLater r (after_ack arts f ls r flow o)
+ack_later arts f ls r flow o = cond_either (RelLater r) (is_new (items.Ack (ack_answer (is_signed arts f o) (is_dated ls o.body) (judge_ack_of r flow o.body)))) (admit_ack r o) r (admit_ack_later r o) (rel_same r)
 
-pub rel_later : (arts : Arts) (f : Fixed) (r : RelState) (flow : Flow) (o : Kept) → RelLater r (after_rel arts f r flow o)
-rel_later arts f r flow o = cond_either (RelLater r) (is_new (items.Rel (rel_answer (is_signed arts f o) (judge_rel_of r flow o.body)))) (admit_rel r o) r (admit_rel_later r o) (rel_same r)
+pub rel_later : (arts : Arts) (f : Fixed) (ls : List Life) (r : RelState) (flow : Flow) (o : Kept) → RelLater r (after_rel arts f ls r flow o)
+rel_later arts f ls r flow o = cond_either (RelLater r) (is_new (items.Rel (rel_answer (is_signed arts f o) (is_dated ls o.body) (judge_rel_of r flow o.body)))) (admit_rel r o) r (admit_rel_later r o) (rel_same r)
 
-pub ack_heard : (arts : Arts) (fx : Fixed) (nodes : List NodeId) (bound : ℕ) (v : NodeId) (flow : Flow) (r : RelState) (o : Kept) (q : ℕ) → Ready nodes bound v flow r → AreNodes nodes flow → IsAckOf flow o.body → number_said o.body ≡ q
-    → is_signed arts fx o ≡ true → (is_from r flow ≡ true → q ≤ (flow_in r.flows flow).at.have) → (is_to r flow ≡ true → q ≤ (flow_in r.flows flow).at.base)
-    → q ≤ (flow_in (after_ack arts fx r flow o).flows flow).at.base
-ack_heard arts fx nodes bound v flow r o q ready are kind number signed at_source at_end = elim (cases_lt (flow_in r.flows flow).at.base q) [
-  | inr old ↦ let up = (ack_later arts fx r flow o flow).base in omega (arith, old, up)
+pub ack_heard : (arts : Arts) (fx : Fixed) (ls : List Life) (nodes : List NodeId) (bound : ℕ) (v : NodeId) (flow : Flow) (r : RelState) (o : Kept) (q : ℕ)
+    → Ready nodes bound v flow r → AreNodes nodes flow → IsAckOf flow o.body → number_said o.body ≡ q
+    → is_signed arts fx o ≡ true → is_dated ls o.body ≡ true → (is_from r flow ≡ true → q ≤ (flow_in r.flows flow).at.have)
+    → (is_to r flow ≡ true → q ≤ (flow_in r.flows flow).at.base)
+    → q ≤ (flow_in (after_ack arts fx ls r flow o).flows flow).at.base
+ack_heard arts fx ls nodes bound v flow r o q ready are kind number signed dated at_source at_end = elim (cases_lt (flow_in r.flows flow).at.base q) [
+  | inr old ↦ let up = (ack_later arts fx ls r flow o flow).base in omega (arith, old, up)
   | inl above ↦
       let f = flow_in r.flows flow in
       let new = go o.body refl kind number above in
-      let is : after_ack arts fx r flow o ≡ admit_ack r o =
-      ap (λ j. cond (is_new (items.Ack (ack_answer (is_signed arts fx o) j))) (admit_ack r o) r) new.0 ∙ ap (λ t. cond (is_new (items.Ack (ack_answer t acks.New))) (admit_ack r o) r) signed in
+      let is : after_ack arts fx ls r flow o ≡ admit_ack r o =
+      ap (λ j. cond (is_new (items.Ack (ack_answer (is_signed arts fx o) (is_dated ls o.body) j))) (admit_ack r o) r) new.0
+      ∙ ap (λ t. cond (is_new (items.Ack (ack_answer t (is_dated ls o.body) acks.New))) (admit_ack r o) r) signed
+      ∙ ap (λ t. cond (is_new (items.Ack (ack_answer true t acks.New))) (admit_ack r o) r) dated in
       let put : admit_ack r o ≡ with_flow r flow (acknowledged_by f o) = ap (λ fl. with_flow r fl (acknowledged_by (flow_in r.flows fl) o)) new.1 in
-      let at : flow_in (after_ack arts fx r flow o).flows flow ≡ acknowledged_by f o = ap (λ (z : RelState). flow_in z.flows flow) (is ∙ put) ∙ put_base r flow (acknowledged_by f o) ready.row (found_ends r.flows flow) in
+      let at : flow_in (after_ack arts fx ls r flow o).flows flow ≡ acknowledged_by f o = ap (λ (z : RelState). flow_in z.flows flow) (is ∙ put) ∙ put_base r flow (acknowledged_by f o) ready.row (found_ends r.flows flow) in
       let base = ap (λ (g : FlowState). g.at.base) at in
       omega (arith, base, number)
 ]
@@ -116,19 +122,21 @@ judged_rel : (e t u v w z : Bool) → e ≡ true → t ≡ false → u ≡ false
     → cond (not e) rels.BadEnd (cond t rels.Old (cond u rels.Ahead (cond v rels.Gap (cond w rels.Full (cond z rels.InboxFull rels.New))))) ≡ rels.New
 judged_rel e t u v w z a b c d f g = rw (a, b, c, d, f, g) refl
 
-pub rel_heard : (arts : Arts) (fx : Fixed) (nodes : List NodeId) (bound : ℕ) (v : NodeId) (flow : Flow) (r : RelState) (o : Kept) (q : ℕ) → Ready nodes bound v flow r → AreNodes nodes flow → IsMessage flow q o.body
-    → is_signed arts fx o ≡ true → q ≤ (flow_in r.flows flow).at.have + 1 → q ≤ (flow_in r.flows flow).at.base + bound → (is_from r flow ≡ true → q ≤ (flow_in r.flows flow).at.have)
-    → (is_to r flow ≡ false → q ≤ (flow_in (after_rel arts fx r flow o).flows flow).at.have)
-    × (is_to r flow ≡ true → min q ((flow_in r.flows flow).at.have - length (flow_in r.flows flow).inbox + bound) ≤ (flow_in (after_rel arts fx r flow o).flows flow).at.have)
-rel_heard arts fx nodes bound v flow r o q ready are message signed near window at_source = elim (cases_lt (flow_in r.flows flow).at.have q) [
-  | inr old ↦ let up = (rel_later arts fx r flow o flow).have in (λ z. omega (arith, old, up), λ z. omega (arith, old, up))
+pub rel_heard : (arts : Arts) (fx : Fixed) (ls : List Life) (nodes : List NodeId) (bound : ℕ) (v : NodeId) (flow : Flow) (r : RelState) (o : Kept) (q : ℕ)
+    → Ready nodes bound v flow r → AreNodes nodes flow → IsMessage flow q o.body
+    → is_signed arts fx o ≡ true → is_dated ls o.body ≡ true → q ≤ (flow_in r.flows flow).at.have + 1 → q ≤ (flow_in r.flows flow).at.base + bound
+    → (is_from r flow ≡ true → q ≤ (flow_in r.flows flow).at.have)
+    → (is_to r flow ≡ false → q ≤ (flow_in (after_rel arts fx ls r flow o).flows flow).at.have)
+    × (is_to r flow ≡ true → min q ((flow_in r.flows flow).at.have - length (flow_in r.flows flow).inbox + bound) ≤ (flow_in (after_rel arts fx ls r flow o).flows flow).at.have)
+rel_heard arts fx ls nodes bound v flow r o q ready are message signed dated near window at_source = elim (cases_lt (flow_in r.flows flow).at.have q) [
+  | inr old ↦ let up = (rel_later arts fx ls r flow o flow).have in (λ z. omega (arith, old, up), λ z. omega (arith, old, up))
   | inl above ↦
       let f = flow_in r.flows flow in
       let a = flow_ack r flow ready.acks in
       let sound = a.sound in
       let few = a.inbox in
       let bound_is = ready.bound_is in
-      let up = (rel_later arts fx r flow o flow).have in (
+      let up = (rel_later arts fx ls r flow o flow).have in (
         λ inner. let new = go o.body refl message above (both_false (is_to r flow) (length f.inbox == r.bound) (λ t. absurd (let g : true ≡ false = sym t ∙ inner in cc))) in taken new above,
         λ end. elim (cases_Bool (length f.inbox == r.bound)) [
           | inl full ↦ let same = eqb-true _ _ full in omega (arith, same, bound_is, few, up)
@@ -174,14 +182,17 @@ rel_heard arts fx nodes bound v flow r o q ready are message signed near window 
     either_ends true f p = refl
     either_ends false f p = refl
 
-    taken : (judge_rel_of r flow o.body ≡ rels.New) × (flow_said o.body ≡ flow) → (flow_in r.flows flow).at.have < q → q ≤ (flow_in (after_rel arts fx r flow o).flows flow).at.have
+    taken : (judge_rel_of r flow o.body ≡ rels.New) × (flow_said o.body ≡ flow) → (flow_in r.flows flow).at.have < q
+        → q ≤ (flow_in (after_rel arts fx ls r flow o).flows flow).at.have
     taken new above =
         let f = flow_in r.flows flow in
         let g : FlowState = cond (is_to r flow) (received f (payload_of o.body)) (pushed f o) in
-        let is : after_rel arts fx r flow o ≡ admit_rel r o =
-        ap (λ j. cond (is_new (items.Rel (rel_answer (is_signed arts fx o) j))) (admit_rel r o) r) new.0 ∙ ap (λ t. cond (is_new (items.Rel (rel_answer t rels.New))) (admit_rel r o) r) signed in
+        let is : after_rel arts fx ls r flow o ≡ admit_rel r o =
+        ap (λ j. cond (is_new (items.Rel (rel_answer (is_signed arts fx o) (is_dated ls o.body) j))) (admit_rel r o) r) new.0
+        ∙ ap (λ t. cond (is_new (items.Rel (rel_answer t (is_dated ls o.body) rels.New))) (admit_rel r o) r) signed
+        ∙ ap (λ t. cond (is_new (items.Rel (rel_answer true t rels.New))) (admit_rel r o) r) dated in
         let put : admit_rel r o ≡ with_flow r flow g = ap (λ fl. with_flow r fl (cond (is_to r fl) (received (flow_in r.flows fl) (payload_of o.body)) (pushed (flow_in r.flows fl) o))) new.1 in
-        let at : flow_in (after_rel arts fx r flow o).flows flow ≡ g = ap (λ (z : RelState). flow_in z.flows flow) (is ∙ put) ∙ put_base r flow g ready.row (either_ends (is_to r flow) f (payload_of o.body) ∙ found_ends r.flows flow) in
+        let at : flow_in (after_rel arts fx ls r flow o).flows flow ≡ g = ap (λ (z : RelState). flow_in z.flows flow) (is ∙ put) ∙ put_base r flow g ready.row (either_ends (is_to r flow) f (payload_of o.body) ∙ found_ends r.flows flow) in
         let have = ap (λ (h : FlowState). h.at.have) at in
         let one = either_have (is_to r flow) f (payload_of o.body) in
         omega (arith, have, one, near)

@@ -15,7 +15,8 @@ use Rattle.sp_rules.specs.Node.{NodeState, link_in}
 use Rattle.sp_rules.specs.Parts.{Fixed, is_signed, nodes_of}
 use Rattle.sp_rules.specs.Pieces.{AckPiece, RelPiece, slot_pieces, pieces_of}
 use Rattle.sp_rules.specs.Polls.{contents_to}
-use Rattle.sp_rules.specs.Rel.{RelState, View, flow_in, is_from, is_to, pairs_of, slot_for}
+use Rattle.sp_rules.specs.Rel.{RelState, View, flow_in, is_from, is_to, pairs_of}
+use Rattle.sp_rules.specs.declared.lives.Life.{Life}
 use Rattle.laws_node.specs.Flows.{RelHolds}
 use Rattle.laws_node.specs.Sizes.{Sizes}
 use Rattle.laws_node.proofs.Carried.{AllKeep}
@@ -30,13 +31,15 @@ use Rattle.sp_runs.specs.Worlds.{frame_in, frames_in, node_in}
 use Rattle.sp_schedule_events.specs.declared.event.Event.{Event}
 use Rattle.laws_progress.proofs.Hops.{IsDeaf, IsFit, IsHearing, IsHeeded, Told}
 use Rattle.laws_runs.specs.Premises.{ComesThrough}
+use Rattle.laws_runs.specs.Unborn.{HoldNone}
+use Rattle.laws_runs.proofs.Unborn.{none_dated, none_held}
 use Rattle.laws_progress.proofs.States.{Follows, IsHop, State, seen_at, sight}
 use Rattle.laws_progress.proofs.Service.{is_on}
 use Rattle.laws_runs.proofs.Goods.{of_all}
 use Rattle.laws_progress.proofs.Changes.{Acted, change}
 use Rattle.laws_progress.proofs.Heeded.{AreNodes, Ready}
 use Rattle.laws_progress.proofs.Made.{frames_count}
-use Rattle.laws_progress.proofs.Makes.{SlotAck, SlotRel, frame_told, mine_is, place_found, get_map}
+use Rattle.laws_progress.proofs.Makes.{SlotAck, SlotRel, SlotUnborn, frame_told, mine_is, place_found, get_map}
 use Rattle.laws_progress.proofs.Polls.{both_ways}
 use Rattle.laws_progress.proofs.Rows.{peer_there, rows_are}
 use Rattle.laws_progress.proofs.SlotHeeds.{slot_done, slot_heeded, view_of}
@@ -45,7 +48,7 @@ use Rattle.laws_progress.proofs.Standing.{place_at, place_in, rel_of, sound, the
 use Rattle.laws_progress.proofs.Upper.{IsRight, from_laws}
 use Rattle.laws_progress.proofs.Views.{views_are}
 use Rattle.laws_progress.proofs.Wires.{is_mine, told_of, told_slot, wires}
-use Rattle.laws_progress.proofs.Hears.{HearingAt, ack_keeps, hearing, keep_right, rel_keeps, slot_keeps, slot_parts}
+use Rattle.laws_progress.proofs.Hears.{HearingAt, ack_keeps, hearing, keep_right, rel_keeps, slot_keeps, slot_names, slot_parts}
 
 -- the numbers of a frame that is fit, at the node's part
 record Fit (flow : Flow) (bound : ℕ) (r : RelState) (f : Told) : Type 0 where
@@ -62,20 +65,25 @@ record HeededOf (flow : Flow) (bound : ℕ) (r z : RelState) (f : Told) : Type 0
   have : is_to r flow ≡ false → f.next ≤ (flow_in z.flows flow).at.have
   have_at_end : is_to r flow ≡ true → min f.next ((flow_in r.flows flow).at.have - length (flow_in r.flows flow).inbox + bound) ≤ (flow_in z.flows flow).at.have
 
-heeded_of : (arts : Arts) (fx : Fixed) (nodes : List NodeId) (bound : ℕ) (v u : NodeId) (flow : Flow) (r : RelState) (echo : Bool) (slot : Option Report) → Ready nodes bound v flow r → AreNodes nodes flow
+heeded_of : (arts : Arts) (fx : Fixed) (ls : List Life) (nodes : List NodeId) (bound : ℕ) (v u : NodeId) (flow : Flow) (r : RelState) (echo : Bool) (slot : Option Report) → Ready nodes bound v flow r → AreNodes nodes flow
     → ((t : Report) → slot ≡ Some t → is_mine flow t.flow ≡ true → (t.flow ≡ flow) × SlotAck flow t.base t.ack × SlotRel flow t.rels)
     → ((t : Report) → slot ≡ Some t → ((o : Kept) → t.ack ≡ Some o → is_signed arts fx o ≡ true) × ((o : Kept) (os : List Kept) → t.rels ≡ o ∷ os → is_signed arts fx o ≡ true))
-    → (told_slot flow echo slot).mine ≡ true → Fit flow bound r (told_slot flow echo slot) → HeededOf flow bound r (after_slot arts fx r u slot) (told_slot flow echo slot)
-heeded_of arts fx nodes bound v u flow r echo None ready are parts signed mine fit = absurd (let f : false ≡ true = mine in cc)
-heeded_of arts fx nodes bound v u flow r echo (Some t) ready are parts signed mine fit =
+    → HoldNone ls → ((t : Report) → slot ≡ Some t → SlotUnborn t)
+    → (told_slot flow echo slot).mine ≡ true → Fit flow bound r (told_slot flow echo slot)
+    → HeededOf flow bound r (after_slot arts fx ls r u slot) (told_slot flow echo slot)
+heeded_of arts fx ls nodes bound v u flow r echo None ready are parts signed none unborn mine fit = absurd (let f : false ≡ true = mine in cc)
+heeded_of arts fx ls nodes bound v u flow r echo (Some t) ready are parts signed none unborn mine fit =
     let p = parts t refl mine in
     let s = signed t refl in
-    let h = slot_heeded arts fx nodes bound v u flow r t ready are (record {
+    let b = unborn t refl in
+    let h = slot_heeded arts fx ls nodes bound v u flow r t ready are (record {
       flow_is = p.0;
       ack = p.1;
       rels = p.2;
       signed_ack = s.0;
       signed_rel = s.1;
+      dated_ack = λ o e. none_dated ls none o.body (b.ack o e);
+      dated_rel = λ o os e. none_dated ls none o.body (b.rels o os e);
       window = fit.window;
       no_ack = fit.no_ack;
       next_there = fit.next_there;
@@ -102,7 +110,8 @@ are_nodes x flow right = record {
   different = ne_eqb _ _ (λ z. right.different (same_node flow.src flow.dst z));
 }
 
-ready_at : (arts : Arts) (x : Setting) (all : List Event) (flow : Flow) → SettingFits arts x → ComesThrough arts x.signature_len → IsRight x flow → (w : State arts x all) (v : NodeId) (n : NodeState) → node_in w.world.nodes v ≡ Some n
+ready_at : (arts : Arts) (x : Setting) (all : List Event) (flow : Flow) → SettingFits arts x → ComesThrough x.topology.format arts x.signature_len
+    → IsRight x flow → (w : State arts x all) (v : NodeId) (n : NodeState) → node_in w.world.nodes v ≡ Some n
     → Ready (nodes_of x.topology) x.buffer v flow n.parts.rel
 ready_at arts x all flow fits reads right w v n at =
     let rel = rel_of arts x all fits reads.carries w v n at in
@@ -115,7 +124,8 @@ ready_at arts x all flow fits reads right w v n at =
     }
 
 -- the objects of a frame are signed
-signed_in : (arts : Arts) (x : Setting) (all : List Event) → SettingFits arts x → ComesThrough arts x.signature_len → (w : State arts x all) (u v : NodeId) (k : ℕ) (bytes : List ℕ) (s : Contents) (fx : Fixed) → fx ≡ fixed_of x v
+signed_in : (arts : Arts) (x : Setting) (all : List Event) → SettingFits arts x → ComesThrough x.topology.format arts x.signature_len
+    → (w : State arts x all) (u v : NodeId) (k : ℕ) (bytes : List ℕ) (s : Contents) (fx : Fixed) → fx ≡ fixed_of x v
     → slice_get (frames_in w.world.directions u v) k ≡ Some bytes → arts.sections x.signature_len bytes ≡ Ok s
     → (t : Report) → s.slot ≡ Some t → ((o : Kept) → t.ack ≡ Some o → is_signed arts fx o ≡ true) × ((o : Kept) (os : List Kept) → t.rels ≡ o ∷ os → is_signed arts fx o ≡ true)
 signed_in arts x all fits reads w u v k bytes s fx is there read t slot =
@@ -127,14 +137,19 @@ signed_in arts x all fits reads w u v k bytes s fx is there read t slot =
       λ o os e. one o (rel_keeps P t.flow t.rels (keep_right P (map (AckPiece t.flow) (as_list t.ack)) (map (RelPiece t.flow) t.rels) kept_slot.1) o os e),
     )
 
-heard : (arts : Arts) (x : Setting) (all : List Event) (flow : Flow) → SettingFits arts x → ComesThrough arts x.signature_len → IsRight x flow → (w y : State arts x all) (e : Event) (u v : NodeId) → IsHop x u v → (a : Acted arts x all w y e v)
+heard : (arts : Arts) (x : Setting) (all : List Event) (flow : Flow) → SettingFits arts x → ComesThrough x.topology.format arts x.signature_len
+    → IsRight x flow → (w y : State arts x all) (e : Event) (u v : NodeId) → IsHop x u v → (a : Acted arts x all w y e v)
     → (k : ℕ) → HearingAt arts x w.world a.node a.after u v k
     → IsHearing (State arts x all) (sight arts x all flow) (wires arts x all flow) (place_at x flow) x.buffer flow.src flow.dst w y u v (k + 1)
 heard arts x all flow fits reads right w y e u v hop a k it =
     let n = a.node in
     let r = n.parts.rel in
     let node = it.from.node in
-    let slot = slot_for node.parts.rel v in
+    let slot = (contents_to node.fixed node.parts v).slot in
+    let at_v = (signs arts x w.events w.journal w.world fits reads.carries w.run).nodes v n a.there in
+    let at_u = (signs arts x it.from.events it.from.journal it.from.world fits reads.carries it.from.run).nodes u node it.from.there in
+    let none : HoldNone n.parts.lives = at_v.unborn.lives in
+    let unborn : (t : Report) → slot ≡ Some t → SlotUnborn t = λ t is. slot_names node.parts v node.fixed.topology.format t at_u.unborn is in
     let echo = (link_in node v).peer_boot == 1 in
     let f : Told = told_slot flow echo slot in
     let ds = w.world.directions in
@@ -145,8 +160,9 @@ heard arts x all flow fits reads right w y e u v hop a k it =
     let peer_row = peer_there x v u n rows back.joined in
     let rel = rel_of arts x all fits reads.carries w v n a.there in
     let ready = ready_at arts x all flow fits reads right w v n a.there in
-    let done = slot_done arts n.fixed (nodes_of x.topology) r u flow echo slot (views_are arts x w.events w.journal w.world fits reads.carries w.run v n a.there) rel.keys peer_row ready.row in
-    let fixed = ((signs arts x w.events w.journal w.world fits reads.carries w.run).nodes v n a.there).fixed in
+    let done = slot_done arts n.fixed n.parts.lives (nodes_of x.topology) r u flow echo slot
+    (λ t is. let b = unborn t is in none_held n.parts.lives none t.flow t.sboot t.dboot b.sboot b.dboot) (views_are arts x w.events w.journal w.world fits reads.carries w.run v n a.there) rel.keys peer_row ready.row in
+    let fixed = at_v.fixed in
     let count = frames_count arts x w.events w.journal w.world w.run u v in
     let within = slice_get_within (frames_in ds u v) k it.bytes it.there in
     let seen_0 = ap (seen_at 0 (λ n. (link_in n u).seen.1)) a.there in
@@ -184,12 +200,11 @@ heard arts x all flow fits reads right w y e u v hop a k it =
           λ z. ap (λ q. at.base w q) (same_node flow.dst v (sym (eqb-true _ _ z) ∙ ap (λ (q : NodeId). q.0) ready.me)) ∙ fb_0 in
           let sound_d = sound arts x all flow fits reads.carries w flow.dst in
           let upper = laws.sent w flow.dst in
-          let of = heeded_of arts n.fixed (nodes_of x.topology) x.buffer v u flow r echo slot ready (are_nodes x flow right)
+          let of = heeded_of arts n.fixed n.parts.lives (nodes_of x.topology) x.buffer v u flow r echo slot ready (are_nodes x flow right)
           (λ t is m.
-          slot_parts (sizes_at x (Good arts x it.from.events it.from.journal) u) node.signer.index node.parts.rel v flow t
-          (((signs arts x it.from.events it.from.journal it.from.world fits reads.carries it.from.run).nodes u node it.from.there).holds.parts.rel)
-          ((signs arts x it.from.events it.from.journal it.from.world fits reads.carries it.from.run).nodes u node it.from.there).acks is m)
-          (signed_in arts x all fits reads w u v k it.bytes (contents_to node.fixed node.parts v) n.fixed fixed it.there it.framed.sections) mine_f (record {
+          slot_parts (sizes_at x (Good arts x it.from.events it.from.journal) u) node.signer.index node.parts.rel v node.fixed.topology.format node.parts.lives flow t
+          at_u.holds.parts.rel at_u.acks is m)
+          (signed_in arts x all fits reads w u v k it.bytes (contents_to node.fixed node.parts v) n.fixed fixed it.there it.framed.sections) none unborn mine_f (record {
             window = fit_f.window;
             no_ack = λ z. let q = fit_f.no_ack z in omega (arith, q, fb_0);
             next_there = fit_f.next_there;
@@ -217,7 +232,8 @@ heard arts x all flow fits reads right w y e u v hop a k it =
     }
 
 -- a node hears a neighbour by its fresh frames alone, and heeds what they say
-pub hears : (arts : Arts) (x : Setting) (all : List Event) (flow : Flow) → SettingFits arts x → ComesThrough arts x.signature_len → IsRight x flow
+pub hears : (arts : Arts) (x : Setting) (all : List Event) (flow : Flow) → SettingFits arts x → ComesThrough x.topology.format arts x.signature_len
+    → IsRight x flow
     → (w y : State arts x all) (e : Event) (u v : NodeId) → IsHop x u v → Follows arts x all w e y
     → IsDeaf (State arts x all) (sight arts x all flow) (wires arts x all flow) w y u v
     ⊎ ((k : ℕ) × IsHearing (State arts x all) (sight arts x all flow) (wires arts x all flow) (place_at x flow) x.buffer flow.src flow.dst w y u v k)

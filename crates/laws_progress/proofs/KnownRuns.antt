@@ -39,7 +39,8 @@ none_known f u v (z ∷ zs) = elim (cases_Bool (is_link v (link_of f z))) [
 ]
 
 -- what a step leaves of the boot that is known of a correct neighbour
-known_after : (arts : Arts) (x : Setting) (es : List Event) (js : List Entry) (w : World) → SettingFits arts x → Carries arts → HeadsReadBack arts → Clean arts x es js w
+known_after : (arts : Arts) (x : Setting) (es : List Event) (js : List Entry) (w : World) → SettingFits arts x → Carries x.topology.format arts
+    → HeadsReadBack arts → Clean arts x es js w
     → (u v : NodeId) → IsHop x u v → (n m : NodeState) → node_in w.nodes u ≡ Some n → (i : Input) → has_forged_tag arts x w n i ≡ false → LinkAfter arts n i m v
     → (link_in n v).peer_boot ≤ 1 → ((link_in m v).peer_boot ≡ (link_in n v).peer_boot) ⊎ ((link_in m v).peer_boot ≡ 1)
 known_after arts x es js w fits reads heads run u v hop n m at i none (Rests quiet same) low = inl (ap (λ (l : Link). l.peer_boot) same)
@@ -55,7 +56,8 @@ known_after arts x es js w fits reads heads run u v hop n m at i none (Hears byt
       | inr one ↦ inr (boot ∙ one)
     ]
 
-pub low_boot : (arts : Arts) (x : Setting) (es : List Event) (js : List Entry) (w : World) → SettingFits arts x → Carries arts → HeadsReadBack arts → Clean arts x es js w
+pub low_boot : (arts : Arts) (x : Setting) (es : List Event) (js : List Entry) (w : World) → SettingFits arts x → Carries x.topology.format arts
+    → HeadsReadBack arts → Clean arts x es js w
     → (u v : NodeId) → IsHop x u v → (n : NodeState) → node_in w.nodes u ≡ Some n → (link_in n v).peer_boot ≤ 1
 low_boot arts x es js w fits reads heads Starts u v hop n at =
     let is = at_boot x u (correct_nodes x) n at in
@@ -81,7 +83,8 @@ low_boot arts x es js w fits reads heads (Turned {es = es'} {js = js'} {old = ol
 low_boot arts x es js w fits reads heads (Turned {es = es'} {js = js'} {old = old} {e = e} {j = j} run range (Stays s) unforged) u v hop n at =
     low_boot arts x es' js' old fits reads heads run u v hop n (ap (λ (z : World). node_in z.nodes u) (sym s.world) ∙ at)
 
-pub known : (arts : Arts) (x : Setting) (all : List Event) (flow : Flow) → SettingFits arts x → Carries arts → HeadsReadBack arts → (w y : State arts x all) (e : Event) (u v : NodeId) → IsHop x u v → Follows arts x all w e y
+pub known : (arts : Arts) (x : Setting) (all : List Event) (flow : Flow) → SettingFits arts x → Carries x.topology.format arts → HeadsReadBack arts
+    → (w y : State arts x all) (e : Event) (u v : NodeId) → IsHop x u v → Follows arts x all w e y
     → (sight arts x all flow).knows w u v ≡ true → (sight arts x all flow).knows y u v ≡ true
 known arts x all flow fits reads heads w y e u v hop follows on = elim (change arts x all fits reads w y e follows u) [
   | inl q ↦ ap (seen_at false (λ n. (link_in n v).peer_boot == 1)) q.same ∙ on

@@ -12,14 +12,15 @@ use Rattle.sp_rules.specs.Answers.{ack_answer, is_new, prio_answer, rel_answer, 
 use Rattle.sp_rules.specs.Arts.{Arts}
 use Rattle.sp_rules.specs.Arrivals.{arrival_at, pieces_in, pieces_where, reply_at, sections_in}
 use Rattle.sp_rules.specs.Handle.{Arrival, handle, handle_all, offer_to, prio_handled}
+use Rattle.sp_rules.specs.Lives.{are_held, is_dated}
 use Rattle.sp_rules.specs.Node.{NodeState, call_refusal, kept_or, signed_now}
 use Rattle.sp_rules.specs.Parts.{Parts, is_signed}
 use Rattle.sp_rules.specs.Pieces.{Piece, AckPiece, PrioAckPiece, PrioPiece, RelPiece, ReportPiece, WeightPiece}
 use Rattle.sp_rules.specs.Prio.{judge_prio}
-use Rattle.sp_rules.specs.Rel.{RelPeer, RelState, admit_ack, admit_rel, due, due_place, flow_in, is_peer, judge_ack_of, judge_rel_of, next_place, peer_in, put_peer, reported, served, served_at, settled, settled_at, told, with_peer}
+use Rattle.sp_rules.specs.Rel.{RelPeer, RelState, admit_ack, admit_rel, due_place, flow_in, is_peer, judge_ack_of, judge_rel_of, next_place, peer_in, put_peer, reported, served, served_at, settled, settled_at, told, with_peer}
 use Rattle.sp_rules.specs.Sends.{rel_refusal, send_prio_refusal, signer_refusal, weight_refusal}
 use Rattle.sp_rules.specs.Steps.{Input, NodeStep, Output, Poll, Datagram, Tick, SendRel, SendPrio, SetWeight, TakeRel, TakePrio}
-use Rattle.sp_rules.specs.Ticks.{at_time, settled_by}
+use Rattle.sp_rules.specs.Ticks.{at_time, due_now, settled_by}
 use Rattle.sp_rules.specs.Weights.{held}
 use Rattle.sp_rules.specs.declared.answers.Item.TheVariants as items
 use Rattle.sp_rules.specs.declared.answers.PrioAnswer.{PrioAnswer}
@@ -80,7 +81,7 @@ PartsSame v0 p q = SameLast v0 p.rel q.rel
 piece_last : (v0 : NodeId) (arts : Arts) (at : Arrival) (p : Parts) (piece : Piece) → PartsSame v0 p (handle arts at p piece).parts
 piece_last v0 arts at p (WeightPiece o) = cond_either (PartsSame v0 p) (is_new (items.Weight (weight_answer (is_signed arts at.fixed o) (offer_to at.fixed.me p.weights o.body)))) (record p { weights = held p.weights o }) p refl refl
 piece_last v0 arts at p (PrioAckPiece number) = refl
-piece_last v0 arts at p (PrioPiece number o) = go (prio_answer (is_signed arts at.fixed o) (judge_prio p.prio o.body at.now))
+piece_last v0 arts at p (PrioPiece number o) = go (prio_answer (is_signed arts at.fixed o) (is_dated p.lives o.body) (judge_prio p.prio o.body at.now))
   where
     go : (answer : PrioAnswer) → PartsSame v0 p (prio_handled at.from answer number o p).parts
     go prios.New = refl
@@ -88,9 +89,12 @@ piece_last v0 arts at p (PrioPiece number o) = go (prio_answer (is_signed arts a
     go prios.BadEnd = refl
     go prios.Expired = refl
     go prios.BadSig = refl
-piece_last v0 arts at p (ReportPiece flow base have) = reported_last v0 p.rel at.from flow base have
-piece_last v0 arts at p (AckPiece flow o) = cond_either (PartsSame v0 p) (is_new (items.Ack (ack_answer (is_signed arts at.fixed o) (judge_ack_of p.rel flow o.body)))) (record p { rel = admit_ack p.rel o }) p refl refl
-piece_last v0 arts at p (RelPiece flow o) = cond_either (PartsSame v0 p) (is_new (items.Rel (rel_answer (is_signed arts at.fixed o) (judge_rel_of p.rel flow o.body)))) (record p { rel = admit_rel p.rel o }) p refl refl
+    go prios.Epoch = refl
+piece_last v0 arts at p (ReportPiece flow sboot dboot base have) =
+    cond_either (PartsSame v0 p) (are_held p.lives flow sboot dboot) (record p { rel = reported p.rel at.from flow base have }) p
+    (reported_last v0 p.rel at.from flow base have) refl
+piece_last v0 arts at p (AckPiece flow o) = cond_either (PartsSame v0 p) (is_new (items.Ack (ack_answer (is_signed arts at.fixed o) (is_dated p.lives o.body) (judge_ack_of p.rel flow o.body)))) (record p { rel = admit_ack p.rel o }) p refl refl
+piece_last v0 arts at p (RelPiece flow o) = cond_either (PartsSame v0 p) (is_new (items.Rel (rel_answer (is_signed arts at.fixed o) (is_dated p.lives o.body) (judge_rel_of p.rel flow o.body)))) (record p { rel = admit_rel p.rel o }) p refl refl
 
 pieces_last : (v0 : NodeId) (arts : Arts) (at : Arrival) (p : Parts) (pieces : List Piece) → PartsSame v0 p (handle_all arts at p pieces).parts
 pieces_last v0 arts at p [] = refl
@@ -133,7 +137,7 @@ step_last v0 arts n (Poll v) output new quiet s = subst (NodeSame v0 n) (sym s.1
 step_last v0 arts n (Datagram v bytes) output new quiet s =
     subst (NodeSame v0 n) (sym s.1) (kept_last v0 (call_refusal n v) n _
     (pieces_last v0 arts (arrival_at n v) n.parts (pieces_where (reply_at arts n v bytes) (pieces_in (sections_in arts n.fixed bytes)))))
-step_last v0 arts n (Tick now) output new quiet s = subst (NodeSame v0 n) (sym s.1) (go (due n.parts.rel) (signer_refusal n.signer))
+step_last v0 arts n (Tick now) output new quiet s = subst (NodeSame v0 n) (sym s.1) (go (due_now n) (signer_refusal n.signer))
   where
     go : (o : Option Ack) (r : Option SendRefused) → NodeSame v0 n (settled_by arts (at_time n now) o r)
     go None r = refl
@@ -174,7 +178,8 @@ no_poll arts x es w n (events.Craft a b c f) i u v acts off is =
     either_by v (nat_lt (crafts es c) x.total) i (Datagram a (crafted_frame arts n a (object_alone (body_of f) (crafted_object arts x es c (body_of f))))) tt is
 no_poll arts x es w n (events.CraftStatus a b c f g h) i u v acts off is = just v i _ tt is
 
-pub serves_none : (arts : Arts) (x : Setting) (all : List Event) (flow : Flow) → SettingFits arts x → Carries arts → (w y : State arts x all) (e : Event) (u v : NodeId) → Follows arts x all w e y
+pub serves_none : (arts : Arts) (x : Setting) (all : List Event) (flow : Flow) → SettingFits arts x → Carries x.topology.format arts
+    → (w y : State arts x all) (e : Event) (u v : NodeId) → Follows arts x all w e y
     → is_poll u v e ≡ false → (sight arts x all flow).last y u v ≡ (sight arts x all flow).last w u v
 serves_none arts x all flow fits reads w y e u v follows off = elim (change arts x all fits reads w y e follows u) [
   | inl q ↦ ap (seen_at None (λ n. (peer_in n.parts.rel.peers v).last)) q.same

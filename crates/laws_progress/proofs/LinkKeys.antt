@@ -101,7 +101,8 @@ first_shape v a b (l ∷ ls) (k ∷ ks) same there =
       | inr t ↦ let u : is_link v k ≡ false = sym peer ∙ t in rw (t, u) (first_shape v a b ls ks rest (rw t at there))
     ]
 
-pub keys_are : (arts : Arts) (x : Setting) (es : List Event) (js : List Entry) (w : World) → SettingFits arts x → Carries arts → Clean arts x es js w
+pub keys_are : (arts : Arts) (x : Setting) (es : List Event) (js : List Entry) (w : World) → SettingFits arts x → Carries x.topology.format arts
+    → Clean arts x es js w
     → (u v : NodeId) → is_hop x u v ≡ true → (n : NodeState) → node_in w.nodes u ≡ Some n → (link_in n v).key ≡ x.link_key (first_edge u v 0 x.topology.edges)
 keys_are arts x es js w fits reads run u v hop n at =
     let shape = shape_is arts x es js w fits reads run u n at in

@@ -110,7 +110,8 @@ craft_poll key e u v is = elim (cases_Bool (is_poll u v e)) [
   | inr off ↦ off
 ]
 
-pub links_at : (arts : Arts) (x : Setting) (es : List Event) (js : List Entry) (w : World) → SettingFits arts x → Carries arts → Clean arts x es js w
+pub links_at : (arts : Arts) (x : Setting) (es : List Event) (js : List Entry) (w : World) → SettingFits arts x → Carries x.topology.format arts
+    → Clean arts x es js w
     → (u v : NodeId) → is_hop x u v ≡ true → (n : NodeState) → node_in w.nodes u ≡ Some n → LinkAt es u v (link_in n v)
 links_at arts x es js w fits reads Starts u v hop n at =
     let rows = rows_are arts x [] [] w fits reads Starts u n at in

@@ -12,10 +12,9 @@ use Rattle.sp_rules.specs.Link.{Link, advanced, new_link}
 use Rattle.sp_rules.specs.Node.{NodeState, call_refusal, called, is_link, kept_or, link_in, with_link}
 use Rattle.sp_rules.specs.Parts.{Fixed}
 use Rattle.sp_rules.specs.Polls.{polled}
-use Rattle.sp_rules.specs.Rel.{due}
 use Rattle.sp_rules.specs.Sends.{rel_refusal, send_prio_refusal, signer_refusal, weight_refusal}
 use Rattle.sp_rules.specs.Steps.{Input, NodeStep, Output, Poll, Datagram, Tick, SendRel, SendPrio, SetWeight, TakeRel, TakePrio}
-use Rattle.sp_rules.specs.Ticks.{at_time, settled_by}
+use Rattle.sp_rules.specs.Ticks.{at_time, due_now, settled_by}
 use Rattle.sp_rules.specs.declared.node.NodeRefused.{NodeRefused}
 use Rattle.laws_runs.proofs.FlowFacts.{first_replaced, other_replaced}
 use Rattle.laws_runs.proofs.Tables.{same_node}
@@ -76,7 +75,7 @@ link_step arts x n (Datagram u bytes) o m v k reply there s says =
           let away : u ≡ v → ⊥ = λ e. z (ap (λ (w : NodeId). w.0) e) in
           Rests tt (ap (λ (q : NodeState). link_in q v) after ∙ other_link n u v (link_after arts n u bytes) (after_peer arts n u bytes) away)
     ]
-link_step arts x n (Tick now) o m v k reply there s says = subst (λ q. LinkAfter arts n (Tick now) q v) (sym s.1) (go (due n.parts.rel) (signer_refusal n.signer))
+link_step arts x n (Tick now) o m v k reply there s says = subst (λ q. LinkAfter arts n (Tick now) q v) (sym s.1) (go (due_now n) (signer_refusal n.signer))
   where
     go : (a : Option Ack) (r : Option SendRefused) → LinkAfter arts n (Tick now) (settled_by arts (at_time n now) a r) v
     go None r = same_link arts n _ (Tick now) v tt refl refl

@@ -1,16 +1,18 @@
 -- What the frame of a poll tells of the flow: where it stands, the acknowledgement that the neighbour lacks, and the first messages after those
 -- that it has.
 use Rattle.std.proofs.Common.{◌≡◌, ◌≤◌, ◌<◌, ◌⊎◌, ℕ, zero, suc, ◌+◌, ◌-◌, ◌==◌, Bool, true, false, cond, max, List, [], ◌∷◌, ◌++◌, length, map, take, drop, Option, Some, None, option_map, refl, sym, ap, subst, ◌∙◌, inl, inr, arith}
-use Rattle.std.specs.Prelude.{All, IfSome, nat_lt, slice_get}
+use Rattle.std.specs.Prelude.{All, IfSome, if◌then◌else◌, nat_lt, slice_get}
 use Rattle.std.specs.Option.{option_and_then}
 use Rattle.std.proofs.lemmas.Bool.{cases_Bool, eqb-true, eqb-false, ne_eqb, ltb-false, ltb-true}
-use Rattle.std.proofs.lemmas.List.Elements.{All-head, All-tail}
+use Rattle.std.proofs.lemmas.List.Elements.{All-head, All-nil, All-tail, All-take}
 use Rattle.sp_base.proofs.FewLemmas.{drop_first, drop_past}
 use Rattle.sp_base.specs.Cursor.{next_after}
+use Rattle.sp_base.specs.Formats.{max_rels}
 use Rattle.sp_base.specs.Position.{IsPosition}
 use Rattle.sp_base.specs.declared.id.Flow.{Flow}
 use Rattle.sp_base.specs.declared.id.NodeId.{NodeId}
-use Rattle.sp_base.specs.declared.limits.TheConstants.{MAX_MESSAGES}
+use Rattle.sp_base.specs.declared.format.TheConstants.{FORMAT_1}
+use Rattle.sp_base.specs.declared.limits.TheConstants.{MAX_MESSAGES, MAX_RELS_2}
 use Rattle.sp_frame.specs.Reliable.{Report}
 use Rattle.sp_msg.specs.declared.body.Body.{Body}
 use Rattle.sp_msg.specs.declared.body.Body.TheVariants as bodies
@@ -19,9 +21,11 @@ use Rattle.sp_rules.proofs.FlowJudged.{found_ends}
 use Rattle.sp_rules.specs.Arts.{Arts}
 use Rattle.sp_rules.specs.Flow.{AreMessages, FlowState, IsMessage, ends, is_flow, no_flow, number_said}
 use Rattle.sp_rules.specs.Node.{NodeState, link_in}
-use Rattle.sp_rules.specs.Parts.{nodes_of}
-use Rattle.sp_rules.specs.Polls.{frame_to}
+use Rattle.sp_rules.specs.Parts.{Parts, nodes_of}
+use Rattle.sp_rules.specs.Polls.{contents_to, dated, frame_to}
 use Rattle.sp_rules.specs.Rel.{RelState, flow_at, flow_in, is_to, messages_after, next_flow, next_place, pairs_of, peer_in, slot_for, slot_of, view_in}
+use Rattle.sp_rules.specs.declared.lives.Life.{Life}
+use Rattle.laws_node.proofs.Tables.{all_drop_first, cond_either}
 use Rattle.laws_node.specs.Flows.{AckKept, FlowHolds, IsAckOf, RelHolds}
 use Rattle.laws_node.specs.Sizes.{Sizes}
 use Rattle.laws_runs.specs.Signs.{Good, sizes_at}
@@ -39,6 +43,8 @@ use Rattle.laws_progress.proofs.States.{Follows, IsHop, Follow, State, seen_at, 
 use Rattle.laws_progress.proofs.Service.{is_on}
 use Rattle.laws_runs.proofs.Acks.{RelAck, flow_ack}
 use Rattle.laws_runs.specs.Signs.{FlowAck}
+use Rattle.laws_runs.specs.Unborn.{NamesNone, Unborn}
+use Rattle.laws_runs.proofs.Unborn.{flow_unborn}
 use Rattle.laws_runs.proofs.Signed.{signs}
 use Rattle.laws_progress.proofs.Framed.{Framed, frame_at}
 use Rattle.laws_progress.proofs.Made.{frames_count, frames_step}
@@ -129,6 +135,67 @@ messages_made flow f top whole are low = go (slice_get f.at.list (top - f.at.bas
           next_is = λ z. inr (omega (arith, low, number));
           is = Has_rel o others (f.at.base + (top - f.at.base) + 1) message;
         })
+
+-- ---- of them as many as a frame of the format may have: one at least
+
+one_fits : (format : ℕ) → 1 ≤ max_rels format
+one_fits format = go (format == FORMAT_1)
+  where
+    go : (b : Bool) → 1 ≤ (if b then MAX_MESSAGES else MAX_RELS_2)
+    go true = omega arith
+    go false = omega arith
+
+number_taken : (most : ℕ) (os : List Kept) → 1 ≤ most → number_in (take most os) ≡ number_in os
+number_taken zero os some = absurd (omega (arith, some))
+number_taken (suc most) [] some = refl
+number_taken (suc most) (o ∷ os) some = refl
+
+rel_taken : (flow : Flow) (most : ℕ) (os : List Kept) → 1 ≤ most → SlotRel flow os → SlotRel flow (take most os)
+rel_taken flow zero os some is = absurd (omega (arith, some))
+rel_taken flow (suc most) [] some No_rel = No_rel
+rel_taken flow (suc most) (o ∷ os) some (Has_rel x rest q is) = Has_rel o (take most os) q is
+
+-- a slot tells the same with boots, and with fewer messages
+told_dated : (flow : Flow) (echo : Bool) (format : ℕ) (ls : List Life) (o : Option Report)
+    → told_slot flow echo (option_map (dated format ls) o) ≡ told_slot flow echo o
+told_dated flow echo format ls None = refl
+told_dated flow echo format ls (Some t) =
+    ap (λ (q : ℕ). record { mine = is_mine flow t.flow; echo = echo; base = t.base; have = t.have; ack = has_ack t.ack; next = q })
+    (number_taken (max_rels format) t.rels (one_fits format))
+
+pub slot_dated : (flow : Flow) (format : ℕ) (ls : List Life) (t : Report) → SlotRel flow t.rels → SlotRel flow (dated format ls t).rels
+slot_dated flow format ls t is = rel_taken flow (max_rels format) t.rels (one_fits format) is
+
+-- and it names no boot where none is held
+pub record SlotUnborn (t : Report) : Type 0 where
+  pub sboot : t.sboot ≡ 0
+  pub dboot : t.dboot ≡ 0
+  pub ack : (o : Kept) → t.ack ≡ Some o → NamesNone o.body
+  pub rels : (o : Kept) (os : List Kept) → t.rels ≡ o ∷ os → NamesNone o.body
+
+unborn_ack : (t : Bool) (a : Option Kept) → IfSome a (λ o. NamesNone o.body) → (o : Kept) → cond t a None ≡ Some o → NamesNone o.body
+unborn_ack true None names o e = absurd (let f : None ≡ Some o = e in cc)
+unborn_ack true (Some b) names o e = let same : b ≡ o = cc in subst (λ (z : Kept). NamesNone z.body) same names
+unborn_ack false a names o e = absurd (let f : None ≡ Some o = e in cc)
+
+pub slot_unborn : (p : Parts) (v : NodeId) (fl : Flow) (format : ℕ) → Unborn p → SlotUnborn (dated format p.lives (slot_of p.rel v fl))
+slot_unborn p v fl format h =
+    let f = flow_in p.rel.flows fl in
+    let w = view_in (peer_in p.rel.peers v).views fl in
+    let u = flow_unborn p.rel fl h.flows in
+    let after = max w.have f.at.base in
+    let of_list : All (λ (o : Kept). NamesNone o.body) (messages_after f.at after) =
+    All-take (λ (o : Kept). NamesNone o.body) MAX_MESSAGES (drop (after - f.at.base) f.at.list)
+    (all_drop_first (λ (o : Kept). NamesNone o.body) (after - f.at.base) f.at.list u.messages) in
+    let of_slot = cond_either (All (λ (o : Kept). NamesNone o.body)) (is_to p.rel fl) [] (messages_after f.at after) (All-nil (λ (o : Kept). NamesNone o.body)) of_list in
+    let whole = slot_of p.rel v fl in
+    record {
+      sboot = h.lives fl.src;
+      dboot = h.lives fl.dst;
+      ack = λ o e. unborn_ack (nat_lt w.base f.at.base) f.ack u.ack o e;
+      rels = λ o os e. All-head (λ (m : Kept). NamesNone m.body) o os
+          (subst (All (λ (m : Kept). NamesNone m.body)) e (All-take (λ (m : Kept). NamesNone m.body) (max_rels format) whole.rels of_slot));
+    }
 
 -- ---- a whole slot
 
@@ -277,12 +344,13 @@ made_by k index flow nodes n u v me same h acks = go (next_flow n.parts.rel v) r
         }
 
 pub frame_told : (arts : Arts) (x : Setting) (flow : Flow) (u v : NodeId) (number : ℕ) (n : NodeState) (bytes : List ℕ) → Framed arts x u v number n bytes
-    → told_of arts x flow (Some bytes) ≡ told_slot flow ((link_in n v).peer_boot == 1) (slot_for n.parts.rel v)
+    → told_of arts x flow (Some bytes) ≡ told_slot flow ((link_in n v).peer_boot == 1) (contents_to n.fixed n.parts v).slot
 frame_told arts x flow u v number n bytes f =
     ap (λ e. told_slot flow (e == 1) (slot_in (arts.sections x.signature_len bytes))) f.echo
     ∙ ap (λ s. told_slot flow ((link_in n v).peer_boot == 1) (slot_in s)) f.sections
 
-pub makes : (arts : Arts) (x : Setting) (all : List Event) (flow : Flow) → SettingFits arts x → ComesThrough arts x.signature_len → (w y : State arts x all) (e : Event) (u v : NodeId) → IsHop x u v → Follows arts x all w e y → is_poll u v e ≡ true
+pub makes : (arts : Arts) (x : Setting) (all : List Event) (flow : Flow) → SettingFits arts x → ComesThrough x.topology.format arts x.signature_len
+    → (w y : State arts x all) (e : Event) (u v : NodeId) → IsHop x u v → Follows arts x all w e y → is_poll u v e ≡ true
     → IsMade (State arts x all) (sight arts x all flow) (place_at x flow) flow.dst w u v ((wires arts x all flow).told y u v ((sight arts x all flow).polled y u v))
 makes arts x all flow fits reads w y e u v hop (Follow j events journal range (Stays s) unforged) is = absurd (subst (IsCraftOf s.key) (poll_is u v e is) s.is_craft)
 makes arts x all flow fits reads w y e u v hop (Follow j events journal range (Moves m) unforged) is =
@@ -292,7 +360,9 @@ makes arts x all flow fits reads w y e u v hop (Follow j events journal range (M
     let acks = ((signs arts x w.events w.journal w.world fits reads.carries w.run).nodes u m.node there).acks in
     let made = made_by (sizes_at x (Good arts x w.events w.journal) u) m.node.signer.index flow (nodes_of x.topology) m.node u v refl refl h acks in
     let f = frame_at arts x w.events w.journal w.world fits reads w.run u v hop.joined m.node there in
-    let told = frame_told arts x flow u v (polls w.events u v + 1) m.node (frame_to arts m.node v) f in
+    let told =
+    frame_told arts x flow u v (polls w.events u v + 1) m.node (frame_to arts m.node v) f
+    ∙ told_dated flow ((link_in m.node v).peer_boot == 1) m.node.fixed.topology.format m.node.parts.lives (slot_for m.node.parts.rel v) in
     let ds = w.world.directions in
     let count = frames_count arts x w.events w.journal w.world w.run u v in
     let number = one_polled arts x all flow w y e u v (Follow j events journal range (Moves m) unforged) is in

@@ -112,7 +112,8 @@ pub record Passed (arts : Arts) (x : Setting) (all : List Event) (flow : Flow) (
   pub learned : ((wires arts x all flow).told w u v k).echo ≡ false → (sight arts x all flow).knows y v u ≡ true
   pub late : ((wires arts x all flow).told w u v k).echo ≡ true → k ≤ (wires arts x all flow).seen y v u
 
-pub passed : (arts : Arts) (x : Setting) (all : List Event) (flow : Flow) → SettingFits arts x → ComesThrough arts x.signature_len → (w y : State arts x all) (e : Event) (u v : NodeId) (k : ℕ) → IsHop x u v → Follows arts x all w e y
+pub passed : (arts : Arts) (x : Setting) (all : List Event) (flow : Flow) → SettingFits arts x → ComesThrough x.topology.format arts x.signature_len
+    → (w y : State arts x all) (e : Event) (u v : NodeId) (k : ℕ) → IsHop x u v → Follows arts x all w e y
     → is_pass u v k e ≡ true → Passed arts x all flow w y u v k
 passed arts x all flow fits reads w y e u v k hop follows is = elim (change arts x all fits reads.carries w y e follows v) [
   | inl q ↦ elim q.why [

@@ -87,7 +87,8 @@ served_last r v place there next =
 polled_rel : (n : NodeState) (v : NodeId) → call_refusal n v ≡ None → (after_poll n v).parts.rel ≡ served n.parts.rel v
 polled_rel n v e = ap (λ (r : Option NodeRefused). (kept_or r n (called n (with_link n v (advanced (link_in n v))) (polled n.fixed n.parts v))).parts.rel) e
 
-pub serves : (arts : Arts) (x : Setting) (all : List Event) (flow : Flow) → SettingFits arts x → Carries arts → (w y : State arts x all) (e : Event) (u v : NodeId) (p : ℕ) → IsHop x u v → Follows arts x all w e y
+pub serves : (arts : Arts) (x : Setting) (all : List Event) (flow : Flow) → SettingFits arts x → Carries x.topology.format arts
+    → (w y : State arts x all) (e : Event) (u v : NodeId) (p : ℕ) → IsHop x u v → Follows arts x all w e y
     → is_poll u v e ≡ true → next_after ((sight arts x all flow).last w u v) ((sight arts x all flow).actives w u) ≡ Some p → (sight arts x all flow).last y u v ≡ Some p
 serves arts x all flow fits reads w y e u v p hop follows is next = elim (change arts x all fits reads w y e follows u) [
   | inl q ↦ elim q.why [

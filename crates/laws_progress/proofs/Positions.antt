@@ -52,7 +52,7 @@ counted_is false false h = refl
 
 -- ---- one flow
 
-module _ (arts : Arts) (x : Setting) (es : List Event) (js : List Entry) (w : World) (fits : SettingFits arts x) (through : ComesThrough arts x.signature_len) (one : 1 ≤ x.buffer) (run : Clean arts x es js w) where
+module _ (arts : Arts) (x : Setting) (es : List Event) (js : List Entry) (w : World) (fits : SettingFits arts x) (through : ComesThrough x.topology.format arts x.signature_len) (one : 1 ≤ x.buffer) (run : Clean arts x es js w) where
   correct_at : (u : NodeId) (n : NodeState) → node_in w.nodes u ≡ Some n → is_correct x u ≡ true
   correct_at u n at = ((signs arts x es js w fits through.carries run).nodes u n at).correct
 
@@ -67,9 +67,9 @@ module _ (arts : Arts) (x : Setting) (es : List Event) (js : List Entry) (w : Wo
     position_at : (u : NodeId) (n : NodeState) → node_in w.nodes u ≡ Some n → (u ≡ d → ⊥) → IsPosition (flow_at n s d).at
     position_at u n at other =
         let k = sizes_at x (Good arts x es js) u in
-        let nodes = nodes_hold x.topology.height 0 x.topology.nodes fits.topology.nodes in
+        let nodes = nodes_hold x.topology.format x.topology.height 0 x.topology.nodes fits.topology.ranges.nodes in
         let rel = ((signs arts x es js w fits through.carries run).nodes u n at).holds.parts.rel in
-        let row = read k n.signer.index n.parts.rel.flows flow (in_range (nodes_of x.topology) s nodes (both _ _ from).0) (in_range (nodes_of x.topology) d nodes (both _ _ to).0) rel.flows in
+        let row = read k n.signer.index n.parts.rel.flows flow (in_range x.topology.format (nodes_of x.topology) s nodes (both _ _ from).0) (in_range x.topology.format (nodes_of x.topology) d nodes (both _ _ to).0) rel.flows in
         let end : (flow_at n s d).dst ≡ d = ap (λ (f : Flow). f.dst) (found_ends n.parts.rel.flows flow) in
         row.standing.position (ne_eqb _ _ (λ same. other (sym (same_node _ _ same) ∙ end)))
 

@@ -16,13 +16,14 @@ use Rattle.sp_rules.specs.Arts.{Arts}
 use Rattle.sp_rules.specs.Arrivals.{arrival_at, pieces_in, pieces_where, reply_at, sections_in}
 use Rattle.sp_rules.specs.Flow.{FlowState, acknowledged_by, after_take, concluded, ends, flow_said, is_flow, pushed, received}
 use Rattle.sp_rules.specs.Handle.{Arrival, handle, handle_all, offer_to, prio_handled}
+use Rattle.sp_rules.specs.Lives.{are_held, is_dated}
 use Rattle.sp_rules.specs.Node.{NodeState, call_refusal, kept_or, signed_now}
 use Rattle.sp_rules.specs.Parts.{Parts, is_signed}
 use Rattle.sp_rules.specs.Pieces.{Piece, AckPiece, PrioAckPiece, PrioPiece, RelPiece, ReportPiece, WeightPiece}
-use Rattle.sp_rules.specs.Rel.{RelState, admit_ack, admit_rel, judge_ack_of, judge_rel_of, pushed_in, due, due_place, flow_in, flow_to_me, is_to, next_place, put_flow, reported, served, served_at, settled, settled_at, told, took, with_flow, with_peer, peer_in}
+use Rattle.sp_rules.specs.Rel.{RelState, admit_ack, admit_rel, judge_ack_of, judge_rel_of, pushed_in, due_place, flow_in, flow_to_me, is_to, next_place, put_flow, reported, served, served_at, settled, settled_at, told, took, with_flow, with_peer, peer_in}
 use Rattle.sp_rules.specs.Sends.{rel_body, rel_refusal, send_prio_refusal, signer_refusal, weight_refusal}
 use Rattle.sp_rules.specs.Steps.{Input, NodeStep, Output, Poll, Datagram, Tick, SendRel, SendPrio, SetWeight, TakeRel, TakePrio}
-use Rattle.sp_rules.specs.Ticks.{at_time, settled_by}
+use Rattle.sp_rules.specs.Ticks.{at_time, due_now, settled_by}
 use Rattle.sp_rules.specs.Prio.{judge_prio}
 use Rattle.sp_rules.specs.Weights.{held}
 use Rattle.sp_rules.specs.declared.answers.Item.TheVariants as items
@@ -146,7 +147,7 @@ PartsLater p q = RelLater p.rel q.rel
 piece_later : (arts : Arts) (at : Arrival) (p : Parts) (piece : Piece) → PartsLater p (handle arts at p piece).parts
 piece_later arts at p (WeightPiece o) = cond_either (PartsLater p) (is_new (items.Weight (weight_answer (is_signed arts at.fixed o) (offer_to at.fixed.me p.weights o.body)))) (record p { weights = held p.weights o }) p (rel_same p.rel) (rel_same p.rel)
 piece_later arts at p (PrioAckPiece number) = rel_same p.rel
-piece_later arts at p (PrioPiece number o) = go (prio_answer (is_signed arts at.fixed o) (judge_prio p.prio o.body at.now))
+piece_later arts at p (PrioPiece number o) = go (prio_answer (is_signed arts at.fixed o) (is_dated p.lives o.body) (judge_prio p.prio o.body at.now))
   where
     go : (answer : PrioAnswer) → PartsLater p (prio_handled at.from answer number o p).parts
     go prios.New = rel_same p.rel
@@ -154,9 +155,12 @@ piece_later arts at p (PrioPiece number o) = go (prio_answer (is_signed arts at.
     go prios.BadEnd = rel_same p.rel
     go prios.Expired = rel_same p.rel
     go prios.BadSig = rel_same p.rel
-piece_later arts at p (ReportPiece flow base have) = reported_later p.rel at.from flow base have
-piece_later arts at p (AckPiece flow o) = cond_either (PartsLater p) (is_new (items.Ack (ack_answer (is_signed arts at.fixed o) (judge_ack_of p.rel flow o.body)))) (record p { rel = admit_ack p.rel o }) p (admit_ack_later p.rel o) (rel_same p.rel)
-piece_later arts at p (RelPiece flow o) = cond_either (PartsLater p) (is_new (items.Rel (rel_answer (is_signed arts at.fixed o) (judge_rel_of p.rel flow o.body)))) (record p { rel = admit_rel p.rel o }) p (admit_rel_later p.rel o) (rel_same p.rel)
+    go prios.Epoch = rel_same p.rel
+piece_later arts at p (ReportPiece flow sboot dboot base have) =
+    cond_either (PartsLater p) (are_held p.lives flow sboot dboot) (record p { rel = reported p.rel at.from flow base have }) p
+    (reported_later p.rel at.from flow base have) (rel_same p.rel)
+piece_later arts at p (AckPiece flow o) = cond_either (PartsLater p) (is_new (items.Ack (ack_answer (is_signed arts at.fixed o) (is_dated p.lives o.body) (judge_ack_of p.rel flow o.body)))) (record p { rel = admit_ack p.rel o }) p (admit_ack_later p.rel o) (rel_same p.rel)
+piece_later arts at p (RelPiece flow o) = cond_either (PartsLater p) (is_new (items.Rel (rel_answer (is_signed arts at.fixed o) (is_dated p.lives o.body) (judge_rel_of p.rel flow o.body)))) (record p { rel = admit_rel p.rel o }) p (admit_rel_later p.rel o) (rel_same p.rel)
 
 pieces_later : (arts : Arts) (at : Arrival) (p : Parts) (pieces : List Piece) → PartsLater p (handle_all arts at p pieces).parts
 pieces_later arts at p [] = rel_same p.rel
@@ -178,7 +182,7 @@ step_later arts n (Poll v) output new s = subst (NodeLater n) (sym s.1) (kept_la
 step_later arts n (Datagram v bytes) output new s =
     subst (NodeLater n) (sym s.1) (kept_later (call_refusal n v) n _
     (pieces_later arts (arrival_at n v) n.parts (pieces_where (reply_at arts n v bytes) (pieces_in (sections_in arts n.fixed bytes)))))
-step_later arts n (Tick now) output new s = subst (NodeLater n) (sym s.1) (go (due n.parts.rel) (signer_refusal n.signer))
+step_later arts n (Tick now) output new s = subst (NodeLater n) (sym s.1) (go (due_now n) (signer_refusal n.signer))
   where
     go : (o : Option Ack) (r : Option SendRefused) → NodeLater n (settled_by arts (at_time n now) o r)
     go None r = rel_same n.parts.rel

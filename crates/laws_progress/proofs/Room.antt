@@ -58,7 +58,8 @@ room_at flow fs bound some most =
     (let less = less_one f.inbox bound some most in omega (arith, less))
     (λ e. let none = ap (λ (g : FlowState). g.at.have) e in omega (arith, none, some))
 
-pub makes_room : (arts : Arts) (x : Setting) (all : List Event) (flow : Flow) → SettingFits arts x → Carries arts → 1 ≤ x.buffer → (w y : State arts x all) (e : Event) → Follows arts x all w e y
+pub makes_room : (arts : Arts) (x : Setting) (all : List Event) (flow : Flow) → SettingFits arts x → Carries x.topology.format arts → 1 ≤ x.buffer
+    → (w y : State arts x all) (e : Event) → Follows arts x all w e y
     → is_take flow.dst flow.src e ≡ true → (sight arts x all flow).have w flow.dst < (sight arts x all flow).taken y + x.buffer
 makes_room arts x all flow fits reads some w y e follows is = elim (change arts x all fits reads w y e follows flow.dst) [
   | inl q ↦ elim q.why [

@@ -50,7 +50,8 @@ at_boot x u (v ∷ ns) n e = elim (cases_Bool (eqb v.0 u.0)) [
 -- ---- over a run
 
 -- a node has for whom and what it has rows at its start
-pub shape_is : (arts : Arts) (x : Setting) (es : List Event) (js : List Entry) (w : World) → SettingFits arts x → Carries arts → Clean arts x es js w
+pub shape_is : (arts : Arts) (x : Setting) (es : List Event) (js : List Entry) (w : World) → SettingFits arts x → Carries x.topology.format arts
+    → Clean arts x es js w
     → (u : NodeId) (n : NodeState) → node_in w.nodes u ≡ Some n → shape_of n ≡ shape_of (node_at_boot x u)
 shape_is arts x es js w fits reads run u n at =
     ((signs arts x es js w fits reads run).nodes u n at).shape ∙ sym (shapes_begin (fixed_of x u) (first_signer x u) (link_keys x u) x.buffer x.store)
@@ -63,7 +64,8 @@ through shape read (x ∷ xs) = ap (λ ys. read (shape x) ∷ ys) (through shape
 same_shapes : {X S Y : Type 0} (shape : X → S) (read : S → Y) (xs ys : List X) → map shape xs ≡ map shape ys → map (λ x. read (shape x)) xs ≡ map (λ x. read (shape x)) ys
 same_shapes shape read xs ys same = sym (through shape read xs) ∙ ap (map read) same ∙ through shape read ys
 
-pub rows_are : (arts : Arts) (x : Setting) (es : List Event) (js : List Entry) (w : World) → SettingFits arts x → Carries arts → Clean arts x es js w
+pub rows_are : (arts : Arts) (x : Setting) (es : List Event) (js : List Entry) (w : World) → SettingFits arts x → Carries x.topology.format arts
+    → Clean arts x es js w
     → (u : NodeId) (n : NodeState) → node_in w.nodes u ≡ Some n → RowsAre x u n
 rows_are arts x es js w fits reads run u n at =
     let shape = shape_is arts x es js w fits reads run u n at in

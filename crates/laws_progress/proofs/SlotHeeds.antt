@@ -11,9 +11,11 @@ use Rattle.sp_rules.proofs.FlowJudged.{found_ends, same_ends}
 use Rattle.sp_rules.specs.Answers.{ack_answer, is_new, rel_answer}
 use Rattle.sp_rules.specs.Arts.{Arts}
 use Rattle.sp_rules.specs.Flow.{FlowState, acknowledged_by, ends, flow_said, is_flow}
+use Rattle.sp_rules.specs.Lives.{are_held, is_dated}
 use Rattle.sp_rules.specs.Parts.{Fixed, is_signed}
 use Rattle.sp_rules.specs.Rel.{RelPeer, RelState, View, admit_ack, admit_rel, flow_in, is_from, is_peer, is_to, is_view, judge_ack_of, judge_rel_of, new_peer, no_view, pairs_of, peer_in, reported, told, view_in, with_peer}
 use Rattle.sp_rules.specs.declared.answers.Item.TheVariants as items
+use Rattle.sp_rules.specs.declared.lives.Life.{Life}
 use Rattle.laws_node.proofs.Tables.{cond_either}
 use Rattle.laws_runs.proofs.FlowFacts.{first_replaced, other_replaced, still_there}
 use Rattle.laws_progress.proofs.Hops.{Told}
@@ -23,7 +25,7 @@ use Rattle.laws_progress.proofs.Heeded.{AreNodes, Ready, ack_heard, ack_later, r
 use Rattle.laws_progress.proofs.Keys.{peer_is}
 use Rattle.laws_progress.proofs.Makes.{SlotAck, No_ack, Has_ack, SlotRel, No_rel, Has_rel, mine_is, said}
 use Rattle.laws_progress.proofs.Rises.{RelLater, rel_same, rel_then}
-use Rattle.laws_progress.proofs.Slots.{after_ack, after_acks, after_rel, after_rels, after_slot}
+use Rattle.laws_progress.proofs.Slots.{after_ack, after_acks, after_rel, after_rels, after_report, after_slot}
 use Rattle.laws_node.specs.Shapes.{view_ends}
 use Rattle.laws_progress.proofs.Views.{RelRows, ViewsAre}
 use Rattle.laws_progress.proofs.Wires.{has_ack, is_mine, number_in, told_slot}
@@ -38,6 +40,19 @@ ready_reported nodes bound v flow r u fl base have h =
 reported_flows : (r : RelState) (u : NodeId) (fl : Flow) (base have : ℕ) → (reported r u fl base have).flows ≡ r.flows
 reported_flows r u fl base have = cond_either (λ (z : RelState). z.flows ≡ r.flows) (flow_in r.flows fl).active (with_peer r u (told (peer_in r.peers u) fl base have)) r refl refl
 
+-- the same where it is dropped
+ready_report : (ls : List Life) (nodes : List NodeId) (bound : ℕ) (v : NodeId) (flow : Flow) (r : RelState) (u : NodeId) (t : Report)
+    → Ready nodes bound v flow r
+    → Ready nodes bound v flow (after_report ls r u t)
+ready_report ls nodes bound v flow r u t h =
+    cond_either (Ready nodes bound v flow) (are_held ls t.flow t.sboot t.dboot) (reported r u t.flow t.base t.have) r
+    (ready_reported nodes bound v flow r u t.flow t.base t.have h) h
+
+report_flows : (ls : List Life) (r : RelState) (u : NodeId) (t : Report) → (after_report ls r u t).flows ≡ r.flows
+report_flows ls r u t =
+    cond_either (λ (z : RelState). z.flows ≡ r.flows) (are_held ls t.flow t.sboot t.dboot) (reported r u t.flow t.base t.have) r
+    (reported_flows r u t.flow t.base t.have) refl
+
 admit_row : (r : RelState) (flow : Flow) (o : Kept) → list_any (is_flow flow) r.flows ≡ true → list_any (is_flow flow) (admit_ack r o).flows ≡ true
 admit_row r flow o row =
     let fl = flow_said o.body in
@@ -47,37 +62,41 @@ admit_row r flow o row =
     let same : ends g ≡ ends f = found_ends r.flows fl ∙ sym (same_ends f fl a) in
     ap (λ (z : Flow). (z.src.0 == flow.src.0) && (z.dst.0 == flow.dst.0)) same ∙ b) row
 
-ready_ack : (arts : Arts) (fx : Fixed) (nodes : List NodeId) (bound : ℕ) (v : NodeId) (flow : Flow) (r : RelState) (o : Kept) → Ready nodes bound v flow r → Ready nodes bound v flow (after_ack arts fx r flow o)
-ready_ack arts fx nodes bound v flow r o h =
-    let t = is_new (items.Ack (ack_answer (is_signed arts fx o) (judge_ack_of r flow o.body))) in
+ready_ack : (arts : Arts) (fx : Fixed) (ls : List Life) (nodes : List NodeId) (bound : ℕ) (v : NodeId) (flow : Flow) (r : RelState) (o : Kept)
+    → Ready nodes bound v flow r → Ready nodes bound v flow (after_ack arts fx ls r flow o)
+ready_ack arts fx ls nodes bound v flow r o h =
+    let t = is_new (items.Ack (ack_answer (is_signed arts fx o) (is_dated ls o.body) (judge_ack_of r flow o.body))) in
     record {
       me = cond_either (λ (z : RelState). z.me ≡ v) t (admit_ack r o) r h.me h.me;
       nodes_are = cond_either (λ (z : RelState). z.nodes ≡ nodes) t (admit_ack r o) r h.nodes_are h.nodes_are;
       bound_is = cond_either (λ (z : RelState). z.bound ≡ bound) t (admit_ack r o) r h.bound_is h.bound_is;
       row = cond_either (λ (z : RelState). list_any (is_flow flow) z.flows ≡ true) t (admit_ack r o) r (admit_row r flow o h.row) h.row;
-      acks = ack_ack (is_signed arts fx o) r flow o h.acks;
+      acks = ack_ack (is_signed arts fx o) (is_dated ls o.body) r flow o h.acks;
     }
 
-ready_acks : (arts : Arts) (fx : Fixed) (nodes : List NodeId) (bound : ℕ) (v : NodeId) (flow : Flow) (r : RelState) (o : Option Kept) → Ready nodes bound v flow r → Ready nodes bound v flow (after_acks arts fx r flow o)
-ready_acks arts fx nodes bound v flow r None h = h
-ready_acks arts fx nodes bound v flow r (Some o) h = ready_ack arts fx nodes bound v flow r o h
+ready_acks : (arts : Arts) (fx : Fixed) (ls : List Life) (nodes : List NodeId) (bound : ℕ) (v : NodeId) (flow : Flow) (r : RelState) (o : Option Kept)
+    → Ready nodes bound v flow r → Ready nodes bound v flow (after_acks arts fx ls r flow o)
+ready_acks arts fx ls nodes bound v flow r None h = h
+ready_acks arts fx ls nodes bound v flow r (Some o) h = ready_ack arts fx ls nodes bound v flow r o h
 
-acks_later : (arts : Arts) (fx : Fixed) (r : RelState) (flow : Flow) (o : Option Kept) → RelLater r (after_acks arts fx r flow o)
-acks_later arts fx r flow None = rel_same r
-acks_later arts fx r flow (Some o) = ack_later arts fx r flow o
+acks_later : (arts : Arts) (fx : Fixed) (ls : List Life) (r : RelState) (flow : Flow) (o : Option Kept) → RelLater r (after_acks arts fx ls r flow o)
+acks_later arts fx ls r flow None = rel_same r
+acks_later arts fx ls r flow (Some o) = ack_later arts fx ls r flow o
 
-rels_later : (arts : Arts) (fx : Fixed) (r : RelState) (flow : Flow) (os : List Kept) → RelLater r (after_rels arts fx r flow os)
-rels_later arts fx r flow [] = rel_same r
-rels_later arts fx r flow (o ∷ os) = rel_then r (after_rel arts fx r flow o) (after_rels arts fx (after_rel arts fx r flow o) flow os) (rel_later arts fx r flow o) (rels_later arts fx (after_rel arts fx r flow o) flow os)
+rels_later : (arts : Arts) (fx : Fixed) (ls : List Life) (r : RelState) (flow : Flow) (os : List Kept) → RelLater r (after_rels arts fx ls r flow os)
+rels_later arts fx ls r flow [] = rel_same r
+rels_later arts fx ls r flow (o ∷ os) = rel_then r (after_rel arts fx ls r flow o) (after_rels arts fx ls (after_rel arts fx ls r flow o) flow os) (rel_later arts fx ls r flow o) (rels_later arts fx ls (after_rel arts fx ls r flow o) flow os)
 
 -- ---- the flow after it
 
-pub record SlotFits (arts : Arts) (fx : Fixed) (flow : Flow) (bound : ℕ) (r : RelState) (t : Report) : Type 0 where
+pub record SlotFits (arts : Arts) (fx : Fixed) (ls : List Life) (flow : Flow) (bound : ℕ) (r : RelState) (t : Report) : Type 0 where
   pub flow_is : t.flow ≡ flow
   pub ack : SlotAck flow t.base t.ack
   pub rels : SlotRel flow t.rels
   pub signed_ack : (o : Kept) → t.ack ≡ Some o → is_signed arts fx o ≡ true
   pub signed_rel : (o : Kept) (os : List Kept) → t.rels ≡ o ∷ os → is_signed arts fx o ≡ true
+  pub dated_ack : (o : Kept) → t.ack ≡ Some o → is_dated ls o.body ≡ true
+  pub dated_rel : (o : Kept) (os : List Kept) → t.rels ≡ o ∷ os → is_dated ls o.body ≡ true
   pub window : t.have ≤ t.base + bound
   pub no_ack : has_ack t.ack ≡ false → t.base ≤ (flow_in r.flows flow).at.base
   pub next_there : number_in t.rels ≤ t.have
@@ -91,34 +110,40 @@ pub record SlotHeeded (flow : Flow) (bound : ℕ) (r z : RelState) (t : Report) 
   pub have : is_to r flow ≡ false → number_in t.rels ≤ (flow_in z.flows flow).at.have
   pub have_at_end : is_to r flow ≡ true → min (number_in t.rels) ((flow_in r.flows flow).at.have - length (flow_in r.flows flow).inbox + bound) ≤ (flow_in z.flows flow).at.have
 
-acks_heard : (arts : Arts) (fx : Fixed) (nodes : List NodeId) (bound : ℕ) (v : NodeId) (flow : Flow) (r : RelState) (o : Option Kept) (base : ℕ) → Ready nodes bound v flow r → AreNodes nodes flow → SlotAck flow base o
-    → ((k : Kept) → o ≡ Some k → is_signed arts fx k ≡ true) → (has_ack o ≡ false → base ≤ (flow_in r.flows flow).at.base)
-    → (is_from r flow ≡ true → base ≤ (flow_in r.flows flow).at.have) → (is_to r flow ≡ true → base ≤ (flow_in r.flows flow).at.base) → base ≤ (flow_in (after_acks arts fx r flow o).flows flow).at.base
-acks_heard arts fx nodes bound v flow r None base ready are No_ack signed none at_source at_end = none refl
-acks_heard arts fx nodes bound v flow r (Some o) base ready are (Has_ack x kind number) signed none at_source at_end = ack_heard arts fx nodes bound v flow r o base ready are kind number (signed o refl) at_source at_end
+acks_heard : (arts : Arts) (fx : Fixed) (ls : List Life) (nodes : List NodeId) (bound : ℕ) (v : NodeId) (flow : Flow) (r : RelState) (o : Option Kept) (base : ℕ) → Ready nodes bound v flow r → AreNodes nodes flow → SlotAck flow base o
+    → ((k : Kept) → o ≡ Some k → is_signed arts fx k ≡ true) → ((k : Kept) → o ≡ Some k → is_dated ls k.body ≡ true)
+    → (has_ack o ≡ false → base ≤ (flow_in r.flows flow).at.base)
+    → (is_from r flow ≡ true → base ≤ (flow_in r.flows flow).at.have) → (is_to r flow ≡ true → base ≤ (flow_in r.flows flow).at.base)
+    → base ≤ (flow_in (after_acks arts fx ls r flow o).flows flow).at.base
+acks_heard arts fx ls nodes bound v flow r None base ready are No_ack signed dated none at_source at_end = none refl
+acks_heard arts fx ls nodes bound v flow r (Some o) base ready are (Has_ack x kind number) signed dated none at_source at_end = ack_heard arts fx ls nodes bound v flow r o base ready are kind number (signed o refl) (dated o refl) at_source at_end
 
-rels_heard : (arts : Arts) (fx : Fixed) (nodes : List NodeId) (bound : ℕ) (v : NodeId) (flow : Flow) (r : RelState) (os : List Kept) → Ready nodes bound v flow r → AreNodes nodes flow → SlotRel flow os
-    → ((k : Kept) (ks : List Kept) → os ≡ k ∷ ks → is_signed arts fx k ≡ true) → number_in os ≤ (flow_in r.flows flow).at.have + 1 → number_in os ≤ (flow_in r.flows flow).at.base + bound
+rels_heard : (arts : Arts) (fx : Fixed) (ls : List Life) (nodes : List NodeId) (bound : ℕ) (v : NodeId) (flow : Flow) (r : RelState) (os : List Kept)
+    → Ready nodes bound v flow r → AreNodes nodes flow → SlotRel flow os
+    → ((k : Kept) (ks : List Kept) → os ≡ k ∷ ks → is_signed arts fx k ≡ true)
+    → ((k : Kept) (ks : List Kept) → os ≡ k ∷ ks → is_dated ls k.body ≡ true) → number_in os ≤ (flow_in r.flows flow).at.have + 1
+    → number_in os ≤ (flow_in r.flows flow).at.base + bound
     → (is_from r flow ≡ true → number_in os ≤ (flow_in r.flows flow).at.have)
-    → (is_to r flow ≡ false → number_in os ≤ (flow_in (after_rels arts fx r flow os).flows flow).at.have)
-    × (is_to r flow ≡ true → min (number_in os) ((flow_in r.flows flow).at.have - length (flow_in r.flows flow).inbox + bound) ≤ (flow_in (after_rels arts fx r flow os).flows flow).at.have)
-rels_heard arts fx nodes bound v flow r [] ready are No_rel signed near window at_source = (λ z. omega arith, λ z. omega arith)
-rels_heard arts fx nodes bound v flow r (o ∷ os) ready are (Has_rel x rest q is) signed near window at_source =
+    → (is_to r flow ≡ false → number_in os ≤ (flow_in (after_rels arts fx ls r flow os).flows flow).at.have)
+    × (is_to r flow ≡ true → min (number_in os) ((flow_in r.flows flow).at.have - length (flow_in r.flows flow).inbox + bound) ≤ (flow_in (after_rels arts fx ls r flow os).flows flow).at.have)
+rels_heard arts fx ls nodes bound v flow r [] ready are No_rel signed dated near window at_source = (λ z. omega arith, λ z. omega arith)
+rels_heard arts fx ls nodes bound v flow r (o ∷ os) ready are (Has_rel x rest q is) signed dated near window at_source =
     let number = said flow q o.body is in
-    let h = rel_heard arts fx nodes bound v flow r o q ready are is (signed o os refl) (omega (arith, number, near)) (omega (arith, number, window))
+    let h = rel_heard arts fx ls nodes bound v flow r o q ready are is (signed o os refl) (dated o os refl) (omega (arith, number, near)) (omega (arith, number, window))
     (λ z. let low = at_source z in omega (arith, number, low)) in
-    let up = (rels_later arts fx (after_rel arts fx r flow o) flow os flow).have in
+    let up = (rels_later arts fx ls (after_rel arts fx ls r flow o) flow os flow).have in
     (λ z. let have = h.0 z in omega (arith, have, number, up), λ z. let have = h.1 z in omega (arith, have, number, up))
 
-pub slot_heeded : (arts : Arts) (fx : Fixed) (nodes : List NodeId) (bound : ℕ) (v u : NodeId) (flow : Flow) (r : RelState) (t : Report) → Ready nodes bound v flow r → AreNodes nodes flow → SlotFits arts fx flow bound r t
-    → SlotHeeded flow bound r (after_slot arts fx r u (Some t)) t
-slot_heeded arts fx nodes bound v u flow r t ready are fits =
-    let r2 = reported r u flow t.base t.have in
-    let ready2 = ready_reported nodes bound v flow r u flow t.base t.have ready in
-    let r3 = after_acks arts fx r2 flow t.ack in
-    let ready3 = ready_acks arts fx nodes bound v flow r2 t.ack ready2 in
-    let r4 = after_rels arts fx r3 flow t.rels in
-    let flow2 : flow_in r2.flows flow ≡ flow_in r.flows flow = ap (λ fs. flow_in fs flow) (reported_flows r u flow t.base t.have) in
+pub slot_heeded : (arts : Arts) (fx : Fixed) (ls : List Life) (nodes : List NodeId) (bound : ℕ) (v u : NodeId) (flow : Flow) (r : RelState) (t : Report)
+    → Ready nodes bound v flow r → AreNodes nodes flow → SlotFits arts fx ls flow bound r t
+    → SlotHeeded flow bound r (after_slot arts fx ls r u (Some t)) t
+slot_heeded arts fx ls nodes bound v u flow r t ready are fits =
+    let r2 = after_report ls r u t in
+    let ready2 = ready_report ls nodes bound v flow r u t ready in
+    let r3 = after_acks arts fx ls r2 flow t.ack in
+    let ready3 = ready_acks arts fx ls nodes bound v flow r2 t.ack ready2 in
+    let r4 = after_rels arts fx ls r3 flow t.rels in
+    let flow2 : flow_in r2.flows flow ≡ flow_in r.flows flow = ap (λ fs. flow_in fs flow) (report_flows ls r u t) in
     let base2 = ap (λ (f : FlowState). f.at.base) flow2 in
     let have2 = ap (λ (f : FlowState). f.at.have) flow2 in
     let inbox2 = ap (λ (f : FlowState). length f.inbox) flow2 in
@@ -126,45 +151,46 @@ slot_heeded arts fx nodes bound v u flow r t ready are fits =
     let to2 : is_to r flow ≡ is_to r2 flow = ap (λ (m : NodeId). m.0 == flow.dst.0) (ready.me ∙ sym ready2.me) in
     let from3 : is_from r flow ≡ is_from r3 flow = ap (λ (m : NodeId). m.0 == flow.src.0) (ready.me ∙ sym ready3.me) in
     let to3 : is_to r flow ≡ is_to r3 flow = ap (λ (m : NodeId). m.0 == flow.dst.0) (ready.me ∙ sym ready3.me) in
-    let later3 = acks_later arts fx r2 flow t.ack flow in
+    let later3 = acks_later arts fx ls r2 flow t.ack flow in
     let up_have = later3.have in
     let up_taken = later3.taken in
     let sound = (flow_ack r flow ready.acks).sound in
     let sound3 = (flow_ack r3 flow ready3.acks).sound in
-    let base3 = acks_heard arts fx nodes bound v flow r2 t.ack t.base ready2 are fits.ack fits.signed_ack (λ z. let l = fits.no_ack z in omega (arith, l, base2))
+    let base3 = acks_heard arts fx ls nodes bound v flow r2 t.ack t.base ready2 are fits.ack fits.signed_ack fits.dated_ack (λ z. let l = fits.no_ack z in omega (arith, l, base2))
     (λ z. let l = fits.low (from2 ∙ z) in omega (arith, l, have2)) (λ z. let l = fits.at_end (to2 ∙ z) in omega (arith, l, base2)) in
     let near = fits.next_near in
     let there = fits.next_there in
     let window = fits.window in
-    let h = rels_heard arts fx nodes bound v flow r3 t.rels ready3 are fits.rels fits.signed_rel (omega (arith, near, have2, up_have, base3, sound3)) (omega (arith, there, window, base3))
+    let h = rels_heard arts fx ls nodes bound v flow r3 t.rels ready3 are fits.rels fits.signed_rel fits.dated_rel (omega (arith, near, have2, up_have, base3, sound3)) (omega (arith, there, window, base3))
     (λ z. let l = fits.at_source (from3 ∙ z) in omega (arith, l, there, have2, up_have)) in
-    let up4 = (rels_later arts fx r3 flow t.rels flow).base in
+    let up4 = (rels_later arts fx ls r3 flow t.rels flow).base in
     let it : SlotHeeded flow bound r r4 t = record {
       base = omega (arith, base3, up4);
       have = λ z. h.0 (sym to3 ∙ z);
       have_at_end = λ z. let m = h.1 (sym to3 ∙ z) in omega (arith, m, up_taken, have2, inbox2);
     } in
-    subst (λ (z : RelState). SlotHeeded flow bound r z t) (ap (λ fl. after_rels arts fx (after_acks arts fx (reported r u fl t.base t.have) fl t.ack) fl t.rels) (sym fits.flow_is)) it
+    subst (λ (z : RelState). SlotHeeded flow bound r z t) (ap (λ fl. after_rels arts fx ls (after_acks arts fx ls (after_report ls r u t) fl t.ack) fl t.rels) (sym fits.flow_is)) it
 
 -- ---- the view after it
 
 abbrev pub view_of : RelState → NodeId → Flow → View
 view_of r u flow = view_in (peer_in r.peers u).views flow
 
-acks_peers : (arts : Arts) (fx : Fixed) (r : RelState) (fl : Flow) (o : Option Kept) → (after_acks arts fx r fl o).peers ≡ r.peers
-acks_peers arts fx r fl None = refl
-acks_peers arts fx r fl (Some o) = cond_either (λ (z : RelState). z.peers ≡ r.peers) (is_new (items.Ack (ack_answer (is_signed arts fx o) (judge_ack_of r fl o.body)))) (admit_ack r o) r refl refl
+acks_peers : (arts : Arts) (fx : Fixed) (ls : List Life) (r : RelState) (fl : Flow) (o : Option Kept) → (after_acks arts fx ls r fl o).peers ≡ r.peers
+acks_peers arts fx ls r fl None = refl
+acks_peers arts fx ls r fl (Some o) = cond_either (λ (z : RelState). z.peers ≡ r.peers) (is_new (items.Ack (ack_answer (is_signed arts fx o) (is_dated ls o.body) (judge_ack_of r fl o.body)))) (admit_ack r o) r refl refl
 
-rels_peers : (arts : Arts) (fx : Fixed) (r : RelState) (fl : Flow) (os : List Kept) → (after_rels arts fx r fl os).peers ≡ r.peers
-rels_peers arts fx r fl [] = refl
-rels_peers arts fx r fl (o ∷ os) =
-    rels_peers arts fx (after_rel arts fx r fl o) fl os
-    ∙ cond_either (λ (z : RelState). z.peers ≡ r.peers) (is_new (items.Rel (rel_answer (is_signed arts fx o) (judge_rel_of r fl o.body)))) (admit_rel r o) r refl refl
+rels_peers : (arts : Arts) (fx : Fixed) (ls : List Life) (r : RelState) (fl : Flow) (os : List Kept) → (after_rels arts fx ls r fl os).peers ≡ r.peers
+rels_peers arts fx ls r fl [] = refl
+rels_peers arts fx ls r fl (o ∷ os) =
+    rels_peers arts fx ls (after_rel arts fx ls r fl o) fl os
+    ∙ cond_either (λ (z : RelState). z.peers ≡ r.peers) (is_new (items.Rel (rel_answer (is_signed arts fx o) (is_dated ls o.body) (judge_rel_of r fl o.body)))) (admit_rel r o) r refl refl
 
-pub slot_peers : (arts : Arts) (fx : Fixed) (r : RelState) (u : NodeId) (t : Report) → (after_slot arts fx r u (Some t)).peers ≡ (reported r u t.flow t.base t.have).peers
-slot_peers arts fx r u t =
-    let r2 = reported r u t.flow t.base t.have in
-    rels_peers arts fx (after_acks arts fx r2 t.flow t.ack) t.flow t.rels ∙ acks_peers arts fx r2 t.flow t.ack
+pub slot_peers : (arts : Arts) (fx : Fixed) (ls : List Life) (r : RelState) (u : NodeId) (t : Report)
+    → (after_slot arts fx ls r u (Some t)).peers ≡ (after_report ls r u t).peers
+slot_peers arts fx ls r u t =
+    let r2 = after_report ls r u t in
+    rels_peers arts fx ls (after_acks arts fx ls r2 t.flow t.ack) t.flow t.rels ∙ acks_peers arts fx ls r2 t.flow t.ack
 
 any_key : (flow : Flow) (ws : List View) → list_any (is_view flow) ws ≡ list_any (is_mine flow) (map view_ends ws)
 any_key flow [] = refl
@@ -204,11 +230,15 @@ report_done nodes r u flow fl base have rows keys there row true e =
           inr (inl off, at ∙ stays)
     ]
 
-pub slot_done : (arts : Arts) (fx : Fixed) (nodes : List NodeId) (r : RelState) (u : NodeId) (flow : Flow) (echo : Bool) (o : Option Report) → RelRows nodes r → map ends r.flows ≡ pairs_of nodes → list_any (is_peer u) r.peers ≡ true
-    → list_any (is_flow flow) r.flows ≡ true → SlotDone flow r (after_slot arts fx r u o) u (told_slot flow echo o)
-slot_done arts fx nodes r u flow echo None rows keys there row = record { views = inl refl; active = λ z. absurd (let f : false ≡ true = z in cc) }
-slot_done arts fx nodes r u flow echo (Some t) rows keys there row =
-    let same : view_of (after_slot arts fx r u (Some t)) u flow ≡ view_of (reported r u t.flow t.base t.have) u flow = ap (λ ps. view_in (peer_in ps u).views flow) (slot_peers arts fx r u t) in
+pub slot_done : (arts : Arts) (fx : Fixed) (ls : List Life) (nodes : List NodeId) (r : RelState) (u : NodeId) (flow : Flow) (echo : Bool) (o : Option Report)
+    → ((t : Report) → o ≡ Some t → are_held ls t.flow t.sboot t.dboot ≡ true) → RelRows nodes r → map ends r.flows ≡ pairs_of nodes
+    → list_any (is_peer u) r.peers ≡ true
+    → list_any (is_flow flow) r.flows ≡ true → SlotDone flow r (after_slot arts fx ls r u o) u (told_slot flow echo o)
+slot_done arts fx ls nodes r u flow echo None under rows keys there row = record { views = inl refl; active = λ z. absurd (let f : false ≡ true = z in cc) }
+slot_done arts fx ls nodes r u flow echo (Some t) under rows keys there row =
+    let same : view_of (after_slot arts fx ls r u (Some t)) u flow ≡ view_of (reported r u t.flow t.base t.have) u flow =
+    ap (λ ps. view_in (peer_in ps u).views flow) (slot_peers arts fx ls r u t)
+    ∙ ap (λ b. view_of (cond b (reported r u t.flow t.base t.have) r) u flow) (under t refl) in
     elim (report_done nodes r u flow t.flow t.base t.have rows keys there row (flow_in r.flows t.flow).active refl) [
       | inl got ↦ record {
         views = inr (got.0, ap (λ (z : View). z.base) same ∙ got.2, ap (λ (z : View). z.have) same ∙ got.3);

@@ -39,7 +39,8 @@ pub record FromLaws (arts : Arts) (x : Setting) (all : List Event) (flow : Flow)
   pub acknowledged : (w : State arts x all) (u : NodeId) → (sight arts x all flow).base w u ≤ (sight arts x all flow).base w flow.dst
   pub sent : (w : State arts x all) (u : NodeId) → (sight arts x all flow).have w u ≤ (sight arts x all flow).have w flow.src
 
-pub from_laws : (arts : Arts) (x : Setting) (all : List Event) (flow : Flow) → SettingFits arts x → Carries arts → is_correct x flow.src ≡ true → is_correct x flow.dst ≡ true
+pub from_laws : (arts : Arts) (x : Setting) (all : List Event) (flow : Flow) → SettingFits arts x → Carries x.topology.format arts
+    → is_correct x flow.src ≡ true → is_correct x flow.dst ≡ true
     → (flow.src ≡ flow.dst → ⊥) → FromLaws arts x all flow
 from_laws arts x all flow fits reads from to different = record {
   acknowledged = λ w u.

@@ -33,7 +33,8 @@ each_peer nodes (p ∷ ps) (n ∷ ns) same =
     let rest : map rel_peer_shape ps ≡ map (λ n. record { peer = n.0; views = pairs_of nodes }) ns = cc in
     All-cons (ViewsAre nodes) p ps (ap (λ (s : RelPeerShape). s.views) first) (each_peer nodes ps ns rest)
 
-pub views_are : (arts : Arts) (x : Setting) (es : List Event) (js : List Entry) (w : World) → SettingFits arts x → Carries arts → Clean arts x es js w
+pub views_are : (arts : Arts) (x : Setting) (es : List Event) (js : List Entry) (w : World) → SettingFits arts x → Carries x.topology.format arts
+    → Clean arts x es js w
     → (u : NodeId) (n : NodeState) → node_in w.nodes u ≡ Some n → RelRows (nodes_of x.topology) n.parts.rel
 views_are arts x es js w fits reads run u n at =
     let shape = ((signs arts x es js w fits reads run).nodes u n at).shape in

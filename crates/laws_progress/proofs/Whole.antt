@@ -23,7 +23,8 @@ use Rattle.laws_progress.proofs.Standing.{actives_rise, is_active, place_at, sou
 use Rattle.laws_progress.proofs.Upper.{IsRight, from_laws}
 use Rattle.laws_progress.proofs.Wires.{told_stays, wires}
 
-pub steady : (arts : Arts) (x : Setting) (all : List Event) (flow : Flow) → SettingFits arts x → ComesThrough arts x.signature_len → 1 ≤ x.buffer → IsRight x flow → (least : ℕ) → flow_count x all ≤ least
+pub steady : (arts : Arts) (x : Setting) (all : List Event) (flow : Flow) → SettingFits arts x → ComesThrough x.topology.format arts x.signature_len
+    → 1 ≤ x.buffer → IsRight x flow → (least : ℕ) → flow_count x all ≤ least
     → Steady (State arts x all) (Follows arts x all) (IsHop x) (sight arts x all flow) (wires arts x all flow) (place_at x flow) x.buffer least flow.src flow.dst
 steady arts x all flow fits reads one right least enough =
     let laws = from_laws arts x all flow fits reads.carries right.from right.to right.different in

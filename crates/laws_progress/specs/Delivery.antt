@@ -57,7 +57,8 @@ ReturnsInRounds arts x =
 -- ---- the laws, of any arts by which frames come through
 
 abbrev pub CountedDelivery : Type 0
-CountedDelivery = (arts : Arts) (x : Setting) → SettingFits arts x → ComesThrough arts x.signature_len → 1 ≤ x.buffer → DeliversInRounds arts x
+CountedDelivery = (arts : Arts) (x : Setting) → SettingFits arts x → ComesThrough x.topology.format arts x.signature_len → 1 ≤ x.buffer
+    → DeliversInRounds arts x
 
 abbrev pub CountedReturn : Type 0
-CountedReturn = (arts : Arts) (x : Setting) → SettingFits arts x → ComesThrough arts x.signature_len → 1 ≤ x.buffer → ReturnsInRounds arts x
+CountedReturn = (arts : Arts) (x : Setting) → SettingFits arts x → ComesThrough x.topology.format arts x.signature_len → 1 ≤ x.buffer → ReturnsInRounds arts x

@@ -51,5 +51,6 @@ pub record ProgressClaims (arts : Arts) (x : Setting) (es : List Event) (js : Li
 
 -- of each run without forgery
 abbrev pub PositionsAreInOrder : Type 0
-PositionsAreInOrder = (arts : Arts) (x : Setting) (es : List Event) (js : List Entry) (w : World) → SettingFits arts x → ComesThrough arts x.signature_len
+PositionsAreInOrder = (arts : Arts) (x : Setting) (es : List Event) (js : List Entry) (w : World) → SettingFits arts x
+    → ComesThrough x.topology.format arts x.signature_len
     → 1 ≤ x.buffer → Clean arts x es js w → ProgressClaims arts x es js w

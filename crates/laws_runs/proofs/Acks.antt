@@ -19,13 +19,14 @@ use Rattle.sp_rules.specs.Arts.{Arts}
 use Rattle.sp_rules.specs.Arrivals.{arrival_at, pieces_in, pieces_where, reply_at, sections_in}
 use Rattle.sp_rules.specs.Flow.{FlowState, acknowledged_by, after_take, concluded, flow_said, is_flow, no_flow, number_said, pushed, received}
 use Rattle.sp_rules.specs.Handle.{Arrival, handle, handle_all, offer_to, prio_handled}
+use Rattle.sp_rules.specs.Lives.{are_held, is_dated}
 use Rattle.sp_rules.specs.Node.{NodeState, call_refusal, kept_or, signed_now}
 use Rattle.sp_rules.specs.Parts.{Parts, is_signed}
 use Rattle.sp_rules.specs.Pieces.{Piece, AckPiece, PrioAckPiece, PrioPiece, RelPiece, ReportPiece, WeightPiece}
-use Rattle.sp_rules.specs.Rel.{RelState, admit_ack, admit_rel, ack_of, are_ends, due, due_place, flow_at, flow_in, flow_to_me, is_to, judge_ack, judge_ack_of, judge_rel_of, next_place, peer_in, plain_ack, pushed_in, reported, served, served_at, settled, settled_at, told, took, with_flow, with_peer}
+use Rattle.sp_rules.specs.Rel.{RelState, admit_ack, admit_rel, ack_of, are_ends, due_place, flow_at, flow_in, flow_to_me, is_to, judge_ack, judge_ack_of, judge_rel_of, next_place, peer_in, plain_ack, pushed_in, reported, served, served_at, settled, settled_at, told, took, with_flow, with_peer}
 use Rattle.sp_rules.specs.Sends.{rel_body, rel_refusal, send_prio_refusal, signer_refusal, weight_refusal}
 use Rattle.sp_rules.specs.Steps.{Input, NodeStep, Output, Poll, Datagram, Tick, SendRel, SendPrio, SetWeight, TakeRel, TakePrio}
-use Rattle.sp_rules.specs.Ticks.{at_time, settled_by}
+use Rattle.sp_rules.specs.Ticks.{at_time, due_now, settled_by}
 use Rattle.sp_rules.specs.Prio.{judge_prio}
 use Rattle.sp_rules.specs.Weights.{held}
 use Rattle.sp_rules.specs.declared.answers.Item.TheVariants as items
@@ -34,6 +35,8 @@ use Rattle.sp_rules.specs.declared.answers.PrioAnswer.TheVariants as prios
 use Rattle.sp_rules.specs.declared.rel.AckJudged.{AckJudged}
 use Rattle.sp_rules.specs.declared.rel.AckJudged.TheVariants as acks
 use Rattle.laws_runs.specs.Signs.{FlowAck}
+use Rattle.laws_node.proofs.Handles as judged
+use Rattle.laws_node.proofs.Reliable.{dated_due}
 use Rattle.laws_node.proofs.Tables.{all_first, all_replace, cond_either, cond_where}
 
 abbrev pub RelAck : RelState → Type 0
@@ -98,19 +101,15 @@ above_new r flow (bodies.Weight a) new = absurd (let e : acks.BadEnd ≡ acks.Ne
 above_new r flow (bodies.Krel a) new = absurd (let e : acks.BadEnd ≡ acks.New = new in cc)
 above_new r flow (bodies.Epoch a) new = absurd (let e : acks.BadEnd ≡ acks.New = new in cc)
 
-was_new : (right : Bool) (j : AckJudged) → is_new (items.Ack (ack_answer right j)) ≡ true → j ≡ acks.New
-was_new right acks.New e = refl
-was_new right acks.BadEnd e = absurd (let f : false ≡ true = e in cc)
-was_new right acks.Old e = absurd (let f : false ≡ true = e in cc)
-was_new right acks.Ahead e = absurd (let f : false ≡ true = e in cc)
-
-pub ack_ack : (right : Bool) (r : RelState) (flow : Flow) (o : Kept) → RelAck r → RelAck (cond (is_new (items.Ack (ack_answer right (judge_ack_of r flow o.body)))) (admit_ack r o) r)
-ack_ack right r flow o h =
-    cond_where RelAck (is_new (items.Ack (ack_answer right (judge_ack_of r flow o.body)))) (admit_ack r o) r
+-- a new acknowledgement, whatever its signature and its boots
+pub ack_ack : (right dated : Bool) (r : RelState) (flow : Flow) (o : Kept) → RelAck r
+    → RelAck (cond (is_new (items.Ack (ack_answer right dated (judge_ack_of r flow o.body)))) (admit_ack r o) r)
+ack_ack right dated r flow o h =
+    cond_where RelAck (is_new (items.Ack (ack_answer right dated (judge_ack_of r flow o.body)))) (admit_ack r o) r
     (λ new.
     let said = flow_said o.body in
     let f = flow_in r.flows said in
-    with_ack r said (acknowledged_by f o) h (acked_ack f o (above_new r flow o.body (was_new right (judge_ack_of r flow o.body) new)) (flow_ack r said h)))
+    with_ack r said (acknowledged_by f o) h (acked_ack f o (above_new r flow o.body (judged.new_ack right dated (judge_ack_of r flow o.body) new).1) (flow_ack r said h)))
     (λ old. h)
 
 pub reported_ack : (r : RelState) (v : NodeId) (flow : Flow) (base have : ℕ) → RelAck r → RelAck (reported r v flow base have)
@@ -141,7 +140,7 @@ sent_ack r o h = let flow = flow_said o.body in let f = flow_in r.flows flow in 
 piece_ack : (arts : Arts) (at : Arrival) (p : Parts) (piece : Piece) → RelAck p.rel → RelAck (handle arts at p piece).parts.rel
 piece_ack arts at p (WeightPiece o) h = cond_either (λ (q : Parts). RelAck q.rel) (is_new (items.Weight (weight_answer (is_signed arts at.fixed o) (offer_to at.fixed.me p.weights o.body)))) (record p { weights = held p.weights o }) p h h
 piece_ack arts at p (PrioAckPiece number) h = h
-piece_ack arts at p (PrioPiece number o) h = go (prio_answer (is_signed arts at.fixed o) (judge_prio p.prio o.body at.now))
+piece_ack arts at p (PrioPiece number o) h = go (prio_answer (is_signed arts at.fixed o) (is_dated p.lives o.body) (judge_prio p.prio o.body at.now))
   where
     go : (answer : PrioAnswer) → RelAck (prio_handled at.from answer number o p).parts.rel
     go prios.New = h
@@ -149,15 +148,18 @@ piece_ack arts at p (PrioPiece number o) h = go (prio_answer (is_signed arts at.
     go prios.BadEnd = h
     go prios.Expired = h
     go prios.BadSig = h
-piece_ack arts at p (ReportPiece flow base have) h = reported_ack p.rel at.from flow base have h
+    go prios.Epoch = h
+piece_ack arts at p (ReportPiece flow sboot dboot base have) h =
+    cond_either (λ (q : Parts). RelAck q.rel) (are_held p.lives flow sboot dboot) (record p { rel = reported p.rel at.from flow base have }) p
+    (reported_ack p.rel at.from flow base have h) h
 piece_ack arts at p (AckPiece flow o) h =
-    cond_where (λ (q : Parts). RelAck q.rel) (is_new (items.Ack (ack_answer (is_signed arts at.fixed o) (judge_ack_of p.rel flow o.body)))) (record p { rel = admit_ack p.rel o }) p
+    cond_where (λ (q : Parts). RelAck q.rel) (is_new (items.Ack (ack_answer (is_signed arts at.fixed o) (is_dated p.lives o.body) (judge_ack_of p.rel flow o.body)))) (record p { rel = admit_ack p.rel o }) p
     (λ new.
     let said = flow_said o.body in
     let f = flow_in p.rel.flows said in
-    with_ack p.rel said (acknowledged_by f o) h (acked_ack f o (above_new p.rel flow o.body (was_new (is_signed arts at.fixed o) (judge_ack_of p.rel flow o.body) new)) (flow_ack p.rel said h)))
+    with_ack p.rel said (acknowledged_by f o) h (acked_ack f o (above_new p.rel flow o.body (judged.new_ack (is_signed arts at.fixed o) (is_dated p.lives o.body) (judge_ack_of p.rel flow o.body) new).1) (flow_ack p.rel said h)))
     (λ old. h)
-piece_ack arts at p (RelPiece flow o) h = cond_either (λ (q : Parts). RelAck q.rel) (is_new (items.Rel (rel_answer (is_signed arts at.fixed o) (judge_rel_of p.rel flow o.body)))) (record p { rel = admit_rel p.rel o }) p (admit_rel_ack p.rel o h) h
+piece_ack arts at p (RelPiece flow o) h = cond_either (λ (q : Parts). RelAck q.rel) (is_new (items.Rel (rel_answer (is_signed arts at.fixed o) (is_dated p.lives o.body) (judge_rel_of p.rel flow o.body)))) (record p { rel = admit_rel p.rel o }) p (admit_rel_ack p.rel o h) h
 
 pub pieces_ack : (arts : Arts) (at : Arrival) (p : Parts) (pieces : List Piece) → RelAck p.rel → RelAck (handle_all arts at p pieces).parts.rel
 pieces_ack arts at p [] h = h
@@ -179,12 +181,16 @@ step_ack arts n (Poll v) output new s h = subst (λ (m : NodeState). RelAck m.pa
 step_ack arts n (Datagram v bytes) output new s h =
     subst (λ (m : NodeState). RelAck m.parts.rel) (sym s.1) (kept_ack (call_refusal n v) n _ h
     (pieces_ack arts (arrival_at n v) n.parts (pieces_where (reply_at arts n v bytes) (pieces_in (sections_in arts n.fixed bytes))) h))
-step_ack arts n (Tick now) output new s h = subst (λ (m : NodeState). RelAck m.parts.rel) (sym s.1) (go (due n.parts.rel) refl (signer_refusal n.signer))
+step_ack arts n (Tick now) output new s h = subst (λ (m : NodeState). RelAck m.parts.rel) (sym s.1) (go (due_now n) refl (signer_refusal n.signer))
   where
-    go : (o : Option Ack) → due n.parts.rel ≡ o → (r : Option SendRefused) → RelAck (settled_by arts (at_time n now) o r).parts.rel
+    go : (o : Option Ack) → due_now n ≡ o → (r : Option SendRefused) → RelAck (settled_by arts (at_time n now) o r).parts.rel
     go None e r = h
     go (Some ack) e (Some refusal) = h
-    go (Some ack) e None = settled_ack n.parts.rel (signed_now arts (at_time n now) (bodies.Ack ack)) (due_is n.parts.rel ack (option_and_then (flow_at n.parts.rel.flows) (due_place n.parts.rel)) e) h
+    go (Some ack) e None =
+        let d = dated_due n ack e in
+        let number = due_is n.parts.rel d.raw (option_and_then (flow_at n.parts.rel.flows) (due_place n.parts.rel)) d.is_due in
+        settled_ack n.parts.rel (signed_now arts (at_time n now) (bodies.Ack ack))
+        (subst (λ (a : Ack). a.seq ≡ (flow_in n.parts.rel.flows (record { src = a.src; dst = a.dst })).at.have) (sym d.is) number) h
 step_ack arts n (SendRel dst payload) output new s h = subst (λ (m : NodeState). RelAck m.parts.rel) (sym s.1) (kept_ack (rel_refusal n dst) n _ h (sent_ack n.parts.rel (signed_now arts n (rel_body n dst payload)) h))
 step_ack arts n (SendPrio m) output new s h = subst (λ (m : NodeState). RelAck m.parts.rel) (sym s.new_is) (kept_ack (send_prio_refusal n m s.choice) n _ h h)
 step_ack arts n (SetWeight v weight) output new s h = subst (λ (m : NodeState). RelAck m.parts.rel) (sym s.1) (kept_ack (weight_refusal n v weight) n _ h h)

@@ -10,12 +10,11 @@ use Rattle.sp_msg.specs.declared.refused.SendRefused.{SendRefused}
 use Rattle.sp_rules.specs.Arts.{Arts}
 use Rattle.sp_rules.specs.Node.{NodeState, call_refusal, kept_or}
 use Rattle.sp_rules.specs.Parts.{nodes_of}
-use Rattle.sp_rules.specs.Rel.{due}
 use Rattle.sp_rules.specs.Sends.{rel_refusal, send_prio_refusal, signer_refusal, weight_refusal}
 use Rattle.sp_rules.specs.Polls.{frame_to}
 use Rattle.sp_rules.specs.Steps as steps
 use Rattle.sp_rules.specs.Steps.{Input, NodeStep, Output}
-use Rattle.sp_rules.specs.Ticks.{at_time, settled_by}
+use Rattle.sp_rules.specs.Ticks.{at_time, due_now, settled_by}
 use Rattle.sp_rules.specs.declared.node.NodeRefused.{NodeRefused}
 use Rattle.sp_runs.specs.Inputs.{acting, input_of}
 use Rattle.sp_runs.specs.Journals.{reply_word}
@@ -52,7 +51,7 @@ step_calls arts n (steps.Poll v) output after s = subst (λ (m : NodeState). m.c
 step_calls arts n (steps.Datagram v bytes) output after s =
     subst (λ (m : NodeState). m.calls ≤ n.calls + 1) (sym s.1) (either_calls (call_refusal n v) n _ (omega arith))
 step_calls arts n (steps.Tick now) output after s =
-    let same = settled_calls arts (at_time n now) (due n.parts.rel) (signer_refusal n.signer) in
+    let same = settled_calls arts (at_time n now) (due_now n) (signer_refusal n.signer) in
     let is = ap (λ (m : NodeState). m.calls) s.1 in
     omega (arith, same, is)
 step_calls arts n (steps.SendRel dst payload) output after s =
@@ -65,7 +64,8 @@ step_calls arts n (steps.TakeRel src) output after s = let is = ap (λ (m : Node
 step_calls arts n steps.TakePrio output after s = let is = ap (λ (m : NodeState). m.calls) s.1 in omega (arith, is)
 
 -- no node has answered more calls than there were events
-pub few_calls : (arts : Arts) (x : Setting) (es : List Event) (js : List Entry) (w : World) → SettingFits arts x → Carries arts → Clean arts x es js w
+pub few_calls : (arts : Arts) (x : Setting) (es : List Event) (js : List Entry) (w : World) → SettingFits arts x → Carries x.topology.format arts
+    → Clean arts x es js w
     → (u : NodeId) (n : NodeState) → node_in w.nodes u ≡ Some n → n.calls ≤ length es
 few_calls arts x es js w fits carries Starts u n at =
     let none = ap (λ (m : NodeState). m.calls) (started x (nodes_of x.topology) u n at).0 in

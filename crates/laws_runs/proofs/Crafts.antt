@@ -1,16 +1,19 @@
 -- What compromised nodes craft in their own names is never forged, and neither is what is no frame.
 use Rattle.std.proofs.Common.{◌≡◌, ◌<◌, ◌≤◌, ◌==◌, ◌^◌, ℕ, Bool, true, false, cond, List, [], ◌∷◌, length, Some, None, option_map, Ok, Err, refl, sym, ap, subst, ◌∙◌, arith}
-use Rattle.std.specs.Prelude.{◌&&◌, IsTrue, not, nat_lt}
+use Rattle.std.specs.Prelude.{◌&&◌, All, IfSome, IsTrue, Option, if◌then◌else◌, not, nat_lt}
 use Rattle.std.proofs.lemmas.List.Elements.{All-cons, All-nil}
+use Rattle.sp_base.proofs.FormatLemmas.{few_nodes}
+use Rattle.sp_base.specs.declared.limits.TheConstants.{MAX_MESSAGES}
 use Rattle.sp_base.specs.declared.id.Flow.{Flow}
 use Rattle.sp_base.specs.declared.id.NodeId.{NodeId}
-use Rattle.sp_frame.specs.Objects.{IsObject}
-use Rattle.sp_frame.specs.Ranges.{IsContents, IsNumbered}
+use Rattle.sp_frame.specs.Objects.{IsObject, most}
+use Rattle.sp_frame.specs.Ranges.{IsContentsIn, IsNumbered, IsReport}
+use Rattle.sp_frame.specs.Reliable.{Report, boot_bytes}
 use Rattle.sp_frame.specs.Sections.{Contents}
 use Rattle.sp_frame.specs.declared.kind.Kind.TheVariants as kinds
 use Rattle.sp_frame.specs.declared.refused.FrameRefused.{FrameRefused}
 use Rattle.sp_frame.specs.declared.refused.FrameRefused.TheVariants as frames
-use Rattle.sp_msg.specs.Bodies.{HasGoodFields}
+use Rattle.sp_msg.specs.Bodies.{HasGoodFieldsIn}
 use Rattle.sp_msg.specs.Views.{signer_of}
 use Rattle.sp_msg.specs.declared.body.Body.{Body}
 use Rattle.sp_msg.specs.declared.body.Body.TheVariants as bodies
@@ -32,15 +35,15 @@ use Rattle.laws_node.proofs.Boot.{nodes_hold}
 use Rattle.laws_node.proofs.Carried.{AllKeep, pieces_new}
 use Rattle.laws_node.proofs.Reliable.{in_range}
 use Rattle.sp_runs.specs.Forgery.{forged_object, has_forged_tag, is_among, is_forged, is_tagged}
-use Rattle.sp_runs.specs.Inputs.{crafted_frame, crafted_head, crafted_object, crafts, object_alone, slot_alone}
+use Rattle.sp_runs.specs.Inputs.{acting, contents_with, crafted_frame, crafted_head, crafted_object, crafts, object_alone, report_on, slot_alone}
 use Rattle.sp_runs.specs.Runs.{Moves, Move, Stays}
-use Rattle.sp_runs.specs.Settings.{Setting, SettingFits, is_correct, is_node}
+use Rattle.sp_runs.specs.Settings.{Setting, SettingFits, fixed_of, is_correct, is_node}
 use Rattle.sp_runs.specs.Told.{signed}
 use Rattle.sp_runs.specs.Worlds.{World, frames_in}
 use Rattle.sp_journal.specs.declared.entry.Entry.{Entry}
 use Rattle.sp_schedule_crafts.specs.Objects.{body_of}
 use Rattle.sp_base.specs.declared.format.TheConstants.{FORMAT_1}
-use Rattle.sp_msg.proofs.GoodFields.{good_ack, good_rel, no_epoch, no_kack, no_krel}
+use Rattle.sp_msg.proofs.GoodFields.{good_ack, good_rel}
 use Rattle.sp_schedule_events.specs.declared.event.Event.{Event}
 use Rattle.sp_schedule_events.specs.declared.event.Event.TheVariants as events
 use Rattle.sp_runs.specs.declared.what.What.TheVariants as whats
@@ -74,17 +77,19 @@ one_input : (a b : Input) → Some a ≡ Some b → b ≡ a
 one_input a b e = cc
 
 arrived_unforged : (arts : Arts) (x : Setting) (es : List Event) (js : List Entry) (w new : World) (e : Event) (j : Entry) (m : Move arts x es w e j new) (c : NodeId) (contents : Contents)
-    → Carries arts → m.node.fixed.signature_len ≡ x.signature_len → is_correct x c ≡ false → IsContents x.signature_len contents → HasGoodMessages arts contents
+    → Carries x.topology.format arts → m.node.fixed ≡ fixed_of x (acting e) → is_correct x c ≡ false
+    → IsContentsIn x.topology.format x.signature_len contents → HasGoodMessages arts contents
     → AllKeep (IsOfCompromised x) (pieces_of contents)
     → m.input ≡ steps.Datagram c (crafted_frame arts m.node c contents)
     → cond (has_forged_tag arts x w m.node m.input) (Some whats.Tag) (option_map whats.Object (forged_object arts x es js m.output.answered)) ≡ None
-arrived_unforged arts x es js w new e j m c contents carries len bad range good only is =
+arrived_unforged arts x es js w new e j m c contents carries fixed bad range good only is =
     let n = m.node in
     let P = IsOfCompromised x in
     let bytes = crafted_frame arts n c contents in
     let moves : NodeStep arts n (steps.Datagram c bytes) m.output m.after = subst (λ i. NodeStep arts n i m.output m.after) is m.step in
     let back : sections_in arts n.fixed bytes ≡ Ok contents =
-    ap (λ k. arts.sections k bytes) len ∙ carries.back x.signature_len (crafted_head n c) contents (link_in n c).key range good in
+    ap (λ (f : Fixed). arts.sections f.signature_len bytes) fixed
+    ∙ carries.back x.signature_len (crafted_head n c) contents (link_in n c).key (ap (λ (f : Fixed). f.topology.format) fixed) range good in
     let pieces : AllKeep P (pieces_in (sections_in arts n.fixed bytes)) = subst (λ r. AllKeep P (pieces_in r)) (sym back) only in
     let news : NewKeep P m.output.answered =
     subst (λ (o : Output). NewKeep P o.answered) (sym moves.0) (called_good P (arrived arts n c bytes) (call_refusal n c)
@@ -136,114 +141,100 @@ no_frame_is_forged arts x es js w new u v bytes j none (Moves m) =
 
 -- ---- what is crafted is in its ranges
 
-small : (v : NodeId) → IsNode v → v.0 < 256
-small v is = let most : v.0 ≤ 16 = is.1 in omega (arith, most)
+small : (format : ℕ) (v : NodeId) → IsNode format v → v.0 < 256
+small format v is = omega (arith, is.1, few_nodes format)
 
 node_small : (arts : Arts) (x : Setting) → SettingFits arts x → (u : NodeId) → is_node x u ≡ true → u.0 < 256
-node_small arts x fits u there = small u (in_range (nodes_of x.topology) u (nodes_hold x.topology.height 0 x.topology.nodes fits.topology.nodes) there)
+node_small arts x fits u there =
+    let f = x.topology.format in
+    small f u (in_range f (nodes_of x.topology) u (nodes_hold f x.topology.height 0 x.topology.nodes fits.topology.ranges.nodes) there)
 
-status_fits : (len base have : ℕ) (flow : Flow) → flow.src.0 < 256 → flow.dst.0 < 256 → base < 2 ^ 64 → have < 2 ^ 64 → IsContents len (slot_alone flow base have None [])
-status_fits len base have flow src dst b h = record {
+-- 0 has room in the field of a boot, and a slot has room for a message
+pub no_boot : (format : ℕ) → 0 < 256 ^ boot_bytes format
+no_boot format = go (format == FORMAT_1)
+  where
+    go : (b : Bool) → 0 < 256 ^ (if b then 0 else 8)
+    go true = omega arith
+    go false = omega arith
+
+room_for_one : (format : ℕ) → 1 ≤ most format kinds.Rel
+room_for_one format = go (format == FORMAT_1)
+  where
+    go : (b : Bool) → 1 ≤ (if b then MAX_MESSAGES else 2)
+    go true = omega arith
+    go false = omega arith
+
+-- updates, priority messages and a slot that fit, where there is one update and one message at most
+with_fits : (format len : ℕ) (weights : List Kept) (prios : List (ℕ × Kept)) (slot : Option Report) → length weights ≤ 1
+    → All (IsObject format kinds.Weight len) weights → length prios ≤ 1 → All (IsNumbered format len) prios
+    → IfSome slot (IsReport format kinds.Ack kinds.Rel len) → IsContentsIn format len (contents_with weights prios slot)
+with_fits format len weights prios slot few_weights of_weights few_prios of_prios of_slot = record {
   document = tt;
-  few_weights = omega arith;
-  weights = All-nil (IsObject FORMAT_1 kinds.Weight len);
+  few_weights = few_weights;
+  weights = of_weights;
   prio_ack = omega arith;
-  few_prios = omega arith;
-  prios = All-nil (IsNumbered FORMAT_1 len);
-  slot = record {
-    src = src;
-    dst = dst;
-    sboot = omega arith;
-    dboot = omega arith;
-    base = b;
-    have = h;
-    ack = tt;
-    few = omega arith;
-    rels = All-nil (IsObject FORMAT_1 kinds.Rel len);
-  };
+  few_prios = omega (arith, few_prios);
+  prios = of_prios;
+  slot = of_slot;
   paths = tt;
   probe = tt;
   epoch = tt;
 }
 
-object_fits : (len : ℕ) (body : Body) (signature : List ℕ) → HasGoodFields body → length signature ≡ len → len < 65536
-    → IsContents len (object_alone body (record { body = body; signature = signature }))
-object_fits len (bodies.Prio p) signature good long short = record {
-  document = tt;
-  few_weights = omega arith;
-  weights = All-nil (IsObject FORMAT_1 kinds.Weight len);
-  prio_ack = omega arith;
-  few_prios = omega arith;
-  prios = All-cons (IsNumbered FORMAT_1 len) (1, record { body = bodies.Prio p; signature = signature }) []
-      (record { number = omega arith; object = record { fields = good; is = refl; long = long; fits = short } }) (All-nil (IsNumbered FORMAT_1 len));
-  slot = tt;
-  paths = tt;
-  probe = tt;
-  epoch = tt;
-}
-object_fits len (bodies.Rel r) signature good long short = record {
-  document = tt;
-  few_weights = omega arith;
-  weights = All-nil (IsObject FORMAT_1 kinds.Weight len);
-  prio_ack = omega arith;
-  few_prios = omega arith;
-  prios = All-nil (IsNumbered FORMAT_1 len);
-  slot = record {
-    src = omega (arith, (good_rel FORMAT_1 r good).src.1);
-    dst = omega (arith, (good_rel FORMAT_1 r good).dst.1);
-    sboot = omega arith;
-    dboot = omega arith;
-    base = omega arith;
-    have = omega arith;
-    ack = tt;
-    few = omega arith;
-    rels = All-cons (IsObject FORMAT_1 kinds.Rel len) (record { body = bodies.Rel r; signature = signature }) [] (record { fields = good; is = refl; long = long; fits = short })
-        (All-nil (IsObject FORMAT_1 kinds.Rel len));
-  };
-  paths = tt;
-  probe = tt;
-  epoch = tt;
-}
-object_fits len (bodies.Ack a) signature good long short = record {
-  document = tt;
-  few_weights = omega arith;
-  weights = All-nil (IsObject FORMAT_1 kinds.Weight len);
-  prio_ack = omega arith;
-  few_prios = omega arith;
-  prios = All-nil (IsNumbered FORMAT_1 len);
-  slot = record {
-    src = omega (arith, (good_ack FORMAT_1 a good).src.1);
-    dst = omega (arith, (good_ack FORMAT_1 a good).dst.1);
-    sboot = omega arith;
-    dboot = omega arith;
-    base = omega arith;
-    have = omega arith;
-    ack = record { fields = good; is = refl; long = long; fits = short };
-    few = omega arith;
-    rels = All-nil (IsObject FORMAT_1 kinds.Rel len);
-  };
-  paths = tt;
-  probe = tt;
-  epoch = tt;
-}
-object_fits len (bodies.Weight w) signature good long short = record {
-  document = tt;
-  few_weights = omega arith;
-  weights = All-cons (IsObject FORMAT_1 kinds.Weight len) (record { body = bodies.Weight w; signature = signature }) [] (record { fields = good; is = refl; long = long; fits = short })
-      (All-nil (IsObject FORMAT_1 kinds.Weight len));
-  prio_ack = omega arith;
-  few_prios = omega arith;
-  prios = All-nil (IsNumbered FORMAT_1 len);
-  slot = tt;
-  paths = tt;
-  probe = tt;
-  epoch = tt;
-}
-object_fits len (bodies.Krel r) signature good long short = absurd (no_krel r good)
-object_fits len (bodies.Kack a) signature good long short = absurd (no_kack a good)
-object_fits len (bodies.Epoch e) signature good long short = absurd (no_epoch e good)
+slot_fits : (format len base have : ℕ) (flow : Flow) (ack : Option Kept) (rels : List Kept) → flow.src.0 < 256 → flow.dst.0 < 256 → base < 2 ^ 64
+    → have < 2 ^ 64 → IfSome ack (IsObject format kinds.Ack len) → length rels ≤ 1 → All (IsObject format kinds.Rel len) rels
+    → IsContentsIn format len (slot_alone flow base have ack rels)
+slot_fits format len base have flow ack rels src dst b h of_ack few of_rels =
+    with_fits format len [] [] (Some (report_on flow base have ack rels)) (omega arith) (All-nil (IsObject format kinds.Weight len)) (omega arith)
+    (All-nil (IsNumbered format len)) (record {
+      src = src;
+      dst = dst;
+      sboot = no_boot format;
+      dboot = no_boot format;
+      base = b;
+      have = h;
+      ack = of_ack;
+      few = omega (arith, few, room_for_one format);
+      rels = of_rels;
+    })
 
--- what it carries is that object alone, or none of a kind that format 1 lacks
+status_fits : (format len base have : ℕ) (flow : Flow) → flow.src.0 < 256 → flow.dst.0 < 256 → base < 2 ^ 64 → have < 2 ^ 64
+    → IsContentsIn format len (slot_alone flow base have None [])
+status_fits format len base have flow src dst b h =
+    slot_fits format len base have flow None [] src dst b h tt (omega arith) (All-nil (IsObject format kinds.Rel len))
+
+none_fits : (format len : ℕ) → IsContentsIn format len (contents_with [] [] None)
+none_fits format len =
+    with_fits format len [] [] None (omega arith) (All-nil (IsObject format kinds.Weight len)) (omega arith) (All-nil (IsNumbered format len)) tt
+
+object_fits : (format len : ℕ) (body : Body) (signature : List ℕ) → HasGoodFieldsIn format body → length signature ≡ len → len < 65536
+    → IsContentsIn format len (object_alone body (record { body = body; signature = signature }))
+object_fits format len (bodies.Prio p) signature good long short =
+    with_fits format len [] ((1, record { body = bodies.Prio p; signature = signature }) ∷ []) None (omega arith) (All-nil (IsObject format kinds.Weight len)) (omega arith)
+    (All-cons (IsNumbered format len) (1, record { body = bodies.Prio p; signature = signature }) []
+    (record { number = omega arith; object = record { fields = good; is = refl; long = long; fits = short } }) (All-nil (IsNumbered format len))) tt
+object_fits format len (bodies.Rel r) signature good long short =
+    let fields = good_rel format r good in
+    let few = few_nodes format in
+    slot_fits format len 0 0 (record { src = r.src; dst = r.dst }) None (record { body = bodies.Rel r; signature = signature } ∷ []) (omega (arith, fields.src.1, few))
+    (omega (arith, fields.dst.1, few)) (omega arith) (omega arith) tt (omega arith)
+    (All-cons (IsObject format kinds.Rel len) (record { body = bodies.Rel r; signature = signature }) []
+    (record { fields = good; is = refl; long = long; fits = short }) (All-nil (IsObject format kinds.Rel len)))
+object_fits format len (bodies.Ack a) signature good long short =
+    let fields = good_ack format a good in
+    let few = few_nodes format in
+    slot_fits format len 0 0 (record { src = a.src; dst = a.dst }) (Some (record { body = bodies.Ack a; signature = signature })) []
+    (omega (arith, fields.src.1, few)) (omega (arith, fields.dst.1, few)) (omega arith) (omega arith)
+    (record { fields = good; is = refl; long = long; fits = short }) (omega arith) (All-nil (IsObject format kinds.Rel len))
+object_fits format len (bodies.Weight w) signature good long short =
+    with_fits format len (record { body = bodies.Weight w; signature = signature } ∷ []) [] None (omega arith)
+    (All-cons (IsObject format kinds.Weight len) (record { body = bodies.Weight w; signature = signature }) []
+    (record { fields = good; is = refl; long = long; fits = short }) (All-nil (IsObject format kinds.Weight len))) (omega arith) (All-nil (IsNumbered format len)) tt
+object_fits format len (bodies.Krel r) signature good long short = none_fits format len
+object_fits format len (bodies.Kack a) signature good long short = none_fits format len
+object_fits format len (bodies.Epoch e) signature good long short = none_fits format len
+
+-- what it carries is that object alone, or none of a kind that no schedule crafts
 only_it : (P : Kept → Type 0) (body : Body) (signature : List ℕ) → P (record { body = body; signature = signature })
     → AllKeep P (pieces_of (object_alone body (record { body = body; signature = signature })))
 only_it P (bodies.Prio p) signature h = (tt, (h, tt))
@@ -263,23 +254,23 @@ own_crafts_forge_nothing arts x es js w fits carries lengths run (events.Craft c
     o : Kept
     o = crafted_object arts x es key (body_of object)
 
-    len : m.node.fixed.signature_len ≡ x.signature_len
-    len = ap (λ (f : Fixed). f.signature_len) ((signs arts x es js w fits carries run).nodes v m.node m.is_there).fixed
+    fixed : m.node.fixed ≡ fixed_of x v
+    fixed = ((signs arts x es js w fits carries run).nodes v m.node m.is_there).fixed
 
     go : (t : Bool) → cond t (Some (steps.Datagram c (crafted_frame arts m.node c (object_alone (body_of object) o)))) None ≡ Some m.input
         → cond (has_forged_tag arts x w m.node m.input) (Some whats.Tag) (option_map whats.Object (forged_object arts x es js m.output.answered)) ≡ None
     go false is = absurd cc
     go true is =
-        arrived_unforged arts x es js w new (events.Craft c v key object) j m c (object_alone (body_of object) o) carries len names.0
-        (object_fits x.signature_len (body_of object) o.signature range.3 (lengths key range.2 (crafts es key) (arts.spell (body_of object))) fits.short)
+        arrived_unforged arts x es js w new (events.Craft c v key object) j m c (object_alone (body_of object) o) carries fixed names.0
+        (object_fits x.topology.format x.signature_len (body_of object) o.signature range.3 (lengths key range.2 (crafts es key) (arts.spell (body_of object))) fits.short)
         (all_of (λ p. IsTrue (arts.is_good p.body)) (pieces_of (object_alone (body_of object) o)) (only_it (λ p. IsTrue (arts.is_good p.body)) (body_of object) o.signature good))
         (only_it (IsOfCompromised x) (body_of object) o.signature names.1) (one_input _ m.input is)
 own_crafts_forge_nothing arts x es js w fits carries lengths run (events.CraftStatus c v s d base have) j new range good names (Moves m) =
-    let len = ap (λ (f : Fixed). f.signature_len) ((signs arts x es js w fits carries run).nodes v m.node m.is_there).fixed in
+    let fixed = ((signs arts x es js w fits carries run).nodes v m.node m.is_there).fixed in
     let flow : Flow = record { src = s; dst = d } in
     let other = both (is_node x d) (not (s.0 == d.0)) range.3 in
-    arrived_unforged arts x es js w new (events.CraftStatus c v s d base have) j m c (slot_alone flow base have None []) carries len names
-    (status_fits x.signature_len base have flow (node_small arts x fits s range.2) (node_small arts x fits d other.0) range.4 range.5) (All-nil (λ p. IsTrue (arts.is_good p.body))) (tt, (tt, tt))
+    arrived_unforged arts x es js w new (events.CraftStatus c v s d base have) j m c (slot_alone flow base have None []) carries fixed names
+    (status_fits x.topology.format x.signature_len base have flow (node_small arts x fits s range.2) (node_small arts x fits d other.0) range.4 range.5) (All-nil (λ p. IsTrue (arts.is_good p.body))) (tt, (tt, tt))
     (one_input _ m.input m.reaches)
 own_crafts_forge_nothing arts x es js w fits carries lengths run (events.Rel a b p) j new range good names (Moves m) = absurd names
 own_crafts_forge_nothing arts x es js w fits carries lengths run (events.Prio a b c d f p) j new range good names (Moves m) = absurd names

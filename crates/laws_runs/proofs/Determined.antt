@@ -124,13 +124,15 @@ not_both arts x es old w v (events.Inject a b c) j m s = s.is_craft
 not_both arts x es old w v (events.CraftStatus a b c d f g) j m s = s.is_craft
 
 -- the arts fit the acting node
-arts_fit_it : (arts : Arts) (x : Setting) (es : List Event) (js : List Entry) (old w : World) (e : Event) (j : Entry) → SettingFits arts x → Carries arts
+arts_fit_it : (arts : Arts) (x : Setting) (es : List Event) (js : List Entry) (old w : World) (e : Event) (j : Entry) → SettingFits arts x
+    → Carries x.topology.format arts
     → Clean arts x es js old → (m : Move arts x es old e j w) → ArtsFit arts m.node.fixed m.node.signer
 arts_fit_it arts x es js old w e j fits carries run m =
     arts_fit arts x (Good arts x es js) (acting e) m.node fits ((signs arts x es js old fits carries run).nodes (acting e) m.node m.is_there)
 
 -- which keeps what a node keeps
-kept_there : (arts : Arts) (x : Setting) (es : List Event) (js : List Entry) (old w : World) (e : Event) (j : Entry) → SettingFits arts x → Carries arts
+kept_there : (arts : Arts) (x : Setting) (es : List Event) (js : List Entry) (old w : World) (e : Event) (j : Entry) → SettingFits arts x
+    → Carries x.topology.format arts
     → Clean arts x es js old → (m : Move arts x es old e j w) → IsKept arts m.node
 kept_there arts x es js old w e j fits carries run m =
     let is = (signs arts x es js old fits carries run).nodes (acting e) m.node m.is_there in
@@ -138,7 +140,8 @@ kept_there arts x es js old w e j fits carries run m =
     read_off x Q (acting e) m.node
     (node_weaker (sizes_at x (Good arts x es js) (acting e)) Q (λ o good. subst (λ (f : Fixed). IsTrue (is_signed arts f o)) (sym is.fixed) good.right) m.node is.holds)
 
-pub one_turn : (arts : Arts) (x : Setting) (es : List Event) (js : List Entry) (old w v : World) (e : Event) (j : Entry) → SettingFits arts x → Carries arts
+pub one_turn : (arts : Arts) (x : Setting) (es : List Event) (js : List Entry) (old w v : World) (e : Event) (j : Entry) → SettingFits arts x
+    → Carries x.topology.format arts
     → Clean arts x es js old → InRange x es e → Turn arts x es old e j w → Turn arts x es old e j v → w ≡ v
 one_turn arts x es js old w v e j fits carries run range (Moves m) (Moves n) =
     by_moves arts carries.bodies x es old w v e j m n (arts_fit_it arts x es js old w e j fits carries run m) (reached arts x es js old w e j fits carries run range m)

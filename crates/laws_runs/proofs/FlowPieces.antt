@@ -9,8 +9,9 @@ use Rattle.std.proofs.lemmas.List.Concat.{flat_map-append}
 use Rattle.sp_base.specs.Lists.{IsPrefix}
 use Rattle.sp_base.specs.declared.id.Flow.{Flow}
 use Rattle.sp_base.specs.declared.id.NodeId.{NodeId}
-use Rattle.sp_msg.proofs.GoodFields.{no_kack, no_krel}
-use Rattle.sp_msg.specs.Bodies.{HasGoodFields, payload_of}
+use Rattle.sp_frame.specs.Objects.{is_of}
+use Rattle.sp_frame.specs.declared.kind.Kind.TheVariants as kinds
+use Rattle.sp_msg.specs.Bodies.{payload_of}
 use Rattle.sp_msg.specs.declared.body.Ack.{Ack}
 use Rattle.sp_msg.specs.declared.body.Body.{Body}
 use Rattle.sp_msg.specs.declared.body.Body.TheVariants as bodies
@@ -25,6 +26,7 @@ use Rattle.sp_rules.specs.Answers.{ack_answer, is_new, prio_answer, rel_answer, 
 use Rattle.sp_rules.specs.Arts.{Arts}
 use Rattle.sp_rules.specs.Flow.{FlowState, acknowledged_by, flow_said, number_said, pushed, received}
 use Rattle.sp_rules.specs.Handle.{Arrival, handle, handle_all, heard_where, offer_to, weight_effects}
+use Rattle.sp_rules.specs.Lives.{are_held, is_dated}
 use Rattle.sp_rules.specs.Parts.{Parts, is_signed}
 use Rattle.sp_rules.specs.Pieces.{Piece, WeightPiece, PrioAckPiece, PrioPiece, ReportPiece, AckPiece, RelPiece}
 use Rattle.sp_rules.specs.Prio as prio
@@ -33,7 +35,7 @@ use Rattle.sp_rules.specs.PrioPeer as rows
 use Rattle.sp_rules.specs.PrioPeer.{PrioPeer}
 use Rattle.sp_rules.specs.Rel.{RelState, admit_ack, admit_rel, delivery, flow_in, is_from, is_to, judge_ack_of, judge_rel_of, rel_effects, reported, with_flow, with_peer, told as told_peer, peer_in}
 use Rattle.sp_rules.specs.Store.{Store, entry_in, expired_entries, removed}
-use Rattle.sp_rules.specs.Weights.{held}
+use Rattle.sp_rules.specs.Weights.{WeightState, held}
 use Rattle.sp_rules.specs.declared.answers.Item.{Item}
 use Rattle.sp_rules.specs.declared.answers.Item.TheVariants as items
 use Rattle.sp_rules.specs.declared.answers.PrioAnswer.{PrioAnswer}
@@ -41,9 +43,14 @@ use Rattle.sp_rules.specs.declared.answers.PrioAnswer.TheVariants as prios
 use Rattle.sp_rules.specs.declared.rel.AckJudged.TheVariants as acks
 use Rattle.sp_rules.specs.declared.rel.RelJudged.TheVariants as rels
 use Rattle.sp_rules.specs.declared.store.Entry.{Entry}
+use Rattle.sp_rules.specs.declared.weights.Offer.TheVariants as offers
 use Rattle.laws_node.specs.Asked.{NewKeep}
-use Rattle.laws_node.proofs.AskedLemmas.{new_left, new_right}
+use Rattle.laws_node.specs.Sizes.{Sizes}
+use Rattle.laws_node.specs.Stores.{IsPrio}
+use Rattle.laws_node.proofs.AskedLemmas.{new_both, new_left, new_right}
 use Rattle.laws_node.proofs.Handles as judged
+use Rattle.laws_node.proofs.Handles.{AllFit, PieceFits}
+use Rattle.laws_node.proofs.Tables.{cond_either}
 use Rattle.sp_runs.specs.Told.{Message, delivered_by, signed_by}
 use Rattle.laws_runs.specs.Flows.{IsIn}
 use Rattle.laws_runs.proofs.FlowFacts.{FlowAt, RelIs, cases_flow, delivered_next, flow_acked, flow_of, flow_received, flow_took, prefix_length, same_rows_is, with_flow_is}
@@ -155,11 +162,77 @@ pub record Handles (C : Type 0) (s d : NodeId) (S D : List Message) (c : ℕ) (u
   pub low : c ≤ length (D ++ told_here u s d es)
   pub unsigned : flat_map signed_by es ≡ []
 
--- a new object of format 1 says of the flow what was sent and acknowledged
+-- a message that is none of a K-path flow
+abbrev pub IsOnePath : Body → Type 0
+IsOnePath (bodies.Krel r) = ⊥
+IsOnePath (bodies.Kack a) = ⊥
+IsOnePath _ = Unit {0}
+
+-- a new object says of the flow what was sent and acknowledged
 pub record Vouched (C : Type 0) (s d : NodeId) (S : List Message) (c : ℕ) (o : Kept) : Type 0 where
-  pub fields : HasGoodFields o.body
+  pub one_path : IsOnePath o.body
   pub message : C → (m : Rel) → o.body ≡ bodies.Rel m → m.src ≡ s → m.dst ≡ d → IsIn S m.seq m.payload
   pub ack : (a : Ack) → o.body ≡ bodies.Ack a → a.src ≡ s → a.dst ≡ d → a.seq ≤ c
+
+-- ---- what is new of pieces that fit is none of a K-path flow
+
+update_plain : (me : NodeId) (w : WeightState) (body : Body) → offer_to me w body ≡ offers.New → IsOnePath body
+update_plain me w (bodies.Prio b) e = tt
+update_plain me w (bodies.Rel b) e = tt
+update_plain me w (bodies.Ack b) e = tt
+update_plain me w (bodies.Weight b) e = tt
+update_plain me w (bodies.Krel b) e = absurd (cc)
+update_plain me w (bodies.Kack b) e = absurd (cc)
+update_plain me w (bodies.Epoch b) e = tt
+
+prio_plain : (body : Body) → IsPrio body → IsOnePath body
+prio_plain (bodies.Prio b) is = tt
+prio_plain (bodies.Rel b) is = absurd is
+prio_plain (bodies.Ack b) is = absurd is
+prio_plain (bodies.Weight b) is = absurd is
+prio_plain (bodies.Krel b) is = absurd is
+prio_plain (bodies.Kack b) is = absurd is
+prio_plain (bodies.Epoch b) is = absurd is
+
+ack_plain : (body : Body) → is_of kinds.Ack body ≡ true → IsOnePath body
+ack_plain (bodies.Prio b) is = tt
+ack_plain (bodies.Rel b) is = tt
+ack_plain (bodies.Ack b) is = tt
+ack_plain (bodies.Weight b) is = tt
+ack_plain (bodies.Krel b) is = absurd (cc)
+ack_plain (bodies.Kack b) is = absurd (cc)
+ack_plain (bodies.Epoch b) is = tt
+
+rel_plain : (body : Body) → is_of kinds.Rel body ≡ true → IsOnePath body
+rel_plain (bodies.Prio b) is = tt
+rel_plain (bodies.Rel b) is = tt
+rel_plain (bodies.Ack b) is = tt
+rel_plain (bodies.Weight b) is = tt
+rel_plain (bodies.Krel b) is = absurd (cc)
+rel_plain (bodies.Kack b) is = absurd (cc)
+rel_plain (bodies.Epoch b) is = tt
+
+piece_plain : (k : Sizes) (arts : Arts) (at : Arrival) (p : Parts) (piece : Piece) → PieceFits k piece
+    → NewKeep (λ o. IsOnePath o.body) (handle arts at p piece).answered
+piece_plain k arts at p (WeightPiece o) fits =
+    (λ new. update_plain at.fixed.me p.weights o.body (judged.new_weight (is_signed arts at.fixed o) (offer_to at.fixed.me p.weights o.body) new).1, tt)
+piece_plain k arts at p (PrioAckPiece number) fits = tt
+piece_plain k arts at p (PrioPiece number o) fits = (
+  λ new. prio_plain o.body (judged.is_prio p.prio o.body at.now
+      (judged.new_prio (is_signed arts at.fixed o) (is_dated p.lives o.body) (judge_prio p.prio o.body at.now) new).1),
+  tt,
+)
+piece_plain k arts at p (ReportPiece flow sboot dboot base have) fits = tt
+piece_plain k arts at p (AckPiece flow o) fits = (λ new. ack_plain o.body fits.1, tt)
+piece_plain k arts at p (RelPiece flow o) fits = (λ new. rel_plain o.body fits.1, tt)
+
+pub new_plain : (k : Sizes) (arts : Arts) (at : Arrival) (p : Parts) (pieces : List Piece) → AllFit k pieces
+    → NewKeep (λ o. IsOnePath o.body) (handle_all arts at p pieces).answered
+new_plain k arts at p [] fit = tt
+new_plain k arts at p (piece ∷ pieces) fit =
+    let done = handle arts at p piece in
+    new_both (λ o. IsOnePath o.body) done.answered (handle_all arts at done.parts pieces).answered (piece_plain k arts at p piece fit.0)
+    (new_plain k arts at done.parts pieces fit.1)
 
 module _ (C : Type 0) (s d : NodeId) (S : List Message) (c : ℕ) (u : NodeId) (different : s ≡ d → ⊥) where
   still : (D : List Message) (r r2 : RelState) (es : List Effect) → Quiet es → r2.me ≡ r.me → r2.flows ≡ r.flows → RelIs C s d S D c u r → (C → IsPrefix D S) → c ≤ length D
@@ -188,7 +261,7 @@ module _ (C : Type 0) (s d : NodeId) (S : List Message) (c : ℕ) (u : NodeId) (
     not_to : r.me ≡ a.dst → ⊥
     at_source : r.me ≡ a.src → a.seq ≤ (flow_in r.flows (flow_of a.src a.dst)).at.have
 
-  got_ack : (r : RelState) (flow : Flow) (body : Body) → HasGoodFields body → judge_ack_of r flow body ≡ acks.New → GotAck r body
+  got_ack : (r : RelState) (flow : Flow) (body : Body) → IsOnePath body → judge_ack_of r flow body ≡ acks.New → GotAck r body
   got_ack r flow (bodies.Ack a) good new =
       let facts = new_ack r flow a new in
       let same : flow ≡ flow_of a.src a.dst = same_flow r flow a.src a.dst facts.ends in
@@ -209,13 +282,13 @@ module _ (C : Type 0) (s d : NodeId) (S : List Message) (c : ℕ) (u : NodeId) (
   got_ack r flow (bodies.Prio b) good new = absurd (cc)
   got_ack r flow (bodies.Weight b) good new = absurd (cc)
   got_ack r flow (bodies.Krel b) good new = absurd (cc)
-  got_ack r flow (bodies.Kack b) good new = absurd (no_kack b good)
+  got_ack r flow (bodies.Kack b) good new = absurd good
   got_ack r flow (bodies.Epoch b) good new = absurd (cc)
 
   ack_taken : (D : List Message) (r : RelState) (flow : Flow) (o : Kept) → judge_ack_of r flow o.body ≡ acks.New → Vouched C s d S c o → RelIs C s d S D c u r → (C → IsPrefix D S) → c ≤ length D
       → Handles C s d S D c u (admit_ack r o) []
   ack_taken D r flow o new vouched h prefix low =
-      let got = got_ack r flow o.body vouched.fields new in
+      let got = got_ack r flow o.body vouched.one_path new in
       let a = got.a in
       let said : flow_said o.body ≡ flow_of a.src a.dst = ap flow_said got.is in
       let number : number_said o.body ≡ a.seq = ap number_said got.is in
@@ -248,7 +321,7 @@ module _ (C : Type 0) (s d : NodeId) (S : List Message) (c : ℕ) (u : NodeId) (
     not_from : r.me ≡ m.src → ⊥
     next : m.seq ≡ (flow_in r.flows (flow_of m.src m.dst)).at.have + 1
 
-  got_rel : (r : RelState) (flow : Flow) (body : Body) → HasGoodFields body → judge_rel_of r flow body ≡ rels.New → GotRel r body
+  got_rel : (r : RelState) (flow : Flow) (body : Body) → IsOnePath body → judge_rel_of r flow body ≡ rels.New → GotRel r body
   got_rel r flow (bodies.Rel m) good new =
       let facts = new_rel r flow m.src m.dst m.seq new in
       let same : flow ≡ flow_of m.src m.dst = same_flow r flow m.src m.dst facts.ends in
@@ -262,7 +335,7 @@ module _ (C : Type 0) (s d : NodeId) (S : List Message) (c : ℕ) (u : NodeId) (
   got_rel r flow (bodies.Ack b) good new = absurd (cc)
   got_rel r flow (bodies.Prio b) good new = absurd (cc)
   got_rel r flow (bodies.Weight b) good new = absurd (cc)
-  got_rel r flow (bodies.Krel b) good new = absurd (no_krel b good)
+  got_rel r flow (bodies.Krel b) good new = absurd good
   got_rel r flow (bodies.Kack b) good new = absurd (cc)
   got_rel r flow (bodies.Epoch b) good new = absurd (cc)
 
@@ -355,7 +428,7 @@ module _ (C : Type 0) (s d : NodeId) (S : List Message) (c : ℕ) (u : NodeId) (
   rel_taken : (D : List Message) (r : RelState) (flow : Flow) (o : Kept) → judge_rel_of r flow o.body ≡ rels.New → Vouched C s d S c o → RelIs C s d S D c u r → (C → IsPrefix D S) → c ≤ length D
       → Handles C s d S D c u (admit_rel r o) (rel_effects r o)
   rel_taken D r flow o new vouched h prefix low =
-      let got = got_rel r flow o.body vouched.fields new in
+      let got = got_rel r flow o.body vouched.one_path new in
       elim (cases_Bool (is_to r (flow_said o.body))) [
         | inl t ↦ let done = delivered_here D r o got t vouched h prefix low in rw t done
         | inr t ↦ let done = kept_here D r o got t vouched h prefix low in rw t done
@@ -369,6 +442,7 @@ module _ (C : Type 0) (s d : NodeId) (S : List Message) (c : ℕ) (u : NodeId) (
   heard_rel prios.BadEnd v number p = refl
   heard_rel prios.Expired v number p = refl
   heard_rel prios.BadSig v number p = refl
+  heard_rel prios.Epoch v number p = refl
 
   reported_flows : (t : Bool) (r : RelState) (x : RelState) → x.me ≡ r.me → x.flows ≡ r.flows → ((cond t x r).me ≡ r.me) × ((cond t x r).flows ≡ r.flows)
   reported_flows true r x e f = (e, f)
@@ -381,21 +455,22 @@ module _ (C : Type 0) (s d : NodeId) (S : List Message) (c : ℕ) (u : NodeId) (
       (λ t. still D p.rel p.rel (weight_effects o.body) (quiet_weight o.body) refl refl h prefix low) (still D p.rel p.rel [] quiet_none refl refl h prefix low)
   one_handled D arts at p (PrioAckPiece number) new h prefix low = still D p.rel p.rel _ (quiet_acked p.prio at.from.0 number) refl refl h prefix low
   one_handled D arts at p (PrioPiece number o) new h prefix low =
-      let answer = prio_answer (is_signed arts at.fixed o) (judge_prio p.prio o.body at.now) in
+      let answer = prio_answer (is_signed arts at.fixed o) (is_dated p.lives o.body) (judge_prio p.prio o.body at.now) in
       let admitted = record p { prio = admit_prio p.prio o (Some at.from) } in
       subst (λ r. Handles C s d S D c u r (cond (is_new (items.Prio answer)) (prio_effects p.prio o (Some at.from)) []))
       (sym (heard_rel answer at.from number (cond (is_new (items.Prio answer)) admitted p)))
       (chosen D (items.Prio answer) admitted p (prio_effects p.prio o (Some at.from))
       (λ t. still D p.rel p.rel _ (quiet_prio p.prio o (Some at.from)) refl refl h prefix low) (still D p.rel p.rel [] quiet_none refl refl h prefix low))
-  one_handled D arts at p (ReportPiece flow base have) new h prefix low =
+  one_handled D arts at p (ReportPiece flow sboot dboot base have) new h prefix low =
       let same = reported_flows (flow_in p.rel.flows flow).active p.rel (with_peer p.rel at.from (told_peer (peer_in p.rel.peers at.from) flow base have)) refl refl in
-      still D p.rel (reported p.rel at.from flow base have) [] quiet_none same.0 same.1 h prefix low
+      cond_either (λ (q : Parts). Handles C s d S D c u q.rel []) (are_held p.lives flow sboot dboot) (record p { rel = reported p.rel at.from flow base have }) p
+      (still D p.rel (reported p.rel at.from flow base have) [] quiet_none same.0 same.1 h prefix low) (still D p.rel p.rel [] quiet_none refl refl h prefix low)
   one_handled D arts at p (AckPiece flow o) new h prefix low =
-      chosen D (items.Ack (ack_answer (is_signed arts at.fixed o) (judge_ack_of p.rel flow o.body))) (record p { rel = admit_ack p.rel o }) p []
-      (λ t. ack_taken D p.rel flow o (judged.new_ack _ _ t).1 (new.0 t) h prefix low) (still D p.rel p.rel [] quiet_none refl refl h prefix low)
+      chosen D (items.Ack (ack_answer (is_signed arts at.fixed o) (is_dated p.lives o.body) (judge_ack_of p.rel flow o.body))) (record p { rel = admit_ack p.rel o }) p []
+      (λ t. ack_taken D p.rel flow o (judged.new_ack _ _ _ t).1 (new.0 t) h prefix low) (still D p.rel p.rel [] quiet_none refl refl h prefix low)
   one_handled D arts at p (RelPiece flow o) new h prefix low =
-      chosen D (items.Rel (rel_answer (is_signed arts at.fixed o) (judge_rel_of p.rel flow o.body))) (record p { rel = admit_rel p.rel o }) p (rel_effects p.rel o)
-      (λ t. rel_taken D p.rel flow o (judged.new_rel _ _ t).1 (new.0 t) h prefix low) (still D p.rel p.rel [] quiet_none refl refl h prefix low)
+      chosen D (items.Rel (rel_answer (is_signed arts at.fixed o) (is_dated p.lives o.body) (judge_rel_of p.rel flow o.body))) (record p { rel = admit_rel p.rel o }) p (rel_effects p.rel o)
+      (λ t. rel_taken D p.rel flow o (judged.new_rel _ _ _ t).1 (new.0 t) h prefix low) (still D p.rel p.rel [] quiet_none refl refl h prefix low)
 
   pub all_handled : (D : List Message) (arts : Arts) (at : Arrival) (p : Parts) (pieces : List Piece) → NewKeep (Vouched C s d S c) (handle_all arts at p pieces).answered
       → RelIs C s d S D c u p.rel → (C → IsPrefix D S) → c ≤ length D → Handles C s d S D c u (handle_all arts at p pieces).parts.rel (handle_all arts at p pieces).effects

@@ -251,7 +251,8 @@ stayed_on arts x s d es js w new e j same m h =
 
 -- ---- a whole run
 
-flows_on : (arts : Arts) (x : Setting) (es : List Event) (js : List Entry) (old : World) (e : Event) (j : Entry) (new : World) → SettingFits arts x → Carries arts
+flows_on : (arts : Arts) (x : Setting) (es : List Event) (js : List Entry) (old : World) (e : Event) (j : Entry) (new : World) → SettingFits arts x
+    → Carries x.topology.format arts
     → Signs arts x es js old → InRange x es e → (turn : Turn arts x es old e j new) → forged_in arts x es js old e j new turn ≡ None
     → (s d : NodeId) → IsTrue (is_correct x d) → (s ≡ d → ⊥) → FlowsHold arts x s d es js old → FlowsHold arts x s d (es ++ e ∷ []) (js ++ j ∷ []) new
 flows_on arts x es js old e j new fits reads signs range (Moves m) unforged s d to different h =
@@ -263,7 +264,8 @@ flows_on arts x es js old e j new fits reads signs range (Moves m) unforged s d 
     m.step m.journal is (new_known arts x es js m.output.answered nothing.1) h (h.nodes (acting e) m.node m.is_there))
 flows_on arts x es js old e j new fits reads signs range (Stays m) unforged s d to different h = stayed_on arts x s d es js old new e j signs.entries m h
 
-pub flows_hold : (arts : Arts) (x : Setting) (es : List Event) (js : List Entry) (w : World) → SettingFits arts x → Carries arts → Clean arts x es js w
+pub flows_hold : (arts : Arts) (x : Setting) (es : List Event) (js : List Entry) (w : World) → SettingFits arts x → Carries x.topology.format arts
+    → Clean arts x es js w
     → (s d : NodeId) → is_node x s ≡ true → IsTrue (is_correct x d) → (s ≡ d → ⊥) → FlowsHold arts x s d es js w
 flows_hold arts x es js w fits reads Starts s d from to different = starts arts x s d different from (first _ _ to)
   where

@@ -214,9 +214,11 @@ module _ (arts : Arts) (reads : ReadsBack arts) (C : Type 0) (s d : NodeId) (S D
 
   -- ---- the destination's acknowledgement
 
-  pub settled_step : (r : RelState) (ack : Ack) (o : Kept) (es : List Effect) → due r ≡ Some ack → o.body ≡ bodies.Ack ack → ack.dst ≡ u → IsTrue (arts.is_good (bodies.Ack ack)) → Quiet es
-      → RelIs C s d S D c u r → (C → IsPrefix D S) → c ≤ length D → Stepped arts C s d S [] D c u (es ++ Signed (arts.spell (bodies.Ack ack)) ∷ []) (settled r o)
-  settled_step r ack o es is_due body mine good quiet h prefix low =
+  pub settled_step : (r : RelState) (raw ack : Ack) (sboot dboot : ℕ) (o : Kept) (es : List Effect) → due r ≡ Some raw
+      → ack ≡ record raw { sboot = sboot; dboot = dboot } → o.body ≡ bodies.Ack ack → ack.dst ≡ u → IsTrue (arts.is_good (bodies.Ack ack)) → Quiet es
+      → RelIs C s d S D c u r → (C → IsPrefix D S) → c ≤ length D
+      → Stepped arts C s d S [] D c u (es ++ Signed (arts.spell (bodies.Ack ack)) ∷ []) (settled r o)
+  settled_step r raw ack sboot dboot o es is_due dated body mine good quiet h prefix low =
       let all = es ++ Signed (arts.spell (bodies.Ack ack)) ∷ [] in
       let flow = flow_said o.body in
       let f = flow_in r.flows flow in
@@ -232,7 +234,8 @@ module _ (arts : Arts) (reads : ReadsBack arts) (C : Type 0) (s d : NodeId) (S D
         | inl e ↦ let same : bodies.Ack ack ≡ bodies.Rel m = no_other_is_spelled_so arts reads (bodies.Ack ack) (bodies.Rel m) good good_m e in cc
         | inr g ↦ let x : false ≡ true = g in cc
       ] in
-      let seq : ack.seq ≡ (flow_in r.flows (flow_of ack.src ack.dst)).at.have = due_number r ack is_due in
+      let seq : ack.seq ≡ (flow_in r.flows (flow_of ack.src ack.dst)).at.have =
+      subst (λ (a : Ack). a.seq ≡ (flow_in r.flows (flow_of a.src a.dst)).at.have) (sym dated) (due_number r raw is_due) in
       elim (cases_flow flow (flow_of s d)) [
         | inl e ↦
             let both : flow_of ack.src ack.dst ≡ flow_of s d = sym said ∙ e in
@@ -281,7 +284,7 @@ module _ (arts : Arts) (reads : ReadsBack arts) (C : Type 0) (s d : NodeId) (S D
       after c2 when other = go (due_place r) refl
         where
           go : (place : Option ℕ) → due_place r ≡ place → RelIs C s d S D c2 u (settled_at r o place)
-          go None e = absurd (let f : None ≡ Some ack = rw e at is_due in cc)
+          go None e = absurd (let f : None ≡ Some raw = rw e at is_due in cc)
           go (Some place) e = let x = with_flow_is C s d S D S D c c2 u r (flow_said o.body) (concluded (flow_in r.flows (flow_said o.body)) o) (found_ends r.flows (flow_said o.body)) h when other in
               record { me = x.me; row = x.row; flow = x.flow }
 

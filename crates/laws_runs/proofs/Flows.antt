@@ -6,7 +6,6 @@ use Rattle.std.proofs.lemmas.List.{append-nil}
 use Rattle.std.proofs.lemmas.List.Concat.{flat_map-append}
 use Rattle.sp_base.specs.Lists.{IsPrefix}
 use Rattle.sp_base.specs.declared.id.NodeId.{NodeId}
-use Rattle.sp_msg.specs.Bodies.{HasGoodFields}
 use Rattle.sp_msg.specs.Views.{signer_of}
 use Rattle.sp_msg.specs.declared.body.Ack.{Ack}
 use Rattle.sp_msg.specs.declared.body.Body.TheVariants as bodies
@@ -20,28 +19,29 @@ use Rattle.sp_rules.specs.Arrivals.{arrival_at, handled, link_after, pieces_in, 
 use Rattle.sp_rules.specs.Arts.{Arts}
 use Rattle.sp_rules.specs.Handle.{weight_effects}
 use Rattle.sp_rules.specs.Link.{advanced}
+use Rattle.sp_rules.specs.Lives.{held_boot}
 use Rattle.sp_rules.specs.Node.{NodeState, call_refusal, called, kept_or, link_in, signed_now, signed_once, with_link}
 use Rattle.sp_rules.specs.Polls.{frame_to, polled}
 use Rattle.sp_rules.specs.Weights.{held}
 use Rattle.sp_rules.specs.Parts.{Fixed}
 use Rattle.sp_rules.specs.Prio.{admit_prio, expired_effects, prio_effects}
 use Rattle.sp_rules.specs.PrioPeer.{gone}
-use Rattle.sp_rules.specs.Rel.{RelState, due, pushed_in, served, took}
+use Rattle.sp_rules.specs.Rel.{RelState, pushed_in, served, took}
 use Rattle.sp_rules.specs.Sends.{PrioSend, mask_in, no_paths, own_prio, prio_body, prio_refusal, prio_sent, rel_body, rel_number, rel_refusal, rel_sent, send_prio_refusal, signer_refusal, weight_body, weight_number, weight_refusal, weight_sent}
 use Rattle.sp_rules.specs.Steps as steps
 use Rattle.sp_rules.specs.Steps.{Input, NodeStep, Output, accepted, arrived, refused_call, refused_send, replied}
 use Rattle.sp_rules.specs.Store.{oldest}
-use Rattle.sp_rules.specs.Ticks.{ack_effects, at_time, settled_by, time_after}
+use Rattle.sp_rules.specs.Ticks.{ack_effects, at_time, due_now, settled_by, time_after}
 use Rattle.sp_rules.specs.Window.{greatest}
 use Rattle.sp_rules.specs.declared.answers.Item.{Item}
 use Rattle.sp_rules.specs.declared.node.NodeRefused.{NodeRefused}
 use Rattle.laws_node.specs.Inputs.{InputFits, ReadsBack}
 use Rattle.laws_node.specs.Asked.{NewKeep}
-use Rattle.laws_node.proofs.Arrived.{step_fields}
-use Rattle.laws_node.proofs.Carried.{pieces_new}
+use Rattle.laws_node.specs.Sizes.{Sizes}
+use Rattle.laws_node.proofs.Arrived.{FewFit, sections_fit, where_fits}
 use Rattle.laws_node.proofs.About.{ack_good, prio_good, rel_good, weight_good}
 use Rattle.laws_node.proofs.Own.{either}
-use Rattle.laws_node.proofs.Reliable.{due_fits}
+use Rattle.laws_node.proofs.Reliable.{dated_due, due_now_fits}
 use Rattle.sp_runs.specs.Forgery.{is_among}
 use Rattle.sp_runs.specs.Inputs.{acting, crafted_frame, flipped, input_of, slot_alone}
 use Rattle.sp_node_words.specs.Words.{refused_word}
@@ -59,7 +59,7 @@ use Rattle.laws_runs.specs.Flows.{IsIn, AreNumbered}
 use Rattle.laws_runs.specs.Premises.{Carries}
 use Rattle.laws_runs.specs.Signs.{Good, Known, NodeIs, sizes_at}
 use Rattle.laws_runs.proofs.FlowFacts.{RelIs, flow_of}
-use Rattle.laws_runs.proofs.FlowPieces.{Handles, Vouched, all_handled, quiet_append, quiet_expired, quiet_gone, quiet_none, quiet_prio, quiet_weight, told_here}
+use Rattle.laws_runs.proofs.FlowPieces.{Handles, IsOnePath, Vouched, all_handled, new_plain, quiet_append, quiet_expired, quiet_gone, quiet_none, quiet_prio, quiet_weight, told_here}
 use Rattle.laws_runs.proofs.FlowSteps.{Stepped, acked_here, acked_none, sent_step, served_step, settled_step, signed_other, silent, took_step}
 use Rattle.laws_runs.proofs.Lists.{among_cons}
 use Rattle.laws_runs.proofs.Goods.{arts_fit}
@@ -114,23 +114,29 @@ new_three P Q R S join [] one two three = tt
 new_three P Q R S join (a ∷ others) one two three =
     (λ new. join a.0 (one.0 new) (two.0 new) (three.0 new), new_three P Q R S join others one.1 two.1 three.1)
 
--- what a node takes from a datagram is of format 1
-new_fields : (arts : Arts) (x : Setting) (P : Kept → Type 0) (v : NodeId) (n : NodeState) (u : NodeId) (bytes : List ℕ) (output : Output)
+-- what a node takes from a datagram is none of a K-path flow
+new_on_one : (arts : Arts) (x : Setting) (P : Kept → Type 0) (v : NodeId) (n : NodeState) (u : NodeId) (bytes : List ℕ) (output : Output)
     (after : NodeState) → SettingFits arts x → NodeStep arts n (steps.Datagram u bytes) output after → InputFits (steps.Datagram u bytes) → NodeIs x P v n
-    → NewKeep (λ o. HasGoodFields o.body) output.answered
-new_fields arts x P v n u bytes output after fits step input is =
-    subst (λ (o : Output). NewKeep (λ y. HasGoodFields y.body) o.answered) (sym step.0) (go (call_refusal n u))
+    → NewKeep (λ o. IsOnePath o.body) output.answered
+new_on_one arts x P v n u bytes output after fits step input is =
+    subst (λ (o : Output). NewKeep (λ y. IsOnePath y.body) o.answered) (sym step.0) (go (call_refusal n u))
   where
-    go : (r : Option NodeRefused) → NewKeep (λ o. HasGoodFields o.body) (refused_call r (arrived arts n u bytes)).answered
-    go None = pieces_new (λ y. HasGoodFields y.body) arts (arrival_at n u) n.parts
-        (pieces_where (reply_at arts n u bytes) (pieces_in (sections_in arts n.fixed bytes)))
-        (step_fields (sizes_at x P v) arts n u bytes (arts_fit arts x P v n fits is) input is.holds)
+    k : Sizes
+    k = sizes_at x P v
+
+    few : FewFit k (pieces_where (reply_at arts n u bytes) (pieces_in (sections_in arts n.fixed bytes)))
+    few = where_fits k (pieces_in (sections_in arts n.fixed bytes)) (reply_at arts n u bytes)
+        (sections_fit k arts n.fixed n.signer bytes (arts_fit arts x P v n fits is) input is.holds.fixed.format is.holds.fixed.signature_len
+        (sections_in arts n.fixed bytes) refl)
+
+    go : (r : Option NodeRefused) → NewKeep (λ o. IsOnePath o.body) (refused_call r (arrived arts n u bytes)).answered
+    go None = new_plain k arts (arrival_at n u) n.parts (pieces_where (reply_at arts n u bytes) (pieces_in (sections_in arts n.fixed bytes))) few.fit
     go (Some refused) = tt
 
 vouched : (arts : Arts) → ReadsBack arts → (x : Setting) (s d : NodeId) (es : List Event) (js : List Entry) (w : World) → IsTrue (is_correct x d) → FlowsHold arts x s d es js w → (o : Kept) → Known arts x es js o → IsTrue (arts.is_good o.body)
-    → HasGoodFields o.body → Vouched (IsTrue (is_correct x s)) s d (sent es js s d) (acknowledged arts es js s d) o
-vouched arts reads x s d es js w d_correct h o known good fields = record {
-  fields = fields;
+    → IsOnePath o.body → Vouched (IsTrue (is_correct x s)) s d (sent es js s d) (acknowledged arts es js s d) o
+vouched arts reads x s d es js w d_correct h o known good one_path = record {
+  one_path = one_path;
   message = λ correct m is src dst.
       let signer : signer_of o.body ≡ s = ap signer_of is ∙ src in
       let among : is_among (arts.spell o.body) (signed es js (signer_of o.body)) ≡ true = known (subst (λ v. IsTrue (is_correct x v)) (sym signer) correct) in
@@ -196,14 +202,17 @@ module _ (C : Type 0) (x : Setting) (P : Kept → Type 0) (arts : Arts) (s d : N
       → Done [] output.effects after
   tick_done n now output after step is h prefix low =
       subst (λ es. Stepped arts C s d S [] D c u es after.parts.rel) (sym (ap (λ (o : Output). o.effects) step.0))
-      (subst (λ (m : NodeState). Stepped arts C s d S [] D c u (expired_effects n.parts.prio (time_after n now) ++ ack_effects arts (due n.parts.rel) (signer_refusal n.signer)) m.parts.rel) (sym step.1) (go (due n.parts.rel) refl (signer_refusal n.signer)))
+      (subst (λ (m : NodeState). Stepped arts C s d S [] D c u (expired_effects n.parts.prio (time_after n now) ++ ack_effects arts (due_now n) (signer_refusal n.signer)) m.parts.rel) (sym step.1) (go (due_now n) refl (signer_refusal n.signer)))
     where
-      go : (o : Option Ack) → due n.parts.rel ≡ o → (r : Option SendRefused) → Stepped arts C s d S [] D c u (expired_effects n.parts.prio (time_after n now) ++ ack_effects arts o r) (settled_by arts (at_time n now) o r).parts.rel
+      go : (o : Option Ack) → due_now n ≡ o → (r : Option SendRefused)
+          → Stepped arts C s d S [] D c u (expired_effects n.parts.prio (time_after n now) ++ ack_effects arts o r) (settled_by arts (at_time n now) o r).parts.rel
       go None is_due r = silent arts reads C s d S D c u different _ n.parts.rel (quiet_append _ [] (quiet_expired n.parts.prio (time_after n now)) quiet_none) h prefix low
       go (Some ack) is_due (Some refusal) = silent arts reads C s d S D c u different _ n.parts.rel (quiet_append _ [] (quiet_expired n.parts.prio (time_after n now)) quiet_none) h prefix low
       go (Some ack) is_due None =
-          let facts = due_fits (sizes_at x P u) n.signer.index n.parts.rel ack is_due is.holds.parts.rel in
-          settled_step arts reads C s d S D c u different n.parts.rel ack (signed_now arts (at_time n now) (bodies.Ack ack)) (expired_effects n.parts.prio (time_after n now)) is_due refl facts.mine
+          let facts = due_now_fits (sizes_at x P u) n ack is_due is.holds.parts in
+          let d_now = dated_due n ack is_due in
+          settled_step arts reads C s d S D c u different n.parts.rel d_now.raw ack (held_boot n.parts.lives d_now.raw.src) (held_boot n.parts.lives d_now.raw.dst)
+          (signed_now arts (at_time n now) (bodies.Ack ack)) (expired_effects n.parts.prio (time_after n now)) d_now.is_due d_now.is refl facts.mine
           (ack_good arts (sizes_at x P u) n ack (arts_fit arts x P u n fits is) is_due is.holds)
           (quiet_expired n.parts.prio (time_after n now)) h prefix low
 
@@ -312,7 +321,7 @@ pub crafted_bytes : (t : Bool) (c : NodeId) (bytes : List ℕ) (i : Input) → c
 crafted_bytes true c bytes i e = (bytes, cc)
 crafted_bytes false c bytes i e = absurd (cc)
 
-module _ (arts : Arts) (x : Setting) (s d : NodeId) (different : s ≡ d → ⊥) (fits : SettingFits arts x) (carries : Carries arts) (d_correct : IsTrue (is_correct x d)) (es : List Event) (js : List Entry) (w new : World) (j : Entry) where
+module _ (arts : Arts) (x : Setting) (s d : NodeId) (different : s ≡ d → ⊥) (fits : SettingFits arts x) (carries : Carries x.topology.format arts) (d_correct : IsTrue (is_correct x d)) (es : List Event) (js : List Entry) (w new : World) (j : Entry) where
   abbrev C : Type 0
   C = IsTrue (is_correct x s)
 
@@ -335,9 +344,9 @@ module _ (arts : Arts) (x : Setting) (s d : NodeId) (different : s ≡ d → ⊥
   arrived_at v u n i output after step input is known h rel (bytes, same) =
       let moves : NodeStep arts n (steps.Datagram u bytes) output after = subst (λ y. NodeStep arts n y output after) same step in
       let good = new_have (λ o. IsTrue (arts.is_good o.body)) arts n i output after carries.goods input step in
-      let fields = new_fields arts x (Good arts x es js) v n u bytes output after fits moves (subst InputFits same input) is in
+      let fields = new_on_one arts x (Good arts x es js) v n u bytes output after fits moves (subst InputFits same input) is in
       datagram_done C x (Good arts x es js) arts s d S D c v different fits carries.bodies n u bytes output after moves
-      (new_three (Known arts x es js) (λ o. IsTrue (arts.is_good o.body)) (λ o. HasGoodFields o.body) (Vouched C s d S c)
+      (new_three (Known arts x es js) (λ o. IsTrue (arts.is_good o.body)) (λ o. IsOnePath o.body) (Vouched C s d S c)
       (vouched arts carries.bodies x s d es js w d_correct h) output.answered known good fields) rel h.prefix h.low
 
   pub stepped : (e : Event) (n : NodeState) (number : ℕ) (i : Input) (output : Output) (after : NodeState) → input_of arts x es w n e ≡ Some i → InputFits i → NodeStep arts n i output after → Says x number output j

@@ -36,7 +36,8 @@ use Rattle.laws_runs.proofs.There.{correct_nodes_are_there}
 
 -- ---- what was delivered
 
-in_order : (arts : Arts) (x : Setting) (es : List Event) (js : List Entry) (w : World) → SettingFits arts x → Carries arts → Clean arts x es js w
+in_order : (arts : Arts) (x : Setting) (es : List Event) (js : List Entry) (w : World) → SettingFits arts x → Carries x.topology.format arts
+    → Clean arts x es js w
     → (s d : NodeId) → IsTrue (is_correct x s) → IsTrue (is_correct x d) → IsPrefix (delivered es js s d) (sent es js s d)
 in_order arts x es js w fits reads run s d from to = elim (cases_eq s.0 d.0) [
   | inl same ↦
@@ -49,7 +50,8 @@ in_order arts x es js w fits reads run s d from to = elim (cases_eq s.0 d.0) [
 -- ---- what a place holds
 
 -- a node that isn't correct makes no step, so no effect is told of it
-no_effects : (arts : Arts) (x : Setting) (es : List Event) (js : List Entry) (w : World) → SettingFits arts x → Carries arts → Clean arts x es js w
+no_effects : (arts : Arts) (x : Setting) (es : List Event) (js : List Entry) (w : World) → SettingFits arts x → Carries x.topology.format arts
+    → Clean arts x es js w
     → (u : NodeId) → is_correct x u ≡ false → effects_at es js u ≡ []
 no_effects arts x es js w fits reads Starts u wrong = refl
 no_effects arts x es js w fits reads (Turned {es = es'} {js = js'} {old = old} {e = e} {j = j} run range (Moves m) unforged) u wrong =
@@ -79,7 +81,8 @@ place_few : (capacity : ℕ) (p : PrioState) (place : ℕ) → PlacesAre capacit
 place_few capacity p zero are = omega (arith, length-map p.inbox.entries as_held, are.inbox.few, are.inbox.capacity_is)
 place_few capacity p (suc v) are = omega (arith, length-map (row_store p.peers (suc v)).entries as_held, row_few capacity (suc v) p.peers are.peers)
 
-in_bounds : (arts : Arts) (x : Setting) (es : List Event) (js : List Entry) (w : World) → SettingFits arts x → Carries arts → Clean arts x es js w
+in_bounds : (arts : Arts) (x : Setting) (es : List Event) (js : List Entry) (w : World) → SettingFits arts x → Carries x.topology.format arts
+    → Clean arts x es js w
     → (u : NodeId) (place : ℕ) → length (held es js u place) ≤ x.store
 in_bounds arts x es js w fits reads run u place = elim (cases_Bool (is_correct x u)) [
   | inl right ↦
@@ -93,7 +96,8 @@ in_bounds arts x es js w fits reads run u place = elim (cases_Bool (is_correct x
 
 -- ---- all promises
 
-pub is_good : (arts : Arts) (x : Setting) (es : List Event) (js : List Entry) (w : World) → SettingFits arts x → Carries arts → Clean arts x es js w → IsGood x es js
+pub is_good : (arts : Arts) (x : Setting) (es : List Event) (js : List Entry) (w : World) → SettingFits arts x → Carries x.topology.format arts
+    → Clean arts x es js w → IsGood x es js
 is_good arts x es js w fits reads run = record {
   prefix = λ s d from to. in_order arts x es js w fits reads run s d from to;
   once = λ s d to. (priority_is_kept arts x es js w fits reads run s d to).once;

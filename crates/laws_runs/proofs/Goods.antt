@@ -39,6 +39,7 @@ use Rattle.laws_runs.specs.Signs.{Good, Known, NodeIs}
 use Rattle.laws_runs.specs.Premises.{IsOfBytes}
 use Rattle.sp_rules.specs.Rel.{pairs_of}
 use Rattle.laws_runs.proofs.Acks.{all_none}
+use Rattle.laws_runs.proofs.Unborn.{no_flows, none_at_start}
 use Rattle.laws_runs.proofs.Lists.{among_left, among_right, both, first_among, told_more}
 use Rattle.laws_runs.proofs.Tables.{same_node}
 
@@ -52,7 +53,7 @@ all_of P (piece ∷ pieces) h = All-append P (objects_of piece) (objects_in piec
     one (WeightPiece o) h = All-cons P o [] h (All-nil P)
     one (PrioAckPiece number) h = All-nil P
     one (PrioPiece number o) h = All-cons P o [] h (All-nil P)
-    one (ReportPiece flow base have) h = All-nil P
+    one (ReportPiece flow sboot dboot base have) h = All-nil P
     one (AckPiece flow o) h = All-cons P o [] h (All-nil P)
     one (RelPiece flow o) h = All-cons P o [] h (All-nil P)
 
@@ -61,7 +62,7 @@ of_all P [] h = tt
 of_all P (WeightPiece o ∷ pieces) h = (All-head P o (objects_in pieces) h, of_all P pieces (All-tail P o (objects_in pieces) h))
 of_all P (PrioAckPiece number ∷ pieces) h = (tt, of_all P pieces h)
 of_all P (PrioPiece number o ∷ pieces) h = (All-head P o (objects_in pieces) h, of_all P pieces (All-tail P o (objects_in pieces) h))
-of_all P (ReportPiece flow base have ∷ pieces) h = (tt, of_all P pieces h)
+of_all P (ReportPiece flow sboot dboot base have ∷ pieces) h = (tt, of_all P pieces h)
 of_all P (AckPiece flow o ∷ pieces) h = (All-head P o (objects_in pieces) h, of_all P pieces (All-tail P o (objects_in pieces) h))
 of_all P (RelPiece flow o ∷ pieces) h = (All-head P o (objects_in pieces) h, of_all P pieces (All-tail P o (objects_in pieces) h))
 
@@ -188,11 +189,12 @@ starts arts x P fits u n e =
       total = refl;
       shape = shapes_begin (fixed_of x u) (first_signer x u) (link_keys x u) x.buffer x.store;
       holds = boot_holds P (fixed_of x u) (first_signer x u) (link_keys x u) x.buffer x.store (record {
-        me = in_range (nodes_of x.topology) u (nodes_hold x.topology.height 0 x.topology.nodes fits.topology.nodes) among;
+        me = in_range x.topology.format (nodes_of x.topology) u (nodes_hold x.topology.format x.topology.height 0 x.topology.nodes fits.topology.ranges.nodes) among;
         boot = omega arith;
         topology = fits.topology;
         short = fits.short;
         signer = record { index = omega arith; bound = omega arith; total = fits.total };
       });
       acks = all_none (pairs_of (nodes_of x.topology));
+      unborn = record { lives = none_at_start (nodes_of x.topology); flows = no_flows (pairs_of (nodes_of x.topology)) };
     })

@@ -37,11 +37,12 @@ good arts x es js o h =
 -- the same sizes are read off the node
 pub read_off : (x : Setting) (P : Kept → Type 0) (u : NodeId) (n : NodeState) → NodeHolds (sizes_at x P u) n → NodeHolds (sizes_of P n) n
 read_off x P u n h =
-    subst (λ (k : Sizes). NodeHolds k n) (same h.fixed.me h.fixed.nodes h.fixed.edges h.fixed.signature_len h.parts.rel.bound h.parts.prio.capacity) h
+    subst (λ (k : Sizes). NodeHolds k n) (same h.fixed.me h.fixed.format h.fixed.nodes h.fixed.edges h.fixed.signature_len h.parts.rel.bound h.parts.prio.capacity) h
   where
-    same : n.fixed.me ≡ u → nodes_of n.fixed.topology ≡ nodes_of x.topology → n.fixed.topology.edges ≡ x.topology.edges → n.fixed.signature_len ≡ x.signature_len
+    same : n.fixed.me ≡ u → n.fixed.topology.format ≡ x.topology.format → nodes_of n.fixed.topology ≡ nodes_of x.topology
+        → n.fixed.topology.edges ≡ x.topology.edges → n.fixed.signature_len ≡ x.signature_len
         → n.parts.rel.bound ≡ x.buffer → n.parts.prio.inbox.capacity ≡ x.store → sizes_at x P u ≡ sizes_of P n
-    same a b c d e f = sym (rw (a, b, c, d, e, f) refl)
+    same a b c d e f g = sym (rw (a, b, c, d, e, f, g) refl)
 
 all_good : (arts : Arts) (x : Setting) (es : List Event) (js : List Entry) (pieces : List Piece) → AllKeep (Good arts x es js) pieces
     → AllKeep (λ o. IsTrue (is_good_in arts x es js o)) pieces

@@ -4,6 +4,7 @@ pub mod Lives
 pub mod Reaches
 pub mod Goods
 pub mod Acks
+pub mod Unborn
 pub mod Signed
 pub mod Passes
 pub mod Bounds

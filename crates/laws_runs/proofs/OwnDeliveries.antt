@@ -18,17 +18,18 @@ use Rattle.sp_rules.specs.Arrivals.{arrival_at, pieces_in, pieces_where, reply_a
 use Rattle.sp_rules.specs.Arts.{Arts}
 use Rattle.sp_rules.specs.Flow.{flow_said}
 use Rattle.sp_rules.specs.Handle.{Arrival, handle, handle_all, heard_where, offer_to, weight_effects}
+use Rattle.sp_rules.specs.Lives.{are_held, is_dated}
 use Rattle.sp_rules.specs.Node.{NodeState, call_refusal}
 use Rattle.sp_rules.specs.Parts.{Parts, is_signed}
 use Rattle.sp_rules.specs.Pieces.{Piece, WeightPiece, PrioAckPiece, PrioPiece, ReportPiece, AckPiece, RelPiece}
 use Rattle.sp_rules.specs.Polls.{frame_to}
 use Rattle.sp_rules.specs.Prio.{admit_prio, expired_effects, judge_prio, prio_effects}
-use Rattle.sp_rules.specs.Rel.{RelState, admit_ack, admit_rel, delivery, due, flow_in, is_from, is_to, judge_ack_of, judge_rel, judge_rel_of, peer_in, rel_effects, told, with_peer}
+use Rattle.sp_rules.specs.Rel.{RelState, admit_ack, admit_rel, delivery, flow_in, is_from, is_to, judge_ack_of, judge_rel, judge_rel_of, peer_in, rel_effects, reported, told, with_peer}
 use Rattle.sp_rules.specs.Sends.{own_prio, prio_sent, rel_number, rel_refusal, rel_sent, send_prio_refusal, signer_refusal, weight_body, weight_number, weight_refusal, weight_sent}
 use Rattle.sp_rules.specs.Steps as steps
 use Rattle.sp_rules.specs.Steps.{Input, NodeStep, Output, accepted, refused_call, refused_send}
 use Rattle.sp_rules.specs.Store.{oldest}
-use Rattle.sp_rules.specs.Ticks.{ack_effects, time_after}
+use Rattle.sp_rules.specs.Ticks.{ack_effects, due_now, time_after}
 use Rattle.sp_rules.specs.Weights.{held}
 use Rattle.sp_rules.specs.declared.answers.Item.{Item}
 use Rattle.sp_rules.specs.declared.answers.Item.TheVariants as items
@@ -78,10 +79,15 @@ module _ (u : NodeId) where
   heard_me prios.BadEnd v number p = refl
   heard_me prios.Expired v number p = refl
   heard_me prios.BadSig v number p = refl
+  heard_me prios.Epoch v number p = refl
 
   either_me : (t : Bool) (r s : RelState) → s.me ≡ r.me → (cond t s r).me ≡ r.me
   either_me true r s same = same
   either_me false r s same = refl
+
+  where_me : (t : Bool) (q p : Parts) → q.rel.me ≡ p.rel.me → (cond t q p).rel.me ≡ p.rel.me
+  where_me true q p same = same
+  where_me false q p same = refl
 
   other_end : (r : RelState) (flow : Flow) (src dst : NodeId) (seq : ℕ) → r.me ≡ u → judge_rel r flow src dst seq ≡ rels.New → (src.0 == u.0) ≡ false
   other_end r flow src dst seq me new =
@@ -112,17 +118,18 @@ module _ (u : NodeId) where
       (λ t. (me, (quiet_weight o.body).no_delivery u)) me
   piece_keeps arts at p (PrioAckPiece n) me = (me, (quiet_acked p.prio at.from.0 n).no_delivery u)
   piece_keeps arts at p (PrioPiece n o) me =
-      let answer = prio_answer (is_signed arts at.fixed o) (judge_prio p.prio o.body at.now) in
+      let answer = prio_answer (is_signed arts at.fixed o) (is_dated p.lives o.body) (judge_prio p.prio o.body at.now) in
       let admitted = record p { prio = admit_prio p.prio o (Some at.from) } in
       let done = chosen (items.Prio answer) admitted p (prio_effects p.prio o (Some at.from)) (λ t. (me, (quiet_prio p.prio o (Some at.from)).no_delivery u)) me in
       (heard_me answer at.from n (cond (is_new (items.Prio answer)) admitted p) ∙ done.0, done.1)
-  piece_keeps arts at p (ReportPiece flow base have) me =
-      (either_me (flow_in p.rel.flows flow).active p.rel (with_peer p.rel at.from (told (peer_in p.rel.peers at.from) flow base have)) refl ∙ me, refl)
+  piece_keeps arts at p (ReportPiece flow sboot dboot base have) me =
+      let reports = either_me (flow_in p.rel.flows flow).active p.rel (with_peer p.rel at.from (told (peer_in p.rel.peers at.from) flow base have)) refl in
+      (where_me (are_held p.lives flow sboot dboot) (record p { rel = reported p.rel at.from flow base have }) p reports ∙ me, refl)
   piece_keeps arts at p (AckPiece flow o) me =
-      chosen (items.Ack (ack_answer (is_signed arts at.fixed o) (judge_ack_of p.rel flow o.body))) (record p { rel = admit_ack p.rel o }) p [] (λ t. (me, refl)) me
+      chosen (items.Ack (ack_answer (is_signed arts at.fixed o) (is_dated p.lives o.body) (judge_ack_of p.rel flow o.body))) (record p { rel = admit_ack p.rel o }) p [] (λ t. (me, refl)) me
   piece_keeps arts at p (RelPiece flow o) me =
-      chosen (items.Rel (rel_answer (is_signed arts at.fixed o) (judge_rel_of p.rel flow o.body))) (record p { rel = admit_rel p.rel o }) p (rel_effects p.rel o)
-      (λ t. (me, delivery_unheard (is_to p.rel (flow_said o.body)) o.body (other_source p.rel flow o.body me (judged.new_rel (is_signed arts at.fixed o) (judge_rel_of p.rel flow o.body) t).1))) me
+      chosen (items.Rel (rel_answer (is_signed arts at.fixed o) (is_dated p.lives o.body) (judge_rel_of p.rel flow o.body))) (record p { rel = admit_rel p.rel o }) p (rel_effects p.rel o)
+      (λ t. (me, delivery_unheard (is_to p.rel (flow_said o.body)) o.body (other_source p.rel flow o.body me (judged.new_rel (is_signed arts at.fixed o) (is_dated p.lives o.body) (judge_rel_of p.rel flow o.body) t).1))) me
 
   all_keep : (arts : Arts) (at : Arrival) (p : Parts) (pieces : List Piece) → p.rel.me ≡ u → Keeps (handle_all arts at p pieces).parts (handle_all arts at p pieces).effects
   all_keep arts at p [] me = (me, refl)
@@ -154,8 +161,8 @@ module _ (u : NodeId) where
       rw step.0 (called (call_refusal old v) (steps.arrived arts old v bytes)
       (all_keep arts (arrival_at old v) old.parts (pieces_where (reply_at arts old v bytes) (pieces_in (sections_in arts old.fixed bytes))) me).1)
   step_unheard arts old new (steps.Tick now) output step me =
-      rw step.0 (none_both (expired_effects old.parts.prio (time_after old now)) (ack_effects arts (due old.parts.rel) (signer_refusal old.signer))
-      ((quiet_expired old.parts.prio (time_after old now)).no_delivery u) (acks arts (due old.parts.rel) (signer_refusal old.signer)))
+      rw step.0 (none_both (expired_effects old.parts.prio (time_after old now)) (ack_effects arts (due_now old) (signer_refusal old.signer))
+      ((quiet_expired old.parts.prio (time_after old now)).no_delivery u) (acks arts (due_now old) (signer_refusal old.signer)))
   step_unheard arts old new (steps.SendRel d payload) output step me = rw step.0 (sent (rel_refusal old d) (rel_number old d) (rel_sent arts old d payload) refl)
   step_unheard arts old new (steps.SendPrio m) output step me =
       rw step.output_is (sent (send_prio_refusal old m step.choice) old.parts.prio.next (prio_sent arts old m step.choice)
@@ -167,7 +174,8 @@ module _ (u : NodeId) where
 
 -- ---- a whole run
 
-pub none_of_its_own : (arts : Arts) (x : Setting) (es : List Event) (js : List Entry) (w : World) → SettingFits arts x → Carries arts → Clean arts x es js w
+pub none_of_its_own : (arts : Arts) (x : Setting) (es : List Event) (js : List Entry) (w : World) → SettingFits arts x → Carries x.topology.format arts
+    → Clean arts x es js w
     → (u : NodeId) → delivered es js u u ≡ []
 none_of_its_own arts x es js w fits reads Starts u = refl
 none_of_its_own arts x es js w fits reads (Turned {es = es'} {js = js'} {old = old} {e = e} {j = j} run range (Moves m) unforged) u =

@@ -64,7 +64,8 @@ pub called_good : (P : Kept → Type 0) (o : Output) (r : Option NodeRefused) �
 called_good P o None h = h
 called_good P o (Some refused) h = tt
 
-pub pass_unforged : (arts : Arts) (x : Setting) (es : List Event) (js : List Entry) (w new : World) (u v : NodeId) (number : ℕ) (j : Entry) → SettingFits arts x → Carries arts
+pub pass_unforged : (arts : Arts) (x : Setting) (es : List Event) (js : List Entry) (w new : World) (u v : NodeId) (number : ℕ) (j : Entry)
+    → SettingFits arts x → Carries x.topology.format arts
     → Clean arts x es js w → (m : Move arts x es w (events.Pass u v number) j new) → forged arts x es js w m.node m.input m.output ≡ None
 pass_unforged arts x es js w new u v number j fits reads run m =
     let h = signs arts x es js w fits reads run in
@@ -119,7 +120,8 @@ calm arts x es js w new e j m what i reaches other is =
     let same : m.input ≡ i = cc in
     never _ what (quiet arts x es js w m.node m.input m.output m.after m.step (λ u bytes f. other u bytes (sym same ∙ f))) is
 
-by_move : (arts : Arts) (x : Setting) (es : List Event) (js : List Entry) (w new : World) (e : Event) (j : Entry) → SettingFits arts x → Carries arts → Clean arts x es js w
+by_move : (arts : Arts) (x : Setting) (es : List Event) (js : List Entry) (w new : World) (e : Event) (j : Entry) → SettingFits arts x
+    → Carries x.topology.format arts → Clean arts x es js w
     → (m : Move arts x es w e j new) (what : What) → forged arts x es js w m.node m.input m.output ≡ Some what → IsHostile e
 by_move arts x es js w new (events.Pass u v number) j fits reads run m what is = never _ what (pass_unforged arts x es js w new u v number j fits reads run m) is
 by_move arts x es js w new (events.Rel s d p) j fits reads run m what is = calm arts x es js w new _ j m what _ refl (λ u b f. cc) is

@@ -6,7 +6,6 @@ use Rattle.std.proofs.lemmas.Bool.{cases_Bool, eq-eqb, eqb-true, ne_eqb}
 use Rattle.std.proofs.Math.ListN.{drop_of_length-le}
 use Rattle.std.proofs.lemmas.List.{append-nil}
 use Rattle.std.proofs.lemmas.List.Elements.{All-cons, All-nil}
-use Rattle.sp_base.specs.declared.format.TheConstants.{FORMAT_1}
 use Rattle.sp_base.specs.declared.id.EdgeId.{EdgeId}
 use Rattle.sp_base.specs.declared.id.NodeId.{NodeId}
 use Rattle.sp_rules.specs.Arts.{Arts}
@@ -122,14 +121,15 @@ starts arts x fits = record {
     ascends u =
         let edges = x.topology.edges in
         let found = neighbours_from u.0 0 edges in
-        found_ascend FORMAT_1 u.0 (length edges) x.topology.height x.topology.nodes edges found fits.topology.nodes fits.topology.graph.are_edges (omega arith)
+        found_ascend x.topology.format u.0 (length edges) x.topology.height x.topology.nodes edges found fits.topology.ranges.nodes fits.topology.ranges.graph.are_edges (omega arith)
         (ap (λ (es : List Edge). found ++ neighbours_from u.0 (length edges) es) (drop_of_length-le edges (omega arith)) ∙ append-nil found)
 
     empty : (u : NodeId) (place : ℕ) → no_shelf ≡ shelf (store_at (node_at_boot x u).parts.prio place)
     empty u zero = refl
     empty u (suc v) = sym (no_rows x.store (suc v) (map as_neighbour (neighbours_of (fixed_of x u))))
 
-shares_on : (arts : Arts) (x : Setting) (es : List Event) (js : List JournalEntry) (old : World) (e : Event) (j : JournalEntry) (new : World) → SettingFits arts x → Carries arts
+shares_on : (arts : Arts) (x : Setting) (es : List Event) (js : List JournalEntry) (old : World) (e : Event) (j : JournalEntry) (new : World)
+    → SettingFits arts x → Carries x.topology.format arts
     → Signs arts x es js old → InRange x es e → (turn : Turn arts x es old e j new) → forged_in arts x es js old e j new turn ≡ None
     → SharePart x es js old → SharePart x (es ++ e ∷ []) (js ++ j ∷ []) new
 shares_on arts x es js old e j new fits reads signs range (Moves m) unforged h =

@@ -1,5 +1,5 @@
 -- What each step tells of each place of the node.
-use Rattle.sp_base.specs.declared.format.TheConstants.{FORMAT_1}
+use Rattle.sp_base.proofs.FormatLemmas.{few_nodes}
 use Rattle.sp_msg.proofs.GoodFields.{good_prio}
 use Rattle.laws_runs.specs.Places.{PlacesAre, StoreIs, shelf}
 use Rattle.std.proofs.Common.{◌≡◌, ◌<◌, ℕ, zero, suc, ◌-◌, Bool, true, false, cond, List, [], ◌∷◌, ◌++◌, length, Option, Some, None, refl, sym, ap, subst, ◌∙◌, inl, inr, arith}
@@ -8,7 +8,7 @@ use Rattle.std.proofs.lemmas.Bool.{cases_Bool}
 use Rattle.std.proofs.lemmas.List.{append-nil}
 use Rattle.sp_base.specs.declared.id.NodeId.{NodeId}
 use Rattle.sp_base.specs.declared.limits.TheConstants.{MAX_MESSAGES}
-use Rattle.sp_msg.specs.Bodies.{HasGoodFields}
+use Rattle.sp_msg.specs.Bodies.{HasGoodFieldsIn}
 use Rattle.sp_msg.specs.declared.body.Ack.{Ack}
 use Rattle.sp_msg.specs.declared.body.Body.{Body}
 use Rattle.sp_msg.specs.declared.body.Body.TheVariants as bodies
@@ -23,6 +23,7 @@ use Rattle.sp_rules.specs.Arts.{Arts}
 use Rattle.sp_rules.specs.Flow.{flow_said}
 use Rattle.sp_rules.specs.Handle.{Arrival, handle, handle_all, heard_where, offer_to, weight_effects}
 use Rattle.sp_rules.specs.Link.{advanced}
+use Rattle.sp_rules.specs.Lives.{are_held, is_dated}
 use Rattle.sp_rules.specs.Node.{NodeState, call_refusal, called, kept_or, link_in, signed_now, signed_once, with_link}
 use Rattle.sp_rules.specs.Parts.{Parts, is_signed}
 use Rattle.sp_rules.specs.Pieces.{Piece, WeightPiece, PrioAckPiece, PrioPiece, ReportPiece, AckPiece, RelPiece}
@@ -31,12 +32,12 @@ use Rattle.sp_rules.specs.Prio as prio
 use Rattle.sp_rules.specs.Prio.{PrioState, admit_prio, judge_prio, no_peer, peer_in, prio_effects}
 use Rattle.sp_rules.specs.PrioPeer as rows
 use Rattle.sp_rules.specs.PrioPeer.{PrioPeer, filled, landed, launch, launched, settled}
-use Rattle.sp_rules.specs.Rel.{admit_ack, admit_rel, delivery, due, is_to, judge_ack_of, judge_rel_of, pushed_in, rel_effects}
+use Rattle.sp_rules.specs.Rel.{admit_ack, admit_rel, delivery, is_to, judge_ack_of, judge_rel_of, pushed_in, rel_effects, reported}
 use Rattle.sp_rules.specs.Sends.{after_take_prio, after_take_rel, mask_in, no_paths, own_prio, prio_body, prio_refusal, prio_sent, rel_body, rel_number, rel_refusal, rel_sent, send_prio_refusal, signer_refusal, weight_body, weight_number, weight_refusal, weight_sent}
 use Rattle.sp_rules.specs.Steps as steps
 use Rattle.sp_rules.specs.Steps.{Input, NodeStep, Output, accepted, arrived, refused_call, refused_send, replied}
 use Rattle.sp_rules.specs.Store.{Store, less_expired, next_besides, oldest, said}
-use Rattle.sp_rules.specs.Ticks.{ack_effects, at_time, settled_by, time_after}
+use Rattle.sp_rules.specs.Ticks.{ack_effects, at_time, due_now, settled_by, time_after}
 use Rattle.sp_rules.specs.Weights.{held as held_weight}
 use Rattle.sp_rules.specs.declared.answers.Item.TheVariants as items
 use Rattle.sp_rules.specs.declared.answers.PrioAnswer.{PrioAnswer}
@@ -80,14 +81,14 @@ rel_away false body = λ place. tt
 none_away : AllAway []
 none_away = λ place. tt
 
-small_of : (body : Body) → IsPrio body → HasGoodFields body → said (λ p. p.src.0) body < IDS
-small_of (bodies.Prio p) is good = omega (arith, (good_prio FORMAT_1 p good).src.1)
-small_of (bodies.Rel r) is good = absurd is
-small_of (bodies.Ack a) is good = absurd is
-small_of (bodies.Weight w) is good = absurd is
-small_of (bodies.Krel w) is good = absurd is
-small_of (bodies.Kack w) is good = absurd is
-small_of (bodies.Epoch w) is good = absurd is
+small_of : (format : ℕ) (body : Body) → IsPrio body → HasGoodFieldsIn format body → said (λ p. p.src.0) body < IDS
+small_of format (bodies.Prio p) is good = omega (arith, (good_prio format p good).src.1, few_nodes format)
+small_of format (bodies.Rel r) is good = absurd is
+small_of format (bodies.Ack a) is good = absurd is
+small_of format (bodies.Weight w) is good = absurd is
+small_of format (bodies.Krel w) is good = absurd is
+small_of format (bodies.Kack w) is good = absurd is
+small_of format (bodies.Epoch w) is good = absurd is
 
 -- what goes in flight changes neither the place nor its store
 launched_stays : (q : PrioPeer) (e : Option Entry) → ((launched q e).peer ≡ q.peer) × ((launched q e).store ≡ q.store)
@@ -101,7 +102,7 @@ filled_stays (suc room) q =
     let others = filled_stays room (launch q) in
     (others.0 ∙ first.0, others.1 ∙ first.1)
 
-module _ (capacity : ℕ) where
+module _ (capacity format : ℕ) where
   -- ---- pieces
 
   acked_turns : (p : PrioState) (v number : ℕ) → PlacesAre capacity p → Turns capacity p (prio.acked_effects p v number) (prio.acked p v number)
@@ -127,6 +128,7 @@ module _ (capacity : ℕ) where
   heard_turns prios.BadEnd v number p h = turns_same capacity p.prio p.prio [] none_away refl refl h
   heard_turns prios.Expired v number p h = turns_same capacity p.prio p.prio [] none_away refl refl h
   heard_turns prios.BadSig v number p h = turns_same capacity p.prio p.prio [] none_away refl refl h
+  heard_turns prios.Epoch v number p h = turns_same capacity p.prio p.prio [] none_away refl refl h
 
   same_prio : (t : Bool) (x p : Parts) → x.prio ≡ p.prio → (cond t x p).prio ≡ p.prio
   same_prio true x p e = e
@@ -135,44 +137,48 @@ module _ (capacity : ℕ) where
   quiet_turns : (old new : PrioState) (es : List Effect) → AllAway es → new ≡ old → PlacesAre capacity old → Turns capacity old es new
   quiet_turns old new es away e h = turns_same capacity old new es away (ap (λ (p : PrioState). p.inbox) e) (ap (λ (p : PrioState). p.peers) e) h
 
-  one_turns : (arts : Arts) (at : Arrival) (p : Parts) (piece : Piece) → NewKeep (λ o. HasGoodFields o.body) (handle arts at p piece).answered → PlacesAre capacity p.prio
+  one_turns : (arts : Arts) (at : Arrival) (p : Parts) (piece : Piece) → NewKeep (λ o. HasGoodFieldsIn format o.body) (handle arts at p piece).answered
+      → PlacesAre capacity p.prio
       → Turns capacity p.prio (handle arts at p piece).effects (handle arts at p piece).parts.prio
   one_turns arts at p (WeightPiece o) new h =
       let t = is_new (items.Weight (weight_answer (is_signed arts at.fixed o) (offer_to at.fixed.me p.weights o.body))) in
       quiet_turns p.prio (cond t (record p { weights = held_weight p.weights o }) p).prio (cond t (weight_effects o.body) []) (either_away t (weight_effects o.body) (weight_away o.body)) (same_prio t (record p { weights = held_weight p.weights o }) p refl) h
   one_turns arts at p (PrioAckPiece number) new h = acked_turns p.prio at.from.0 number h
   one_turns arts at p (PrioPiece number o) new h =
-      let answer = prio_answer (is_signed arts at.fixed o) (judge_prio p.prio o.body at.now) in
+      let answer = prio_answer (is_signed arts at.fixed o) (is_dated p.lives o.body) (judge_prio p.prio o.body at.now) in
       let admitted = record p { prio = admit_prio p.prio o (Some at.from) } in
       let es = prio_effects p.prio o (Some at.from) in
       let first : Turns capacity p.prio (cond (is_new (items.Prio answer)) es []) (cond (is_new (items.Prio answer)) admitted p).prio =
       elim (cases_Bool (is_new (items.Prio answer))) [
         | inl t ↦
-            let is = judged.is_prio p.prio o.body at.now (judged.new_prio (is_signed arts at.fixed o) (judge_prio p.prio o.body at.now) t).1 in
-            let done = admitted_turns capacity p.prio o (Some at.from) is (small_of o.body is (new.0 t)) h in
+            let is = judged.is_prio p.prio o.body at.now (judged.new_prio (is_signed arts at.fixed o) (is_dated p.lives o.body) (judge_prio p.prio o.body at.now) t).1 in
+            let done = admitted_turns capacity p.prio o (Some at.from) is (small_of format o.body is (new.0 t)) h in
             rw t done
         | inr t ↦ let same = turns_same capacity p.prio p.prio [] none_away refl refl h in rw t same
       ] in
       let after = cond (is_new (items.Prio answer)) admitted p in
       subst (λ xs. Turns capacity p.prio xs (heard_where answer at.from number after).prio) (append-nil (cond (is_new (items.Prio answer)) es []))
       (turns_on capacity p.prio after.prio (heard_where answer at.from number after).prio (cond (is_new (items.Prio answer)) es []) [] first (heard_turns answer at.from number after first.are))
-  one_turns arts at p (ReportPiece flow base have) new h = turns_same capacity p.prio p.prio [] none_away refl refl h
+  one_turns arts at p (ReportPiece flow sboot dboot base have) new h =
+      quiet_turns p.prio (handle arts at p (ReportPiece flow sboot dboot base have)).parts.prio [] none_away
+      (same_prio (are_held p.lives flow sboot dboot) (record p { rel = reported p.rel at.from flow base have }) p refl) h
   one_turns arts at p (AckPiece flow o) new h =
-      let t = is_new (items.Ack (ack_answer (is_signed arts at.fixed o) (judge_ack_of p.rel flow o.body))) in
+      let t = is_new (items.Ack (ack_answer (is_signed arts at.fixed o) (is_dated p.lives o.body) (judge_ack_of p.rel flow o.body))) in
       quiet_turns p.prio (cond t (record p { rel = admit_ack p.rel o }) p).prio (cond t [] []) (either_away t [] none_away) (same_prio t (record p { rel = admit_ack p.rel o }) p refl) h
   one_turns arts at p (RelPiece flow o) new h =
-      let t = is_new (items.Rel (rel_answer (is_signed arts at.fixed o) (judge_rel_of p.rel flow o.body))) in
+      let t = is_new (items.Rel (rel_answer (is_signed arts at.fixed o) (is_dated p.lives o.body) (judge_rel_of p.rel flow o.body))) in
       quiet_turns p.prio (cond t (record p { rel = admit_rel p.rel o }) p).prio (cond t (rel_effects p.rel o) []) (either_away t (rel_effects p.rel o) (rel_away (is_to p.rel (flow_said o.body)) o.body))
       (same_prio t (record p { rel = admit_rel p.rel o }) p refl) h
 
-  all_turns : (arts : Arts) (at : Arrival) (p : Parts) (pieces : List Piece) → NewKeep (λ o. HasGoodFields o.body) (handle_all arts at p pieces).answered → PlacesAre capacity p.prio
+  all_turns : (arts : Arts) (at : Arrival) (p : Parts) (pieces : List Piece)
+      → NewKeep (λ o. HasGoodFieldsIn format o.body) (handle_all arts at p pieces).answered → PlacesAre capacity p.prio
       → Turns capacity p.prio (handle_all arts at p pieces).effects (handle_all arts at p pieces).parts.prio
   all_turns arts at p [] new h = turns_same capacity p.prio p.prio [] none_away refl refl h
   all_turns arts at p (piece ∷ pieces) new h =
       let first = handle arts at p piece in
       let others = handle_all arts at first.parts pieces in
-      let one = one_turns arts at p piece (new_left (λ o. HasGoodFields o.body) first.answered others.answered new) h in
-      let rest = all_turns arts at first.parts pieces (new_right (λ o. HasGoodFields o.body) first.answered others.answered new) one.are in
+      let one = one_turns arts at p piece (new_left (λ o. HasGoodFieldsIn format o.body) first.answered others.answered new) h in
+      let rest = all_turns arts at first.parts pieces (new_right (λ o. HasGoodFieldsIn format o.body) first.answered others.answered new) one.are in
       turns_on capacity p.prio first.parts.prio others.parts.prio first.effects others.effects one rest
 
   -- ---- the other calls
@@ -207,10 +213,6 @@ module _ (capacity : ℕ) where
 
 -- ---- all cases
 
-called_new : (o : Output) (r : Option NodeRefused) → NewKeep (λ y. HasGoodFields y.body) o.answered → NewKeep (λ y. HasGoodFields y.body) (refused_call r o).answered
-called_new o None new = new
-called_new o (Some refused) new = tt
-
 module _ (x : Setting) (arts : Arts) (fits : SettingFits arts x) (P : Kept → Type 0) (u : NodeId) where
   abbrev Done : NodeState → Output → NodeState → Type 0
   Done n output after = Turns x.store n.parts.prio output.effects after.parts.prio
@@ -226,29 +228,29 @@ module _ (x : Setting) (arts : Arts) (fits : SettingFits arts x) (P : Kept → T
     where
       go : (r : Option NodeRefused) → output.effects ≡ (refused_call r (replied (steps.Frame (frame_to arts n v)))).effects
           → after ≡ kept_or r n (called n (with_link n v (advanced (link_in n v))) (polled n.fixed n.parts v)) → Done n output after
-      go None e f = by n output after (called n (with_link n v (advanced (link_in n v))) (polled n.fixed n.parts v)) [] e f (carried_turns x.store n.parts.prio v.0 h)
+      go None e f = by n output after (called n (with_link n v (advanced (link_in n v))) (polled n.fixed n.parts v)) [] e f (carried_turns x.store x.topology.format n.parts.prio v.0 h)
       go (Some refused) e f = by n output after n [] e f (still n h)
   turned n (steps.Datagram v bytes) output after step input is h = go (call_refusal n v) (ap (λ (o : Output). o.effects) step.0) step.1
     where
-      news : NewKeep (λ o. HasGoodFields o.body) (handled arts n v bytes).answered
-      news = pieces_new (λ y. HasGoodFields y.body) arts (arrival_at n v) n.parts (pieces_where (reply_at arts n v bytes) (pieces_in (sections_in arts n.fixed bytes)))
+      news : NewKeep (λ o. HasGoodFieldsIn x.topology.format o.body) (handled arts n v bytes).answered
+      news = pieces_new (λ y. HasGoodFieldsIn x.topology.format y.body) arts (arrival_at n v) n.parts (pieces_where (reply_at arts n v bytes) (pieces_in (sections_in arts n.fixed bytes)))
           (step_fields (sizes_at x P u) arts n v bytes (arts_fit arts x P u n fits is) input is.holds)
 
       go : (r : Option NodeRefused) → output.effects ≡ (refused_call r (arrived arts n v bytes)).effects
           → after ≡ kept_or r n (called n (with_link n v (link_after arts n v bytes)) (handled arts n v bytes).parts) → Done n output after
       go None e f = by n output after (called n (with_link n v (link_after arts n v bytes)) (handled arts n v bytes).parts) (handled arts n v bytes).effects e f
-          (all_turns x.store arts (arrival_at n v) n.parts (pieces_where (reply_at arts n v bytes) (pieces_in (sections_in arts n.fixed bytes))) news h)
+          (all_turns x.store x.topology.format arts (arrival_at n v) n.parts (pieces_where (reply_at arts n v bytes) (pieces_in (sections_in arts n.fixed bytes))) news h)
       go (Some refused) e f = by n output after n [] e f (still n h)
   turned n (steps.Tick now) output after step input is h =
-      by n output after (settled_by arts (at_time n now) (due n.parts.rel) (signer_refusal n.signer)) (prio.expired_effects n.parts.prio (time_after n now) ++ ack_effects arts (due n.parts.rel) (signer_refusal n.signer))
-      (ap (λ (o : Output). o.effects) step.0) step.1 (go (due n.parts.rel) (signer_refusal n.signer))
+      by n output after (settled_by arts (at_time n now) (due_now n) (signer_refusal n.signer)) (prio.expired_effects n.parts.prio (time_after n now) ++ ack_effects arts (due_now n) (signer_refusal n.signer))
+      (ap (λ (o : Output). o.effects) step.0) step.1 (go (due_now n) (signer_refusal n.signer))
     where
       go : (o : Option Ack) (r : Option SendRefused) → Turns x.store n.parts.prio (prio.expired_effects n.parts.prio (time_after n now) ++ ack_effects arts o r) (settled_by arts (at_time n now) o r).parts.prio
-      go None r = let t = expired_turns x.store n.parts.prio (time_after n now) h in
+      go None r = let t = expired_turns x.store x.topology.format n.parts.prio (time_after n now) h in
           turns_on x.store n.parts.prio (prio.expired n.parts.prio (time_after n now)) (prio.expired n.parts.prio (time_after n now)) (prio.expired_effects n.parts.prio (time_after n now)) [] t (turns_same x.store (prio.expired n.parts.prio (time_after n now)) (prio.expired n.parts.prio (time_after n now)) [] none_away refl refl t.are)
-      go (Some ack) (Some refusal) = let t = expired_turns x.store n.parts.prio (time_after n now) h in
+      go (Some ack) (Some refusal) = let t = expired_turns x.store x.topology.format n.parts.prio (time_after n now) h in
           turns_on x.store n.parts.prio (prio.expired n.parts.prio (time_after n now)) (prio.expired n.parts.prio (time_after n now)) (prio.expired_effects n.parts.prio (time_after n now)) [] t (turns_same x.store (prio.expired n.parts.prio (time_after n now)) (prio.expired n.parts.prio (time_after n now)) [] none_away refl refl t.are)
-      go (Some ack) None = let t = expired_turns x.store n.parts.prio (time_after n now) h in
+      go (Some ack) None = let t = expired_turns x.store x.topology.format n.parts.prio (time_after n now) h in
           turns_on x.store n.parts.prio (prio.expired n.parts.prio (time_after n now)) (prio.expired n.parts.prio (time_after n now)) (prio.expired_effects n.parts.prio (time_after n now)) (effects.Signed (arts.spell (bodies.Ack ack)) ∷ []) t
           (turns_same x.store (prio.expired n.parts.prio (time_after n now)) (prio.expired n.parts.prio (time_after n now)) (effects.Signed (arts.spell (bodies.Ack ack)) ∷ []) (λ place. (Signs_it, tt)) refl refl t.are)
   turned n (steps.SendRel dst payload) output after step input is h = go (rel_refusal n dst) (ap (λ (o : Output). o.effects) step.0) step.1
@@ -267,16 +269,16 @@ module _ (x : Setting) (arts : Arts) (fits : SettingFits arts x) (P : Kept → T
           let body = prio_body n m (mask_in step.choice) in
           let o = own_prio arts n m step.choice in
           by n output after (signed_once n (record n.parts { prio = admit_prio n.parts.prio o None })) (prio_sent arts n m step.choice) e f
-          (signed_turns x.store n.parts.prio (admit_prio n.parts.prio o None) (arts.spell body) (prio_effects n.parts.prio o None) h
-          (admitted_turns x.store n.parts.prio o None tt (small_of body tt facts.fields) h))
+          (signed_turns x.store x.topology.format n.parts.prio (admit_prio n.parts.prio o None) (arts.spell body) (prio_effects n.parts.prio o None) h
+          (admitted_turns x.store n.parts.prio o None tt (small_of x.topology.format body tt facts.fields) h))
       go (Some refused) free e f = by n output after n [] e f (still n h)
   turned n (steps.SetWeight v weight) output after step input is h = go (weight_refusal n v weight) (ap (λ (o : Output). o.effects) step.0) step.1
     where
       go : (r : Option SendRefused) → output.effects ≡ (refused_send r (accepted (weight_number n v) (weight_sent arts n v weight))).effects
           → after ≡ kept_or r n (signed_once n (record n.parts { weights = held_weight n.parts.weights (signed_now arts n (weight_body n v weight)) })) → Done n output after
       go None e f = by n output after (signed_once n (record n.parts { weights = held_weight n.parts.weights (signed_now arts n (weight_body n v weight)) })) (weight_sent arts n v weight) e f
-          (signed_turns x.store n.parts.prio n.parts.prio (arts.spell (weight_body n v weight)) (weight_effects (weight_body n v weight)) h
+          (signed_turns x.store x.topology.format n.parts.prio n.parts.prio (arts.spell (weight_body n v weight)) (weight_effects (weight_body n v weight)) h
           (turns_same x.store n.parts.prio n.parts.prio (weight_effects (weight_body n v weight)) (weight_away (weight_body n v weight)) refl refl h))
       go (Some refused) e f = by n output after n [] e f (still n h)
   turned n (steps.TakeRel src) output after step input is h = by n output after (after_take_rel n src) [] (ap (λ (o : Output). o.effects) step.0) step.1 (still n h)
-  turned n steps.TakePrio output after step input is h = by n output after (after_take_prio n) (rows.gone 0 whys.Taken (oldest n.parts.prio.inbox)) (ap (λ (o : Output). o.effects) step.0) step.1 (taken_turns x.store n.parts.prio h)
+  turned n steps.TakePrio output after step input is h = by n output after (after_take_prio n) (rows.gone 0 whys.Taken (oldest n.parts.prio.inbox)) (ap (λ (o : Output). o.effects) step.0) step.1 (taken_turns x.store x.topology.format n.parts.prio h)

@@ -21,13 +21,14 @@ use Rattle.sp_msg.specs.declared.kept.Kept.{Kept}
 use Rattle.sp_rules.specs.Answers.{ack_answer, is_new, prio_answer, rel_answer, weight_answer}
 use Rattle.sp_rules.specs.Arts.{Arts}
 use Rattle.sp_rules.specs.Handle.{Arrival, handle, handle_all, heard_where, offer_to, weight_effects}
+use Rattle.sp_rules.specs.Lives.{are_held, is_dated}
 use Rattle.sp_rules.specs.Parts.{Parts, is_signed}
 use Rattle.sp_rules.specs.Pieces.{Piece, WeightPiece, PrioAckPiece, PrioPiece, ReportPiece, AckPiece, RelPiece}
 use Rattle.sp_rules.specs.Prio as prio
 use Rattle.sp_rules.specs.Prio.{PrioState, admit_prio, acked_effects, is_here, is_node, judge_prio, marked, place_of, prio_effects, spread, window_at, window_in, windows_with}
 use Rattle.sp_rules.specs.PrioPeer as rows
 use Rattle.sp_rules.specs.PrioPeer.{PrioPeer}
-use Rattle.sp_rules.specs.Rel.{admit_ack, admit_rel, delivery, is_to, judge_ack_of, judge_rel_of, rel_effects}
+use Rattle.sp_rules.specs.Rel.{admit_ack, admit_rel, delivery, is_to, judge_ack_of, judge_rel_of, rel_effects, reported}
 use Rattle.sp_rules.specs.Flow.{flow_said}
 use Rattle.sp_rules.specs.Store.{Store, entry_in, expired_entries, removed, said}
 use Rattle.sp_rules.specs.Weights.{held}
@@ -46,6 +47,7 @@ use Rattle.laws_node.proofs.Updates.{place_within}
 use Rattle.laws_node.proofs.WindowMarks.{marked_is_seen, seen_stays}
 use Rattle.sp_runs.specs.Told.{Message, prio_by}
 use Rattle.laws_runs.specs.Priority.{AreOnce}
+use Rattle.laws_node.proofs.Tables.{cond_either}
 use Rattle.laws_runs.proofs.Tables.{same_node}
 
 -- ---- effects without a priority delivery
@@ -340,6 +342,7 @@ module _ (C : Type 0) (s d : NodeId) (S : List Message) where
   heard_same prios.BadEnd v number p = (refl, refl, refl)
   heard_same prios.Expired v number p = (refl, refl, refl)
   heard_same prios.BadSig v number p = (refl, refl, refl)
+  heard_same prios.Epoch v number p = (refl, refl, refl)
 
   chosen : (told : List ℕ) (answer : Item) (new old : Parts) (es : List Effect) → (is_new answer ≡ true → PrioDone C s d S told new.prio es) → PrioDone C s d S told old.prio []
       → PrioDone C s d S told (cond (is_new answer) new old).prio (cond (is_new answer) es [])
@@ -360,19 +363,22 @@ module _ (C : Type 0) (s d : NodeId) (S : List Message) where
       muted told (prio.acked p.prio at.from.0 number) (acked_effects p.prio at.from.0 number) (mute_acked p.prio at.from.0 number)
       (same_windows s d told p.prio _ refl refl refl h)
   one_handled told arts at p (PrioPiece number o) new h =
-      let answer = prio_answer (is_signed arts at.fixed o) (judge_prio p.prio o.body at.now) in
+      let answer = prio_answer (is_signed arts at.fixed o) (is_dated p.lives o.body) (judge_prio p.prio o.body at.now) in
       let admitted_to = record p { prio = admit_prio p.prio o (Some at.from) } in
       let after = cond (is_new (items.Prio answer)) admitted_to p in
       let same = heard_same answer at.from number after in
       done_same told after.prio (heard_where answer at.from number after).prio (cond (is_new (items.Prio answer)) (prio_effects p.prio o (Some at.from)) []) same.0 same.1 same.2
       (chosen told (items.Prio answer) admitted_to p (prio_effects p.prio o (Some at.from))
-      (λ t. admitted told p.prio o (Some at.from) (new_prio p.prio o.body at.now (judged.new_prio _ _ t).1) (new.0 t) h) (muted told p.prio [] mute_none h))
-  one_handled told arts at p (ReportPiece flow base have) new h = muted told p.prio [] mute_none h
+      (λ t. admitted told p.prio o (Some at.from) (new_prio p.prio o.body at.now (judged.new_prio _ _ _ t).1) (new.0 t) h) (muted told p.prio [] mute_none h))
+  one_handled told arts at p (ReportPiece flow sboot dboot base have) new h =
+      let same = muted told p.prio [] mute_none h in
+      cond_either (λ (q : Parts). PrioDone C s d S told q.prio []) (are_held p.lives flow sboot dboot) (record p { rel = reported p.rel at.from flow base have }) p
+      same same
   one_handled told arts at p (AckPiece flow o) new h =
-      chosen told (items.Ack (ack_answer (is_signed arts at.fixed o) (judge_ack_of p.rel flow o.body))) (record p { rel = admit_ack p.rel o }) p []
+      chosen told (items.Ack (ack_answer (is_signed arts at.fixed o) (is_dated p.lives o.body) (judge_ack_of p.rel flow o.body))) (record p { rel = admit_ack p.rel o }) p []
       (λ t. muted told p.prio [] mute_none h) (muted told p.prio [] mute_none h)
   one_handled told arts at p (RelPiece flow o) new h =
-      chosen told (items.Rel (rel_answer (is_signed arts at.fixed o) (judge_rel_of p.rel flow o.body))) (record p { rel = admit_rel p.rel o }) p (rel_effects p.rel o)
+      chosen told (items.Rel (rel_answer (is_signed arts at.fixed o) (is_dated p.lives o.body) (judge_rel_of p.rel flow o.body))) (record p { rel = admit_rel p.rel o }) p (rel_effects p.rel o)
       (λ t. muted told p.prio (rel_effects p.rel o) (mute_rel (is_to p.rel (flow_said o.body)) o.body) h) (muted told p.prio [] mute_none h)
 
   pub all_handled : (told : List ℕ) (arts : Arts) (at : Arrival) (p : Parts) (pieces : List Piece) → NewKeep (VouchedPrio C s d S) (handle_all arts at p pieces).answered → PrioIs s d told p.prio

@@ -63,7 +63,7 @@ vouched arts x s d es js w h o known good = record {
       (subst (λ y. is_among (arts.spell y) (signed es js s) ≡ true) is (subst (λ v. is_among (arts.spell o.body) (signed es js v) ≡ true) signer among));
 }
 
-module _ (arts : Arts) (x : Setting) (s d : NodeId) (fits : SettingFits arts x) (carries : Carries arts) (es : List Event) (js : List Entry) (w : World) (j : Entry) where
+module _ (arts : Arts) (x : Setting) (s d : NodeId) (fits : SettingFits arts x) (carries : Carries x.topology.format arts) (es : List Event) (js : List Entry) (w : World) (j : Entry) where
   abbrev C : Type 0
   C = IsTrue (is_correct x s)
 
@@ -210,7 +210,8 @@ starts arts x s d = record {
   messages = λ k b good src dst among. absurd (let f : false ≡ true = among in cc);
 }
 
-prio_on : (arts : Arts) (x : Setting) (es : List Event) (js : List Entry) (old : World) (e : Event) (j : Entry) (new : World) → SettingFits arts x → Carries arts
+prio_on : (arts : Arts) (x : Setting) (es : List Event) (js : List Entry) (old : World) (e : Event) (j : Entry) (new : World) → SettingFits arts x
+    → Carries x.topology.format arts
     → Signs arts x es js old → InRange x es e → (turn : Turn arts x es old e j new) → forged_in arts x es js old e j new turn ≡ None
     → (s d : NodeId) → PrioHold arts x s d es js old → PrioHold arts x s d (es ++ e ∷ []) (js ++ j ∷ []) new
 prio_on arts x es js old e j new fits reads signs range (Moves m) unforged s d h =
@@ -223,7 +224,8 @@ prio_on arts x es js old e j new fits reads signs range (Moves m) unforged s d h
     (λ z. h.node m.node (subst (λ v. node_in old.nodes v ≡ Some m.node) z m.is_there)))
 prio_on arts x es js old e j new fits reads signs range (Stays m) unforged s d h = stayed_on arts x s d es js old new e j signs.entries m h
 
-prio_hold : (arts : Arts) (x : Setting) (es : List Event) (js : List Entry) (w : World) → SettingFits arts x → Carries arts → Clean arts x es js w → (s d : NodeId) → PrioHold arts x s d es js w
+prio_hold : (arts : Arts) (x : Setting) (es : List Event) (js : List Entry) (w : World) → SettingFits arts x → Carries x.topology.format arts
+    → Clean arts x es js w → (s d : NodeId) → PrioHold arts x s d es js w
 prio_hold arts x es js w fits reads Starts s d = starts arts x s d
 prio_hold arts x es js w fits reads (Turned {es = es'} {js = js'} {old = old} {e = e} {j = j} run range turn unforged) s d =
     prio_on arts x es' js' old e j w fits reads (signs arts x es' js' old fits reads run) range turn unforged s d (prio_hold arts x es' js' old fits reads run s d)

@@ -21,6 +21,7 @@ use Rattle.sp_rules.specs.Arts.{Arts}
 use Rattle.sp_rules.specs.Flow.{flow_said}
 use Rattle.sp_rules.specs.Handle.{Arrival, handle, handle_all, offer_to, weight_effects}
 use Rattle.sp_rules.specs.Link.{advanced}
+use Rattle.sp_rules.specs.Lives.{is_dated}
 use Rattle.sp_rules.specs.Node.{NodeState, call_refusal, called, kept_or, link_in, signed_now, signed_once, with_link}
 use Rattle.sp_rules.specs.Parts.{Fixed, Parts, is_signed}
 use Rattle.sp_rules.specs.Pieces.{Piece, WeightPiece, PrioAckPiece, PrioPiece, ReportPiece, AckPiece, RelPiece}
@@ -28,13 +29,13 @@ use Rattle.sp_rules.specs.Polls.{frame_to, polled}
 use Rattle.sp_rules.specs.Prio as prio
 use Rattle.sp_rules.specs.Prio.{PrioState, admit_prio, expired_effects, is_here, judge_prio, marked, prio_effects}
 use Rattle.sp_rules.specs.PrioPeer.{gone}
-use Rattle.sp_rules.specs.Rel.{delivery, due, is_to, judge_ack_of, judge_rel_of, pushed_in, rel_effects}
+use Rattle.sp_rules.specs.Rel.{delivery, is_to, judge_ack_of, judge_rel_of, pushed_in, rel_effects}
 use Rattle.sp_rules.specs.Masks.{Choice}
 use Rattle.sp_rules.specs.Sends.{PrioSend, mask_in, no_paths, own_prio, prio_body, prio_refusal, prio_sent as prio_told, rel_body, rel_number, rel_refusal, rel_sent, send_prio_refusal, signer_refusal, weight_body, weight_number, weight_refusal, weight_sent}
 use Rattle.sp_rules.specs.Steps as steps
 use Rattle.sp_rules.specs.Steps.{NodeStep, Output, accepted, arrived, refused_call, refused_send, replied}
 use Rattle.sp_rules.specs.Store.{oldest, said}
-use Rattle.sp_rules.specs.Ticks.{ack_effects, at_time, settled_by, time_after}
+use Rattle.sp_rules.specs.Ticks.{ack_effects, at_time, due_now, settled_by, time_after}
 use Rattle.sp_rules.specs.Weights.{held}
 use Rattle.sp_rules.specs.declared.answers.Item.TheVariants as items
 use Rattle.sp_rules.specs.declared.node.NodeRefused.{NodeRefused}
@@ -71,11 +72,11 @@ rel_unsigned false body = refl
 unsigned_piece : (arts : Arts) (at : Arrival) (p : Parts) (piece : Piece) → flat_map signed_by (handle arts at p piece).effects ≡ []
 unsigned_piece arts at p (WeightPiece o) = either_unsigned (is_new (items.Weight (weight_answer (is_signed arts at.fixed o) (offer_to at.fixed.me p.weights o.body)))) (weight_effects o.body) (quiet_weight o.body).no_signature
 unsigned_piece arts at p (PrioAckPiece number) = (quiet_acked p.prio at.from.0 number).no_signature
-unsigned_piece arts at p (PrioPiece number o) = either_unsigned (is_new (items.Prio (prio_answer (is_signed arts at.fixed o) (judge_prio p.prio o.body at.now)))) (prio_effects p.prio o (Some at.from)) (quiet_prio p.prio o (Some at.from)).no_signature
-unsigned_piece arts at p (ReportPiece flow base have) = refl
-unsigned_piece arts at p (AckPiece flow o) = either_unsigned (is_new (items.Ack (ack_answer (is_signed arts at.fixed o) (judge_ack_of p.rel flow o.body)))) [] refl
+unsigned_piece arts at p (PrioPiece number o) = either_unsigned (is_new (items.Prio (prio_answer (is_signed arts at.fixed o) (is_dated p.lives o.body) (judge_prio p.prio o.body at.now)))) (prio_effects p.prio o (Some at.from)) (quiet_prio p.prio o (Some at.from)).no_signature
+unsigned_piece arts at p (ReportPiece flow sboot dboot base have) = refl
+unsigned_piece arts at p (AckPiece flow o) = either_unsigned (is_new (items.Ack (ack_answer (is_signed arts at.fixed o) (is_dated p.lives o.body) (judge_ack_of p.rel flow o.body)))) [] refl
 unsigned_piece arts at p (RelPiece flow o) =
-    either_unsigned (is_new (items.Rel (rel_answer (is_signed arts at.fixed o) (judge_rel_of p.rel flow o.body)))) (rel_effects p.rel o) (rel_unsigned (is_to p.rel (flow_said o.body)) o.body)
+    either_unsigned (is_new (items.Rel (rel_answer (is_signed arts at.fixed o) (is_dated p.lives o.body) (judge_rel_of p.rel flow o.body)))) (rel_effects p.rel o) (rel_unsigned (is_to p.rel (flow_said o.body)) o.body)
 
 pub unsigned_all : (arts : Arts) (at : Arrival) (p : Parts) (pieces : List Piece) → flat_map signed_by (handle_all arts at p pieces).effects ≡ []
 unsigned_all arts at p [] = refl
@@ -161,7 +162,7 @@ module _ (C : Type 0) (x : Setting) (P : Kept → Type 0) (arts : Arts) (reads :
       → Acted arts C s d S [] told u after.parts.prio output.effects
   tick_done n now output after step is h =
       subst (λ es. Acted arts C s d S [] told u after.parts.prio es) (sym (ap (λ (o : Output). o.effects) step.0))
-      (subst (λ (m : NodeState). Acted arts C s d S [] told u m.parts.prio (expired_effects n.parts.prio (time_after n now) ++ ack_effects arts (due n.parts.rel) (signer_refusal n.signer))) (sym step.1) (go (due n.parts.rel) refl (signer_refusal n.signer)))
+      (subst (λ (m : NodeState). Acted arts C s d S [] told u m.parts.prio (expired_effects n.parts.prio (time_after n now) ++ ack_effects arts (due_now n) (signer_refusal n.signer))) (sym step.1) (go (due_now n) refl (signer_refusal n.signer)))
     where
       mute : Mute (expired_effects n.parts.prio (time_after n now))
       mute = mute_expired n.parts.prio (time_after n now)
@@ -172,7 +173,8 @@ module _ (C : Type 0) (x : Setting) (P : Kept → Type 0) (arts : Arts) (reads :
       plain : flat_map signed_by (expired_effects n.parts.prio (time_after n now) ++ []) ≡ []
       plain = flat_map-append signed_by (expired_effects n.parts.prio (time_after n now)) [] ∙ rw none refl
 
-      go : (o : Option Ack) → due n.parts.rel ≡ o → (r : Option SendRefused) → Acted arts C s d S [] told u (settled_by arts (at_time n now) o r).parts.prio (expired_effects n.parts.prio (time_after n now) ++ ack_effects arts o r)
+      go : (o : Option Ack) → due_now n ≡ o → (r : Option SendRefused)
+          → Acted arts C s d S [] told u (settled_by arts (at_time n now) o r).parts.prio (expired_effects n.parts.prio (time_after n now) ++ ack_effects arts o r)
       go None is_due r = unsigned n.parts.prio (prio.expired n.parts.prio (time_after n now)) _ (mute_append _ [] mute mute_none) plain refl refl refl h
       go (Some ack) is_due (Some refusal) = unsigned n.parts.prio (prio.expired n.parts.prio (time_after n now)) _ (mute_append _ [] mute mute_none) plain refl refl refl h
       go (Some ack) is_due None =

@@ -22,7 +22,7 @@ use Rattle.sp_runs.specs.Worlds.{Direction, World, frame_in, frames_in}
 use Rattle.sp_schedule_crafts.specs.Objects.{body_of}
 use Rattle.sp_schedule_events.specs.declared.event.Event.{Event}
 use Rattle.sp_schedule_events.specs.declared.event.Event.TheVariants as events
-use Rattle.laws_runs.specs.Premises.{AreOfBytes, Carries, IsOfBytes}
+use Rattle.laws_runs.specs.Premises.{AreOfBytes, Carries, IsOfBytes, IsPlain}
 
 -- ---- a frame that was made comes
 
@@ -77,18 +77,18 @@ one_object o (bodies.Krel r) is of = All-nil IsOfBytes
 one_object o (bodies.Kack a) is of = All-nil IsOfBytes
 one_object o (bodies.Epoch e) is of = All-nil IsOfBytes
 
-no_document : (body : Body) (o : Kept) → (object_alone body o).document ≡ None
-no_document (bodies.Prio p) o = refl
-no_document (bodies.Rel r) o = refl
-no_document (bodies.Ack a) o = refl
-no_document (bodies.Weight w) o = refl
-no_document (bodies.Krel r) o = refl
-no_document (bodies.Kack a) o = refl
-no_document (bodies.Epoch e) o = refl
+plain_alone : (body : Body) (o : Kept) → IsPlain (object_alone body o)
+plain_alone (bodies.Prio p) o = record { document = refl; paths = refl; probe = refl; epoch = refl }
+plain_alone (bodies.Rel r) o = record { document = refl; paths = refl; probe = refl; epoch = refl }
+plain_alone (bodies.Ack a) o = record { document = refl; paths = refl; probe = refl; epoch = refl }
+plain_alone (bodies.Weight w) o = record { document = refl; paths = refl; probe = refl; epoch = refl }
+plain_alone (bodies.Krel r) o = record { document = refl; paths = refl; probe = refl; epoch = refl }
+plain_alone (bodies.Kack a) o = record { document = refl; paths = refl; probe = refl; epoch = refl }
+plain_alone (bodies.Epoch e) o = record { document = refl; paths = refl; probe = refl; epoch = refl }
 
-crafted_bytes : (arts : Arts) (n : NodeState) (c : NodeId) (s : Contents) → Carries arts → s.document ≡ None → AreOfBytes s
+crafted_bytes : (format : ℕ) (arts : Arts) (n : NodeState) (c : NodeId) (s : Contents) → Carries format arts → IsPlain s → AreOfBytes s
     → AreBytes (crafted_frame arts n c s)
-crafted_bytes arts n c s carries none of =
+crafted_bytes format arts n c s carries none of =
     All-append (λ (b : ℕ). b < 256) (arts.frame (crafted_head n c) s) (arts.tag (link_in n c).key (arts.frame (crafted_head n c) s))
     (carries.frames (crafted_head n c) s none of) (carries.tags (link_in n c).key (arts.frame (crafted_head n c) s))
 
@@ -103,7 +103,8 @@ FramesAreBytes w = (u v : NodeId) (k : ℕ) (bytes : List ℕ) → slice_get (fr
 same_input : (a b : Input) → Some a ≡ Some b → a ≡ b
 same_input a b e = cc
 
-pub input_fits : (arts : Arts) (x : Setting) (es : List Event) (w : World) (n : NodeState) (e : Event) (input : Input) → Carries arts → FramesAreBytes w → InRange x es e
+pub input_fits : (arts : Arts) (x : Setting) (es : List Event) (w : World) (n : NodeState) (e : Event) (input : Input) → Carries x.topology.format arts
+    → FramesAreBytes w → InRange x es e
     → input_of arts x es w n e ≡ Some input → InputFits input
 input_fits arts x es w n (events.Rel s d payload) input carries are range reaches = subst InputFits (same_input _ input reaches) range.2
 input_fits arts x es w n (events.Prio s d prio expiry paths payload) input carries are range reaches =
@@ -129,7 +130,7 @@ input_fits arts x es w n (events.Craft c v key object) input carries are range r
     frame = crafted_frame arts n c (object_alone (body_of object) o)
 
     bytes : AreBytes frame
-    bytes = crafted_bytes arts n c (object_alone (body_of object) o) carries (no_document (body_of object) o) (one_object o (body_of object) refl (range.4, carries.signatures x.topology.height _ _ _))
+    bytes = crafted_bytes x.topology.format arts n c (object_alone (body_of object) o) carries (plain_alone (body_of object) o) (one_object o (body_of object) refl (range.4, carries.signatures x.topology.height _ _ _))
 
     go : (t : Bool) → cond t (Some (steps.Datagram c frame)) None ≡ Some input → InputFits input
     go true e = subst InputFits (same_input (steps.Datagram c frame) input e) bytes
@@ -137,7 +138,7 @@ input_fits arts x es w n (events.Craft c v key object) input carries are range r
 input_fits arts x es w n (events.CraftStatus c v s d base have) input carries are range reaches =
     let contents = slot_alone (record { src = s; dst = d }) base have None [] in
     subst InputFits (same_input (steps.Datagram c (crafted_frame arts n c contents)) input reaches)
-    (crafted_bytes arts n c contents carries refl (All-nil IsOfBytes))
+    (crafted_bytes x.topology.format arts n c contents carries (record { document = refl; paths = refl; probe = refl; epoch = refl }) (All-nil IsOfBytes))
 
 -- the payload that a client asks to be sent is bytes
 pub payload_fits : (arts : Arts) (x : Setting) (es : List Event) (w : World) (n : NodeState) (e : Event) (input : Input) → InRange x es e

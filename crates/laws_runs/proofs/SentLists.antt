@@ -5,8 +5,7 @@ use Rattle.std.specs.List.{All}
 use Rattle.std.proofs.lemmas.List.Elements.{All-head, All-tail}
 use Rattle.sp_base.specs.declared.id.Flow.{Flow}
 use Rattle.sp_base.specs.declared.id.NodeId.{NodeId}
-use Rattle.sp_msg.proofs.GoodFields.{no_krel}
-use Rattle.sp_msg.specs.Bodies.{HasGoodFields, payload_of}
+use Rattle.sp_msg.specs.Bodies.{payload_of}
 use Rattle.sp_msg.specs.Views.{signer_of}
 use Rattle.sp_msg.specs.declared.body.Body.{Body}
 use Rattle.sp_msg.specs.declared.body.Body.TheVariants as bodies
@@ -15,6 +14,7 @@ use Rattle.sp_rules.specs.Arts.{Arts}
 use Rattle.sp_rules.specs.Flow.{AreMessages, IsMessage, ends}
 use Rattle.sp_rules.specs.Node.{NodeState}
 use Rattle.sp_rules.specs.Parts.{nodes_of}
+use Rattle.laws_node.specs.Flows.{IsRel}
 use Rattle.laws_node.specs.Sizes.{Fits}
 use Rattle.laws_node.proofs.Boot.{nodes_hold}
 use Rattle.sp_rules.proofs.FlowJudged.{found_ends}
@@ -32,9 +32,9 @@ use Rattle.laws_runs.proofs.Flows.{FlowsHold}
 
 module _ (arts : Arts) (x : Setting) (s d : NodeId) (es : List Event) (js : List Entry) (w : World) (h : FlowsHold arts x s d es js w) (correct : IsTrue (is_correct x s)) where
   -- a message that is kept was sent under its number
-  one_sent : (flow : Flow) (number : ℕ) (o : Kept) → flow ≡ flow_of s d → IsMessage flow number o.body → HasGoodFields o.body → Good arts x es js o
+  one_sent : (flow : Flow) (number : ℕ) (o : Kept) → flow ≡ flow_of s d → IsMessage flow number o.body → IsRel o.body → Good arts x es js o
       → IsIn (sent es js s d) number (payload_of o.body)
-  one_sent flow number o same is fields good = go o.body refl is
+  one_sent flow number o same is plain good = go o.body refl is
     where
       go : (body : Body) → o.body ≡ body → IsMessage flow number body → IsIn (sent es js s d) number (payload_of body)
       go (bodies.Rel m) body is =
@@ -49,17 +49,17 @@ module _ (arts : Arts) (x : Setting) (s d : NodeId) (es : List Event) (js : List
       go (bodies.Prio m) body is = absurd is
       go (bodies.Ack m) body is = absurd is
       go (bodies.Weight m) body is = absurd is
-      go (bodies.Krel m) body is = absurd (no_krel m (subst HasGoodFields body fields))
+      go (bodies.Krel m) body is = absurd (subst IsRel body plain)
       go (bodies.Kack m) body is = absurd is
       go (bodies.Epoch m) body is = absurd is
 
   list_sent : (u : NodeId) (flow : Flow) (after : ℕ) (os : List Kept) → flow ≡ flow_of s d → AreMessages flow after os → All (Fits (sizes_at x (Good arts x es js) u)) os
-      → AreSent (sent es js s d) after os
-  list_sent u flow after [] same are all = tt
-  list_sent u flow after (o ∷ os) same are all =
+      → All (λ m. IsRel m.body) os → AreSent (sent es js s d) after os
+  list_sent u flow after [] same are all plain = tt
+  list_sent u flow after (o ∷ os) same are all plain =
       let fits = All-head (Fits (sizes_at x (Good arts x es js) u)) o os all in (
-        one_sent flow (after + 1) o same are.0 fits.fields fits.holds,
-        list_sent u flow (after + 1) os same are.1 (All-tail (Fits (sizes_at x (Good arts x es js) u)) o os all),
+        one_sent flow (after + 1) o same are.0 (All-head (λ m. IsRel m.body) o os plain) fits.holds,
+        list_sent u flow (after + 1) os same are.1 (All-tail (Fits (sizes_at x (Good arts x es js) u)) o os all) (All-tail (λ m. IsRel m.body) o os plain),
       )
 
 pub lists_sent : (arts : Arts) (x : Setting) (s d : NodeId) (es : List Event) (js : List Entry) (w : World) → SettingFits arts x → FlowsHold arts x s d es js w
@@ -67,8 +67,8 @@ pub lists_sent : (arts : Arts) (x : Setting) (s d : NodeId) (es : List Event) (j
     → AreSent (sent es js s d) (flow_at n s d).at.base (flow_at n s d).at.list
 lists_sent arts x s d es js w fits h correct from to u n is =
     let k = sizes_at x (Good arts x es js) u in
-    let nodes = nodes_hold x.topology.height 0 x.topology.nodes fits.topology.nodes in
-    let row = read k n.signer.index n.parts.rel.flows (flow_of s d) (in_range (nodes_of x.topology) s nodes from) (in_range (nodes_of x.topology) d nodes to)
+    let nodes = nodes_hold x.topology.format x.topology.height 0 x.topology.nodes fits.topology.ranges.nodes in
+    let row = read k n.signer.index n.parts.rel.flows (flow_of s d) (in_range x.topology.format (nodes_of x.topology) s nodes from) (in_range x.topology.format (nodes_of x.topology) d nodes to)
     is.holds.parts.rel.flows in
     let f = flow_at n s d in
-    list_sent arts x s d es js w h correct u (ends f) f.at.base f.at.list (found_ends n.parts.rel.flows (flow_of s d)) row.standing.messages row.messages
+    list_sent arts x s d es js w h correct u (ends f) f.at.base f.at.list (found_ends n.parts.rel.flows (flow_of s d)) row.standing.messages row.messages row.reliable

@@ -5,7 +5,7 @@ use Rattle.std.specs.List.{All}
 use Rattle.std.proofs.lemmas.List.{length_push}
 use Rattle.std.proofs.lemmas.List.Elements.{All-append}
 use Rattle.sp_base.specs.Spelling.{AreBytes}
-use Rattle.sp_base.specs.declared.format.TheConstants.{FORMAT_1}
+use Rattle.sp_frame.specs.Ranges.{IsContentsIn}
 use Rattle.sp_base.specs.declared.id.NodeId.{NodeId}
 use Rattle.sp_frame.specs.Sections.{Contents}
 use Rattle.sp_frame.specs.declared.refused.SectionRefused.{SectionRefused}
@@ -43,6 +43,7 @@ use Rattle.sp_schedule_events.specs.declared.event.Event.TheVariants as events
 use Rattle.laws_runs.specs.Signs.{Good, NodeIs, Signs, SignsBegin, TurnsKeepSigns, sizes_at}
 use Rattle.laws_runs.specs.Premises.{Carries, HasGoodMessages, IsOfBytes}
 use Rattle.laws_runs.proofs.Acks.{step_ack}
+use Rattle.laws_runs.proofs.Unborn.{step_unborn}
 use Rattle.laws_runs.proofs.Reaches.{input_fits, payload_fits}
 use Rattle.laws_runs.proofs.Tables.{frame_put, node_put}
 use Rattle.laws_runs.proofs.Goods.{all_of, of_all, where_keep, unforged_tag, new_known, good_new, new_less, good_more, own_known, arts_fit, starts}
@@ -90,7 +91,8 @@ new_have P arts n steps.TakePrio output after reads are s = none_new _ output.an
 
 -- the acting node keeps what it keeps
 acted : (arts : Arts) (x : Setting) (es : List Event) (js : List Entry) (w new : World) (e : Event) (j : Entry) (m : Move arts x es w e j new)
-    → SettingFits arts x → Carries arts → InputFits m.input → AreBytes (payload_in m.input) → length es ≡ length js → forged_object arts x es js m.output.answered ≡ None
+    → SettingFits arts x → Carries x.topology.format arts → InputFits m.input → AreBytes (payload_in m.input) → length es ≡ length js
+    → forged_object arts x es js m.output.answered ≡ None
     → NodeIs x (Good arts x es js) (acting e) m.node → NodeIs x (Good arts x (es ++ e ∷ []) (js ++ j ∷ [])) (acting e) m.after
 acted arts x es js w new e j m fits carries reach asked same unforged is =
     let P = Good arts x es js in
@@ -118,19 +120,22 @@ acted arts x es js w new e j m fits carries reach asked same unforged is =
       shape = shapes_stay arts m.node m.input m.output m.after m.step ∙ is.shape;
       holds = step_holds (sizes_at x Q (acting e)) arts m.node m.input m.output m.after fit reach news owns m.step (node_weaker (sizes_at x P (acting e)) Q more m.node is.holds);
       acks = step_ack arts m.node m.input m.output m.after m.step is.acks;
+      unborn = step_unborn arts m.node m.input m.output m.after m.step is.unborn;
     }
 
 -- a frame that a poll gave carries what the node keeps
 polled_frame : (arts : Arts) (x : Setting) (P : Kept → Type 0) → ((o : Kept) → P o → IsTrue (arts.is_good o.body))
-    → (n : NodeState) (u v : NodeId) (output : Output) (bytes : List ℕ) (s : Contents) → Carries arts → NodeIs x P u n
+    → (n : NodeState) (u v : NodeId) (output : Output) (bytes : List ℕ) (s : Contents) → Carries x.topology.format arts → NodeIs x P u n
     → output ≡ poll_output arts n v → output.reply ≡ steps.Frame bytes → arts.sections x.signature_len bytes ≡ Ok s → AllKeep P (pieces_of s)
 polled_frame arts x P good n u v output bytes s reads is out reply read =
     let len : n.fixed.signature_len ≡ x.signature_len = ap (λ (f : Fixed). f.signature_len) is.fixed in
+    let format : n.fixed.topology.format ≡ x.topology.format = ap (λ (f : Fixed). f.topology.format) is.fixed in
     let c = contents_to n.fixed n.parts v in
     let kept : AllKeep P (pieces_of c) = contents_kept (sizes_at x P u) n v is.holds in
     let goods : HasGoodMessages arts c = all_of (λ o. IsTrue (arts.is_good o.body)) (pieces_of c) (all_less P (λ o. IsTrue (arts.is_good o.body)) good (pieces_of c) kept) in
     let back : arts.sections n.fixed.signature_len (frame_to arts n v) ≡ Ok c =
-    reads.back n.fixed.signature_len (next_head (link_in n v) n.fixed.topology.version FORMAT_1) c (link_in n v).key (contents_fit (sizes_at x P u) n v is.holds) goods in
+    reads.back n.fixed.signature_len (next_head (link_in n v) n.fixed.topology.version n.fixed.topology.format) c (link_in n v).key format
+    (subst (λ (f : ℕ). IsContentsIn f n.fixed.signature_len c) format (contents_fit (sizes_at x P u) n v is.holds)) goods in
     let bytes_are : frame_to arts n v ≡ bytes = gives (call_refusal n v) (ap (λ (o : Output). o.reply) (sym out) ∙ reply) in
     let here : Ok s ≡ Ok c = sym read ∙ ap (λ (l : ℕ). arts.sections l bytes) (sym len) ∙ ap (arts.sections n.fixed.signature_len) (sym bytes_are) ∙ back in
     let same : s ≡ c = cc in
@@ -179,14 +184,15 @@ polled arts x es w n a b input output after made reaches step reply =
     moves.0
 
 -- the frame of a node whose objects are of bytes is bytes
-made_bytes : (arts : Arts) (n : NodeState) (v : NodeId) (output : Output) (made : List ℕ) → Carries arts → AllKeep IsOfBytes (pieces_of (contents_to n.fixed n.parts v))
+made_bytes : (format : ℕ) (arts : Arts) (n : NodeState) (v : NodeId) (output : Output) (made : List ℕ) → Carries format arts
+    → AllKeep IsOfBytes (pieces_of (contents_to n.fixed n.parts v))
     → output ≡ poll_output arts n v → output.reply ≡ steps.Frame made → AreBytes made
-made_bytes arts n v output made carries of out reply =
-    let h = next_head (link_in n v) n.fixed.topology.version FORMAT_1 in
+made_bytes format arts n v output made carries of out reply =
+    let h = next_head (link_in n v) n.fixed.topology.version n.fixed.topology.format in
     let c = contents_to n.fixed n.parts v in
     let is : frame_to arts n v ≡ made = gives (call_refusal n v) (ap (λ (o : Output). o.reply) (sym out) ∙ reply) in
     subst AreBytes is (All-append (λ (b : ℕ). b < 256) (arts.frame h c) (arts.tag (link_in n v).key (arts.frame h c))
-    (carries.frames h c refl (all_of IsOfBytes (pieces_of c) of)) (carries.tags (link_in n v).key (arts.frame h c)))
+    (carries.frames h c (record { document = refl; paths = refl; probe = refl; epoch = refl }) (all_of IsOfBytes (pieces_of c) of)) (carries.tags (link_in n v).key (arts.frame h c)))
   where
     gives : (r : Option NodeRefused) → (refused_call r (replied (steps.Frame (frame_to arts n v)))).reply ≡ steps.Frame made → frame_to arts n v ≡ made
     gives None e = cc
@@ -206,6 +212,7 @@ node_more x P Q u n less is = record {
   shape = is.shape;
   holds = node_weaker (sizes_at x P u) Q less n is.holds;
   acks = is.acks;
+  unborn = is.unborn;
 }
 
 pub signs_begin : SignsBegin
@@ -239,7 +246,7 @@ turns_keep_signs arts x es' js' old e j new fits reads h range (Moves m) unforge
           (polled arts x es' old m.node a b m.input m.output m.after made (subst (λ (y : Event). input_of arts x es' old m.node y ≡ Some m.input) poll m.reaches) m.step reply) reply read))
           (λ u v k bs at s read. all_less P Q more (pieces_of s) (of_all P (pieces_of s) (h.frames u v k bs s at read))) u v k bytes at s read);
       bytes = frames_after (λ (u v : NodeId) (bs : List ℕ). AreBytes bs) old.directions e m.output.reply
-          (λ a b made poll reply. made_bytes arts m.node b m.output made reads
+          (λ a b made poll reply. made_bytes x.topology.format arts m.node b m.output made reads
           (all_less P IsOfBytes (λ o good. good.bytes) (pieces_of (contents_to m.node.fixed m.node.parts b)) (contents_kept (sizes_at x P (acting e)) m.node b is.holds))
           (polled arts x es' old m.node a b m.input m.output m.after made (subst (λ (y : Event). input_of arts x es' old m.node y ≡ Some m.input) poll m.reaches) m.step reply) reply)
           h.bytes;
@@ -256,12 +263,14 @@ turns_keep_signs arts x es' js' old e j new fits reads h range (Stays s) unforge
       bytes = h.bytes;
     })
 
-pub signs : (arts : Arts) (x : Setting) (es : List Event) (js : List Entry) (w : World) → SettingFits arts x → Carries arts → Clean arts x es js w → Signs arts x es js w
+pub signs : (arts : Arts) (x : Setting) (es : List Event) (js : List Entry) (w : World) → SettingFits arts x → Carries x.topology.format arts
+    → Clean arts x es js w → Signs arts x es js w
 signs arts x es js w fits reads Starts = signs_begin arts x fits
 signs arts x es js w fits reads (Turned {es = es'} {js = js'} {old = old} {e = e} {j = j} run range turn unforged) =
     turns_keep_signs arts x es' js' old e j w fits reads (signs arts x es' js' old fits reads run) range turn unforged
 
 -- what reaches a node after a run without forgery is in its ranges
-pub reached : (arts : Arts) (x : Setting) (es : List Event) (js : List Entry) (w new : World) (e : Event) (j : Entry) → SettingFits arts x → Carries arts
+pub reached : (arts : Arts) (x : Setting) (es : List Event) (js : List Entry) (w new : World) (e : Event) (j : Entry) → SettingFits arts x
+    → Carries x.topology.format arts
     → Clean arts x es js w → InRange x es e → (m : Move arts x es w e j new) → InputFits m.input
 reached arts x es js w new e j fits carries run range m = input_fits arts x es w m.node e m.input carries (signs arts x es js w fits carries run).bytes range m.reaches

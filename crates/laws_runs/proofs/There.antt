@@ -36,7 +36,8 @@ found p (y ∷ xs) there = elim (cases_Bool (p y)) [
   | inr t ↦ let rest = found p xs (rw t at there) in (rest.0, rw (t, rest.1) refl)
 ]
 
-any_there : (arts : Arts) (x : Setting) (es : List Event) (js : List Entry) (w : World) → SettingFits arts x → Carries arts → Clean arts x es js w
+any_there : (arts : Arts) (x : Setting) (es : List Event) (js : List Entry) (w : World) → SettingFits arts x → Carries x.topology.format arts
+    → Clean arts x es js w
     → (u : NodeId) → is_correct x u ≡ true → list_any (is_me u) w.nodes ≡ true
 any_there arts x es js w fits reads Starts u correct = among_correct x u correct (nodes_of x.topology) (both _ _ correct).0
 any_there arts x es js w fits reads (Turned {es = es'} {js = js'} {old = old} {e = e} {j = j} run range (Moves m) unforged) u correct =
@@ -49,7 +50,8 @@ any_there arts x es js w fits reads (Turned {es = es'} {js = js'} {old = old} {e
 any_there arts x es js w fits reads (Turned {es = es'} {js = js'} {old = old} {e = e} {j = j} run range (Stays s) unforged) u correct =
     subst (λ (y : World). list_any (is_me u) y.nodes ≡ true) (sym s.world) (any_there arts x es' js' old fits reads run u correct)
 
-pub is_there : (arts : Arts) (x : Setting) (es : List Event) (js : List Entry) (w : World) → SettingFits arts x → Carries arts → Clean arts x es js w
+pub is_there : (arts : Arts) (x : Setting) (es : List Event) (js : List Entry) (w : World) → SettingFits arts x → Carries x.topology.format arts
+    → Clean arts x es js w
     → (u : NodeId) → is_correct x u ≡ true → (n : NodeState) × (node_in w.nodes u ≡ Some n)
 is_there arts x es js w fits reads run u correct = found (is_me u) w.nodes (any_there arts x es js w fits reads run u correct)
 

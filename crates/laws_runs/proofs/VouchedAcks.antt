@@ -3,9 +3,6 @@ use Rattle.std.proofs.Common.{◌≡◌, ◌≤◌, ℕ, true, List, Some, refl,
 use Rattle.std.specs.Prelude.{IfSome, IsTrue}
 use Rattle.sp_base.specs.declared.id.Flow.{Flow}
 use Rattle.sp_base.specs.declared.id.NodeId.{NodeId}
-use Rattle.sp_base.specs.declared.format.TheConstants.{FORMAT_1}
-use Rattle.sp_msg.proofs.GoodFields.{good_ack, is_no_boot}
-use Rattle.sp_msg.specs.Bodies.{HasGoodFields}
 use Rattle.sp_msg.specs.Views.{signer_of}
 use Rattle.sp_msg.specs.declared.body.Body.{Body}
 use Rattle.sp_msg.specs.declared.body.Body.TheVariants as bodies
@@ -26,13 +23,15 @@ use Rattle.sp_schedule_events.specs.declared.event.Event.{Event}
 use Rattle.laws_runs.specs.Flows.{IsVouchedFor, flow_at}
 use Rattle.laws_runs.proofs.Acks.{RelAck, flow_ack}
 use Rattle.laws_runs.specs.Signs.{Good, NodeIs, sizes_at}
+use Rattle.laws_runs.specs.Unborn.{NamesNone}
+use Rattle.laws_runs.proofs.Unborn.{flow_unborn}
 use Rattle.laws_runs.proofs.FlowFacts.{flow_of}
 
 module _ (arts : Arts) (x : Setting) (s d : NodeId) (es : List Event) (js : List Entry) (correct : IsTrue (is_correct x d)) where
   -- what is kept is an acknowledgement of the flow, so d signed it
   one_vouched : (f : FlowState) (o : Kept) → f.ack ≡ Some o → number_said o.body ≡ f.at.base → ends f ≡ flow_of s d
-      → (u : NodeId) → AckKept (sizes_at x (Good arts x es js) u) (ends f) o → IsVouchedFor arts s d es js f
-  one_vouched f o kept number same u is = go o.body refl is.kind number
+      → NamesNone o.body → (u : NodeId) → AckKept (sizes_at x (Good arts x es js) u) (ends f) o → IsVouchedFor arts s d es js f
+  one_vouched f o kept number same none u is = go o.body refl is.kind number
     where
       go : (body : Body) → o.body ≡ body → IsAckOf (ends f) body → number_said body ≡ f.at.base → IsVouchedFor arts s d es js f
       go (bodies.Ack a) body kind number =
@@ -40,16 +39,14 @@ module _ (arts : Arts) (x : Setting) (s d : NodeId) (es : List Event) (js : List
           let dst : a.dst ≡ d = kind.1 ∙ ap (λ (g : Flow). g.dst) same in
           let signer : signer_of o.body ≡ d = ap signer_of body ∙ dst in
           let good : Good arts x es js o = is.fits.holds in
-          let fields = good_ack FORMAT_1 a (subst HasGoodFields body is.fits.fields) in
-          let sboot : a.sboot ≡ 0 = is_no_boot a.sboot fields.sboot in
-          let dboot : a.dboot ≡ 0 = is_no_boot a.dboot fields.dboot in
+          let boots : NamesNone (bodies.Ack a) = subst NamesNone body none in
           record {
             ack = o;
             kept = kept;
             body = body ∙ ap (λ (v : NodeId). bodies.Ack (record { src = v; dst = a.dst; sboot = a.sboot; dboot = a.dboot; seq = a.seq })) src
                 ∙ ap (λ (v : NodeId). bodies.Ack (record { src = s; dst = v; sboot = a.sboot; dboot = a.dboot; seq = a.seq })) dst
-                ∙ ap (λ (b : ℕ). bodies.Ack (record { src = s; dst = d; sboot = b; dboot = a.dboot; seq = a.seq })) sboot
-                ∙ ap (λ (b : ℕ). bodies.Ack (record { src = s; dst = d; sboot = 0; dboot = b; seq = a.seq })) dboot
+                ∙ ap (λ (b : ℕ). bodies.Ack (record { src = s; dst = d; sboot = b; dboot = a.dboot; seq = a.seq })) boots.0
+                ∙ ap (λ (b : ℕ). bodies.Ack (record { src = s; dst = d; sboot = 0; dboot = b; seq = a.seq })) boots.1
                 ∙ ap (λ (q : ℕ). bodies.Ack (record { src = s; dst = d; sboot = 0; dboot = 0; seq = q })) number;
             signed = subst (λ (v : NodeId). is_among (arts.spell o.body) (signed es js v) ≡ true) signer
                 (good.known (subst (λ (v : NodeId). IsTrue (is_correct x v)) (sym signer) correct));
@@ -65,9 +62,11 @@ pub vouched : (arts : Arts) (x : Setting) (s d : NodeId) (es : List Event) (js :
     → (u : NodeId) (n : NodeState) → NodeIs x (Good arts x es js) u n → RelAck n.parts.rel → 1 ≤ (flow_at n s d).at.base → IsVouchedFor arts s d es js (flow_at n s d)
 vouched arts x s d es js fits from to correct u n is acks some =
     let k = sizes_at x (Good arts x es js) u in
-    let nodes = nodes_hold x.topology.height 0 x.topology.nodes fits.topology.nodes in
-    let row = read k n.signer.index n.parts.rel.flows (flow_of s d) (in_range (nodes_of x.topology) s nodes from) (in_range (nodes_of x.topology) d nodes to)
+    let nodes = nodes_hold x.topology.format x.topology.height 0 x.topology.nodes fits.topology.ranges.nodes in
+    let row = read k n.signer.index n.parts.rel.flows (flow_of s d) (in_range x.topology.format (nodes_of x.topology) s nodes from) (in_range x.topology.format (nodes_of x.topology) d nodes to)
     is.holds.parts.rel.flows in
     let numbered = (flow_ack n.parts.rel (flow_of s d) acks).ack some in
     let kept : AckKept k (ends (flow_at n s d)) numbered.ack = subst (λ o. IfSome o (AckKept k (ends (flow_at n s d)))) numbered.kept row.ack in
-    one_vouched arts x s d es js correct (flow_at n s d) numbered.ack numbered.kept numbered.number (found_ends n.parts.rel.flows (flow_of s d)) u kept
+    let none : NamesNone numbered.ack.body =
+    subst (λ o. IfSome o (λ (m : Kept). NamesNone m.body)) numbered.kept (flow_unborn n.parts.rel (flow_of s d) is.unborn.flows).ack in
+    one_vouched arts x s d es js correct (flow_at n s d) numbered.ack numbered.kept numbered.number (found_ends n.parts.rel.flows (flow_of s d)) none u kept

@@ -123,7 +123,8 @@ starts arts x = record {
   said = λ u. tt;
 }
 
-weights_on : (arts : Arts) (x : Setting) (es : List Event) (js : List JournalEntry) (old : World) (e : Event) (j : JournalEntry) (new : World) → SettingFits arts x → Carries arts
+weights_on : (arts : Arts) (x : Setting) (es : List Event) (js : List JournalEntry) (old : World) (e : Event) (j : JournalEntry) (new : World)
+    → SettingFits arts x → Carries x.topology.format arts
     → Signs arts x es js old → InRange x es e → (turn : Turn arts x es old e j new) → forged_in arts x es js old e j new turn ≡ None
     → WeightsHold arts x es js old → WeightsHold arts x (es ++ e ∷ []) (js ++ j ∷ []) new
 weights_on arts x es js old e j new fits reads signs range (Moves m) unforged h =
@@ -139,7 +140,8 @@ weights_on arts x es js old e j new fits reads signs range (Moves m) unforged h 
     (λ u own correct. own_known arts x es js old new e j m same before (bodies.Weight u) own) (h.rows (acting e) m.node m.is_there))
 weights_on arts x es js old e j new fits reads signs range (Stays m) unforged h = stayed_on arts x es js old new e j signs.entries m h
 
-weights_hold : (arts : Arts) (x : Setting) (es : List Event) (js : List JournalEntry) (w : World) → SettingFits arts x → Carries arts → Clean arts x es js w → WeightsHold arts x es js w
+weights_hold : (arts : Arts) (x : Setting) (es : List Event) (js : List JournalEntry) (w : World) → SettingFits arts x → Carries x.topology.format arts
+    → Clean arts x es js w → WeightsHold arts x es js w
 weights_hold arts x es js w fits reads Starts = starts arts x
 weights_hold arts x es js w fits reads (Turned {es = es'} {js = js'} {old = old} {e = e} {j = j} run range turn unforged) =
     weights_on arts x es' js' old e j w fits reads (signs arts x es' js' old fits reads run) range turn unforged (weights_hold arts x es' js' old fits reads run)
@@ -170,7 +172,7 @@ claims_of arts x es js w fits h = record {
       let s = n.parts.weights in
       let edges = h.edges u n at in
       let here : slice_get s.edges edge ≡ Some e = ap (λ es. slice_get es edge) edges ∙ there in
-      let differ = ends_differ _ (0, 0) x.topology.edges edge e fits.topology.graph.are_edges there in
+      let differ = ends_differ x.topology.format _ (0, 0) x.topology.edges edge e fits.topology.ranges.graph.are_edges there in
       let low_is : row_of edge e e.low.0 ≡ Some (2 * edge) = let t : (e.low.0 == e.low.0) ≡ true = eq-eqb e.low.0 e.low.0 refl in rw t refl in
       let high_is : row_of edge e e.high.0 ≡ Some (2 * edge + 1) =
       let f : (e.low.0 == e.high.0) ≡ false = ne_eqb e.low.0 e.high.0 (λ same. omega (arith, same, differ)) in let t : (e.high.0 == e.high.0) ≡ true = eq-eqb e.high.0 e.high.0 refl in rw (f, t) refl in

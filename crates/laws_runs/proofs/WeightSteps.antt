@@ -21,6 +21,7 @@ use Rattle.sp_rules.specs.Arts.{Arts}
 use Rattle.sp_rules.specs.Flow.{flow_said}
 use Rattle.sp_rules.specs.Handle.{Arrival, handle, handle_all, heard_where, offer_of, offer_to, weight_effects}
 use Rattle.sp_rules.specs.Link.{advanced}
+use Rattle.sp_rules.specs.Lives.{are_held, is_dated}
 use Rattle.sp_rules.specs.Node.{NodeState, call_refusal, called, kept_or, link_in, signed_now, signed_once, with_link}
 use Rattle.sp_rules.specs.Parts.{Fixed, Parts, is_signed}
 use Rattle.sp_rules.specs.Pieces.{Piece, WeightPiece, PrioAckPiece, PrioPiece, ReportPiece, AckPiece, RelPiece}
@@ -29,12 +30,12 @@ use Rattle.sp_rules.specs.Prio as prio
 use Rattle.sp_rules.specs.Prio.{PrioState, admit_prio, judge_prio, prio_effects}
 use Rattle.sp_rules.specs.PrioPeer as rows
 use Rattle.sp_rules.specs.PrioPeer.{PrioPeer}
-use Rattle.sp_rules.specs.Rel.{admit_ack, admit_rel, delivery, due, is_to, judge_ack_of, judge_rel_of, pushed_in, rel_effects}
+use Rattle.sp_rules.specs.Rel.{admit_ack, admit_rel, delivery, is_to, judge_ack_of, judge_rel_of, pushed_in, rel_effects, reported}
 use Rattle.sp_rules.specs.Sends.{after_take_prio, after_take_rel, mask_in, own_prio, prio_body, prio_sent, rel_body, rel_number, rel_refusal, rel_sent, send_prio_refusal, signer_refusal, weight_body, weight_number, weight_refusal, weight_sent}
 use Rattle.sp_rules.specs.Steps as steps
 use Rattle.sp_rules.specs.Steps.{Input, NodeStep, Output, accepted, arrived, refused_call, refused_send, replied}
 use Rattle.sp_rules.specs.Store.{Store, entry_in, evicted, expired_entries, oldest, removed}
-use Rattle.sp_rules.specs.Ticks.{ack_effects, at_time, settled_by, time_after}
+use Rattle.sp_rules.specs.Ticks.{ack_effects, at_time, due_now, settled_by, time_after}
 use Rattle.sp_rules.specs.Weights.{WeightState, held, held_in, offer, row_for, row_of, weight_of}
 use Rattle.sp_rules.specs.declared.answers.Item.TheVariants as items
 use Rattle.sp_rules.specs.declared.answers.PrioAnswer.{PrioAnswer}
@@ -50,7 +51,7 @@ use Rattle.laws_node.specs.Asked.{IsOwn, NewKeep}
 use Rattle.laws_node.proofs.AskedLemmas.{new_left, new_right}
 use Rattle.laws_node.proofs.Handles as judged
 use Rattle.laws_node.proofs.About.{weight_about}
-use Rattle.laws_node.proofs.Own.{left, weight_sent_fits}
+use Rattle.laws_node.proofs.Own.{in_own_format, left, weight_sent_fits}
 use Rattle.laws_node.specs.HeldUpdates as lists
 use Rattle.laws_node.proofs.LastWeights.{At, HasRows, IsUpdateAt, held_said, length_stays, new_at, said as row_said}
 use Rattle.laws_node.specs.Lives.{last_told, weight_told}
@@ -246,6 +247,7 @@ w_heard prios.Seen v number p = refl
 w_heard prios.BadEnd v number p = refl
 w_heard prios.Expired v number p = refl
 w_heard prios.BadSig v number p = refl
+w_heard prios.Epoch v number p = refl
 
 module _ (P : WeightBody → Type 0) where
   still : (p : Parts) (w : WeightState) (es : List Effect) → NoUpdates es → w ≡ p.weights → HasRows p.weights → WTurns P p.weights es w
@@ -262,17 +264,19 @@ module _ (P : WeightBody → Type 0) where
   ]
   one_turns arts at p (PrioAckPiece number) new h = still p p.weights (prio.acked_effects p.prio at.from.0 number) (no_acked p.prio at.from.0 number) refl h
   one_turns arts at p (PrioPiece number o) new h =
-      let answer = prio_answer (is_signed arts at.fixed o) (judge_prio p.prio o.body at.now) in
+      let answer = prio_answer (is_signed arts at.fixed o) (is_dated p.lives o.body) (judge_prio p.prio o.body at.now) in
       let t = is_new (items.Prio answer) in
       let admitted = record p { prio = admit_prio p.prio o (Some at.from) } in
       still p (heard_where answer at.from number (cond t admitted p)).weights (cond t (prio_effects p.prio o (Some at.from)) []) (no_either t (prio_effects p.prio o (Some at.from)) (no_prio p.prio o (Some at.from)))
       (w_heard answer at.from number (cond t admitted p) ∙ w_either t admitted p refl) h
-  one_turns arts at p (ReportPiece flow base have) new h = still p p.weights [] no_none refl h
+  one_turns arts at p (ReportPiece flow sboot dboot base have) new h =
+      still p (handle arts at p (ReportPiece flow sboot dboot base have)).parts.weights [] no_none
+      (w_either (are_held p.lives flow sboot dboot) (record p { rel = reported p.rel at.from flow base have }) p refl) h
   one_turns arts at p (AckPiece flow o) new h =
-      let t = is_new (items.Ack (ack_answer (is_signed arts at.fixed o) (judge_ack_of p.rel flow o.body))) in
+      let t = is_new (items.Ack (ack_answer (is_signed arts at.fixed o) (is_dated p.lives o.body) (judge_ack_of p.rel flow o.body))) in
       still p (cond t (record p { rel = admit_ack p.rel o }) p).weights (cond t [] []) (no_either t [] no_none) (w_either t (record p { rel = admit_ack p.rel o }) p refl) h
   one_turns arts at p (RelPiece flow o) new h =
-      let t = is_new (items.Rel (rel_answer (is_signed arts at.fixed o) (judge_rel_of p.rel flow o.body))) in
+      let t = is_new (items.Rel (rel_answer (is_signed arts at.fixed o) (is_dated p.lives o.body) (judge_rel_of p.rel flow o.body))) in
       still p (cond t (record p { rel = admit_rel p.rel o }) p).weights (cond t (rel_effects p.rel o) []) (no_either t (rel_effects p.rel o) (no_rel (is_to p.rel (flow_said o.body)) o.body)) (w_either t (record p { rel = admit_rel p.rel o }) p refl) h
 
   all_turns : (arts : Arts) (at : Arrival) (p : Parts) (pieces : List Piece) → NewKeep (λ o. (u : WeightBody) → o.body ≡ bodies.Weight u → P u) (handle_all arts at p pieces).answered → HasRows p.weights
@@ -313,8 +317,8 @@ module _ (x : Setting) (arts : Arts) (K : Kept → Type 0) (P : WeightBody → T
           (all_turns P arts (arrival_at n v) n.parts (pieces_where (reply_at arts n v bytes) (pieces_in (sections_in arts n.fixed bytes))) new h)
       go (Some refused) new e f = by n output after n [] e f (plain n [] no_none h)
   turned n (steps.Tick now) output after step input is new own h =
-      by n output after (settled_by arts (at_time n now) (due n.parts.rel) (signer_refusal n.signer)) (prio.expired_effects n.parts.prio (time_after n now) ++ ack_effects arts (due n.parts.rel) (signer_refusal n.signer))
-      (ap (λ (o : Output). o.effects) step.0) step.1 (go (due n.parts.rel) (signer_refusal n.signer))
+      by n output after (settled_by arts (at_time n now) (due_now n) (signer_refusal n.signer)) (prio.expired_effects n.parts.prio (time_after n now) ++ ack_effects arts (due_now n) (signer_refusal n.signer))
+      (ap (λ (o : Output). o.effects) step.0) step.1 (go (due_now n) (signer_refusal n.signer))
     where
       go : (o : Option Ack) (r : Option SendRefused) → WTurns P n.parts.weights (prio.expired_effects n.parts.prio (time_after n now) ++ ack_effects arts o r) (settled_by arts (at_time n now) o r).parts.weights
       go None r = w_same P n.parts.weights n.parts.weights _ (no_both _ [] (no_expired n.parts.prio (time_after n now)) no_none) refl refl h
@@ -345,7 +349,7 @@ module _ (x : Setting) (arts : Arts) (K : Kept → Type 0) (P : WeightBody → T
           let o = signed_now arts n body in
           let row : row_for n.parts.weights.edges body ≡ Some facts.row = ap (λ (es : List Edge). row_for es body) is.holds.parts.weights.edges ∙ facts.place in
           let mine : (w : WeightBody) → body ≡ bodies.Weight w → P w = λ w same. own w (subst (IsOwn arts n (steps.SetWeight v weight) output.effects) same
-          (record { mine = refl; fields = facts.fields; about = weight_about n v weight me free; payload = refl; left = left n.signer is.holds.signer facts.free; before = []; after = weight_effects body; told = e })) in
+          (record { mine = refl; fields = in_own_format (sizes_at x K u) n body is.holds facts.fields; about = weight_about n v weight me free; payload = refl; left = left n.signer is.holds.signer facts.free; before = []; after = weight_effects body; told = e })) in
           by n output after (signed_once n (record n.parts { weights = held n.parts.weights o })) (weight_sent arts n v weight) e f
           (w_on P n.parts.weights n.parts.weights (held n.parts.weights o) (effects.Signed (arts.spell body) ∷ []) (weight_effects body)
           (plain n (effects.Signed (arts.spell body) ∷ []) (no_signed (arts.spell body) [] no_none) h)

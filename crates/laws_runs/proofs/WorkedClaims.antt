@@ -1,11 +1,14 @@
 -- The worked claims: what each says of a small run, and what it refuses.
-use Rattle.std.proofs.Common.{◌≡◌, ◌<◌, ℕ, zero, suc, ◌==◌, ◌&&◌, ◌||◌, Bool, true, false, not, cond, List, [], ◌∷◌, ◌++◌, Option, Some, None, refl, sym, ap, subst, ◌∙◌, inl, inr, arith}
-use Rattle.std.specs.Prelude.{◌⊎◌, IsTrue, slice_get, slice_index_or}
+use Rattle.std.proofs.Common.{◌≡◌, ◌<◌, ◌≤◌, ℕ, zero, suc, ◌==◌, ◌&&◌, ◌||◌, Bool, true, false, not, cond, List, [], ◌∷◌, ◌++◌, Option, Some, None, refl, sym, ap, subst, ◌∙◌, inl, inr, arith}
+use Rattle.std.specs.Prelude.{◌⊎◌, IsTrue, if◌then◌else◌, slice_get, slice_index_or}
 use Rattle.std.specs.List.{All, Contains}
 use Rattle.std.proofs.lemmas.Bool.{eqb-true}
 use Rattle.std.proofs.lemmas.List.Elements.{All-contains_itself, All-head}
+use Rattle.sp_base.specs.Formats.{max_nodes}
 use Rattle.sp_base.specs.Reading.{number_at}
+use Rattle.sp_base.specs.declared.format.TheConstants.{FORMAT_1}
 use Rattle.sp_base.specs.declared.id.NodeId.{NodeId}
+use Rattle.sp_base.specs.declared.limits.TheConstants.{MAX_NODES, MAX_NODES_2}
 use Rattle.sp_topology.specs.declared.topology.Edge.{Edge}
 use Rattle.sp_msg.specs.Bodies.{body_at_in, encoded, of_fields, read_body_in}
 use Rattle.sp_msg.specs.Fields.{field_at}
@@ -172,11 +175,20 @@ kept_good es js o h =
 sent_good : (es : List Event) (js : List Entry) → SignClaims toys (line []) es js (sends (message (1 ∷ []))) → IsTrue (is_good_in toys (line []) es js (message (1 ∷ [])))
 sent_good es js h = h.sent (node 2) (node 3) 0 _ _ refl refl 0 (message (1 ∷ [])) (let i : 0 < 1 = omega arith in i)
 
+-- each format has room for sixteen nodes
+sixteen_at_least : (format : ℕ) → 16 ≤ max_nodes format
+sixteen_at_least format = go (format == FORMAT_1)
+  where
+    go : (b : Bool) → 16 ≤ (if b then MAX_NODES else MAX_NODES_2)
+    go true = omega arith
+    go false = omega arith
+
 says : (w : World) (u : NodeId) (n : NodeState) (k : ℕ) (o : Kept) → SignClaims toys (line []) (send ∷ []) signed_one w → node_in w.nodes u ≡ Some n
     → slice_get (flow_at n (node 1) (node 3)).at.list k ≡ Some o → signer_of o.body ≡ node 1 → encoded o.body ≡ object
 says w u n k o h at there signer =
     let sizes = sizes_of (λ o. IsTrue (is_good_in toys (line []) (send ∷ []) signed_one o)) n in
-    let row = read sizes n.signer.index n.parts.rel.flows flow (omega arith, omega arith) (omega arith, omega arith) (h.kept u n at).parts.rel.flows in
+    let wide = sixteen_at_least sizes.format in
+    let row = read sizes n.signer.index n.parts.rel.flows flow (omega arith, omega (arith, wide)) (omega arith, omega (arith, wide)) (h.kept u n at).parts.rel.flows in
     let good = both _ _ (all_get (Fits sizes) (flow_at n (node 1) (node 3)).at.list k o row.messages there).holds in
     let known : is_among (encoded o.body) (object ∷ []) ≡ true =
     subst (λ (v : NodeId). (not (is_correct (line []) v) || is_among (encoded o.body) (signed (send ∷ []) signed_one v)) ≡ true) signer good.1 in

@@ -21,13 +21,15 @@ use Rattle.laws_runs.specs.Premises.{Carries}
 
 -- a node answers polls and datagrams of each neighbour
 abbrev pub NeighboursAreAnswered : Type 0
-NeighboursAreAnswered = (arts : Arts) (x : Setting) (es : List Event) (js : List Entry) (w : World) → SettingFits arts x → Carries arts → Clean arts x es js w
+NeighboursAreAnswered = (arts : Arts) (x : Setting) (es : List Event) (js : List Entry) (w : World) → SettingFits arts x → Carries x.topology.format arts
+    → Clean arts x es js w
     → length es < MAX_CALLS → (u v : NodeId) (n : NodeState) → node_in w.nodes u ≡ Some n → IsTrue (is_hop x u v) → call_refusal n v ≡ None
 
 -- each answer to an event in its range has words: no call is refused for its ends or for want of reserved indexes, no node is worn, and what is
 -- taken of a priority inbox is a priority message
 abbrev pub EachReplyHasWords : Type 0
-EachReplyHasWords = (arts : Arts) (x : Setting) (es : List Event) (js : List Entry) (w : World) → SettingFits arts x → Carries arts → Clean arts x es js w
+EachReplyHasWords = (arts : Arts) (x : Setting) (es : List Event) (js : List Entry) (w : World) → SettingFits arts x → Carries x.topology.format arts
+    → Clean arts x es js w
     → length es < MAX_CALLS → (e : Event) (n after : NodeState) (input : Input) (output : Output) → InRange x es e → node_in w.nodes (acting e) ≡ Some n
     → input_of arts x es w n e ≡ Some input → NodeStep arts n input output after → (number : ℕ) → reply_word x number output.reply ≢ None
 
@@ -35,7 +37,8 @@ EachReplyHasWords = (arts : Arts) (x : Setting) (es : List Event) (js : List Ent
 
 -- the tags of a link are under the key of the edge
 abbrev pub LinksHaveTheirKeys : Type 0
-LinksHaveTheirKeys = (arts : Arts) (x : Setting) (es : List Event) (js : List Entry) (w : World) → SettingFits arts x → Carries arts → Clean arts x es js w
+LinksHaveTheirKeys = (arts : Arts) (x : Setting) (es : List Event) (js : List Entry) (w : World) → SettingFits arts x → Carries x.topology.format arts
+    → Clean arts x es js w
     → (u v : NodeId) (n : NodeState) (edge : ℕ) → node_in w.nodes v ≡ Some n → position (joins u.0 v.0) x.topology.edges ≡ Some edge
     → (link_in n u).key ≡ x.link_key edge
 
@@ -58,5 +61,6 @@ pub record IsMadeFrame (arts : Arts) (x : Setting) (u v : NodeId) (bytes : List 
   pub frame : bytes ≡ frame_to arts node v
 
 abbrev pub FramesAreMade : Type 0
-FramesAreMade = (arts : Arts) (x : Setting) (es : List Event) (js : List Entry) (w : World) → SettingFits arts x → Carries arts → Clean arts x es js w
+FramesAreMade = (arts : Arts) (x : Setting) (es : List Event) (js : List Entry) (w : World) → SettingFits arts x → Carries x.topology.format arts
+    → Clean arts x es js w
     → (u v : NodeId) (place : ℕ) (bytes : List ℕ) → slice_get (frames_in w.directions u v) place ≡ Some bytes → IsMadeFrame arts x u v bytes

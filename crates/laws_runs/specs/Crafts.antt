@@ -30,7 +30,8 @@ AreLong arts x = (key : NodeId) → IsTrue (is_node x key) → (index : ℕ) (me
     → length (arts.sign x.topology.height (x.seed key.0) index message) ≡ x.signature_len
 
 abbrev pub OwnCraftsForgeNothing : Type 0
-OwnCraftsForgeNothing = (arts : Arts) (x : Setting) (es : List Event) (js : List Entry) (w : World) → SettingFits arts x → Carries arts → AreLong arts x
+OwnCraftsForgeNothing = (arts : Arts) (x : Setting) (es : List Event) (js : List Entry) (w : World) → SettingFits arts x → Carries x.topology.format arts
+    → AreLong arts x
     → Clean arts x es js w → (e : Event) (j : Entry) (new : World) → InRange x es e → IsGoodCraft arts e → NamesNoCorrectNode x e
     → (turn : Turn arts x es w e j new)
     → forged_in arts x es js w e j new turn ≡ None

@@ -33,10 +33,12 @@ AreGood x es js = (n : ℕ) → IsGood x (take n es) (take n js)
 
 -- of each run without forgery
 abbrev pub RunsAreGood : Type 0
-RunsAreGood = (arts : Arts) (x : Setting) (es : List Event) (js : List Entry) (w : World) → SettingFits arts x → Carries arts → Clean arts x es js w
+RunsAreGood = (arts : Arts) (x : Setting) (es : List Event) (js : List Entry) (w : World) → SettingFits arts x → Carries x.topology.format arts
+    → Clean arts x es js w
     → AreGood x es js
 
 -- and so what its effects say that a place holds is what the node has there
 abbrev pub PlacesAreTold : Type 0
-PlacesAreTold = (arts : Arts) (x : Setting) (es : List Event) (js : List Entry) (w : World) → SettingFits arts x → Carries arts → Clean arts x es js w
+PlacesAreTold = (arts : Arts) (x : Setting) (es : List Event) (js : List Entry) (w : World) → SettingFits arts x → Carries x.topology.format arts
+    → Clean arts x es js w
     → SharePart x es js w

@@ -27,13 +27,14 @@ IsHostile _ = ⊥
 -- what is forged after a clean run is never a pass, a poll, a client's call or a tick
 abbrev pub OnlyTheAdversaryForges : Type 0
 OnlyTheAdversaryForges = (arts : Arts) (x : Setting) (es : List Event) (js : List Entry) (w : World) (e : Event) (what : What) → SettingFits arts x
-    → Carries arts → Clean arts x es js w → IsForgedAt arts x es js w e what → IsHostile e
+    → Carries x.topology.format arts → Clean arts x es js w → IsForgedAt arts x es js w e what → IsHostile e
 
 -- ---- bounds
 
 -- of each correct node
 abbrev pub BuffersStayBounded : Type 0
-BuffersStayBounded = (arts : Arts) (x : Setting) (es : List Event) (js : List Entry) (w : World) → SettingFits arts x → Carries arts → Clean arts x es js w
+BuffersStayBounded = (arts : Arts) (x : Setting) (es : List Event) (js : List Entry) (w : World) → SettingFits arts x → Carries x.topology.format arts
+    → Clean arts x es js w
     → (u : NodeId) (n : NodeState) → node_in w.nodes u ≡ Some n → IsBounded x u n
 
 -- they follow from what each turn keeps of nodes, so they have no part of their own

@@ -1,4 +1,5 @@
 pub mod Premises
+pub mod Unborn
 pub mod Signs
 pub mod Laws
 pub mod Acknowledged

@@ -121,7 +121,7 @@ pub record SharePart (x : Setting) (es : List Event) (js : List JournalEntry) (w
 -- each turn of which nothing is forged keeps it, where signed objects are as they are in a run; and each eviction leaves a share
 pub record TurnsKeepShares : Type 0 where
   pub turn : (arts : Arts) (x : Setting) (es : List Event) (js : List JournalEntry) (old : World) (e : Event) (j : JournalEntry) (new : World)
-      → SettingFits arts x → Carries arts
+      → SettingFits arts x → Carries x.topology.format arts
       → Signs arts x es js old → InRange x es e → (turn : Turn arts x es old e j new) → forged_in arts x es js old e j new turn ≡ None
       → SharePart x es js old → SharePart x (es ++ e ∷ []) (js ++ j ∷ []) new
   pub claims : (x : Setting) (es : List Event) (js : List JournalEntry) (w : World) → SharePart x es js w

@@ -3,8 +3,7 @@
 use Rattle.std.specs.Prelude.{ℕ, ◌≡◌, true, IsTrue, List, ◌++◌, None, Ok}
 use Rattle.std.specs.List.{All}
 use Rattle.sp_base.specs.Spelling.{AreBytes}
-use Rattle.sp_base.specs.declared.format.TheConstants.{FORMAT_1}
-use Rattle.sp_frame.specs.Ranges.{IsContents, IsHead}
+use Rattle.sp_frame.specs.Ranges.{IsContentsIn, IsHead}
 use Rattle.sp_frame.specs.Sections.{Contents}
 use Rattle.sp_frame.specs.declared.head.Head.{Head}
 use Rattle.sp_msg.specs.Bodies.{payload_of}
@@ -31,23 +30,31 @@ HasGoodMessages arts s = All (λ o. IsTrue (arts.is_good o.body)) (objects_in (p
 abbrev pub written : Arts → Head → Contents → (key : List ℕ) → List ℕ
 written arts h s key = arts.frame h s ++ arts.tag key (arts.frame h s)
 
-pub record Carries (arts : Arts) : Type 0 where
+-- no part that no node writes: no document, and nothing after the slot
+pub record IsPlain (s : Contents) : Type 0 where
+  pub document : s.document ≡ None
+  pub paths : s.paths ≡ None
+  pub probe : s.probe ≡ None
+  pub epoch : s.epoch ≡ None
+
+-- frames and messages of one format
+pub record Carries (format : ℕ) (arts : Arts) : Type 0 where
   -- a message alone
   pub bodies : ReadsBack arts
-  -- under any head and tag
-  pub back : (len : ℕ) (h : Head) (s : Contents) (key : List ℕ) → IsContents len s → HasGoodMessages arts s → arts.sections len (written arts h s key) ≡ Ok s
-  -- where it has no document
-  pub frames : (h : Head) (s : Contents) → s.document ≡ None → AreOfBytes s → AreBytes (arts.frame h s)
+  -- under any head of the format, and any tag
+  pub back : (len : ℕ) (h : Head) (s : Contents) (key : List ℕ) → h.format ≡ format → IsContentsIn format len s → HasGoodMessages arts s
+      → arts.sections len (written arts h s key) ≡ Ok s
+  pub frames : (h : Head) (s : Contents) → IsPlain s → AreOfBytes s → AreBytes (arts.frame h s)
   pub tags : (key bytes : List ℕ) → AreBytes (arts.tag key bytes)
   pub signatures : (height : LmsHeight) (seed : List ℕ) (index : ℕ) (message : List ℕ) → AreBytes (arts.sign height seed index message)
   pub reads : (len : ℕ) (bytes : List ℕ) (s : Contents) → AreBytes bytes → arts.sections len bytes ≡ Ok s → AreOfBytes s
   pub goods : (len : ℕ) (bytes : List ℕ) (s : Contents) → AreBytes bytes → arts.sections len bytes ≡ Ok s → HasGoodMessages arts s
 
 -- and where signatures have this length, a frame that is written passes each test of its bytes at the other end of its edge
-pub record ComesThrough (arts : Arts) (len : ℕ) : Type 0 where
-  pub carries : Carries arts
+pub record ComesThrough (format : ℕ) (arts : Arts) (len : ℕ) : Type 0 where
+  pub carries : Carries format arts
   -- its length, its name and its version are right
-  pub opens : (h : Head) (s : Contents) (key : List ℕ) → IsHead h → h.format ≡ FORMAT_1 → IsContents len s → HasGoodMessages arts s
+  pub opens : (h : Head) (s : Contents) (key : List ℕ) → IsHead h → h.format ≡ format → IsPlain s → IsContentsIn format len s → HasGoodMessages arts s
       → arts.opened (written arts h s key) ≡ Ok (written arts h s key)
   -- its head is read back, its tag is right under the key, and its sections are read back by `back`
   pub heads : (h : Head) (s : Contents) (key : List ℕ) → IsHead h → arts.head (written arts h s key) ≡ h

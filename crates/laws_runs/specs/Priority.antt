@@ -39,12 +39,13 @@ pub record PrioPart (arts : Arts) (x : Setting) (s d : NodeId) (es : List Event)
 
 -- of each run without forgery
 abbrev pub PriorityIsKept : Type 0
-PriorityIsKept = (arts : Arts) (x : Setting) (es : List Event) (js : List Entry) (w : World) → SettingFits arts x → Carries arts → Clean arts x es js w
+PriorityIsKept = (arts : Arts) (x : Setting) (es : List Event) (js : List Entry) (w : World) → SettingFits arts x → Carries x.topology.format arts
+    → Clean arts x es js w
     → (s d : NodeId) → IsTrue (is_correct x d) → PrioClaims x s d es js
 
 -- each turn of which nothing is forged keeps it, where signed objects are as they are in a run
 abbrev pub TurnsKeepPriority : Type 0
 TurnsKeepPriority = (arts : Arts) (x : Setting) (es : List Event) (js : List Entry) (old : World) (e : Event) (j : Entry) (new : World)
-    → SettingFits arts x → Carries arts
+    → SettingFits arts x → Carries x.topology.format arts
     → Signs arts x es js old → InRange x es e → (turn : Turn arts x es old e j new) → forged_in arts x es js old e j new turn ≡ None
     → (s d : NodeId) → PrioPart arts x s d es js old → PrioPart arts x s d (es ++ e ∷ []) (js ++ j ∷ []) new

@@ -13,5 +13,6 @@ use Rattle.laws_runs.specs.Premises.{Carries}
 
 -- at each place of each node
 abbrev pub EvictionsLeaveShares : Type 0
-EvictionsLeaveShares = (arts : Arts) (x : Setting) (es : List Event) (js : List Entry) (w : World) → SettingFits arts x → Carries arts → Clean arts x es js w
+EvictionsLeaveShares = (arts : Arts) (x : Setting) (es : List Event) (js : List Entry) (w : World) → SettingFits arts x → Carries x.topology.format arts
+    → Clean arts x es js w
     → (u : NodeId) (place : ℕ) → AreShares x.store place [] (effects_at es js u)

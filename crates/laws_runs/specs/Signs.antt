@@ -20,6 +20,7 @@ use Rattle.sp_runs.specs.Worlds.{World, at_start, frames_in, node_in}
 use Rattle.sp_journal.specs.declared.entry.Entry.{Entry}
 use Rattle.sp_schedule_events.specs.declared.event.Event.{Event}
 use Rattle.laws_runs.specs.Premises.{Carries, IsOfBytes}
+use Rattle.laws_runs.specs.Unborn.{Unborn}
 use Rattle.std.specs.List.{All}
 use Rattle.laws_node.specs.Objects.{objects_in}
 use Rattle.sp_rules.specs.Flow.{FlowState, number_said}
@@ -42,6 +43,7 @@ pub record Good (arts : Arts) (x : Setting) (es : List Event) (js : List Entry) 
 abbrev pub sizes_at : Setting → (Kept → Type 0) → NodeId → Sizes
 sizes_at x P u = record {
   me = u;
+  format = x.topology.format;
   nodes = nodes_of x.topology;
   edges = x.topology.edges;
   signature_len = x.signature_len;
@@ -73,6 +75,8 @@ pub record NodeIs (x : Setting) (P : Kept → Type 0) (u : NodeId) (n : NodeStat
   pub shape : shape_of n ≡ shape_at_start (fixed_of x u) (first_signer x u) (link_keys x u) x.buffer x.store
   pub holds : NodeHolds (sizes_at x P u) n
   pub acks : All FlowAck n.parts.rel.flows
+  -- which knows of no start
+  pub unborn : Unborn n.parts
 
 -- all that nodes keep, and all that their frames carry, is good, and their frames are bytes
 pub record Signs (arts : Arts) (x : Setting) (es : List Event) (js : List Entry) (w : World) : Type 0 where
@@ -89,6 +93,6 @@ SignsBegin = (arts : Arts) (x : Setting) → SettingFits arts x → Signs arts x
 
 abbrev pub TurnsKeepSigns : Type 0
 TurnsKeepSigns = (arts : Arts) (x : Setting) (es : List Event) (js : List Entry) (old : World) (e : Event) (j : Entry) (new : World)
-    → SettingFits arts x → Carries arts
+    → SettingFits arts x → Carries x.topology.format arts
     → Signs arts x es js old → InRange x es e → (turn : Turn arts x es old e j new) → forged_in arts x es js old e j new turn ≡ None
     → Signs arts x (es ++ e ∷ []) (js ++ j ∷ []) new

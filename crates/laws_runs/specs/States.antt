@@ -30,7 +30,8 @@ pub record NodeClaims (x : Setting) (w : World) : Type 0 where
 
 -- of each run without forgery
 abbrev pub CorrectNodesAreThere : Type 0
-CorrectNodesAreThere = (arts : Arts) (x : Setting) (es : List Event) (js : List Entry) (w : World) → SettingFits arts x → Carries arts → Clean arts x es js w
+CorrectNodesAreThere = (arts : Arts) (x : Setting) (es : List Event) (js : List Entry) (w : World) → SettingFits arts x → Carries x.topology.format arts
+    → Clean arts x es js w
     → NodeClaims x w
 
 -- ---- what is signed
@@ -55,7 +56,8 @@ pub record SignClaims (arts : Arts) (x : Setting) (es : List Event) (js : List E
       → arts.sections x.signature_len bytes ≡ Ok s → All (λ o. IsTrue (is_good_in arts x es js o)) (objects_in (pieces_of s))
 
 abbrev pub WhatIsKeptWasSigned : Type 0
-WhatIsKeptWasSigned = (arts : Arts) (x : Setting) (es : List Event) (js : List Entry) (w : World) → SettingFits arts x → Carries arts → Clean arts x es js w
+WhatIsKeptWasSigned = (arts : Arts) (x : Setting) (es : List Event) (js : List Entry) (w : World) → SettingFits arts x → Carries x.topology.format arts
+    → Clean arts x es js w
     → SignClaims arts x es js w
 
 -- ---- beginnings
@@ -69,5 +71,5 @@ BeginningsAreClean = (arts : Arts) (x : Setting) (es : List Event) (js : List En
 
 -- the events of a run and their journal lead to one world, though the paths of a message are chosen freely among the cheapest ones
 abbrev pub RunsAreDetermined : Type 0
-RunsAreDetermined = (arts : Arts) (x : Setting) (es : List Event) (js : List Entry) (w v : World) → SettingFits arts x → Carries arts
+RunsAreDetermined = (arts : Arts) (x : Setting) (es : List Event) (js : List Entry) (w v : World) → SettingFits arts x → Carries x.topology.format arts
     → Clean arts x es js w → Clean arts x es js v → w ≡ v

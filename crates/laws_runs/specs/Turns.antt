@@ -26,5 +26,6 @@ pub record Happens (arts : Arts) (x : Setting) (es : List Event) (old : World) (
 
 -- after fewer events than a node answers calls
 abbrev pub EachEventHasATurn : Type 0
-EachEventHasATurn = (arts : Arts) (x : Setting) (es : List Event) (js : List Entry) (w : World) → SettingFits arts x → Carries arts → HaveChoices x
+EachEventHasATurn = (arts : Arts) (x : Setting) (es : List Event) (js : List Entry) (w : World) → SettingFits arts x → Carries x.topology.format arts
+    → HaveChoices x
     → Clean arts x es js w → length es < MAX_CALLS → (e : Event) → InRange x es e → Happens arts x es w e

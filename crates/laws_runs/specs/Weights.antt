@@ -39,7 +39,8 @@ pub record WeightClaims (arts : Arts) (x : Setting) (es : List Event) (js : List
 
 -- of each run without forgery
 abbrev pub WeightsAreKept : Type 0
-WeightsAreKept = (arts : Arts) (x : Setting) (es : List Event) (js : List Entry) (w : World) → SettingFits arts x → Carries arts → Clean arts x es js w
+WeightsAreKept = (arts : Arts) (x : Setting) (es : List Event) (js : List Entry) (w : World) → SettingFits arts x → Carries x.topology.format arts
+    → Clean arts x es js w
     → WeightClaims arts x es js w
 
 -- what turns keep of it
@@ -52,7 +53,7 @@ pub record WeightPart (arts : Arts) (x : Setting) (es : List Event) (js : List E
 -- each turn of which nothing is forged keeps it, where signed objects are as they are in a run; and the claims follow
 pub record TurnsKeepWeights : Type 0 where
   pub turn : (arts : Arts) (x : Setting) (es : List Event) (js : List Entry) (old : World) (e : Event) (j : Entry) (new : World)
-      → SettingFits arts x → Carries arts
+      → SettingFits arts x → Carries x.topology.format arts
       → Signs arts x es js old → InRange x es e → (turn : Turn arts x es old e j new) → forged_in arts x es js old e j new turn ≡ None
       → WeightPart arts x es js old → WeightPart arts x (es ++ e ∷ []) (js ++ j ∷ []) new
   pub claims : (arts : Arts) (x : Setting) (es : List Event) (js : List Entry) (w : World) → SettingFits arts x → Signs arts x es js w

@@ -20,18 +20,19 @@ use Rattle.sp_rules.specs.Arrivals.{arrival_at, pieces_in, pieces_where, reply_a
 use Rattle.sp_rules.specs.Polls.{frame_to}
 use Rattle.sp_rules.specs.Flow.{flow_said}
 use Rattle.sp_rules.specs.Handle.{Arrival, handle, handle_all, offer_to, where_new, weight_effects}
+use Rattle.sp_rules.specs.Lives.{is_dated}
 use Rattle.sp_rules.specs.Node.{NodeState, call_refusal}
 use Rattle.sp_rules.specs.Parts.{Parts, is_signed}
 use Rattle.sp_rules.specs.Pieces.{Piece, WeightPiece, PrioAckPiece, PrioPiece, ReportPiece, AckPiece, RelPiece}
 use Rattle.sp_rules.specs.Prio.{PrioState, acked_effects, admit_prio, delivered, expired_effects, is_here, judge_prio, peer_in, prio_effects}
 use Rattle.sp_rules.specs.PrioPeer as rows
 use Rattle.sp_rules.specs.PrioPeer.{PrioPeer, gone, goes_to, put_effects, stored}
-use Rattle.sp_rules.specs.Rel.{RelState, admit_ack, admit_rel, delivery, due, is_to, judge_ack_of, judge_rel_of, rel_effects}
+use Rattle.sp_rules.specs.Rel.{RelState, admit_ack, admit_rel, delivery, is_to, judge_ack_of, judge_rel_of, rel_effects}
 use Rattle.sp_rules.specs.Sends.{mask_in, own_prio, prio_body, prio_sent, rel_body, rel_number, rel_refusal, rel_sent, send_prio_refusal, signed_effect, signer_refusal, weight_body, weight_number, weight_refusal, weight_sent}
 use Rattle.sp_rules.specs.Steps as steps
 use Rattle.sp_rules.specs.Steps.{Input, NodeStep, Output, accepted, refused_call, refused_send}
 use Rattle.sp_rules.specs.Store.{Store, entry_in, evicted, expired_entries, oldest, removed}
-use Rattle.sp_rules.specs.Ticks.{ack_effects, tick_effects, time_after}
+use Rattle.sp_rules.specs.Ticks.{ack_effects, due_now, tick_effects, time_after}
 use Rattle.sp_rules.specs.Weights.{held}
 use Rattle.sp_rules.specs.declared.answers.Item.{Item}
 use Rattle.sp_rules.specs.declared.answers.Item.TheVariants as items
@@ -158,13 +159,16 @@ module _ (p : Effect → Bool) (tells : TellsDeliveries p) where
       (weight_effects o.body) (omega (arith, weight_none o.body))
   piece_most arts at q (PrioAckPiece n) = omega (arith, acked_none q.prio at.from.0 n)
   piece_most arts at q (PrioPiece n o) =
-      new_most (items.Prio (prio_answer (is_signed arts at.fixed o) (judge_prio q.prio o.body at.now))) o q (record q { prio = admit_prio q.prio o (Some at.from) })
+      new_most (items.Prio (prio_answer (is_signed arts at.fixed o) (is_dated q.lives o.body) (judge_prio q.prio o.body at.now))) o q
+      (record q { prio = admit_prio q.prio o (Some at.from) })
       (prio_effects q.prio o (Some at.from)) (prio_one q.prio o (Some at.from))
-  piece_most arts at q (ReportPiece flow base have) = omega arith
+  piece_most arts at q (ReportPiece flow sboot dboot base have) = omega arith
   piece_most arts at q (AckPiece flow o) =
-      new_most (items.Ack (ack_answer (is_signed arts at.fixed o) (judge_ack_of q.rel flow o.body))) o q (record q { rel = admit_ack q.rel o }) [] (omega arith)
+      new_most (items.Ack (ack_answer (is_signed arts at.fixed o) (is_dated q.lives o.body) (judge_ack_of q.rel flow o.body))) o q
+      (record q { rel = admit_ack q.rel o }) [] (omega arith)
   piece_most arts at q (RelPiece flow o) =
-      new_most (items.Rel (rel_answer (is_signed arts at.fixed o) (judge_rel_of q.rel flow o.body))) o q (record q { rel = admit_rel q.rel o })
+      new_most (items.Rel (rel_answer (is_signed arts at.fixed o) (is_dated q.lives o.body) (judge_rel_of q.rel flow o.body))) o q
+      (record q { rel = admit_rel q.rel o })
       (rel_effects q.rel o) (rel_one q.rel o)
 
   all_most : (arts : Arts) (at : Arrival) (q : Parts) (ps : List Piece) → number (handle_all arts at q ps).effects ≤ length (handle_all arts at q ps).answered
@@ -177,8 +181,8 @@ module _ (p : Effect → Bool) (tells : TellsDeliveries p) where
   -- ---- steps
 
   ticked : (arts : Arts) (n : NodeState) (now : ℕ) → number (tick_effects arts n now) ≡ 0
-  ticked arts n now = none_both (expired_effects n.parts.prio (time_after n now)) (ack_effects arts (due n.parts.rel) (signer_refusal n.signer))
-      (all_expired_none n.parts.prio (time_after n now)) (acks (due n.parts.rel) (signer_refusal n.signer))
+  ticked arts n now = none_both (expired_effects n.parts.prio (time_after n now)) (ack_effects arts (due_now n) (signer_refusal n.signer))
+      (all_expired_none n.parts.prio (time_after n now)) (acks (due_now n) (signer_refusal n.signer))
     where
       acks : (a : Option Ack) (r : Option SendRefused) → number (ack_effects arts a r) ≡ 0
       acks None r = refl

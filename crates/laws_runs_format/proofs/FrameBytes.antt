@@ -1,28 +1,32 @@
 -- A frame's sections are bytes exactly where the payloads and signatures of its objects are.
-use Rattle.std.proofs.Common.{◌≡◌, ◌<◌, ℕ, List, [], ◌∷◌, ◌++◌, length, map, append_assoc, Option, Some, None, refl, sym, ap, subst, ◌∙◌, arith}
+use Rattle.std.proofs.Common.{◌≡◌, ◌<◌, ◌==◌, ℕ, Bool, true, false, List, [], ◌∷◌, ◌++◌, length, map, append_assoc, Option, Some, None}
+use Rattle.std.proofs.Common.{refl, sym, ap, subst, ◌∙◌, arith}
 use Rattle.std.specs.List.{All, flat_map}
+use Rattle.std.specs.Prelude.{IfSome}
 use Rattle.std.proofs.lemmas.List.Elements.{All-append, All-cons, All-head, All-nil, All-tail}
 use Rattle.byteorder.specs.Endian.{big_bytes}
 use Rattle.sp_base.specs.Spelling.{AreBytes}
-use Rattle.sp_frame.proofs.FirstFormat.{sections_are}
 use Rattle.sp_frame.specs.Frames.{ends_bytes, head_bytes, numbers_bytes}
-use Rattle.sp_frame.specs.Grammar.{counted_bytes}
+use Rattle.sp_frame.specs.Grammar.{counted_bytes, later_bytes}
 use Rattle.sp_frame.specs.Objects.{object_bytes}
 use Rattle.sp_frame.specs.Prioritized.{numbered_bytes, prios_bytes}
-use Rattle.sp_frame.specs.Reliable.{Report, ack_bytes, place_bytes, rels_bytes, report_bytes, slot_bytes}
-use Rattle.sp_frame.specs.Sections.{Contents, sections_bytes}
+use Rattle.sp_frame.specs.Probes.{epoch_bytes, probe_bytes, probes_bytes}
+use Rattle.sp_frame.specs.Ranges.{IsContentsIn, IsDocument, Later}
+use Rattle.sp_frame.specs.Reliable.{Report, ack_bytes, boot_bytes, paths_bytes, place_bytes, rels_bytes, report_bytes, slot_bytes}
+use Rattle.sp_frame.specs.Sections.{Contents, control_bytes, plain_bytes, sections_bytes_in}
 use Rattle.sp_frame.specs.Views.{as_list}
 use Rattle.sp_frame.specs.Weights.{weights_bytes}
 use Rattle.sp_frame.specs.declared.head.Head.{Head}
+use Rattle.sp_frame.specs.declared.probe.Probe.{Probe}
 use Rattle.sp_base.specs.declared.format.TheConstants.{FORMAT_1}
-use Rattle.sp_msg.specs.Bodies.{encoded, fields_of, kind_of, numbers_of, payload_of}
+use Rattle.sp_msg.specs.Bodies.{encoded_in, fields_of, kind_of, numbers_of, payload_of}
 use Rattle.sp_msg.specs.Fields.{Rule, size_of, spelled}
 use Rattle.sp_msg.specs.declared.body.Body.{Body}
 use Rattle.sp_msg.specs.declared.body.Body.TheVariants as bodies
 use Rattle.sp_msg.specs.declared.kept.Kept.{Kept}
 use Rattle.sp_rules.specs.Pieces.{Piece, WeightPiece, PrioAckPiece, AckPiece, RelPiece, pieces_of, prio_piece, slot_pieces}
 use Rattle.laws_node.specs.Objects.{objects_in, objects_of}
-use Rattle.laws_runs.specs.Premises.{AreOfBytes, IsOfBytes}
+use Rattle.laws_runs.specs.Premises.{AreOfBytes, IsOfBytes, IsPlain}
 use Rattle.laws_runs_format.proofs.Bytes.{joined, joined3, joined4, left, none, of_number, one_first, parts3, parts4, right}
 
 -- ---- one object
@@ -41,27 +45,27 @@ small_kind (bodies.Krel w) = omega arith
 small_kind (bodies.Kack w) = omega arith
 small_kind (bodies.Epoch w) = omega arith
 
-body_in : (body : Body) → AreBytes (payload_of body) → AreBytes (encoded body)
-body_in body are =
-    one_first (kind_of body) (spelled (fields_of FORMAT_1 body) (numbers_of body) ++ payload_of body) (small_kind body)
-    (joined (spelled (fields_of FORMAT_1 body) (numbers_of body)) (payload_of body) (spelled_are (fields_of FORMAT_1 body) (numbers_of body)) are)
+body_in : (format : ℕ) (body : Body) → AreBytes (payload_of body) → AreBytes (encoded_in format body)
+body_in format body are =
+    one_first (kind_of body) (spelled (fields_of format body) (numbers_of body) ++ payload_of body) (small_kind body)
+    (joined (spelled (fields_of format body) (numbers_of body)) (payload_of body) (spelled_are (fields_of format body) (numbers_of body)) are)
 
-body_out : (body : Body) → AreBytes (encoded body) → AreBytes (payload_of body)
-body_out body are =
-    right (spelled (fields_of FORMAT_1 body) (numbers_of body)) (payload_of body)
-    (All-tail (λ (b : ℕ). b < 256) (kind_of body) (spelled (fields_of FORMAT_1 body) (numbers_of body) ++ payload_of body) are)
+body_out : (format : ℕ) (body : Body) → AreBytes (encoded_in format body) → AreBytes (payload_of body)
+body_out format body are =
+    right (spelled (fields_of format body) (numbers_of body)) (payload_of body)
+    (All-tail (λ (b : ℕ). b < 256) (kind_of body) (spelled (fields_of format body) (numbers_of body) ++ payload_of body) are)
 
-object_in : (o : Kept) → IsOfBytes o → AreBytes (object_bytes FORMAT_1 o)
+object_in : (format : ℕ) (o : Kept) → IsOfBytes o → AreBytes (object_bytes format o)
 unfolding object_bytes
-object_in o h =
-    joined4 (big_bytes 2 (length (encoded o.body))) (encoded o.body) (big_bytes 2 (length o.signature)) o.signature
-    (of_number 2 (length (encoded o.body))) (body_in o.body h.0) (of_number 2 (length o.signature)) h.1
+object_in format o h =
+    joined4 (big_bytes 2 (length (encoded_in format o.body))) (encoded_in format o.body) (big_bytes 2 (length o.signature)) o.signature
+    (of_number 2 (length (encoded_in format o.body))) (body_in format o.body h.0) (of_number 2 (length o.signature)) h.1
 
-object_out : (o : Kept) → AreBytes (object_bytes FORMAT_1 o) → IsOfBytes o
+object_out : (format : ℕ) (o : Kept) → AreBytes (object_bytes format o) → IsOfBytes o
 unfolding object_bytes
-object_out o are =
-    let parts = parts4 (big_bytes 2 (length (encoded o.body))) (encoded o.body) (big_bytes 2 (length o.signature)) o.signature are in
-    (body_out o.body parts.1, parts.3)
+object_out format o are =
+    let parts = parts4 (big_bytes 2 (length (encoded_in format o.body))) (encoded_in format o.body) (big_bytes 2 (length o.signature)) o.signature are in
+    (body_out format o.body parts.1, parts.3)
 
 -- ---- many
 
@@ -84,43 +88,44 @@ module _ {X : Type 0} (P : X → Type 0) (spell : X → List ℕ) where
 IsNumberedOf : ℕ × Kept → Type 0
 IsNumberedOf m = IsOfBytes m.1
 
-numbered_in : (m : ℕ × Kept) → IsNumberedOf m → AreBytes (numbered_bytes FORMAT_1 m)
+numbered_in : (format : ℕ) (m : ℕ × Kept) → IsNumberedOf m → AreBytes (numbered_bytes format m)
 unfolding numbered_bytes IsNumberedOf
-numbered_in m h = joined (big_bytes 8 m.0) (object_bytes FORMAT_1 m.1) (of_number 8 m.0) (object_in m.1 h)
+numbered_in format m h = joined (big_bytes 8 m.0) (object_bytes format m.1) (of_number 8 m.0) (object_in format m.1 h)
 
-numbered_out : (m : ℕ × Kept) → AreBytes (numbered_bytes FORMAT_1 m) → IsNumberedOf m
+numbered_out : (format : ℕ) (m : ℕ × Kept) → AreBytes (numbered_bytes format m) → IsNumberedOf m
 unfolding numbered_bytes IsNumberedOf
-numbered_out m are = object_out m.1 (right (big_bytes 8 m.0) (object_bytes FORMAT_1 m.1) are)
+numbered_out format m are = (object_out format) m.1 (right (big_bytes 8 m.0) (object_bytes format m.1) are)
 
 -- ---- the slot
 
-ack_in : (o : Option Kept) → All IsOfBytes (as_list o) → AreBytes (ack_bytes FORMAT_1 o)
+ack_in : (format : ℕ) (o : Option Kept) → All IsOfBytes (as_list o) → AreBytes (ack_bytes format o)
 unfolding ack_bytes
-ack_in None all = of_number 1 0
-ack_in (Some o) all = joined (big_bytes 1 1) (object_bytes FORMAT_1 o) (of_number 1 1) (object_in o (All-head IsOfBytes o [] all))
+ack_in format None all = of_number 1 0
+ack_in format (Some o) all = joined (big_bytes 1 1) (object_bytes format o) (of_number 1 1) (object_in format o (All-head IsOfBytes o [] all))
 
-ack_out : (o : Option Kept) → AreBytes (ack_bytes FORMAT_1 o) → All IsOfBytes (as_list o)
+ack_out : (format : ℕ) (o : Option Kept) → AreBytes (ack_bytes format o) → All IsOfBytes (as_list o)
 unfolding ack_bytes
-ack_out None are = All-nil IsOfBytes
-ack_out (Some o) are = All-cons IsOfBytes o [] (object_out o (right (big_bytes 1 1) (object_bytes FORMAT_1 o) are)) (All-nil IsOfBytes)
+ack_out format None are = All-nil IsOfBytes
+ack_out format (Some o) are = All-cons IsOfBytes o [] (object_out format o (right (big_bytes 1 1) (object_bytes format o) are)) (All-nil IsOfBytes)
 
-place_are : (r : Report) → AreBytes (place_bytes FORMAT_1 r)
+place_are : (format : ℕ) (r : Report) → AreBytes (place_bytes format r)
 unfolding place_bytes
-place_are r =
+place_are format r =
     let ends = big_bytes 1 r.flow.src.0 ++ big_bytes 1 r.flow.dst.0 in
-    let source = ends ++ big_bytes 0 r.sboot in
-    let boots = source ++ big_bytes 0 r.dboot in
+    let wide = boot_bytes format in
+    let source = ends ++ big_bytes wide r.sboot in
+    let boots = source ++ big_bytes wide r.dboot in
     let ends_are = joined (big_bytes 1 r.flow.src.0) (big_bytes 1 r.flow.dst.0) (of_number 1 r.flow.src.0) (of_number 1 r.flow.dst.0) in
-    let boots_are = joined source (big_bytes 0 r.dboot) (joined ends (big_bytes 0 r.sboot) ends_are (of_number 0 r.sboot)) (of_number 0 r.dboot) in
+    let boots_are = joined source (big_bytes wide r.dboot) (joined ends (big_bytes wide r.sboot) ends_are (of_number wide r.sboot)) (of_number wide r.dboot) in
     joined (boots ++ big_bytes 8 r.base) (big_bytes 8 r.have) (joined boots (big_bytes 8 r.base) boots_are (of_number 8 r.base)) (of_number 8 r.have)
 
-rels_in : (rs : List Kept) → All IsOfBytes rs → AreBytes (rels_bytes FORMAT_1 rs)
+rels_in : (format : ℕ) (rs : List Kept) → All IsOfBytes rs → AreBytes (rels_bytes format rs)
 unfolding rels_bytes
-rels_in rs all = counted_in IsOfBytes (object_bytes FORMAT_1) object_in rs all
+rels_in format rs all = counted_in IsOfBytes (object_bytes format) (object_in format) rs all
 
-rels_out : (rs : List Kept) → AreBytes (rels_bytes FORMAT_1 rs) → All IsOfBytes rs
+rels_out : (format : ℕ) (rs : List Kept) → AreBytes (rels_bytes format rs) → All IsOfBytes rs
 unfolding rels_bytes
-rels_out rs are = counted_out IsOfBytes (object_bytes FORMAT_1) object_out rs are
+rels_out format rs are = counted_out IsOfBytes (object_bytes format) (object_out format) rs are
 
 -- the objects of a slot
 abbrev pub slot_objects : Option Report → List Kept
@@ -135,27 +140,28 @@ all_right : (xs ys : List Kept) → All IsOfBytes (xs ++ ys) → All IsOfBytes y
 all_right [] ys all = all
 all_right (x ∷ xs) ys all = all_right xs ys (All-tail IsOfBytes x (xs ++ ys) all)
 
-report_in : (r : Report) → All IsOfBytes (as_list r.ack ++ r.rels) → AreBytes (report_bytes FORMAT_1 r)
+report_in : (format : ℕ) (r : Report) → All IsOfBytes (as_list r.ack ++ r.rels) → AreBytes (report_bytes format r)
 unfolding report_bytes
-report_in r all =
-    joined3 (place_bytes FORMAT_1 r) (ack_bytes FORMAT_1 r.ack) (rels_bytes FORMAT_1 r.rels) (place_are r) (ack_in r.ack (all_left (as_list r.ack) r.rels all))
-    (rels_in r.rels (all_right (as_list r.ack) r.rels all))
+report_in format r all =
+    joined3 (place_bytes format r) (ack_bytes format r.ack) (rels_bytes format r.rels)
+    (place_are format r) (ack_in format r.ack (all_left (as_list r.ack) r.rels all))
+    (rels_in format r.rels (all_right (as_list r.ack) r.rels all))
 
-report_out : (r : Report) → AreBytes (report_bytes FORMAT_1 r) → All IsOfBytes (as_list r.ack ++ r.rels)
+report_out : (format : ℕ) (r : Report) → AreBytes (report_bytes format r) → All IsOfBytes (as_list r.ack ++ r.rels)
 unfolding report_bytes
-report_out r are =
-    let parts = parts3 (place_bytes FORMAT_1 r) (ack_bytes FORMAT_1 r.ack) (rels_bytes FORMAT_1 r.rels) are in
-    All-append IsOfBytes (as_list r.ack) r.rels (ack_out r.ack parts.1) (rels_out r.rels parts.2)
+report_out format r are =
+    let parts = parts3 (place_bytes format r) (ack_bytes format r.ack) (rels_bytes format r.rels) are in
+    All-append IsOfBytes (as_list r.ack) r.rels (ack_out format r.ack parts.1) (rels_out format r.rels parts.2)
 
-slot_in : (s : Option Report) → All IsOfBytes (slot_objects s) → AreBytes (slot_bytes FORMAT_1 s)
+slot_in : (format : ℕ) (s : Option Report) → All IsOfBytes (slot_objects s) → AreBytes (slot_bytes format s)
 unfolding slot_bytes
-slot_in None all = of_number 1 0
-slot_in (Some r) all = joined (big_bytes 1 1) (report_bytes FORMAT_1 r) (of_number 1 1) (report_in r all)
+slot_in format None all = of_number 1 0
+slot_in format (Some r) all = joined (big_bytes 1 1) (report_bytes format r) (of_number 1 1) (report_in format r all)
 
-slot_out : (s : Option Report) → AreBytes (slot_bytes FORMAT_1 s) → All IsOfBytes (slot_objects s)
+slot_out : (format : ℕ) (s : Option Report) → AreBytes (slot_bytes format s) → All IsOfBytes (slot_objects s)
 unfolding slot_bytes
-slot_out None are = All-nil IsOfBytes
-slot_out (Some r) are = report_out r (right (big_bytes 1 1) (report_bytes FORMAT_1 r) are)
+slot_out format None are = All-nil IsOfBytes
+slot_out format (Some r) are = (report_out format) r (right (big_bytes 1 1) (report_bytes format r) are)
 
 -- ---- all objects, in their order
 
@@ -198,29 +204,81 @@ unfolding IsNumberedOf
 prios_out [] all = All-nil IsOfBytes
 prios_out (m ∷ ms) all = All-cons IsOfBytes m.1 (prio_objects ms) (All-head IsNumberedOf m ms all) (prios_out ms (All-tail IsNumberedOf m ms all))
 
+-- ---- parts that no node writes
+
+no_paths : (format : ℕ) → AreBytes (paths_bytes format None)
+unfolding paths_bytes
+no_paths format = go (format == FORMAT_1)
+  where
+    go : (t : Bool) → AreBytes (later_bytes (report_bytes format) t None)
+    go true = none
+    go false = of_number 1 0
+
+no_probe : (format : ℕ) → AreBytes (probes_bytes format None)
+unfolding probes_bytes
+no_probe format = go (format == FORMAT_1)
+  where
+    go : (t : Bool) → AreBytes (later_bytes probe_bytes t None)
+    go true = none
+    go false = of_number 1 0
+
+no_epoch : (format : ℕ) → AreBytes (epoch_bytes format None)
+unfolding epoch_bytes
+no_epoch format = go (format == FORMAT_1)
+  where
+    go : (t : Bool) → AreBytes (later_bytes (object_bytes format) t None)
+    go true = none
+    go false = of_number 1 0
+
 -- ---- all sections
 
-pub sections_in : (s : Contents) → s.document ≡ None → AreOfBytes s → AreBytes (sections_bytes s)
-unfolding weights_bytes prios_bytes
-sections_in s first of =
+pub sections_in : (format : ℕ) (s : Contents) → IsPlain s → AreOfBytes s → AreBytes (sections_bytes_in format s)
+unfolding sections_bytes_in plain_bytes weights_bytes prios_bytes
+sections_in format s plain of =
     let all = subst (All IsOfBytes) (objects_are s) of in
     let rest = all_right s.weights (prio_objects s.prios ++ slot_objects s.slot) all in
-    subst AreBytes (sym (sections_are s first))
-    (joined4 (weights_bytes FORMAT_1 s.weights) (big_bytes 8 s.prio_ack) (prios_bytes FORMAT_1 s.prios) (slot_bytes FORMAT_1 s.slot)
-    (counted_in IsOfBytes (object_bytes FORMAT_1) object_in s.weights (all_left s.weights (prio_objects s.prios ++ slot_objects s.slot) all))
+    let weights = weights_bytes format s.weights in
+    let prios = prios_bytes format s.prios in
+    let front = weights ++ big_bytes 8 s.prio_ack ++ prios ++ slot_bytes format s.slot in
+    let paths = paths_bytes format s.paths in
+    let probe = probes_bytes format s.probe in
+    let front_are : AreBytes front = joined4 weights (big_bytes 8 s.prio_ack) prios (slot_bytes format s.slot)
+    (counted_in IsOfBytes (object_bytes format) (object_in format) s.weights (all_left s.weights (prio_objects s.prios ++ slot_objects s.slot) all))
     (of_number 8 s.prio_ack)
-    (counted_in IsNumberedOf (numbered_bytes FORMAT_1) numbered_in s.prios (prios_in s.prios (all_left (prio_objects s.prios) (slot_objects s.slot) rest)))
-    (slot_in s.slot (all_right (prio_objects s.prios) (slot_objects s.slot) rest)))
+    (counted_in IsNumberedOf (numbered_bytes format) (numbered_in format) s.prios
+    (prios_in s.prios (all_left (prio_objects s.prios) (slot_objects s.slot) rest)))
+    (slot_in format s.slot (all_right (prio_objects s.prios) (slot_objects s.slot) rest)) in
+    let paths_are = subst (λ (o : Option Report). AreBytes (paths_bytes format o)) (sym plain.paths) (no_paths format) in
+    let probe_are = subst (λ (o : Option Probe). AreBytes (probes_bytes format o)) (sym plain.probe) (no_probe format) in
+    let epoch_are = subst (λ (o : Option Kept). AreBytes (epoch_bytes format o)) (sym plain.epoch) (no_epoch format) in
+    subst (λ (d : Option (List ℕ)). AreBytes (control_bytes format s d)) (sym plain.document)
+    (joined (front ++ paths ++ probe) (epoch_bytes format s.epoch) (joined (front ++ paths) probe (joined front paths front_are paths_are) probe_are) epoch_are)
 
-pub sections_out : (s : Contents) → s.document ≡ None → AreBytes (sections_bytes s) → AreOfBytes s
-unfolding weights_bytes prios_bytes
-sections_out s first are =
-    let parts = parts4 (weights_bytes FORMAT_1 s.weights) (big_bytes 8 s.prio_ack) (prios_bytes FORMAT_1 s.prios) (slot_bytes FORMAT_1 s.slot)
-    (subst AreBytes (sections_are s first) are) in
+plain_out : (format : ℕ) (s : Contents) → AreBytes (plain_bytes format s) → AreOfBytes s
+unfolding plain_bytes weights_bytes prios_bytes
+plain_out format s are =
+    let weights = weights_bytes format s.weights in
+    let prios = prios_bytes format s.prios in
+    let slot = slot_bytes format s.slot in
+    let front = weights ++ big_bytes 8 s.prio_ack ++ prios ++ slot in
+    let paths = paths_bytes format s.paths in
+    let probe = probes_bytes format s.probe in
+    let parts = parts4 weights (big_bytes 8 s.prio_ack) prios slot
+    (left front paths (left (front ++ paths) probe (left (front ++ paths ++ probe) (epoch_bytes format s.epoch) are))) in
     subst (All IsOfBytes) (sym (objects_are s))
-    (All-append IsOfBytes s.weights (prio_objects s.prios ++ slot_objects s.slot) (counted_out IsOfBytes (object_bytes FORMAT_1) object_out s.weights parts.0)
+    (All-append IsOfBytes s.weights (prio_objects s.prios ++ slot_objects s.slot)
+    (counted_out IsOfBytes (object_bytes format) (object_out format) s.weights parts.0)
     (All-append IsOfBytes (prio_objects s.prios) (slot_objects s.slot)
-    (prios_out s.prios (counted_out IsNumberedOf (numbered_bytes FORMAT_1) numbered_out s.prios parts.2)) (slot_out s.slot parts.3)))
+    (prios_out s.prios (counted_out IsNumberedOf (numbered_bytes format) (numbered_out format) s.prios parts.2)) (slot_out format s.slot parts.3)))
+
+-- a document comes alone
+pub sections_out : (format len : ℕ) (s : Contents) → IsContentsIn format len s → AreBytes (sections_bytes_in format s) → AreOfBytes s
+unfolding sections_bytes_in
+sections_out format len s is are = go s.document refl is.document are
+  where
+    go : (d : Option (List ℕ)) → s.document ≡ d → IfSome d (Later format (IsDocument s)) → AreBytes (control_bytes format s d) → AreOfBytes s
+    go None none later are = plain_out format s are
+    go (Some document) some later are = subst AreOfBytes (sym later.1.alone) (All-nil IsOfBytes)
 
 -- ---- heads
 

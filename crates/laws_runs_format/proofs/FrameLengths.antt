@@ -4,15 +4,14 @@ use Rattle.std.proofs.Common.{sym, ap, subst, ◌∙◌, arith}
 use Rattle.std.specs.Prelude.{flat_map}
 use Rattle.std.proofs.lemmas.Bool.Decides.{nat_tests}
 use Rattle.byteorder.specs.Endian.{big_bytes}
-use Rattle.sp_base.specs.declared.format.TheConstants.{FORMAT_1}
 use Rattle.sp_base.specs.declared.id.NodeId.{NodeId}
-use Rattle.sp_frame.proofs.FirstFormat.{sections_are}
-use Rattle.sp_frame.specs.Frames.{ends_bytes, head_bytes, numbers_bytes, opened}
+use Rattle.sp_frame.specs.Frames.{ends_bytes, head_bytes, numbers_bytes, opened_in}
 use Rattle.sp_frame.specs.Grammar.{counted_bytes, flagged_bytes}
 use Rattle.sp_frame.specs.Objects.{object_bytes}
 use Rattle.sp_frame.specs.Prioritized.{numbered_bytes, prios_bytes}
-use Rattle.sp_frame.specs.Reliable.{report_bytes, slot_bytes}
-use Rattle.sp_frame.specs.Sections.{Contents, sections_bytes}
+use Rattle.sp_frame.specs.Probes.{epoch_bytes, probes_bytes}
+use Rattle.sp_frame.specs.Reliable.{paths_bytes, report_bytes, slot_bytes}
+use Rattle.sp_frame.specs.Sections.{Contents, control_bytes, plain_bytes, sections_bytes_in}
 use Rattle.sp_frame.specs.Weights.{weights_bytes}
 use Rattle.sp_frame.specs.declared.frame.TheConstants.{MAX_FRAME_BYTES}
 use Rattle.sp_frame.specs.declared.head.Head.{Head}
@@ -21,14 +20,17 @@ use Rattle.sp_frame.specs.declared.refused.FrameRefused.TheVariants as refusals
 use Rattle.sp_hmac.proofs.Lengths.{length-hmac}
 use Rattle.sp_hmac.specs.Hmac.{hmac}
 use Rattle.sp_node_format.proofs.PolledFrames.{polled_is_read_back, signatures_are_short}
-use Rattle.sp_node_format.specs.Format.{format}
+use Rattle.sp_node_format.specs.Format.{format_of}
 use Rattle.sp_node_format.specs.PolledFrames.{most_signature}
+use Rattle.sp_rules.specs.Arts.{Arts}
 use Rattle.sp_rules.specs.Link.{next_head}
 use Rattle.sp_rules.specs.Node.{NodeState, link_in}
 use Rattle.sp_rules.specs.Parts.{Fixed}
 use Rattle.sp_rules.specs.Polls.{contents_to, frame_to}
 use Rattle.sp_runs.specs.Scenarios.{setting_of}
+use Rattle.laws_node.specs.Nodes.{IsKept}
 use Rattle.laws_runs.proofs.Frames.{frames_are_made}
+use Rattle.laws_runs_format.specs.Arts.{arts_of}
 use Rattle.laws_runs_format.specs.Frames.{FramesHaveTheirLength, HasLength, least_frame}
 use Rattle.laws_runs_format.proofs.Headers.{headers_fit}
 use Rattle.laws_runs_format.proofs.ReadBack.{format_carries}
@@ -64,35 +66,45 @@ four a b c d =
     let right_three = length-append c d in
     omega (arith, one, two, three, right_one, right_two, right_three)
 
-sections_long : (s : Contents) → s.document ≡ None → 11 ≤ length (sections_bytes s)
-unfolding weights_bytes prios_bytes slot_bytes
-sections_long s first =
-    let all = ap length (sections_are s first)
-    ∙ four (weights_bytes FORMAT_1 s.weights) (big_bytes 8 s.prio_ack) (prios_bytes FORMAT_1 s.prios) (slot_bytes FORMAT_1 s.slot) in
-    let weights = counted_long (object_bytes FORMAT_1) s.weights in
+-- the parts after the slot have no byte at least
+plain_long : (format : ℕ) (s : Contents) → 11 ≤ length (plain_bytes format s)
+unfolding plain_bytes weights_bytes prios_bytes slot_bytes
+plain_long format s =
+    let front = weights_bytes format s.weights ++ big_bytes 8 s.prio_ack ++ prios_bytes format s.prios ++ slot_bytes format s.slot in
+    let with_paths = front ++ paths_bytes format s.paths in
+    let last = length-append (with_paths ++ probes_bytes format s.probe) (epoch_bytes format s.epoch) in
+    let before = length-append with_paths (probes_bytes format s.probe) in
+    let paths = length-append front (paths_bytes format s.paths) in
+    let all = four (weights_bytes format s.weights) (big_bytes 8 s.prio_ack) (prios_bytes format s.prios) (slot_bytes format s.slot) in
+    let weights = counted_long (object_bytes format) s.weights in
     let heard = eight_bytes s.prio_ack in
-    let prios = counted_long (numbered_bytes FORMAT_1) s.prios in
-    let slot = flagged_long (report_bytes FORMAT_1) s.slot in
-    omega (arith, all, weights, heard, prios, slot)
+    let prios = counted_long (numbered_bytes format) s.prios in
+    let slot = flagged_long (report_bytes format) s.slot in
+    omega (arith, last, before, paths, all, weights, heard, prios, slot)
+
+sections_long : (format : ℕ) (s : Contents) → s.document ≡ None → 11 ≤ length (sections_bytes_in format s)
+unfolding sections_bytes_in
+sections_long format s none = subst (λ (d : Option (List ℕ)). 11 ≤ length (control_bytes format s d)) (sym none) (plain_long format s)
 
 head_long : (h : Head) → length (head_bytes h) ≡ 33
 unfolding head_bytes ends_bytes numbers_bytes
 head_long h = omega arith
 
-frame_long : (n : NodeState) (v : NodeId) → least_frame ≤ length (frame_to format n v)
+frame_long : (n : NodeState) (v : NodeId) → least_frame ≤ length (frame_to (format_of n.fixed) n v)
 frame_long n v =
-    let h = next_head (link_in n v) n.fixed.topology.version FORMAT_1 in
+    let h = next_head (link_in n v) n.fixed.topology.version n.fixed.topology.format in
     let s = contents_to n.fixed n.parts v in
-    let inner = head_bytes h ++ sections_bytes s in
+    let sections = sections_bytes_in h.format s in
+    let inner = head_bytes h ++ sections in
     let tag = length-hmac (link_in n v).key inner in
     let whole = length-append inner (hmac (link_in n v).key inner) in
-    let parts = length-append (head_bytes h) (sections_bytes s) in
-    omega (arith, tag, whole, parts, head_long h, sections_long s refl)
+    let parts = length-append (head_bytes h) sections in
+    omega (arith, tag, whole, parts, head_long h, sections_long h.format s refl)
 
 -- ---- at most
 
-not_long : (bytes : List ℕ) → opened bytes ≡ Ok bytes → length bytes ≤ MAX_FRAME_BYTES
-not_long bytes opens = go (nat_lt MAX_FRAME_BYTES (length bytes)) refl _ opens
+not_long : (format : ℕ) (bytes : List ℕ) → opened_in format bytes ≡ Ok bytes → length bytes ≤ MAX_FRAME_BYTES
+not_long format bytes opens = go (nat_lt MAX_FRAME_BYTES (length bytes)) refl _ opens
   where
     go : (t : Bool) → nat_lt MAX_FRAME_BYTES (length bytes) ≡ t → (after : Result (List ℕ) FrameRefused) → cond t (Err refusals.TooLong) after ≡ Ok bytes
         → length bytes ≤ MAX_FRAME_BYTES
@@ -103,11 +115,14 @@ not_long bytes opens = go (nat_lt MAX_FRAME_BYTES (length bytes)) refl _ opens
 
 pub frames_have_their_length : FramesHaveTheirLength
 frames_have_their_length s es js w good run u v place bytes at =
-    let made = frames_are_made format (setting_of s) es js w (headers_fit s good) format_carries run u v place bytes at in
+    let x = setting_of s in
+    let made = frames_are_made (arts_of x) x es js w (headers_fit s good) (format_carries x.topology.format) run u v place bytes at in
+    let n = made.node in
     let long = ap (λ (f : Fixed). f.signature_len) made.fixed in
-    let short : made.node.fixed.signature_len ≤ most_signature = omega (arith, long, signatures_are_short s.height) in
-    let back = polled_is_read_back made.node v made.kept short made.neighbour in
-    subst HasLength (sym made.frame) (record {
-      least = frame_long made.node v;
-      most = not_long (frame_to format made.node v) back.0.opens;
+    let short : n.fixed.signature_len ≤ most_signature = omega (arith, long, signatures_are_short s.height) in
+    let arts : arts_of x ≡ format_of n.fixed = ap format_of (sym made.fixed) in
+    let back = polled_is_read_back n v (subst (λ (a : Arts). IsKept a n) arts made.kept) short made.neighbour in
+    subst HasLength (sym (made.frame ∙ ap (λ (a : Arts). frame_to a n v) arts)) (record {
+      least = frame_long n v;
+      most = not_long n.fixed.topology.format (frame_to (format_of n.fixed) n v) back.0.opens;
     })

@@ -1,4 +1,4 @@
--- A header's setting fits this format: each node signs with the key of its own seed.
+-- A header's setting fits the arts of its topology's format: each node signs with the key of its own seed.
 use Rattle.std.proofs.Common.{ℕ, ◌≡◌, ◌<◌, ◌≤◌, not, eqb, true, false, List, [], ◌∷◌, map, Some, refl, ap, inl, inr, arith}
 use Rattle.std.specs.List.{range_with_len}
 use Rattle.std.proofs.lemmas.Bool.{cases_Bool, eqb-true}

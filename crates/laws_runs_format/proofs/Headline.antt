@@ -1,6 +1,5 @@
 -- All laws of runs, of what a schedule's header makes.
 use Rattle.std.proofs.Common.{List}
-use Rattle.sp_node_format.specs.Format.{format}
 use Rattle.sp_runs.specs.Scenarios.{setting_of}
 use Rattle.sp_runs.specs.Settings.{Setting, SettingFits}
 use Rattle.sp_runs.specs.Runs.{Clean}
@@ -17,29 +16,33 @@ use Rattle.laws_runs.proofs.PlaceRuns.{evictions_leave_shares}
 use Rattle.laws_runs.proofs.PrioRuns.{priority_is_kept}
 use Rattle.laws_runs.proofs.There.{correct_nodes_are_there}
 use Rattle.laws_runs.proofs.WeightRuns.{weights_are_kept}
+use Rattle.laws_runs_format.specs.Arts.{arts_of}
 use Rattle.laws_runs_format.specs.Headline.{Claims, EveryRun}
 use Rattle.laws_runs_format.proofs.Headers.{headers_fit}
 use Rattle.laws_runs_format.proofs.Opens.{schedules_deliver, schedules_return}
 use Rattle.laws_runs_format.proofs.ReadBack.{format_carries}
 
-all_claims : (x : Setting) (es : List Event) (js : List Entry) (w : World) → SettingFits format x → Carries format → Clean format x es js w → Claims x es js w
+all_claims : (x : Setting) (es : List Event) (js : List Entry) (w : World) → SettingFits (arts_of x) x → Carries x.topology.format (arts_of x)
+    → Clean (arts_of x) x es js w → Claims x es js w
 all_claims x es js w fits carries run = record {
-  nodes = correct_nodes_are_there format x es js w fits carries run;
-  reliable = λ s d there correct apart. flows_are_kept format x es js w fits carries run s d there correct apart;
-  priority = λ s d correct. priority_is_kept format x es js w fits carries run s d correct;
-  bounded = λ u n at. buffers_stay_bounded format x es js w fits carries run u n at;
-  shares = λ u place. evictions_leave_shares format x es js w fits carries run u place;
-  weights = weights_are_kept format x es js w fits carries run;
-  signed = what_is_kept_was_signed format x es js w fits carries run;
+  nodes = correct_nodes_are_there (arts_of x) x es js w fits carries run;
+  reliable = λ s d there correct apart. flows_are_kept (arts_of x) x es js w fits carries run s d there correct apart;
+  priority = λ s d correct. priority_is_kept (arts_of x) x es js w fits carries run s d correct;
+  bounded = λ u n at. buffers_stay_bounded (arts_of x) x es js w fits carries run u n at;
+  shares = λ u place. evictions_leave_shares (arts_of x) x es js w fits carries run u place;
+  weights = weights_are_kept (arts_of x) x es js w fits carries run;
+  signed = what_is_kept_was_signed (arts_of x) x es js w fits carries run;
 }
 
 pub every_run : EveryRun
 every_run s es js w graph some run =
-    let fits : SettingFits format (setting_of s) = headers_fit s graph in
+    let x = setting_of s in
+    let fits : SettingFits (arts_of x) x = headers_fit s graph in
+    let carries = format_carries x.topology.format in
     record {
-      reached = λ n. beginnings_are_clean format (setting_of s) es js w run n;
-      one = λ n v u first second. runs_are_determined format (setting_of s) _ _ v u fits format_carries first second;
+      reached = λ n. beginnings_are_clean (arts_of x) x es js w run n;
+      one = λ n v u first second. runs_are_determined (arts_of x) x _ _ v u fits carries first second;
       delivered = schedules_deliver s graph some;
       returned = schedules_return s graph some;
-      claims = λ n v beginning. all_claims (setting_of s) _ _ v fits format_carries beginning;
+      claims = λ n v beginning. all_claims x _ _ v fits carries beginning;
     }

@@ -11,7 +11,6 @@ pub mod EffectCounts
 pub mod Deliveries
 pub mod FrameLengths
 pub mod Schedules
-pub mod Lengths
 pub mod Opens
 pub mod Listed
 pub mod MaskBits

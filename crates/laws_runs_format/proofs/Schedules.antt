@@ -1,6 +1,6 @@
 -- An event that its line allows after those before it is in its range in a run.
-use Rattle.std.proofs.Common.{◌≡◌, ◌<◌, ◌≤◌, ℕ, zero, suc, ◌+◌, ◌==◌, Bool, true, false, cond, nat_le, List, [], ◌∷◌, ◌++◌, length, length-append, map, refl, sym, ap, ap₂, subst, ◌∙◌, inl, inr, arith, append_assoc}
-use Rattle.std.specs.Prelude.{◌⊎◌, count_by}
+use Rattle.std.proofs.Common.{◌≡◌, ◌<◌, ◌≤◌, ℕ, zero, suc, ◌+◌, ◌==◌, ◌-◌, ◌^◌, Bool, true, false, cond, nat_le, List, [], ◌∷◌, ◌++◌, length, length-append, map, refl, sym, ap, ap₂, subst, ◌∙◌, inl, inr, arith, append_assoc}
+use Rattle.std.specs.Prelude.{◌⊎◌, count_by, if◌then◌else◌}
 use Rattle.std.specs.List.{list_any, range_with_len}
 use Rattle.std.proofs.lemmas.Bool.{cases_Bool, eqb-true, eq-eqb}
 use Rattle.std.proofs.lemmas.Bool.Decides.{nat_tests}
@@ -10,10 +10,14 @@ use Rattle.std.proofs.lemmas.List.Sums.{length-filter, sum_by-cons}
 use Rattle.sp_base.specs.declared.id.NodeId.{NodeId}
 use Rattle.sp_topology.specs.declared.topology.LmsHeight.{LmsHeight}
 use Rattle.sp_topology.specs.declared.topology.NodeKey.{NodeKey}
-use Rattle.sp_schedule.specs.Scenarios.{AreInRange, None_yet, One_more}
+use Rattle.sp_schedule.specs.Scenarios.{AreInRange, IsSchedule, None_yet, One_more}
+use Rattle.sp_base.specs.Formats.{by_format}
 use Rattle.sp_base.specs.declared.format.TheConstants.{FORMAT_1}
-use Rattle.sp_msg.proofs.GoodFields.{ack_is_good, low_mask, no_boot, prio_is_good, rel_is_good, weight_is_good}
-use Rattle.sp_msg.proofs.HalfLemmas.{of_two}
+use Rattle.sp_base.specs.declared.limits.TheConstants.{MAX_EDGES}
+use Rattle.sp_msg.proofs.GoodFields.{GoodMask, ack_is_good, prio_is_good, rel_is_good, weight_is_good}
+use Rattle.sp_msg.specs.Fields.{IsInRange, free, ranged}
+use Rattle.sp_msg.specs.declared.mask.Mask.{Mask}
+use Rattle.sp_msg.specs.declared.refused.Field.TheVariants as fields
 use Rattle.sp_schedule_crafts.specs.declared.object.CraftedObject.{CraftedObject}
 use Rattle.sp_schedule_crafts.specs.declared.object.CraftedObject.TheVariants as crafted
 use Rattle.sp_schedule_events.specs.EventLines as lines
@@ -24,11 +28,17 @@ use Rattle.sp_schedule_events.specs.declared.event.Event.{Event}
 use Rattle.sp_schedule_events.specs.declared.event.Event.TheVariants as events
 use Rattle.sp_schedule_events.specs.declared.scenario.Scenario.{Scenario}
 use Rattle.sp_runs.specs.Runs.{InRange, IsMade, is_other, is_poll, polls}
-use Rattle.sp_runs.specs.Scenarios.{node_key, setting_of}
+use Rattle.sp_runs.specs.Scenarios.{IsHeader, node_key, setting_of}
 use Rattle.sp_runs.specs.Settings.{is_correct, is_node}
 use Rattle.laws_runs.proofs.Counts.{poll_more}
+use Rattle.laws_runs.proofs.Crafts.{no_boot}
 use Rattle.laws_runs.proofs.Lists.{both}
 use Rattle.laws_runs_format.specs.Schedules.{ScheduledEventsAreInRange}
+
+-- ---- the header
+
+pub header_of : (s : Scenario) (es : List Event) → IsSchedule s es → IsHeader s
+header_of s es good = record { format = good.scenario.format; graph = good.scenario.graph }
 
 -- ---- nodes
 
@@ -118,6 +128,19 @@ polled_joins s es (One_more {before = before} e are is) a b some = elim (cases_B
 abbrev Lined : Scenario → List Event → Event → Type 0
 Lined s es e = lines.InRange s es e
 
+-- a mask in its line is one of the format
+good_mask : (format : ℕ) (mask : Mask) → mask.high < by_format format 1 (2 ^ 128) → mask.low < by_format format (2 ^ MAX_EDGES) (2 ^ 128) → GoodMask format mask
+good_mask format mask high low = record { high = high_in (format == FORMAT_1) high; low = low_in (format == FORMAT_1) low }
+  where
+    high_in : (b : Bool) → mask.high < (if b then 1 else 2 ^ 128) → mask.high < 256 ^ (if b then 0 else 16)
+    high_in true small = small
+    high_in false small = small
+
+    low_in : (b : Bool) → mask.low < (if b then 2 ^ MAX_EDGES else 2 ^ 128)
+        → IsInRange (if b then ranged fields.Mask 16 0 (2 ^ MAX_EDGES - 1) else free 16) mask.low
+    low_in true small = (omega arith, omega (arith, small))
+    low_in false small = small
+
 crafted_in : (s : Scenario) (es : List Event) (c v key : NodeId) (object : CraftedObject) → Lined s es (events.Craft c v key object)
     → InRange (setting_of s) es (events.Craft c v key object)
 crafted_in s es c v key (crafted.Rel r) is =
@@ -130,8 +153,8 @@ crafted_in s es c v key (crafted.Rel r) is =
       correct_is s v to.0 to.1 to.2,
       is.joined,
       node_is s key by.0 by.1,
-      rel_is_good FORMAT_1 (record { src = r.src; dst = r.dst; sboot = 0; dboot = 0; seq = r.seq; payload = r.payload })
-          (record { src = (src.0, src.1); dst = (dst.0, dst.1); sboot = no_boot; dboot = no_boot; seq = (seq.0, seq.1); payload = payload.1 }),
+      rel_is_good s.format (record { src = r.src; dst = r.dst; sboot = 0; dboot = 0; seq = r.seq; payload = r.payload })
+          (record { src = (src.0, src.1); dst = (dst.0, dst.1); sboot = no_boot s.format; dboot = no_boot s.format; seq = (seq.0, seq.1); payload = payload.1 }),
       payload.2,
     )
 crafted_in s es c v key (crafted.Ack a) is =
@@ -143,8 +166,8 @@ crafted_in s es c v key (crafted.Ack a) is =
       correct_is s v to.0 to.1 to.2,
       is.joined,
       node_is s key by.0 by.1,
-      ack_is_good FORMAT_1 (record { src = a.src; dst = a.dst; sboot = 0; dboot = 0; seq = a.seq })
-          (record { src = (src.0, src.1); dst = (dst.0, dst.1); sboot = no_boot; dboot = no_boot; seq = (seq.0, seq.1) }),
+      ack_is_good s.format (record { src = a.src; dst = a.dst; sboot = 0; dboot = 0; seq = a.seq })
+          (record { src = (src.0, src.1); dst = (dst.0, dst.1); sboot = no_boot s.format; dboot = no_boot s.format; seq = (seq.0, seq.1) }),
       All-nil (λ (b : ℕ). b < 256),
     )
 crafted_in s es c v key (crafted.Prio p) is =
@@ -160,15 +183,15 @@ crafted_in s es c v key (crafted.Prio p) is =
       correct_is s v to.0 to.1 to.2,
       is.joined,
       node_is s key by.0 by.1,
-      prio_is_good FORMAT_1
-          (record { src = p.src; dst = p.dst; sboot = 0; seq = p.seq; prio = p.prio; expiry = p.expiry; mask = of_two 0 p.mask; payload = p.payload }) (record {
+      prio_is_good s.format
+          (record { src = p.src; dst = p.dst; sboot = 0; seq = p.seq; prio = p.prio; expiry = p.expiry; mask = p.mask; payload = p.payload }) (record {
             src = (src.0, src.1);
             dst = (dst.0, dst.1);
-            sboot = no_boot;
+            sboot = no_boot s.format;
             seq = (seq.0, seq.1);
             prio = (prio.0, prio.1);
             expiry = omega (arith, expiry.1);
-            mask = low_mask p.mask mask.0;
+            mask = good_mask s.format p.mask mask.0.high mask.0.low;
             payload = payload.1;
           }),
       payload.2,
@@ -183,7 +206,7 @@ crafted_in s es c v key (crafted.Weight w) is =
       correct_is s v to.0 to.1 to.2,
       is.joined,
       node_is s key by.0 by.1,
-      weight_is_good FORMAT_1 w (record { origin = (origin.0, origin.1); edge = edge.1; seq = (seq.0, seq.1); weight = (weight.0, weight.1) }),
+      weight_is_good s.format w (record { origin = (origin.0, origin.1); edge = edge.1; seq = (seq.0, seq.1); weight = (weight.0, weight.1) }),
       All-nil (λ (b : ℕ). b < 256),
     )
 

@@ -1,14 +1,15 @@
 -- The topology of a header in its ranges is in its ranges: its ids ascend from 1, its keys are of their form, and its edges are the graph's.
 use Rattle.std.proofs.Common.{◌≡◌, ◌<◌, ◌≤◌, ℕ, zero, suc, ◌+◌, ◌==◌, ◌||◌, Bool, true, false, List, [], ◌∷◌, ◌++◌, codes, length, length-append, map, drop, refl, sym, ap, subst, ◌∙◌, inl, inr, arith}
 use Rattle.std.specs.List.{All, AllPairs, range_with_len}
+use Rattle.std.specs.Prelude.{if◌then◌else◌}
 use Rattle.std.proofs.lemmas.Bool.{cases_Bool, eq-eqb}
 use Rattle.std.proofs.lemmas.List.{length-take-le}
 use Rattle.std.proofs.lemmas.List.Elements.{All-cons, All-head, All-nil, All-tail}
 use Rattle.std.proofs.lemmas.List.FromFn.{length-range_with_len}
 use Rattle.byteorder.specs.Endian.{big_number}
 use Rattle.sha2.proofs.Facts256.{length-sha256}
+use Rattle.sp_base.specs.Formats.{max_nodes}
 use Rattle.sp_base.specs.declared.format.TheConstants.{FORMAT_1}
-use Rattle.sp_base.specs.declared.limits.TheConstants.{MAX_NODES}
 use Rattle.sp_graph.specs.Edges as graphs
 use Rattle.sp_hmac.proofs.Lengths.{length-hmac}
 use Rattle.sp_hmac.specs.Hmac.{hmac}
@@ -25,7 +26,7 @@ use Rattle.sp_ots.specs.declared.param.OtsParam.{OtsParam}
 use Rattle.sp_ots.specs.declared.param.OtsParam.TheVariants.{W4}
 use Rattle.sp_sign.specs.Heights.{param_of}
 use Rattle.sp_topology.specs.Heights.{typecode_of}
-use Rattle.sp_topology.specs.Ranges.{AreEdges, AreNodes, IsBelow, IsKey, ends_of, has_id, ids_of}
+use Rattle.sp_topology.specs.Ranges.{AreEdges, AreNodes, IsBelow, IsKey, ends_of, has_id, ids_of, least_weight}
 use Rattle.sp_topology.specs.declared.topology.Edge.{Edge}
 use Rattle.sp_topology.specs.declared.topology.LmsHeight.{LmsHeight}
 use Rattle.sp_topology.specs.declared.topology.LmsHeight.TheVariants.{Five, Ten}
@@ -102,11 +103,11 @@ is_key h seed = record {
 
 -- ---- the nodes
 
-nodes_are : (h : LmsHeight) (seed : List ℕ) (before count : ℕ) → before + count ≤ MAX_NODES
-    → AreNodes FORMAT_1 h before (map (node_key h seed) (range_with_len (before + 1) count))
-nodes_are h seed before zero most = tt
-nodes_are h seed before (suc count) most =
-    ((omega arith, omega (arith, most)), is_key h (node_seed seed (before + 1)), nodes_are h seed (before + 1) count (omega (arith, most)))
+nodes_are : (format : ℕ) (h : LmsHeight) (seed : List ℕ) (before count : ℕ) → before + count ≤ max_nodes format
+    → AreNodes format h before (map (node_key h seed) (range_with_len (before + 1) count))
+nodes_are format h seed before zero most = tt
+nodes_are format h seed before (suc count) most =
+    ((omega arith, omega (arith, most)), is_key h (node_seed seed (before + 1)), nodes_are format h seed (before + 1) count (omega (arith, most)))
 
 ids_are : (h : LmsHeight) (seed : List ℕ) (us : List ℕ) → ids_of (map (node_key h seed) us) ≡ us
 ids_are h seed [] = refl
@@ -136,10 +137,17 @@ pairs_head R x xs h = λ j d within. h 0 (suc j) d (omega arith) (omega (arith, 
 pairs_tail : {X : Type 0} (R : X → X → Type 0) (x : X) (xs : List X) → AllPairs R (x ∷ xs) → AllPairs R xs
 pairs_tail R x xs h = λ i j d below within. h (suc i) (suc j) d (omega (arith, below)) (omega (arith, within))
 
-edges_are : (nodes : ℕ) (before : ℕ × ℕ) (edges : List Edge) → All (λ e. IsBelow before (ends_of e)) edges → All (graphs.IsEdge nodes) edges
-    → AllPairs graphs.IsLower edges → AreEdges FORMAT_1 (range_with_len 1 nodes) before edges
-edges_are nodes before [] after each ascend = tt
-edges_are nodes before (e ∷ edges) after each ascend =
+least_is_low : (format : ℕ) → least_weight format ≤ 1
+least_is_low format = go (format == FORMAT_1)
+  where
+    go : (b : Bool) → (if b then 1 else 0) ≤ 1
+    go true = omega arith
+    go false = omega arith
+
+edges_are : (format nodes : ℕ) (before : ℕ × ℕ) (edges : List Edge) → All (λ e. IsBelow before (ends_of e)) edges → All (graphs.IsEdge nodes) edges
+    → AllPairs graphs.IsLower edges → AreEdges format (range_with_len 1 nodes) before edges
+edges_are format nodes before [] after each ascend = tt
+edges_are format nodes before (e ∷ edges) after each ascend =
     let is = All-head (graphs.IsEdge nodes) e edges each in (
       record {
         ascend = is.1;
@@ -147,8 +155,9 @@ edges_are nodes before (e ∷ edges) after each ascend =
         low = has 1 nodes e.low.0 is.0 (omega (arith, is.1, is.2));
         high = has 1 nodes e.high.0 (omega (arith, is.0, is.1)) (omega (arith, is.2));
       },
-      is.3,
-      edges_are nodes (ends_of e) edges (pairs_head graphs.IsLower e edges ascend) (All-tail (graphs.IsEdge nodes) e edges each) (pairs_tail graphs.IsLower e edges ascend),
+      (omega (arith, is.3.0, least_is_low format), is.3.1),
+      edges_are format nodes (ends_of e) edges (pairs_head graphs.IsLower e edges ascend)
+          (All-tail (graphs.IsEdge nodes) e edges each) (pairs_tail graphs.IsLower e edges ascend),
     )
 
 first_after : (nodes : ℕ) (edges : List Edge) → All (graphs.IsEdge nodes) edges → All (λ e. IsBelow (0, 0) (ends_of e)) edges
@@ -159,19 +168,30 @@ first_after nodes (e ∷ edges) each =
 
 -- ---- a topology
 
+whole : (nodes : ℕ) (edges : List Edge) → All (graphs.IsEdge nodes) edges → All (λ (e : Edge). 1 ≤ e.weight) edges
+whole nodes [] each = All-nil (λ (e : Edge). 1 ≤ e.weight)
+whole nodes (e ∷ edges) each =
+    All-cons (λ (f : Edge). 1 ≤ f.weight) e edges (All-head (graphs.IsEdge nodes) e edges each).3.0
+    (whole nodes edges (All-tail (graphs.IsEdge nodes) e edges each))
+
 pub topologies_fit : TopologiesFit
 topologies_fit s good =
+    let format = s.format in
+    let graph = good.graph in
     let count = s.graph.nodes in
     let ids = ids_are s.height s.seed (range_with_len 1 count) in
     let long : length (ids_of (topology_of s).nodes) ≡ count = ap (λ (xs : List ℕ). length xs) ids ∙ length-range_with_len 1 count in
     record {
-      is = refl;
-      version = omega arith;
-      nodes = nodes_are s.height s.seed 0 count (omega (arith, good.nodes.1));
-      graph = record {
-        node_count = (omega (arith, long, good.nodes.0), omega (arith, long, good.nodes.1));
-        edge_count = good.few;
-        are_edges = subst (λ (xs : List ℕ). AreEdges FORMAT_1 xs (0, 0) s.graph.edges) (sym ids)
-            (edges_are count (0, 0) s.graph.edges (first_after count s.graph.edges good.edges) good.edges good.ascend);
+      ranges = record {
+        format = good.format;
+        version = omega arith;
+        nodes = nodes_are format s.height s.seed 0 count (omega (arith, graph.nodes.1));
+        graph = record {
+          node_count = (omega (arith, long, graph.nodes.0), omega (arith, long, graph.nodes.1));
+          edge_count = graph.few;
+          are_edges = subst (λ (xs : List ℕ). AreEdges format xs (0, 0) s.graph.edges) (sym ids)
+              (edges_are format count (0, 0) s.graph.edges (first_after count s.graph.edges graph.edges) graph.edges graph.ascend);
+        };
       };
+      whole = whole count s.graph.edges graph.edges;
     }

@@ -2,15 +2,13 @@
 use Rattle.std.specs.Prelude.{ℕ, ◌≡◌, ◌≤◌, List, Some, length, slice_get}
 use Rattle.sp_base.specs.declared.id.NodeId.{NodeId}
 use Rattle.sp_frame.specs.declared.frame.TheConstants.{MAX_FRAME_BYTES}
-use Rattle.sp_base.specs.declared.format.TheConstants.{FORMAT_1}
-use Rattle.sp_graph.specs.Edges.{IsGraphIn}
-use Rattle.sp_node_format.specs.Format.{format}
 use Rattle.sp_runs.specs.Runs.{Clean}
-use Rattle.sp_runs.specs.Scenarios.{setting_of}
+use Rattle.sp_runs.specs.Scenarios.{IsHeader, setting_of}
 use Rattle.sp_runs.specs.Worlds.{World, frames_in}
 use Rattle.sp_journal.specs.declared.entry.Entry.{Entry}
 use Rattle.sp_schedule_events.specs.declared.event.Event.{Event}
 use Rattle.sp_schedule_events.specs.declared.scenario.Scenario.{Scenario}
+use Rattle.laws_runs_format.specs.Arts.{arts_of}
 
 -- a head, sections of which all are empty, and a tag
 abbrev pub least_frame : ℕ
@@ -22,5 +20,6 @@ pub record HasLength (bytes : List ℕ) : Type 0 where
 
 -- each frame that a correct node made
 abbrev pub FramesHaveTheirLength : Type 0
-FramesHaveTheirLength = (s : Scenario) (es : List Event) (js : List Entry) (w : World) → IsGraphIn FORMAT_1 s.graph → Clean format (setting_of s) es js w
+FramesHaveTheirLength = (s : Scenario) (es : List Event) (js : List Entry) (w : World) → IsHeader s
+    → Clean (arts_of (setting_of s)) (setting_of s) es js w
     → (u v : NodeId) (place : ℕ) (bytes : List ℕ) → slice_get (frames_in w.directions u v) place ≡ Some bytes → HasLength bytes

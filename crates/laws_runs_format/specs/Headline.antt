@@ -1,15 +1,12 @@
 -- The headline: what holds of every run of a schedule without forgery, after each of its events, whatever compromised nodes send.
 use Rattle.std.specs.Prelude.{ℕ, ◌≡◌, ◌≤◌, IsTrue, List, [], Some, take}
 use Rattle.sp_base.specs.declared.id.NodeId.{NodeId}
-use Rattle.sp_base.specs.declared.format.TheConstants.{FORMAT_1}
-use Rattle.sp_graph.specs.Edges.{IsGraphIn}
 use Rattle.sp_journal.specs.declared.entry.Entry.{Entry}
-use Rattle.sp_node_format.specs.Format.{format}
 use Rattle.sp_rules.specs.Node.{NodeState}
 use Rattle.sp_runs.specs.Bounds.{IsBounded}
 use Rattle.sp_runs.specs.Held.{AreShares}
 use Rattle.sp_runs.specs.Runs.{Clean}
-use Rattle.sp_runs.specs.Scenarios.{setting_of}
+use Rattle.sp_runs.specs.Scenarios.{IsHeader, setting_of}
 use Rattle.sp_runs.specs.Settings.{Setting, is_correct, is_node}
 use Rattle.sp_runs.specs.Told.{effects_at}
 use Rattle.sp_runs.specs.Worlds.{World, node_in}
@@ -20,6 +17,7 @@ use Rattle.laws_runs.specs.Flows.{FlowClaims}
 use Rattle.laws_runs.specs.Priority.{PrioClaims}
 use Rattle.laws_runs.specs.States.{NodeClaims, SignClaims}
 use Rattle.laws_runs.specs.Weights.{WeightClaims}
+use Rattle.laws_runs_format.specs.Arts.{arts_of}
 
 -- what holds of these events, their journal and the world that they lead to
 pub record Claims (x : Setting) (es : List Event) (js : List Entry) (w : World) : Type 0 where
@@ -27,7 +25,7 @@ pub record Claims (x : Setting) (es : List Event) (js : List Entry) (w : World) 
   pub nodes : NodeClaims x w
   -- Reliable messages from any node to a correct one. What was delivered of a correct source is a prefix of what it sent, under the numbers 1, 2, 3
   -- and so on, and nothing counts as acknowledged that wasn't delivered
-  pub reliable : (s d : NodeId) → IsTrue (is_node x s) → IsTrue (is_correct x d) → (s ≡ d → ⊥) → FlowClaims format x s d es js w
+  pub reliable : (s d : NodeId) → IsTrue (is_node x s) → IsTrue (is_correct x d) → (s ≡ d → ⊥) → FlowClaims (arts_of x) x s d es js w
   -- priority messages of any source at a correct node: each number at most once, and those of a correct source were sent
   pub priority : (s d : NodeId) → IsTrue (is_correct x d) → PrioClaims x s d es js
   -- no buffer of a correct node is above its bound
@@ -35,20 +33,20 @@ pub record Claims (x : Setting) (es : List Event) (js : List Entry) (w : World) 
   -- each eviction takes from the source that has most, and leaves it its share
   pub shares : (u : NodeId) (place : ℕ) → AreShares x.store place [] (effects_at es js u)
   -- the weight of a link is the greatest of its minimum and what its ends said last
-  pub weights : WeightClaims format x es js w
+  pub weights : WeightClaims (arts_of x) x es js w
   -- whatever a correct node keeps or sends bears its signer's valid signature, and a correct signer signed it in this run
-  pub signed : SignClaims format x es js w
+  pub signed : SignClaims (arts_of x) x es js w
 
 -- A run of this setting without forgery. After each of its events, as after all, there is one world, of which the claims hold.
 pub record RunClaims (x : Setting) (es : List Event) (js : List Entry) : Type 0 where
-  pub reached : (n : ℕ) → (w : World) × Clean format x (take n es) (take n js) w
-  pub one : (n : ℕ) (w v : World) → Clean format x (take n es) (take n js) w → Clean format x (take n es) (take n js) v → w ≡ v
-  pub claims : (n : ℕ) (w : World) → Clean format x (take n es) (take n js) w → Claims x (take n es) (take n js) w
+  pub reached : (n : ℕ) → (w : World) × Clean (arts_of x) x (take n es) (take n js) w
+  pub one : (n : ℕ) (w v : World) → Clean (arts_of x) x (take n es) (take n js) w → Clean (arts_of x) x (take n es) (take n js) v → w ≡ v
+  pub claims : (n : ℕ) (w : World) → Clean (arts_of x) x (take n es) (take n js) w → Claims x (take n es) (take n js) w
   -- What was accepted is delivered, and what was acknowledged has returned, after so many complete rounds of a path of correct nodes
-  pub delivered : DeliversInRounds format x
-  pub returned : ReturnsInRounds format x
+  pub delivered : DeliversInRounds (arts_of x) x
+  pub returned : ReturnsInRounds (arts_of x) x
 
 -- of each run of a header in its ranges. Nothing else is asked
 abbrev pub EveryRun : Type 0
-EveryRun = (s : Scenario) (es : List Event) (js : List Entry) (w : World) → IsGraphIn FORMAT_1 s.graph → 1 ≤ s.limits.buffer
-    → Clean format (setting_of s) es js w → RunClaims (setting_of s) es js
+EveryRun = (s : Scenario) (es : List Event) (js : List Entry) (w : World) → IsHeader s → 1 ≤ s.limits.buffer
+    → Clean (arts_of (setting_of s)) (setting_of s) es js w → RunClaims (setting_of s) es js

@@ -1,3 +1,4 @@
+pub mod Arts
 pub mod FormatCarries
 pub mod Headers
 pub mod Headline

@@ -2,7 +2,6 @@
 use Rattle.std.specs.Prelude.{ℕ, ◌≡◌, ◌∷◌, ◌++◌, List}
 use Rattle.std.specs.List.{All}
 use Rattle.sp_journal.specs.declared.entry.Entry.{Entry}
-use Rattle.sp_node_format.specs.Format.{format}
 use Rattle.sp_runs.specs.Runs.{Clean, IsForgedAt}
 use Rattle.sp_runs.specs.Scenarios.{setting_of}
 use Rattle.sp_runs.specs.Settings.{Setting}
@@ -14,16 +13,17 @@ use Rattle.sp_schedule_events.specs.declared.event.Event.TheVariants as events
 use Rattle.sp_schedule_events.specs.declared.scenario.Scenario.{Scenario}
 use Rattle.sp_generate.specs.Generated.{generated_events, generated_scenario}
 use Rattle.laws_runs.specs.Crafts.{IsNoFrame, NamesNoCorrectNode}
+use Rattle.laws_runs_format.specs.Arts.{arts_of}
 
 -- no event of the schedule is forged, after any run of those before it
 abbrev pub NothingForged : Scenario → List Event → Type 0
 NothingForged s es = (before : List Event) (event : Event) (after : List Event) (js : List Entry) (w : World) (what : What) → es ≡ before ++ event ∷ after
-    → Clean format (setting_of s) before js w → IsForgedAt format (setting_of s) before js w event what → ⊥
+    → Clean (arts_of (setting_of s)) (setting_of s) before js w → IsForgedAt (arts_of (setting_of s)) (setting_of s) before js w event what → ⊥
 
 -- what the adversary brings is no frame, or was crafted by a compromised node in the name of one
 abbrev pub IsHarmless : Setting → Event → Type 0
 IsHarmless x (events.Flip u v number back bit) = ⊥
-IsHarmless x (events.Inject u v bytes) = IsNoFrame format bytes
+IsHarmless x (events.Inject u v bytes) = IsNoFrame (arts_of x) bytes
 IsHarmless x (events.Craft c v key body) = NamesNoCorrectNode x (events.Craft c v key body)
 IsHarmless x (events.CraftStatus c v s d base have) = NamesNoCorrectNode x (events.CraftStatus c v s d base have)
 IsHarmless x _ = Unit {0}

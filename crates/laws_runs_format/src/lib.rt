@@ -24,7 +24,7 @@ pub fn this_format_comes_through()
     ensures { FormatComesThrough }
 {}
 
-/// A law: where a header's graph is in its ranges, so is the topology that it makes, and the setting fits this format. Signatures of every node
+/// A law: where a header is in its ranges, so is the topology that it makes, and the setting fits this format. Signatures of every node
 /// have one length.
 pub fn headers_fit()
     ensures topology { TopologiesFit }

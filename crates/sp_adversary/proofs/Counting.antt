@@ -5,8 +5,9 @@ use Rattle.std.proofs.lemmas.List.Sums.{sum_by_push}
 use Rattle.sp_base.proofs.RowLemmas.{first_where-put, first_where-put_other}
 use Rattle.sp_base.specs.declared.id.NodeId.{NodeId}
 use Rattle.sp_hss.specs.KeyTree.{total}
-use Rattle.sp_msg.specs.Bodies.{encoded}
-use Rattle.sp_node_format.specs.Format.{format}
+use Rattle.sp_msg.specs.Bodies.{encoded_in}
+use Rattle.sp_msg.specs.declared.kept.Kept.{Kept}
+use Rattle.sp_node_format.specs.Format.{format_in}
 use Rattle.sp_runs.specs.Inputs.{crafts, is_craft_of}
 use Rattle.sp_runs.specs.Scenarios.{node_seed, setting_of}
 use Rattle.sp_schedule_crafts.specs.Objects.{body_of}
@@ -55,10 +56,11 @@ one_craft : (es : List Event) (e : Event) (key : NodeId) → is_craft_of key e �
 one_craft es e key is = craft_more es e key ∙ ap (λ t. crafts es key + cond t 1 0) is
 
 pub nothing_is_crafted : NothingIsCrafted
-nothing_is_crafted s = record { height = refl; seed = refl; counted = λ key. least_zero (total (param_of s.height)) }
+nothing_is_crafted s = record { format = refl; height = refl; seed = refl; counted = λ key. least_zero (total (param_of s.height)) }
 
 pub others_craft_nothing : OthersCraftNothing
 others_craft_nothing s es e c other after = record {
+  format = after.format;
   height = after.height;
   seed = after.seed;
   counted = λ key. after.counted key ∙ ap (λ n. min n (most c)) (sym (none_more es e key (other key)));
@@ -81,7 +83,7 @@ used_other c key other apart =
 
 signed_on : (s : Scenario) (es : List Event) (e : Event) (key : NodeId) (old : Crafters) → ((k : NodeId) → is_craft_of k e ≡ (key.0 == k.0)) → AreAfter s es old
     → crafts es key < most old → AreAfter s (es ++ e ∷ []) (one_more old key)
-signed_on s es e key old of_key after left = record { height = after.height; seed = after.seed; counted = count }
+signed_on s es e key old of_key after left = record { format = after.format; height = after.height; seed = after.seed; counted = count }
   where
     count : (k : NodeId) → used (one_more old key) k ≡ min (crafts (es ++ e ∷ []) k) (most old)
     count k = elim (cases_Bool (eqb key.0 k.0)) [
@@ -99,7 +101,7 @@ signed_on s es e key old of_key after left = record { height = after.height; see
 
 spent_on : (s : Scenario) (es : List Event) (e : Event) (key : NodeId) (old : Crafters) → ((k : NodeId) → is_craft_of k e ≡ (key.0 == k.0)) → AreAfter s es old
     → most old ≤ crafts es key → AreAfter s (es ++ e ∷ []) old
-spent_on s es e key old of_key after spent = record { height = after.height; seed = after.seed; counted = count }
+spent_on s es e key old of_key after spent = record { format = after.format; height = after.height; seed = after.seed; counted = count }
   where
     count : (k : NodeId) → used old k ≡ min (crafts (es ++ e ∷ []) k) (most old)
     count k = elim (cases_Bool (eqb key.0 k.0)) [
@@ -118,15 +120,18 @@ total_is s es old after = ap (λ (h : LmsHeight). total (param_of h)) after.heig
 
 pub crafts_are_counted : CraftsAreCounted
 crafts_are_counted s es c v key object old new (Ok (answers.Signed o)) after crafted =
+    let signed_in : ℕ → LmsHeight → List ℕ → ℕ → Kept =
+    λ f h seed n. record { body = body_of object; signature = (format_in f).sign h (node_seed seed key.0) n (encoded_in f (body_of object)) } in
     let e = events.Craft c v key object in
     let all = total_is s es old after in
     let less = below (crafts es key) (most old) (subst (λ n. n < most old) (after.counted key) crafted.0) in
     let count : used old key ≡ crafts es key = after.counted key ∙ less.1 in (
       subst (λ n. crafts es key < n) all less.0,
       crafted.1
-          ∙ ap (λ (h : LmsHeight). record { body = body_of object; signature = format.sign h (node_seed old.seed key.0) (used old key) (encoded (body_of object)) }) after.height
-          ∙ ap (λ (seed : List ℕ). record { body = body_of object; signature = format.sign s.height (node_seed seed key.0) (used old key) (encoded (body_of object)) }) after.seed
-          ∙ ap (λ (n : ℕ). record { body = body_of object; signature = format.sign s.height (node_seed s.seed key.0) n (encoded (body_of object)) }) count,
+          ∙ ap (λ (f : ℕ). signed_in f old.height old.seed (used old key)) after.format
+          ∙ ap (λ (h : LmsHeight). signed_in s.format h old.seed (used old key)) after.height
+          ∙ ap (λ (seed : List ℕ). signed_in s.format s.height seed (used old key)) after.seed
+          ∙ ap (λ (n : ℕ). signed_in s.format s.height s.seed n) count,
       subst (AreAfter s (es ++ e ∷ [])) (sym crafted.2) (signed_on s es e key old (λ k. refl) after less.0),
     )
 crafts_are_counted s es c v key object old new (Ok (answers.Spent spent)) after crafted =

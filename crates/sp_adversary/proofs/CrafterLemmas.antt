@@ -9,7 +9,7 @@ use Rattle.sp_base.specs.declared.id.NodeId.{NodeId}
 use Rattle.sp_base.specs.declared.memory.Memory.{Memory}
 use Rattle.sp_hss.specs.KeyTree.{signature, total}
 use Rattle.sp_hss.specs.Signer.{Signer}
-use Rattle.sp_msg.specs.Bodies.{encoded}
+use Rattle.sp_msg.specs.Bodies.{encoded_in}
 use Rattle.sp_msg.specs.declared.body.Body.{Body}
 use Rattle.sp_runs.specs.Scenarios.{node_seed}
 use Rattle.sp_sign.specs.Heights.{param_of}
@@ -24,8 +24,8 @@ use Rattle.sp_adversary.specs.declared.crafters.Crafted.TheVariants as answers
 use Rattle.sp_adversary.specs.declared.crafters.Crafter.{Crafter}
 
 -- what a contract sees of these
-abbrev pub seen : LmsHeight → List ℕ → List Crafter → Crafters
-seen height seed items = record { height = height; seed = seed; keys = map used_of items }
+abbrev pub seen : ℕ → LmsHeight → List ℕ → List Crafter → Crafters
+seen format height seed items = record { format = format; height = height; seed = seed; keys = map used_of items }
 
 -- ---- rows
 
@@ -38,9 +38,9 @@ same_place key items =
     ap₂ (λ (p l : ℕ). cond (nat_lt p l) (Some p) None) (place_len key items) (length-map items used_of)
 
 -- the row of a key that was used
-count_at : (height : LmsHeight) (seed : List ℕ) (items : List Crafter) (place : ℕ) (key : NodeId) (row : Crafter) → position (is_crafter key) items ≡ Some place
-    → row ≡ get_or items place row → used (seen height seed items) key ≡ row.signer.index
-count_at height seed items place key row at read =
+count_at : (format : ℕ) (height : LmsHeight) (seed : List ℕ) (items : List Crafter) (place : ℕ) (key : NodeId) (row : Crafter) → position (is_crafter key) items ≡ Some place
+    → row ≡ get_or items place row → used (seen format height seed items) key ≡ row.signer.index
+count_at format height seed items place key row at read =
     ap (λ (u : Used). u.count) (first_where-read (is_used key) (record { key = key; count = 0 }) (map used_of items) place (used_of row)
     (same_place key items ∙ at)
     (ap used_of read ∙ sym (get_or-map used_of items place row (used_of row) (is_first (is_crafter key) items place row at).within)))
@@ -64,11 +64,11 @@ unchanged items place row after read same =
 
 -- ---- a key that was used before
 
-pub crafted_at : (height : LmsHeight) (seed : List ℕ) (items : List Crafter) (place : ℕ) (key : NodeId) (row : Crafter) (body : Body) (result : Result Crafted Memory) (after : Signer)
-    → AreWhole height seed items → position (is_crafter key) items ≡ Some place → row ≡ get_or items place row → Signs row.signer body result after
-    → Crafts (seen height seed items) key body result (seen height seed (set items place (record { key = row.key; signer = after })))
-crafted_at height seed items place key row body (Ok (answers.Signed o)) after whole at read signs =
-    let count = count_at height seed items place key row at read in
+pub crafted_at : (format : ℕ) (height : LmsHeight) (seed : List ℕ) (items : List Crafter) (place : ℕ) (key : NodeId) (row : Crafter) (body : Body) (result : Result Crafted Memory) (after : Signer)
+    → AreWhole height seed items → position (is_crafter key) items ≡ Some place → row ≡ get_or items place row → Signs format row.signer body result after
+    → Crafts (seen format height seed items) key body result (seen format height seed (set items place (record { key = row.key; signer = after })))
+crafted_at format height seed items place key row body (Ok (answers.Signed o)) after whole at read signs =
+    let count = count_at format height seed items place key row at read in
     let mine = its_key items place key row at read in
     let is = whole_row height seed items place key row whole at read in
     let bound : row.signer.bound ≡ total (param_of height) = ap (λ (s : Signer). s.bound) is in
@@ -77,20 +77,20 @@ crafted_at height seed items place key row body (Ok (answers.Signed o)) after wh
     let left = signs.0 in (
       omega (arith, count, bound, left),
       signs.1
-          ∙ ap (λ (h : _). record { body = body; signature = signature h row.signer.seed row.signer.index (encoded body) }) high
-          ∙ ap (λ (s : List ℕ). record { body = body; signature = signature (param_of height) s row.signer.index (encoded body) }) seeded
-          ∙ ap (λ (i : ℕ). record { body = body; signature = signature (param_of height) (node_seed seed key.0) i (encoded body) }) (sym count),
-      ap (λ (ks : List Used). record { height = height; seed = seed; keys = ks })
+          ∙ ap (λ (h : _). record { body = body; signature = signature h row.signer.seed row.signer.index (encoded_in format body) }) high
+          ∙ ap (λ (s : List ℕ). record { body = body; signature = signature (param_of height) s row.signer.index (encoded_in format body) }) seeded
+          ∙ ap (λ (i : ℕ). record { body = body; signature = signature (param_of height) (node_seed seed key.0) i (encoded_in format body) }) (sym count),
+      ap (λ (ks : List Used). record { format = format; height = height; seed = seed; keys = ks })
           (map-set used_of items place (record { key = row.key; signer = after })
           ∙ ap₂ (λ (k : NodeId) (i : ℕ). set (map used_of items) place (record { key = k; count = i })) mine
           (ap (λ (s : Signer). s.index) signs.2 ∙ ap (λ (n : ℕ). n + 1) (sym count))
           ∙ sym (put_where-position (is_used key) _ (map used_of items) place (same_place key items ∙ at))),
     )
-crafted_at height seed items place key row body (Ok (answers.Spent spent)) after whole at read signs =
-    let count = count_at height seed items place key row at read in
+crafted_at format height seed items place key row body (Ok (answers.Spent spent)) after whole at read signs =
+    let count = count_at format height seed items place key row at read in
     let bound : row.signer.bound ≡ total (param_of height) = ap (λ (s : Signer). s.bound) (whole_row height seed items place key row whole at read) in
-    (count ∙ signs.0 ∙ bound, signs.1 ∙ bound, ap (seen height seed) (sym (unchanged items place row after read signs.2)))
-crafted_at height seed items place key row body (Err refused) after whole at read signs = ap (seen height seed) (sym (unchanged items place row after read signs))
+    (count ∙ signs.0 ∙ bound, signs.1 ∙ bound, ap (seen format height seed) (sym (unchanged items place row after read signs.2)))
+crafted_at format height seed items place key row body (Err refused) after whole at read signs = ap (seen format height seed) (sym (unchanged items place row after read signs))
 
 -- ---- a key that wasn't
 
@@ -98,31 +98,31 @@ some_left : (height : LmsHeight) → 0 < total (param_of height)
 some_left Five = omega arith
 some_left Ten = omega arith
 
-pub crafted_first : (height : LmsHeight) (seed : List ℕ) (items : List Crafter) (key : NodeId) (body : Body) (crafted : Crafted) (after : Signer)
-    → position (is_crafter key) items ≡ None → Signs (whole_signer height seed key) body (Ok crafted) after
-    → Crafts (seen height seed items) key body (Ok crafted) (seen height seed (items ++ record { key = key; signer = after } ∷ []))
-crafted_first height seed items key body (answers.Signed o) after at signs =
+pub crafted_first : (format : ℕ) (height : LmsHeight) (seed : List ℕ) (items : List Crafter) (key : NodeId) (body : Body) (crafted : Crafted) (after : Signer)
+    → position (is_crafter key) items ≡ None → Signs format (whole_signer height seed key) body (Ok crafted) after
+    → Crafts (seen format height seed items) key body (Ok crafted) (seen format height seed (items ++ record { key = key; signer = after } ∷ []))
+crafted_first format height seed items key body (answers.Signed o) after at signs =
     let absent = same_place key items ∙ at in
-    let count : used (seen height seed items) key ≡ 0 =
+    let count : used (seen format height seed items) key ≡ 0 =
     ap (λ (u : Used). u.count) (first_where-no_position (is_used key) (record { key = key; count = 0 }) (map used_of items) absent) in
     let some = some_left height in (
       omega (arith, count, some),
-      signs.1 ∙ ap (λ (i : ℕ). record { body = body; signature = signature (param_of height) (node_seed seed key.0) i (encoded body) }) (sym count),
-      ap (λ (ks : List Used). record { height = height; seed = seed; keys = ks })
+      signs.1 ∙ ap (λ (i : ℕ). record { body = body; signature = signature (param_of height) (node_seed seed key.0) i (encoded_in format body) }) (sym count),
+      ap (λ (ks : List Used). record { format = format; height = height; seed = seed; keys = ks })
           (map_push used_of items (record { key = key; signer = after })
           ∙ ap (λ (i : ℕ). map used_of items ++ record { key = key; count = i } ∷ []) (ap (λ (s : Signer). s.index) signs.2 ∙ ap (λ (n : ℕ). n + 1) (sym count))
           ∙ sym (put_where-no_position (is_used key) _ (map used_of items) absent)),
     )
-crafted_first height seed items key body (answers.Spent spent) after at signs =
+crafted_first format height seed items key body (answers.Spent spent) after at signs =
     let some = some_left height in
     absurd (omega (arith, some, signs.0))
 
-pub whole_first : (height : LmsHeight) (seed : List ℕ) (items : List Crafter) (key : NodeId) (body : Body) (crafted : Crafted) (after : Signer)
-    → AreWhole height seed items → Signs (whole_signer height seed key) body (Ok crafted) after
+pub whole_first : (format : ℕ) (height : LmsHeight) (seed : List ℕ) (items : List Crafter) (key : NodeId) (body : Body) (crafted : Crafted) (after : Signer)
+    → AreWhole height seed items → Signs format (whole_signer height seed key) body (Ok crafted) after
     → AreWhole height seed (items ++ record { key = key; signer = after } ∷ [])
-whole_first height seed items key body crafted after whole signs =
+whole_first format height seed items key body crafted after whole signs =
     All-push (IsWhole height seed) items (record { key = key; signer = after }) whole (is_whole crafted signs)
   where
-    is_whole : (c : Crafted) → Signs (whole_signer height seed key) body (Ok c) after → IsWhole height seed (record { key = key; signer = after })
+    is_whole : (c : Crafted) → Signs format (whole_signer height seed key) body (Ok c) after → IsWhole height seed (record { key = key; signer = after })
     is_whole (answers.Signed o) signs = rw signs.2 refl
     is_whole (answers.Spent spent) signs = rw signs.2 refl

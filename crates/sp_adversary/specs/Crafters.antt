@@ -1,4 +1,4 @@
--- What a contract sees of the crafting signers: the height and the seed of all keys, and how many messages were signed with each.
+-- What a contract sees of the crafting signers: the format of messages, the height and the seed of all keys, and how many messages were signed with each.
 use Rattle.std.specs.Prelude.{ℕ, ◌==◌, Bool, List}
 use Rattle.sp_base.specs.Rows.{first_where}
 use Rattle.sp_base.specs.declared.id.NodeId.{NodeId}
@@ -12,6 +12,7 @@ pub record Used : Type 0 where
   pub count : ℕ
 
 pub record Crafters : Type 0 where
+  pub format : ℕ
   pub height : LmsHeight
   pub seed : List ℕ
   -- the keys that were used, in the order of their first use

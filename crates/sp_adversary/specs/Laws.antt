@@ -2,7 +2,7 @@
 use Rattle.std.specs.Prelude.{◌≡◌, ◌<◌, ◌≤◌, ◌++◌, false, List, [], ◌∷◌, Result, Ok, Err}
 use Rattle.sp_base.specs.declared.id.NodeId.{NodeId}
 use Rattle.sp_base.specs.declared.memory.Memory.{Memory}
-use Rattle.sp_node_format.specs.Format.{format}
+use Rattle.sp_node_format.specs.Format.{format_in}
 use Rattle.sp_runs.specs.Inputs.{crafted_object, crafts, is_craft_of}
 use Rattle.sp_runs.specs.Scenarios.{setting_of}
 use Rattle.sp_schedule_crafts.specs.Objects.{body_of}
@@ -23,7 +23,7 @@ NothingIsCrafted = (s : Scenario) → AreAfter s [] (no_crafts s)
 abbrev pub AnswersCraft : (s : Scenario) (es : List Event) (c v key : NodeId) (object : CraftedObject) → Result Crafted Memory → Crafters → Type 0
 AnswersCraft s es c v key object (Ok (answers.Signed signed)) new =
     (crafts es key < (setting_of s).total)
-    × (signed ≡ crafted_object format (setting_of s) es key (body_of object))
+    × (signed ≡ crafted_object (format_in s.format) (setting_of s) es key (body_of object))
     × AreAfter s (es ++ events.Craft c v key object ∷ []) new
 AnswersCraft s es c v key object (Ok (answers.Spent total)) new =
     ((setting_of s).total ≤ crafts es key)

@@ -5,7 +5,7 @@ use Rattle.sp_base.specs.declared.id.NodeId.{NodeId}
 use Rattle.sp_base.specs.declared.memory.Memory.{Memory}
 use Rattle.sp_hss.specs.KeyTree.{signature}
 use Rattle.sp_hss.specs.Signer.{Signer}
-use Rattle.sp_msg.specs.Bodies.{encoded}
+use Rattle.sp_msg.specs.Bodies.{encoded_in}
 use Rattle.sp_msg.specs.declared.body.Body.{Body}
 use Rattle.sp_topology.specs.declared.topology.LmsHeight.{LmsHeight}
 use Rattle.sp_adversary.specs.Crafters.{Used}
@@ -30,10 +30,10 @@ abbrev pub is_crafter : NodeId → Crafter → Bool
 is_crafter key c = c.key.0 == key.0
 
 -- one message: the signer's next signature, or none is left, or there was no memory
-abbrev pub Signs : Signer → Body → Result Crafted Memory → Signer → Type 0
-Signs old body (Ok (answers.Signed object)) new =
+abbrev pub Signs : (format : ℕ) → Signer → Body → Result Crafted Memory → Signer → Type 0
+Signs format old body (Ok (answers.Signed object)) new =
     (old.index < old.bound)
-    × (object ≡ record { body = body; signature = signature old.height old.seed old.index (encoded body) })
+    × (object ≡ record { body = body; signature = signature old.height old.seed old.index (encoded_in format body) })
     × (new ≡ record old { index = old.index + 1 })
-Signs old body (Ok (answers.Spent total)) new = (old.index ≡ old.bound) × (total ≡ old.bound) × (new ≡ old)
-Signs old body (Err refused) new = new ≡ old
+Signs format old body (Ok (answers.Spent total)) new = (old.index ≡ old.bound) × (total ≡ old.bound) × (new ≡ old)
+Signs format old body (Err refused) new = new ≡ old

@@ -3,12 +3,12 @@ ghost use Rattle.std.specs.Prelude.{◌≡◌, ◌<◌, IfSome, length, position
 ghost use Rattle.sp_adversary.specs.Crafting.{Crafts, HasRoom, no_crafts};
 ghost use Rattle.sp_adversary.specs.Signers.{Signs, is_crafter};
 ghost use Rattle.sp_hss.specs.KeyTree.{total};
-ghost use Rattle.sp_msg.specs.Bodies.{HasGoodFields};
+ghost use Rattle.sp_msg.specs.Bodies.{HasGoodFieldsIn};
 
 use crate::keys::whole_signer;
 use sp_base::{Listed, Memory, NodeId, push_in_room};
 use sp_hss::Signer;
-use sp_msg::{Body, Kept, encode, keep};
+use sp_msg::{Body, Kept, encode_in, keep};
 use sp_schedule_events::Scenario;
 use sp_topology::LmsHeight;
 use std::alloc::Global;
@@ -32,9 +32,10 @@ pub(crate) struct Crafter {
 
 /// The crafting signers of a scenario, each made at the first use of its key.
 ///
-/// A contract sees the height and the seed of all keys, and how many messages were signed with each.
+/// A contract sees the format of messages, the height and the seed of all keys, and how many messages were signed with each.
 #[derive(Drop)]
 pub struct Crafters {
+    format: u8,
     height: LmsHeight,
     seed: [u8; 32],
     signers: Vec<Crafter>,
@@ -48,7 +49,7 @@ impl Model for Crafters {
 
     ghost use Rattle.sp_adversary.specs.Signers.{AreWhole, used_of};
 
-    ghost view = { λ c. record { height = c.height; seed = c.seed; keys = map used_of c.signers.items } };
+    ghost view = { λ c. record { format = c.format; height = c.height; seed = c.seed; keys = map used_of c.signers.items } };
 
     ghost invariant = { λ c. AreWhole c.height c.seed c.signers.items };
 }
@@ -59,6 +60,7 @@ impl Crafters {
         ensures { result ≡ no_crafts scenario.now }
     {
         Crafters {
+            format: scenario.format,
             height: scenario.height,
             seed: scenario.seed,
             signers: Vec::new(alloc),
@@ -68,19 +70,19 @@ impl Crafters {
     /// The message with the next signature of the key, or that none is left. The key's signer is made at its first use.
     /// Only want of memory refuses, and then nothing has changed.
     pub fn craft(&mut self, alloc: Global, key: NodeId, body: &Body) -> Result<Crafted, Memory>
-        requires { HasGoodFields body.now }
+        requires { HasGoodFieldsIn self.old.format body.now }
         ensures crafted { Crafts self.old key body.now result self.new }
-        ensures written { HasRoom result }
+        ensures written { HasRoom self.old.format result }
     {
         match place_of(&self.signers, key) {
             Some(place) => {
                 let crafter = &mut self.signers[place];
-                sign(alloc, &mut crafter.signer, body)
+                sign(alloc, &mut crafter.signer, body, self.format)
             }
             None => {
                 self.signers.reserve(1)?;
                 let mut signer = whole_signer(alloc, self.height, &self.seed, key)?;
-                let crafted = sign(alloc, &mut signer, body)?;
+                let crafted = sign(alloc, &mut signer, body, self.format)?;
                 push_in_room(&mut self.signers, Crafter { key, signer });
                 Ok(crafted)
             }
@@ -96,14 +98,14 @@ fn place_of(signers: &[Crafter], key: NodeId) -> Option<usize>
     signers.iter().position(|crafter| crafter.key.0 == key.0)
 }
 
-/// The message with the signer's next signature, or that none is left. All memory is taken before the index is used.
-fn sign(alloc: Global, signer: &mut Signer, body: &Body) -> Result<Crafted, Memory>
-    requires fields { HasGoodFields body.now }
+/// The message of a format with the signer's next signature, or that none is left. All memory is taken before the index is used.
+fn sign(alloc: Global, signer: &mut Signer, body: &Body, format: u8) -> Result<Crafted, Memory>
+    requires fields { HasGoodFieldsIn format body.now }
     requires whole { signer.old.bound ≡ total signer.old.height }
-    ensures signed { Signs signer.old body.now result signer.new }
-    ensures written { HasRoom result }
+    ensures signed { Signs format signer.old body.now result signer.new }
+    ensures written { HasRoom format result }
 {
-    let Ok(bytes) = encode(alloc, body) else {
+    let Ok(bytes) = encode_in(alloc, body, format) else {
         return Err(Memory);
     };
     let Ok(mut object) = keep(alloc, &body.as_ref(), &[]) else {

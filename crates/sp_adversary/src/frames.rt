@@ -1,15 +1,14 @@
 // Frames that a compromised node crafts: fresh to their receiver, and under the right tag.
 ghost use Rattle.std.specs.Prelude.{◌≡◌, ◌≤◌, ◌++◌, [], All, IfOk, IfSome, None as Nothing, length, map, option_map, replicate};
-ghost use Rattle.sp_base.specs.declared.format.TheConstants.{FORMAT_1};
 ghost use Rattle.sp_frame.specs.Frames.{frame_bytes, tagged_part};
 ghost use Rattle.sp_frame.specs.Views.{as_list};
 ghost use Rattle.sp_frame.specs.Writing.{IsWritable, IsWritableSlot, out_report};
 ghost use Rattle.sp_frame.specs.declared.frame.TheConstants.{TAG_BYTES};
 ghost use Rattle.sp_hmac.specs.Hmac.{hmac};
-ghost use Rattle.sp_node_format.specs.Format.{format};
+ghost use Rattle.sp_node_format.specs.Format.{format_in};
 ghost use Rattle.sp_runs.specs.Inputs.{contents_with, counter_after, object_alone, sealed_frame, slot_alone};
 
-use sp_base::{Bytes, FORMAT_1, Flow, Four, Memory, NodeId};
+use sp_base::{Bytes, Flow, Four, Memory, NodeId};
 use sp_frame::{Head, OutSlot, TAG_BYTES, write};
 use sp_msg::{Body, Kept};
 use std::alloc::Global;
@@ -17,10 +16,17 @@ use std::alloc::Global;
 /// The boot number of each compromised node.
 const BOOT: u64 = 1;
 
-/// The head of the next crafted frame of `from` for `to`. `to` has the boot number `echo`, runs under this version of the topology, and
-/// `seen` is the counter that it keeps of `from`. The frame has the next counter, as far as there is one.
-pub fn crafted_head(from: NodeId, to: NodeId, echo: u64, seen: u64, topology: u32) -> Head
-    ensures { result ≡ record { from = from; to = to; boot = 1; echo = echo; counter = counter_after seen; topology = topology; format = FORMAT_1 } }
+/// The head of the next crafted frame of `from` for `to`. `to` has the boot number `echo`, runs under this version of the topology, which
+/// is of this format, and `seen` is the counter that it keeps of `from`. The frame has the next counter, as far as there is one.
+pub fn crafted_head(
+    from: NodeId,
+    to: NodeId,
+    echo: u64,
+    seen: u64,
+    topology: u32,
+    format: u8,
+) -> Head
+    ensures { result ≡ record { from = from; to = to; boot = 1; echo = echo; counter = counter_after seen; topology = topology; format = format } }
 {
     Head {
         from,
@@ -29,21 +35,20 @@ pub fn crafted_head(from: NodeId, to: NodeId, echo: u64, seen: u64, topology: u3
         echo,
         counter: seen.saturating_add(1),
         topology,
-        format: FORMAT_1,
+        format,
     }
 }
 
 /// A frame with one message in its section, under the tag of this key. Only want of memory refuses.
-#[tactic(auto, using(crate::proofs::Seals::sealed_is, crate::proofs::Seals::long_enough, crate::proofs::Seals::writable_under))]
+#[tactic(auto, using(crate::proofs::Seals::sealed_is, crate::proofs::Seals::long_enough))]
 pub fn object_frame(
     alloc: Global,
     head: &Head,
     key: &[u8; 32],
     object: &Kept,
 ) -> Result<Bytes, Memory>
-    requires format { head.now.format ≡ FORMAT_1 }
-    requires object { IsWritable FORMAT_1 object.now }
-    ensures { IfOk result (λ bytes. bytes ≡ sealed_frame format head.now key.now (object_alone object.now.body object.now)) }
+    requires { IsWritable head.now.format object.now }
+    ensures { IfOk result (λ bytes. bytes ≡ sealed_frame (format_in head.now.format) head.now key.now (object_alone object.now.body object.now)) }
 {
     let mut frame = with_object(alloc, head, object)?;
     seal(key, &mut frame);
@@ -60,8 +65,7 @@ pub fn status_frame(
     base: u64,
     have: u64,
 ) -> Result<Bytes, Memory>
-    requires { head.now.format ≡ FORMAT_1 }
-    ensures { IfOk result (λ bytes. bytes ≡ sealed_frame format head.now key.now (slot_alone flow base have Nothing [])) }
+    ensures { IfOk result (λ bytes. bytes ≡ sealed_frame (format_in head.now.format) head.now key.now (slot_alone flow base have Nothing [])) }
 {
     let slot = OutSlot {
         flow,

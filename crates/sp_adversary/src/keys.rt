@@ -1,7 +1,7 @@
 // The keys that a scenario's seed makes: a signer for each node, and a key for the tags over each edge.
 ghost use Rattle.std.specs.Prelude.{◌≡◌, ◌≤◌, ◌<◌, IfOk, IfSome, length, option_map, position};
 ghost use Rattle.sp_adversary.specs.Keys.{whole_signer};
-ghost use Rattle.sp_base.specs.declared.limits.TheConstants.{MAX_EDGES};
+ghost use Rattle.sp_base.specs.declared.limits.TheConstants.{MAX_EDGES_2};
 ghost use Rattle.sp_runs.specs.Scenarios.{edge_key, node_seed};
 ghost use Rattle.sp_topology.specs.Neighbours.{joins};
 
@@ -30,7 +30,7 @@ pub fn edge_key(seed: &[u8; 32], edge: EdgeId) -> [u8; 32]
 
 /// The edge between two nodes. None exactly where none joins them.
 pub fn edge_between(edges: &[Edge], a: NodeId, b: NodeId) -> Option<EdgeId>
-    requires { length edges.now ≤ MAX_EDGES }
+    requires { length edges.now ≤ MAX_EDGES_2 }
     ensures { result ≡ option_map (λ place. record { 0 = place }) (position (joins a.0 b.0) edges.now) }
 {
     match place_between(edges, a, b) {

@@ -2,7 +2,7 @@
 use Rattle.std.specs.Prelude.{ℕ, ◌≡◌, List, Option, Some, None, Result, Ok, Err, Bool, true, false, ⊤}
 use Rattle.sp_msg.specs.declared.body.Body.{Body}
 use Rattle.sp_msg.specs.declared.body.Body.TheVariants as bodies
-use Rattle.sp_msg.specs.Bodies.{HasGoodFields}
+use Rattle.sp_rules.specs.Changes.{FitsAFormat}
 use Rattle.sp_rules.specs.declared.store.Entry.{Entry}
 use Rattle.sp_client.specs.declared.request.Command.{Command}
 use Rattle.sp_client.specs.declared.request.Command.TheVariants as commands
@@ -90,4 +90,4 @@ IsPrio _ = ⊥
 
 -- an entry is a priority message in its ranges
 abbrev pub IsPrioEntry : Entry → Type 0
-IsPrioEntry entry = IsPrio entry.kept.body × HasGoodFields entry.kept.body
+IsPrioEntry entry = IsPrio entry.kept.body × FitsAFormat entry.kept.body

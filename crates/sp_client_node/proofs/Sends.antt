@@ -4,7 +4,7 @@ use Rattle.sp_client.specs.Locals.{StepsBy, sent}
 use Rattle.sp_client.specs.declared.answer.Answer.{Answer}
 use Rattle.sp_client.specs.declared.answer.Answer.TheVariants as answers
 use Rattle.sp_client.specs.declared.request.Command.{Command}
-use Rattle.sp_node_format.specs.Format.{format}
+use Rattle.sp_node_format.specs.Format.{format_of}
 use Rattle.sp_msg.specs.Caused.{Caused}
 use Rattle.sp_msg.specs.declared.refused.SendRefused.{SendRefused}
 use Rattle.sp_msg.specs.declared.refused.SendRefused.TheVariants as refusals
@@ -25,7 +25,7 @@ same_local old new state idle effects =
     ∙ ap (λ (e : Option Caused). record old { effects = e }) effects
 
 refused_is : (old new : LocalNode) (input : Input) (command : Command) (answer : Result ℕ SendRefused) (e : SendRefused) (a : Answer)
-    → ((a : Answer) → IsSend old input a new → AnswersBy old command a new) → NodeStep format old.node.state input (replied (Refused e)) new.node.state
+    → ((a : Answer) → IsSend old input a new → AnswersBy old command a new) → NodeStep (format_of old.node.state.fixed) old.node.state input (replied (Refused e)) new.node.state
     → sent (Err e) ≡ Some a → answer ≡ Err e → new.effects ≡ None → StepsBy AnswersBy old command (sent answer) new
 refused_is old new input command answer e a hands step is told none =
     subst (λ (o : Option Answer). StepsBy AnswersBy old command o new) (sym (ap sent told ∙ is))

@@ -5,7 +5,7 @@ use Rattle.std.specs.Prelude.{IfSome, IsTrue, slice_get}
 use Rattle.std.specs.List.{All}
 use Rattle.sp_base.specs.declared.id.NodeId.{NodeId}
 use Rattle.sp_base.specs.declared.limits.TheConstants.{MAX_PAYLOAD_BYTES}
-use Rattle.sp_node_format.specs.Format.{format}
+use Rattle.sp_node_format.specs.Format.{format_of}
 use Rattle.sp_node.specs.Calls.{TakesRel}
 use Rattle.sp_node_state.specs.States.{is_other}
 use Rattle.sp_rules.specs.Node.{NodeState}
@@ -19,7 +19,7 @@ use Rattle.laws_node.specs.Nodes.{IsKept, sizes_of}
 use Rattle.laws_node.specs.Sizes.{IsNode, Sizes}
 
 abbrev sizes : NodeState → Sizes
-sizes n = sizes_of (λ o. IsTrue (is_signed format n.fixed o)) n
+sizes n = sizes_of (λ o. IsTrue (is_signed (format_of n.fixed) n.fixed o)) n
 
 abbrev payload_in : Reply → Option (List ℕ)
 payload_in (Payload payload) = payload
@@ -34,12 +34,12 @@ second true true is = refl
 second true false is = absurd (cc)
 second false b is = absurd (cc)
 
-pub short : (n new : NodeState) (src : NodeId) (payload : Option (List ℕ)) → IsKept format n → is_other n src ≡ true → TakesRel n src payload new
+pub short : (n new : NodeState) (src : NodeId) (payload : Option (List ℕ)) → IsKept (format_of n.fixed) n → is_other n src ≡ true → TakesRel n src payload new
     → IfSome payload (λ p. length p ≤ MAX_PAYLOAD_BYTES)
 short n new src payload h is takes =
     let node = second (not (src.0 == n.fixed.me.0)) (is_node n.parts.prio.nodes src.0) is in
-    let from = in_range n.parts.prio.nodes src h.parts.prio.nodes node in
-    let me : IsNode n.parts.rel.me = subst IsNode (sym h.parts.rel.me) h.fixed.is_node in
+    let from = in_range (sizes n).format n.parts.prio.nodes src h.parts.prio.nodes node in
+    let me : IsNode (sizes n).format n.parts.rel.me = subst (IsNode (sizes n).format) (sym h.parts.rel.me) h.fixed.is_node in
     let row = read (sizes n) n.signer.index n.parts.rel.flows (rel.flow_to_me n.parts.rel src) from me h.parts.rel.flows in
     let same : payload ≡ rel.oldest n.parts.rel src = ap (λ (o : Output). payload_in o.reply) takes.0 in
     subst (λ (o : Option (List ℕ)). IfSome o (λ p. length p ≤ MAX_PAYLOAD_BYTES)) (sym same) (first_short _ row.inbox)

@@ -6,7 +6,7 @@ use Rattle.sp_client.specs.declared.answer.Answer.{Answer}
 use Rattle.sp_client.specs.declared.answer.Answer.TheVariants as answers
 use Rattle.sp_client.specs.declared.request.Command.{Command}
 use Rattle.sp_client.specs.declared.request.Command.TheVariants as commands
-use Rattle.sp_node_format.specs.Format.{format}
+use Rattle.sp_node_format.specs.Format.{format_of}
 use Rattle.sp_msg.specs.Caused.{Caused}
 use Rattle.sp_msg.specs.declared.effect.Effect.{Effect}
 use Rattle.sp_node_state.specs.States.{is_other}
@@ -28,14 +28,14 @@ caused_in (Some effects) = effects.list
 -- a send is one step of the node, and what it caused is kept aside
 pub record IsSend (old : LocalNode) (input : Input) (answer : Answer) (new : LocalNode) : Type 0 where
   pub output : Output
-  pub step : NodeStep format old.node.state input output new.node.state
+  pub step : NodeStep (format_of old.node.state.fixed) old.node.state input output new.node.state
   pub told : told_of output.reply ≡ Some answer
   pub caused : caused_in new.effects ≡ output.effects
 
 -- a take is one step of the node
 pub record IsTake (old : LocalNode) (input : Input) (answer : Answer) (new : LocalNode) : Type 0 where
   pub output : Output
-  pub step : NodeStep format old.node.state input output new.node.state
+  pub step : NodeStep (format_of old.node.state.fixed) old.node.state input output new.node.state
   pub told : told_of output.reply ≡ Some answer
   pub effects : new.effects ≡ old.effects
 

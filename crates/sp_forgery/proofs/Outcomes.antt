@@ -14,32 +14,32 @@ use Rattle.sp_runs.specs.Worlds.{Direction, World, frames_in}
 use Rattle.sp_journal.specs.declared.entry.Entry.{Entry}
 use Rattle.sp_schedule_events.specs.declared.event.Event.{Event}
 use Rattle.sp_runs.specs.declared.what.What.TheVariants as whats
-use Rattle.sp_node_format.specs.Format.{format}
+use Rattle.sp_node_format.specs.Format.{format_in}
 use Rattle.sp_forgery.specs.Found.{Answered}
 
-reply_is : (n new : NodeState) (u : NodeId) (bytes : List ℕ) (step : Step Taken) → call_refusal n u ≡ None → Answered n u bytes step new
-    → Arrived step.reply.link step.reply.items ≡ Arrived (reply_at format n u bytes) (map (λ a. a.1) (handled format n u bytes).answered)
-reply_is n new u bytes step called gave =
-    ap (λ (o : Output). o.reply) (gave.0 ∙ ap (λ r. refused_call r (arrived format n u bytes)) called)
+reply_is : (format : ℕ) (n new : NodeState) (u : NodeId) (bytes : List ℕ) (step : Step Taken) → call_refusal n u ≡ None → Answered format n u bytes step new
+    → Arrived step.reply.link step.reply.items ≡ Arrived (reply_at (format_in format) n u bytes) (map (λ a. a.1) (handled (format_in format) n u bytes).answered)
+reply_is format n new u bytes step called gave =
+    ap (λ (o : Output). o.reply) (gave.0 ∙ ap (λ r. refused_call r (arrived (format_in format) n u bytes)) called)
 
-pub link_is : (n new : NodeState) (u : NodeId) (bytes : List ℕ) (step : Step Taken) → call_refusal n u ≡ None → Answered n u bytes step new
-    → step.reply.link ≡ reply_at format n u bytes
-link_is n new u bytes step called gave = let r = reply_is n new u bytes step called gave in cc
+pub link_is : (format : ℕ) (n new : NodeState) (u : NodeId) (bytes : List ℕ) (step : Step Taken) → call_refusal n u ≡ None → Answered format n u bytes step new
+    → step.reply.link ≡ reply_at (format_in format) n u bytes
+link_is format n new u bytes step called gave = let r = reply_is format n new u bytes step called gave in cc
 
-pub items_are : (n new : NodeState) (u : NodeId) (bytes : List ℕ) (step : Step Taken) → call_refusal n u ≡ None → Answered n u bytes step new
-    → step.reply.items ≡ map (λ a. a.1) (handled format n u bytes).answered
-items_are n new u bytes step called gave = let r = reply_is n new u bytes step called gave in cc
+pub items_are : (format : ℕ) (n new : NodeState) (u : NodeId) (bytes : List ℕ) (step : Step Taken) → call_refusal n u ≡ None → Answered format n u bytes step new
+    → step.reply.items ≡ map (λ a. a.1) (handled (format_in format) n u bytes).answered
+items_are format n new u bytes step called gave = let r = reply_is format n new u bytes step called gave in cc
 
 module _ (x : Setting) (es : List Event) (js : List Entry) (n : NodeState) (u v : NodeId) (bytes : List ℕ) (w : World) (ds : List Direction) (link : LinkReply) where
-  has_is : n.fixed.me ≡ v → w.directions ≡ ds → link ≡ reply_at format n u bytes
-      → (is_correct x u && is_tagged link && not (is_among bytes (frames_in ds u v))) ≡ has_forged_tag format x w n (Datagram u bytes)
+  has_is : n.fixed.me ≡ v → w.directions ≡ ds → link ≡ reply_at (format_in x.topology.format) n u bytes
+      → (is_correct x u && is_tagged link && not (is_among bytes (frames_in ds u v))) ≡ has_forged_tag (format_in x.topology.format) x w n (Datagram u bytes)
   has_is me rows is = rw (is, ← rows, ← me) refl
 
-  pub tag_is : (o : Output) → n.fixed.me ≡ v → w.directions ≡ ds → link ≡ reply_at format n u bytes
-      → (is_correct x u && is_tagged link && not (is_among bytes (frames_in ds u v))) ≡ true → Some whats.Tag ≡ forged format x es js w n (Datagram u bytes) o
+  pub tag_is : (o : Output) → n.fixed.me ≡ v → w.directions ≡ ds → link ≡ reply_at (format_in x.topology.format) n u bytes
+      → (is_correct x u && is_tagged link && not (is_among bytes (frames_in ds u v))) ≡ true → Some whats.Tag ≡ forged (format_in x.topology.format) x es js w n (Datagram u bytes) o
   tag_is o me rows is has = rw (sym (has_is me rows is) ∙ has) refl
 
-  pub object_is : (o : Output) (found : Option (List ℕ)) → n.fixed.me ≡ v → w.directions ≡ ds → link ≡ reply_at format n u bytes
-      → (is_correct x u && is_tagged link && not (is_among bytes (frames_in ds u v))) ≡ false → found ≡ forged_object format x es js o.answered
-      → option_map whats.Object found ≡ forged format x es js w n (Datagram u bytes) o
+  pub object_is : (o : Output) (found : Option (List ℕ)) → n.fixed.me ≡ v → w.directions ≡ ds → link ≡ reply_at (format_in x.topology.format) n u bytes
+      → (is_correct x u && is_tagged link && not (is_among bytes (frames_in ds u v))) ≡ false → found ≡ forged_object (format_in x.topology.format) x es js o.answered
+      → option_map whats.Object found ≡ forged (format_in x.topology.format) x es js w n (Datagram u bytes) o
   object_is o found me rows is has same = rw (sym (has_is me rows is) ∙ has, ← same) refl

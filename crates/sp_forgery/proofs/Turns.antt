@@ -3,7 +3,7 @@ use Rattle.std.proofs.Common.{◌≡◌, ℕ, List, [], ◌∷◌, ◌++◌, map
 use Rattle.laws_node.specs.Objects.{objects_in}
 use Rattle.sp_base.specs.declared.id.Flow.{Flow}
 use Rattle.sp_msg.specs.declared.kept.Kept.{Kept}
-use Rattle.sp_node_format.specs.Format.{format}
+use Rattle.sp_node_format.specs.Format.{format_in}
 use Rattle.sp_rules.specs.Pieces.{AckPiece, PrioAckPiece, RelPiece, WeightPiece, pieces_of, prio_piece, slot_pieces}
 use Rattle.sp_rules.specs.declared.answers.Item.{Item}
 use Rattle.std.specs.Prelude.{option_map}
@@ -18,7 +18,7 @@ use Rattle.sp_journal.specs.declared.entry.Entry.{Entry}
 use Rattle.sp_schedule_events.specs.declared.event.Event.{Event}
 
 pub in_turn : (x : Setting) (es : List Event) (js : List Entry) (xs : List (Kept × Item))
-    → forged_in_turn x es js (map (λ a. a.0) xs) (map (λ a. a.1) xs) ≡ forged_object format x es js xs
+    → forged_in_turn x es js (map (λ a. a.0) xs) (map (λ a. a.1) xs) ≡ forged_object (format_in x.topology.format) x es js xs
 in_turn x es js [] = refl
 in_turn x es js (a ∷ xs) = rw (in_turn x es js xs) refl
 

@@ -6,7 +6,7 @@ use Rattle.sp_frame.specs.Sections.{Contents}
 use Rattle.sp_frame.specs.declared.refused.FrameRefused.{FrameRefused}
 use Rattle.sp_frame.specs.declared.refused.SectionRefused.{SectionRefused}
 use Rattle.sp_journal.specs.declared.entry.Entry.{Entry}
-use Rattle.sp_node_format.specs.Format.{format}
+use Rattle.sp_node_format.specs.Format.{format_in}
 use Rattle.sp_rules.specs.Arrivals.{handled}
 use Rattle.sp_rules.specs.Node.{NodeState}
 use Rattle.sp_rules.specs.Pieces.{pieces_of}
@@ -18,14 +18,14 @@ use Rattle.sp_runs.specs.Settings.{Setting}
 use Rattle.sp_schedule_events.specs.declared.event.Event.{Event}
 use Rattle.sp_forgery.specs.Turns.{forged_in_turn}
 
--- the output of an arrival that was answered so
-abbrev pub answered : NodeState → NodeId → List ℕ → Step Taken → Output
-answered n u bytes step =
-    record { reply = Arrived step.reply.link step.reply.items; effects = step.effects.list; answered = (handled format n u bytes).answered }
+-- the output of an arrival that was answered so, in a format
+abbrev pub answered : (format : ℕ) → NodeState → NodeId → List ℕ → Step Taken → Output
+answered format n u bytes step =
+    record { reply = Arrived step.reply.link step.reply.items; effects = step.effects.list; answered = (handled (format_in format) n u bytes).answered }
 
 -- the node answered so to a datagram of u
-abbrev pub Answered : NodeState → NodeId → List ℕ → Step Taken → NodeState → Type 0
-Answered n u bytes step new = NodeStep format n (Datagram u bytes) (answered n u bytes step) new
+abbrev pub Answered : (format : ℕ) → NodeState → NodeId → List ℕ → Step Taken → NodeState → Type 0
+Answered format n u bytes step new = NodeStep (format_in format) n (Datagram u bytes) (answered format n u bytes step) new
 
 -- the first object that is forged, of bytes that open so and have these sections
 abbrev pub found_at : Setting → List Event → List Entry → Result (List ℕ) FrameRefused → Result Contents SectionRefused → List Item → Option (List ℕ)

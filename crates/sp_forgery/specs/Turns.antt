@@ -3,9 +3,9 @@ use Rattle.std.specs.Prelude.{ℕ, List, [], ◌∷◌, ◌++◌, map, option_ma
 use Rattle.sp_frame.specs.Views.{as_list, as_object}
 use Rattle.sp_frame.specs.declared.sections.Slot.{Slot}
 use Rattle.sp_journal.specs.declared.entry.Entry.{Entry}
-use Rattle.sp_msg.specs.Bodies.{encoded}
+use Rattle.sp_msg.specs.Bodies.{encoded_in}
 use Rattle.sp_msg.specs.declared.kept.Kept.{Kept}
-use Rattle.sp_node_format.specs.Format.{format}
+use Rattle.sp_node_format.specs.Format.{format_in}
 use Rattle.sp_rules.specs.declared.answers.Item.{Item}
 use Rattle.sp_runs.specs.Forgery.{is_forged}
 use Rattle.sp_runs.specs.Settings.{Setting}
@@ -19,7 +19,8 @@ or_later None later = later
 abbrev pub forged_in_turn : Setting → List Event → List Entry → List Kept → List Item → Option (List ℕ)
 forged_in_turn x es js os [] = None
 forged_in_turn x es js [] (item ∷ items) = None
-forged_in_turn x es js (o ∷ os) (item ∷ items) = if is_forged format x es js (o, item) then Some (encoded o.body) else forged_in_turn x es js os items
+forged_in_turn x es js (o ∷ os) (item ∷ items) =
+    if is_forged (format_in x.topology.format) x es js (o, item) then Some (encoded_in x.topology.format o.body) else forged_in_turn x es js os items
 
 -- the objects of a slot
 abbrev pub slot_objects : Option Slot → List Kept

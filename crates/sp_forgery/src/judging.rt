@@ -1,8 +1,8 @@
 // What of an arrival is forged: its tag, or else the first object in the order of handling.
 ghost use Rattle.std.specs.Prelude.{◌≡◌, ◌≤◌, [], IfSome, None as Nothing, length, map, option_map, vec_capacity};
-ghost use Rattle.sp_frame.specs.Frames.{opened, sections_part};
-ghost use Rattle.sp_frame.specs.Sections.{sections_of};
-ghost use Rattle.sp_node_format.specs.Format.{format};
+ghost use Rattle.sp_frame.specs.Frames.{opened_in, sections_part};
+ghost use Rattle.sp_frame.specs.Sections.{sections_of_in};
+ghost use Rattle.sp_node_format.specs.Format.{format_in};
 ghost use Rattle.sp_rules.specs.Arrivals.{handled, reply_at};
 ghost use Rattle.sp_rules.specs.Node.{NodeState, call_refusal};
 ghost use Rattle.sp_base.specs.declared.id.NodeId.{NodeId};
@@ -22,7 +22,7 @@ use sp_runs::What;
 use sp_world_steps::Directions;
 
 /// How long a message is at most.
-pub const MAX_MESSAGE_BYTES: usize = 1_062;
+pub const MAX_MESSAGE_BYTES: usize = 1_086;
 
 /// What of an arrival is forged, as it stands in the datagram.
 #[derive(Clone, Copy, Debug)]
@@ -74,11 +74,12 @@ pub fn judge<'a>(
     requires { length known.now.events.now ≡ length known.now.journal.now }
     ensures judged { (n new : NodeState) (w : World) → n.fixed.me ≡ v → n.fixed.signature_len ≡ known.now.signature_len
         → call_refusal n u ≡ Nothing → w.directions ≡ directions.now
-        → Answered n u bytes.now step.now new
-        → option_map what_of result ≡ forged format (setting_of known.now.scenario.now) known.now.events.now known.now.journal.now w n
-        (Datagram u bytes.now) (answered n u bytes.now step.now) }
+        → Answered known.now.scenario.now.format n u bytes.now step.now new
+        → option_map what_of result ≡ forged (format_in known.now.scenario.now.format) (setting_of known.now.scenario.now)
+        known.now.events.now known.now.journal.now w n
+        (Datagram u bytes.now) (answered known.now.scenario.now.format n u bytes.now step.now) }
     ensures short { (n new : NodeState) → n.fixed.signature_len ≡ known.now.signature_len → call_refusal n u ≡ Nothing
-        → Answered n u bytes.now step.now new → IfSome result IsShort }
+        → Answered known.now.scenario.now.format n u bytes.now step.now new → IfSome result IsShort }
 {
     if has_forged_tag(known.scenario, directions, u, v, bytes, &step.reply.link) {
         return Some(Forgery::Tag);
@@ -98,10 +99,12 @@ fn forged_in<'a>(
     items: &[Item],
 ) -> Option<&'a [u8]>
     requires { length known.now.events.now ≡ length known.now.journal.now }
-    ensures { (n : NodeState) (u : NodeId) → n.fixed.signature_len ≡ known.now.signature_len → link.now ≡ reply_at format n u bytes.now
-        → items.now ≡ map (λ a. a.1) (handled format n u bytes.now).answered
-        → option_map (λ b. b.now) result ≡ forged_object format (setting_of known.now.scenario.now) known.now.events.now known.now.journal.now
-        (handled format n u bytes.now).answered }
+    ensures { (n : NodeState) (u : NodeId) → n.fixed.signature_len ≡ known.now.signature_len
+        → link.now ≡ reply_at (format_in known.now.scenario.now.format) n u bytes.now
+        → items.now ≡ map (λ a. a.1) (handled (format_in known.now.scenario.now.format) n u bytes.now).answered
+        → option_map (λ b. b.now) result ≡ forged_object (format_in known.now.scenario.now.format) (setting_of known.now.scenario.now)
+        known.now.events.now known.now.journal.now
+        (handled (format_in known.now.scenario.now.format) n u bytes.now).answered }
 {
     match link {
         LinkReply::Fresh => found(known, bytes, items),
@@ -113,10 +116,10 @@ fn forged_in<'a>(
 fn found<'a>(known: &Known<'_>, bytes: &'a [u8], items: &[Item]) -> Option<&'a [u8]>
     requires { length known.now.events.now ≡ length known.now.journal.now }
     ensures { option_map (λ b. b.now) result
-        ≡ found_at (setting_of known.now.scenario.now) known.now.events.now known.now.journal.now (opened bytes.now)
-        (sections_of known.now.signature_len (sections_part bytes.now)) items.now }
+        ≡ found_at (setting_of known.now.scenario.now) known.now.events.now known.now.journal.now (opened_in known.now.scenario.now.format bytes.now)
+        (sections_of_in known.now.scenario.now.format known.now.signature_len (sections_part bytes.now)) items.now }
 {
-    let Ok(frame) = Frame::open(bytes) else {
+    let Ok(frame) = Frame::open_in(bytes, known.scenario.format) else {
         return None;
     };
     let Ok(sections) = frame.sections(known.signature_len) else {

@@ -1,13 +1,12 @@
 // The objects of a frame that was handled, with their answers: which of them is the first that is forged.
 ghost use Rattle.std.specs.Prelude.{◌≡◌, ◌∷◌, ◌++◌, ◌-◌, All, IfSome, List, Ok, Some, None, drop, length, map, option_map, if◌then◌else◌};
 ghost use Rattle.laws_node.specs.Objects.{objects_in};
-ghost use Rattle.sp_base.specs.declared.format.TheConstants.{FORMAT_1};
 ghost use Rattle.sp_frame.specs.OfFormat.{AreOf, IsOf, IsSlotOf};
 ghost use Rattle.sp_frame.specs.Views.{as_contents, as_list, as_object};
-ghost use Rattle.sp_msg.specs.Bodies.{encoded, read_body};
+ghost use Rattle.sp_msg.specs.Bodies.{encoded_in, read_body_in};
 ghost use Rattle.sp_msg.specs.Views.{as_body};
 ghost use Rattle.sp_msg.specs.declared.kept.Kept.{Kept};
-ghost use Rattle.sp_node_format.specs.Format.{format};
+ghost use Rattle.sp_node_format.specs.Format.{format_in};
 ghost use Rattle.sp_rules.specs.Answers.{is_new};
 ghost use Rattle.sp_rules.specs.Pieces.{pieces_of};
 ghost use Rattle.sp_runs.specs.Forgery.{is_forged};
@@ -43,7 +42,7 @@ struct Looked<'a, 'b> {
     rest: &'b [Item],
 }
 
-/// The first object of a handled frame of format 1 that is forged: its bytes. The answers are those to its objects, in the order of handling.
+/// The first object of a handled frame of the scenario's format that is forged: its bytes. The answers are those to its objects, in the order of handling.
 #[tactic(auto, using(crate::proofs::Turns::objects_in_sections))]
 pub fn first_forged<'a>(
     known: &Known<'_>,
@@ -51,7 +50,7 @@ pub fn first_forged<'a>(
     items: &[Item],
 ) -> Option<&'a [u8]>
     requires known { length known.now.events.now ≡ length known.now.journal.now }
-    requires of_format { AreOf FORMAT_1 sections.now }
+    requires of_format { AreOf known.now.scenario.now.format sections.now }
     ensures { option_map (λ b. b.now) result
         ≡ forged_in_turn (setting_of known.now.scenario.now) known.now.events.now known.now.journal.now
         (objects_in (pieces_of (as_contents sections.now))) items.now }
@@ -60,7 +59,12 @@ pub fn first_forged<'a>(
     if weight.found.is_some() {
         return weight.found;
     }
-    let prios = look_all(known, &objects_of(&sections.prios, 0), 0, weight.rest);
+    let prios = look_all(
+        known,
+        &objects_of(known.scenario.format, &sections.prios, 0),
+        0,
+        weight.rest,
+    );
     if prios.found.is_some() {
         return prios.found;
     }
@@ -71,7 +75,7 @@ pub fn first_forged<'a>(
 #[tactic(auto, using(crate::proofs::Turns::none_left))]
 fn in_slot<'a>(known: &Known<'_>, slot: &Option<Slot<'a>>, items: &[Item]) -> Option<&'a [u8]>
     requires known { length known.now.events.now ≡ length known.now.journal.now }
-    requires of_format { IfSome slot.now (IsSlotOf FORMAT_1) }
+    requires of_format { IfSome slot.now (IsSlotOf known.now.scenario.now.format) }
     ensures { option_map (λ b. b.now) result
         ≡ forged_in_turn (setting_of known.now.scenario.now) known.now.events.now known.now.journal.now (slot_objects slot.now) items.now }
 {
@@ -93,7 +97,7 @@ fn look<'a, 'b>(
     items: &'b [Item],
 ) -> Looked<'a, 'b>
     requires known { length known.now.events.now ≡ length known.now.journal.now }
-    requires of_format { IfSome object.now (IsOf FORMAT_1) }
+    requires of_format { IfSome object.now (IsOf known.now.scenario.now.format) }
     ensures { (os : List Kept) → forged_in_turn (setting_of known.now.scenario.now) known.now.events.now known.now.journal.now
         (as_list (option_map as_object object.now) ++ os) items.now
         ≡ or_later (option_map (λ b. b.now) result.found)
@@ -116,7 +120,7 @@ fn look_all<'a, 'b>(
     items: &'b [Item],
 ) -> Looked<'a, 'b>
     requires known { length known.now.events.now ≡ length known.now.journal.now }
-    requires of_format { All (IsOf FORMAT_1) objects.now }
+    requires of_format { All (IsOf known.now.scenario.now.format) objects.now }
     ensures { (os : List Kept) → forged_in_turn (setting_of known.now.scenario.now) known.now.events.now known.now.journal.now
         (map as_object (drop place objects.now) ++ os) items.now
         ≡ or_later (option_map (λ b. b.now) result.found)
@@ -138,7 +142,7 @@ fn look_all<'a, 'b>(
 /// Looks at an object with the first of the answers.
 fn look_at<'a, 'b>(known: &Known<'_>, object: &ObjectRef<'a>, items: &'b [Item]) -> Looked<'a, 'b>
     requires known { length known.now.events.now ≡ length known.now.journal.now }
-    requires of_format { IsOf FORMAT_1 object.now }
+    requires of_format { IsOf known.now.scenario.now.format object.now }
     ensures { (os : List Kept) → forged_in_turn (setting_of known.now.scenario.now) known.now.events.now known.now.journal.now
         (as_object object.now ∷ os) items.now
         ≡ or_later (option_map (λ b. b.now) result.found)
@@ -159,13 +163,14 @@ fn look_at<'a, 'b>(known: &Known<'_>, object: &ObjectRef<'a>, items: &'b [Item])
 /// The bytes of an object that is forged.
 fn found_in<'a>(known: &Known<'_>, object: &ObjectRef<'a>, item: Item) -> Option<&'a [u8]>
     requires known { length known.now.events.now ≡ length known.now.journal.now }
-    requires of_format { IsOf FORMAT_1 object.now }
+    requires of_format { IsOf known.now.scenario.now.format object.now }
     ensures { option_map (λ b. b.now) result
-        ≡ (if is_forged format (setting_of known.now.scenario.now) known.now.events.now known.now.journal.now
-        (as_object object.now, item) then Some (encoded (as_object object.now).body) else None) }
+        ≡ (if is_forged (format_in known.now.scenario.now.format) (setting_of known.now.scenario.now)
+        known.now.events.now known.now.journal.now
+        (as_object object.now, item) then Some (encoded_in known.now.scenario.now.format (as_object object.now).body) else None) }
 {
     if is_forged(known, object, item) {
-        Some(message_of(object))
+        Some(message_of(known.scenario.format, object))
     } else {
         None
     }
@@ -174,8 +179,9 @@ fn found_in<'a>(known: &Known<'_>, object: &ObjectRef<'a>, item: Item) -> Option
 /// Whether the object is new, and its signer is correct and never signed it.
 fn is_forged(known: &Known<'_>, object: &ObjectRef<'_>, item: Item) -> bool
     requires known { length known.now.events.now ≡ length known.now.journal.now }
-    requires of_format { IsOf FORMAT_1 object.now }
-    ensures { result ≡ is_forged format (setting_of known.now.scenario.now) known.now.events.now known.now.journal.now (as_object object.now, item) }
+    requires of_format { IsOf known.now.scenario.now.format object.now }
+    ensures { result ≡ is_forged (format_in known.now.scenario.now.format) (setting_of known.now.scenario.now)
+        known.now.events.now known.now.journal.now (as_object object.now, item) }
 {
     let by = signer(&object.body);
     is_new(item)
@@ -185,7 +191,7 @@ fn is_forged(known: &Known<'_>, object: &ObjectRef<'_>, item: Item) -> bool
             known.events,
             known.journal,
             by,
-            message_of(object),
+            message_of(known.scenario.format, object),
         )
 }
 
@@ -202,31 +208,35 @@ fn is_new(item: Item) -> bool
 }
 
 /// The objects of messages with link numbers, from this place on.
-fn objects_of<'a>(prios: &Four<(u64, ObjectRef<'a>)>, place: usize) -> Four<ObjectRef<'a>>
-    requires { All (λ m. IsOf FORMAT_1 m.1) prios.now }
+fn objects_of<'a>(
+    _format: u8,
+    prios: &Four<(u64, ObjectRef<'a>)>,
+    place: usize,
+) -> Four<ObjectRef<'a>>
+    requires { All (λ m. IsOf _format m.1) prios.now }
     ensures objects { map as_object result ≡ map (λ m. as_object m.1) (drop place prios.now) }
     ensures many { length result ≡ length prios.now - place }
-    ensures of_format { All (IsOf FORMAT_1) result }
+    ensures of_format { All (IsOf _format) result }
 {
     match prios.get(place) {
-        Some((_, object)) => objects_of(prios, place + 1).led_by(*object),
+        Some((_, object)) => objects_of(_format, prios, place + 1).led_by(*object),
         None => Four::new(),
     }
 }
 
 /// The bytes of an object's message.
-fn message_of<'a>(object: &ObjectRef<'a>) -> &'a [u8]
-    requires { IsOf FORMAT_1 object.now }
-    ensures { result.now ≡ encoded (as_object object.now).body }
+fn message_of<'a>(format: u8, object: &ObjectRef<'a>) -> &'a [u8]
+    requires { IsOf format object.now }
+    ensures { result.now ≡ encoded_in format (as_object object.now).body }
 {
-    spells(object.bytes, &object.body);
+    spells(format, object.bytes, &object.body);
     object.bytes
 }
 
-/// Bytes that are read as a message are its bytes.
-fn spells(bytes: &[u8], body: &BodyRef<'_>)
-    requires { read_body bytes.now ≡ Ok (as_body body.now) }
-    ensures { bytes.now ≡ encoded (as_body body.now) }
+/// Bytes that are read as a message of a format are its bytes.
+fn spells(_format: u8, bytes: &[u8], body: &BodyRef<'_>)
+    requires { read_body_in _format bytes.now ≡ Ok (as_body body.now) }
+    ensures { bytes.now ≡ encoded_in _format (as_body body.now) }
 {
     a_body_has_one_spelling();
 }

@@ -23,7 +23,9 @@ pub fn has_forged_tag(
 ) -> bool
     ensures { result ≡ (is_correct (setting_of scenario.now) u && is_tagged link.now && not (is_among bytes.now (frames_in directions.now u v))) }
 {
-    is_correct(scenario, u) && is_tagged(link) && !directions.has(u, v, counter_of(bytes), bytes)
+    is_correct(scenario, u)
+        && is_tagged(link)
+        && !directions.has(u, v, counter_of(scenario.format, bytes), bytes)
 }
 
 /// Whether a reply tells that the tag was right.
@@ -40,9 +42,9 @@ fn is_tagged(link: &LinkReply) -> bool
     )
 }
 
-/// The counter of bytes that are a frame: its number, where a correct node made it.
-fn counter_of(bytes: &[u8]) -> u64 {
-    match Frame::open(bytes) {
+/// The counter of bytes that are a frame of a format: its number, where a correct node made it.
+fn counter_of(format: u8, bytes: &[u8]) -> u64 {
+    match Frame::open_in(bytes, format) {
         Ok(frame) => frame.head().counter,
         Err(_) => 0,
     }

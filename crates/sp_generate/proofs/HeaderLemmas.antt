@@ -88,6 +88,7 @@ graph_is = record {
 pub scenario_is : (number : ℕ) → IsScenario (generated_scenario number)
 unfolding generated_scenario
 scenario_is number = record {
+  format = inl refl;
   seed = seed_is number;
   limits = record { buffer = (leb-true 1 16 refl, leb-true 16 64 refl); store = (leb-true 1 16 refl, leb-true 16 256 refl) };
   graph = graph_is;

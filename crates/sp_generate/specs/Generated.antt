@@ -2,6 +2,7 @@
 use Rattle.std.specs.Prelude.{ℕ, List, [], ◌∷◌, ◌++◌, replicate}
 use Rattle.std.specs.List.{flat_map, range_with_len}
 use Rattle.byteorder.specs.Endian.{big_bytes}
+use Rattle.sp_base.specs.declared.format.TheConstants.{FORMAT_1}
 use Rattle.sp_base.specs.declared.id.NodeId.{NodeId}
 use Rattle.sp_schedule_crafts.specs.declared.object.CraftedObject.TheVariants as objects
 use Rattle.sp_topology.specs.declared.topology.Edge.{Edge}
@@ -28,6 +29,7 @@ seed number = replicate 28 0 ++ big_bytes 4 number
 
 unfoldable pub generated_scenario : ℕ → Scenario
 generated_scenario number = record {
+  format = FORMAT_1;
   seed = seed number;
   height = Five;
   limits = record { buffer = 16; store = 16 };

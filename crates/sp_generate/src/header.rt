@@ -2,7 +2,7 @@
 ghost use Rattle.std.specs.Prelude.{◌≡◌, IfOk};
 ghost use Rattle.sp_generate.specs.Generated.{edge, edges, generated_scenario, seed};
 
-use sp_base::{Limits, Listed, Memory, NodeId};
+use sp_base::{FORMAT_1, Limits, Listed, Memory, NodeId};
 use sp_schedule_events::{Edge, Graph, LmsHeight, Scenario};
 use std::alloc::Global;
 
@@ -11,6 +11,7 @@ pub fn scenario(alloc: Global, number: u32) -> Result<Scenario, Memory>
     ensures { IfOk result (λ made. made ≡ generated_scenario number) }
 {
     Ok(Scenario {
+        format: FORMAT_1,
         seed: seed(number),
         height: LmsHeight::Five,
         limits: Limits {

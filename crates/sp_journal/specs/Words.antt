@@ -4,8 +4,8 @@
 --     full BASE HAVE         tickspent INDEX               short NEED LEFT      topology THEIRS
 --     spent INDEX            ticknotreserved BOUND         magic                section cut | count | object | tail
 --     expired NOW            low MIN                       version              fresh, and a word for each object: weight: prio: ack: rel:
---     nopaths FOUND          frame NUMBER LENGTH DIGEST    notforme               with new badend foreign low old expired seen ahead gap full
---     payload HEX            payload SRC SEQ HEX           badtag                 inboxfull badsig
+--     nopaths FOUND          frame NUMBER LENGTH DIGEST    notforme               with new badend epoch foreign low old expired seen ahead
+--     payload HEX            payload SRC SEQ HEX           badtag                 gap full inboxfull badsig
 --     empty                                                learned BOOT
 --
 --     + signed HEX                        + delivered rel SRC SEQ HEX
@@ -34,6 +34,7 @@ use Rattle.sp_journal.specs.declared.entry.AnswerWord.TheVariants as answers
 abbrev pub answer_word : AnswerWord → Word
 answer_word answers.New = codes "new"
 answer_word answers.BadEnd = codes "badend"
+answer_word answers.Epoch = codes "epoch"
 answer_word answers.Foreign = codes "foreign"
 answer_word answers.Low = codes "low"
 answer_word answers.Old = codes "old"

@@ -108,6 +108,7 @@ pub enum ItemWord {
 pub enum AnswerWord {
     New,
     BadEnd,
+    Epoch,
     Foreign,
     Low,
     Old,

@@ -200,6 +200,7 @@ fn answer_word(answer: AnswerWord) -> &'static str
     match answer {
         AnswerWord::New => "new",
         AnswerWord::BadEnd => "badend",
+        AnswerWord::Epoch => "epoch",
         AnswerWord::Foreign => "foreign",
         AnswerWord::Low => "low",
         AnswerWord::Old => "old",

@@ -154,6 +154,7 @@ record IsShort (item : ItemWord) : Type 0 where
 short_item : (item : ItemWord) → IsShort item
 short_item (items.Weight answers.New) = record { good = refl; short = refl }
 short_item (items.Weight answers.BadEnd) = record { good = refl; short = refl }
+short_item (items.Weight answers.Epoch) = record { good = refl; short = refl }
 short_item (items.Weight answers.Foreign) = record { good = refl; short = refl }
 short_item (items.Weight answers.Low) = record { good = refl; short = refl }
 short_item (items.Weight answers.Old) = record { good = refl; short = refl }
@@ -166,6 +167,7 @@ short_item (items.Weight answers.InboxFull) = record { good = refl; short = refl
 short_item (items.Weight answers.BadSig) = record { good = refl; short = refl }
 short_item (items.Prio answers.New) = record { good = refl; short = refl }
 short_item (items.Prio answers.BadEnd) = record { good = refl; short = refl }
+short_item (items.Prio answers.Epoch) = record { good = refl; short = refl }
 short_item (items.Prio answers.Foreign) = record { good = refl; short = refl }
 short_item (items.Prio answers.Low) = record { good = refl; short = refl }
 short_item (items.Prio answers.Old) = record { good = refl; short = refl }
@@ -178,6 +180,7 @@ short_item (items.Prio answers.InboxFull) = record { good = refl; short = refl }
 short_item (items.Prio answers.BadSig) = record { good = refl; short = refl }
 short_item (items.Ack answers.New) = record { good = refl; short = refl }
 short_item (items.Ack answers.BadEnd) = record { good = refl; short = refl }
+short_item (items.Ack answers.Epoch) = record { good = refl; short = refl }
 short_item (items.Ack answers.Foreign) = record { good = refl; short = refl }
 short_item (items.Ack answers.Low) = record { good = refl; short = refl }
 short_item (items.Ack answers.Old) = record { good = refl; short = refl }
@@ -190,6 +193,7 @@ short_item (items.Ack answers.InboxFull) = record { good = refl; short = refl }
 short_item (items.Ack answers.BadSig) = record { good = refl; short = refl }
 short_item (items.Rel answers.New) = record { good = refl; short = refl }
 short_item (items.Rel answers.BadEnd) = record { good = refl; short = refl }
+short_item (items.Rel answers.Epoch) = record { good = refl; short = refl }
 short_item (items.Rel answers.Foreign) = record { good = refl; short = refl }
 short_item (items.Rel answers.Low) = record { good = refl; short = refl }
 short_item (items.Rel answers.Old) = record { good = refl; short = refl }

@@ -5,7 +5,7 @@
 --     gone PLACE ID WHY                 weight ORIGIN EDGE SEQ WEIGHT
 use Rattle.std.specs.Prelude.{ℕ, ◌+◌, ◌-◌, ◌^◌, List, [], ◌∷◌, Option, Some, None, Result, Ok, Err, codes}
 use Rattle.sp_base.specs.Refusals.{◌>>=◌}
-use Rattle.sp_base.specs.declared.limits.TheConstants.{MAX_EDGES, MAX_NODES, MAX_PAYLOAD_BYTES, MAX_PRIORITY, MAX_SEQ, MAX_WEIGHT}
+use Rattle.sp_base.specs.declared.limits.TheConstants.{MAX_EDGES_2, MAX_NODES_2, MAX_PAYLOAD_BYTES, MAX_PRIORITY, MAX_SEQ, MAX_WEIGHT}
 use Rattle.sp_base.specs.declared.id.NodeId.{NodeId}
 use Rattle.sp_text.specs.Spelling.{Word}
 use Rattle.sp_lines.specs.Cells.{Bytes, Cell, Name, Number}
@@ -35,10 +35,10 @@ any_number = Number 0 (2 ^ 64 - 1)
 
 -- a neighbour, or 0 for the inbox
 abbrev pub place : Cell
-place = Number 0 MAX_NODES
+place = Number 0 MAX_NODES_2
 
 abbrev pub node : Cell
-node = Number 1 MAX_NODES
+node = Number 1 MAX_NODES_2
 
 abbrev pub seq : Cell
 seq = Number 1 MAX_SEQ
@@ -53,13 +53,13 @@ kind_word kinds.Prio = codes "prio"
 
 -- ---- rows
 
--- the row of a form. The longest body is that of a priority message, of 38 bytes and its payload
+-- the row of a form. The longest body is that of a priority message of format 2, of 62 bytes and its payload
 abbrev pub cells : Form → List Cell
-cells Signed = Name (codes "signed") ∷ Bytes 0 (38 + MAX_PAYLOAD_BYTES) ∷ []
+cells Signed = Name (codes "signed") ∷ Bytes 0 (62 + MAX_PAYLOAD_BYTES) ∷ []
 cells Stored = Name (codes "stored") ∷ place ∷ any_number ∷ node ∷ seq ∷ Number 1 MAX_PRIORITY ∷ []
 cells (Gone why) = Name (codes "gone") ∷ place ∷ any_number ∷ Name (why_word why) ∷ []
 cells (Delivered kind) = Name (codes "delivered") ∷ Name (kind_word kind) ∷ node ∷ seq ∷ payload ∷ []
-cells Weight = Name (codes "weight") ∷ node ∷ Number 0 (MAX_EDGES - 1) ∷ seq ∷ Number 1 MAX_WEIGHT ∷ []
+cells Weight = Name (codes "weight") ∷ node ∷ Number 0 (MAX_EDGES_2 - 1) ∷ seq ∷ Number 1 MAX_WEIGHT ∷ []
 
 -- all forms
 abbrev pub forms : List Form

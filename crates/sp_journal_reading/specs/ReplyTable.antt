@@ -8,8 +8,8 @@
 --     empty               ticknotreserved BOUND                        badtag
 --     frame NUMBER LENGTH DIGEST                                       learned BOOT
 --
---     weight:  new foreign low old badsig                  ack:  new badend old ahead badsig
---     prio:    new badend expired seen badsig              rel:  new badend old ahead gap full inboxfull badsig
+--     weight:  new foreign low old badsig                  ack:  new badend epoch old ahead badsig
+--     prio:    new badend epoch expired seen badsig        rel:  new badend epoch old ahead gap full inboxfull badsig
 use Rattle.std.specs.Prelude.{ℕ, ◌≡◌, ◌≤◌, ◌-◌, ◌^◌, nat_le, List, [], ◌∷◌, ◌++◌, All}
 use Rattle.std.specs.Prelude.{find, length, map, Option, Some, None, Result, Ok, Err, codes, if◌then◌else◌}
 use Rattle.sp_base.specs.Refusals.{◌>>=◌}
@@ -142,13 +142,13 @@ abbrev pub weight_answers : List AnswerWord
 weight_answers = answers.New ∷ answers.Foreign ∷ answers.Low ∷ answers.Old ∷ answers.BadSig ∷ []
 
 abbrev pub prio_answers : List AnswerWord
-prio_answers = answers.New ∷ answers.BadEnd ∷ answers.Expired ∷ answers.Seen ∷ answers.BadSig ∷ []
+prio_answers = answers.New ∷ answers.BadEnd ∷ answers.Epoch ∷ answers.Expired ∷ answers.Seen ∷ answers.BadSig ∷ []
 
 abbrev pub ack_answers : List AnswerWord
-ack_answers = answers.New ∷ answers.BadEnd ∷ answers.Old ∷ answers.Ahead ∷ answers.BadSig ∷ []
+ack_answers = answers.New ∷ answers.BadEnd ∷ answers.Epoch ∷ answers.Old ∷ answers.Ahead ∷ answers.BadSig ∷ []
 
 abbrev pub rel_answers : List AnswerWord
-rel_answers = answers.New ∷ answers.BadEnd ∷ answers.Old ∷ answers.Ahead ∷ answers.Gap ∷ answers.Full ∷ answers.InboxFull ∷ answers.BadSig ∷ []
+rel_answers = answers.New ∷ answers.BadEnd ∷ answers.Epoch ∷ answers.Old ∷ answers.Ahead ∷ answers.Gap ∷ answers.Full ∷ answers.InboxFull ∷ answers.BadSig ∷ []
 
 -- all items
 abbrev pub all_items : List ItemWord

@@ -1,7 +1,7 @@
 // The line of an effect, read.
 ghost use Rattle.std.specs.Prelude.{◌≡◌, [], ◌∷◌, codes, map};
 ghost use Rattle.sp_base.specs.Refusals.{Gives};
-ghost use Rattle.sp_base.specs.declared.limits.TheConstants.{MAX_NODES};
+ghost use Rattle.sp_base.specs.declared.limits.TheConstants.{MAX_NODES_2};
 ghost use Rattle.sp_lines.specs.Answers.{Reads};
 ghost use Rattle.sp_lines.specs.Cells.{number_at};
 ghost use Rattle.sp_journal.specs.Words.{why_word};
@@ -9,7 +9,7 @@ ghost use Rattle.sp_journal_reading.specs.EffectTable.{kind_word, read_effect, r
 ghost use Rattle.sp_journal_reading.specs.EffectTable as forms;
 
 use sp_base::{
-    EdgeId, MAX_EDGES, MAX_NODES, MAX_PAYLOAD_BYTES, MAX_PRIORITY, MAX_SEQ, MAX_WEIGHT, NodeId,
+    EdgeId, MAX_EDGES_2, MAX_NODES_2, MAX_PAYLOAD_BYTES, MAX_PRIORITY, MAX_SEQ, MAX_WEIGHT, NodeId,
 };
 use sp_lines::{Fault, LineRefused, bytes, named, ranged};
 use sp_msg::{Effect, Why};
@@ -23,7 +23,7 @@ pub(crate) enum Kind {
 }
 
 /// The longest body of a message.
-const MAX_BODY_BYTES: usize = 38 + MAX_PAYLOAD_BYTES;
+const MAX_BODY_BYTES: usize = 62 + MAX_PAYLOAD_BYTES;
 
 /// The effect of the words of a line after its plus, or the first fault.
 pub fn read_effect(alloc: Global, words: &[&[u8]]) -> Result<Effect, LineRefused>
@@ -110,9 +110,9 @@ fn five(
 }
 
 fn node(word: &[u8]) -> Result<NodeId, Fault>
-    ensures { Gives (λ id. id.0) result (number_at 1 MAX_NODES word.now) }
+    ensures { Gives (λ id. id.0) result (number_at 1 MAX_NODES_2 word.now) }
 {
-    let n = ranged(word, 1, u64::from(MAX_NODES))?;
+    let n = ranged(word, 1, u64::from(MAX_NODES_2))?;
     Ok(NodeId(n as u8))
 }
 
@@ -134,7 +134,7 @@ fn stored(
 ) -> Result<Effect, LineRefused>
     ensures { Reads result (read_form forms.Stored (codes "stored" ∷ place.now ∷ id.now ∷ src.now ∷ seq.now ∷ prio.now ∷ [])) }
 {
-    let place = ranged(place, 0, u64::from(MAX_NODES))? as u8;
+    let place = ranged(place, 0, u64::from(MAX_NODES_2))? as u8;
     let id = ranged(id, 0, u64::MAX)?;
     let src = node(src)?;
     let seq = ranged(seq, 1, MAX_SEQ)?;
@@ -152,7 +152,7 @@ fn stored(
 fn gone(place: &[u8], id: &[u8], why: Why) -> Result<Effect, LineRefused>
     ensures { Reads result (read_form (forms.Gone why) (codes "gone" ∷ place.now ∷ id.now ∷ why_word why ∷ [])) }
 {
-    let place = ranged(place, 0, u64::from(MAX_NODES))? as u8;
+    let place = ranged(place, 0, u64::from(MAX_NODES_2))? as u8;
     let id = ranged(id, 0, u64::MAX)?;
     Ok(Effect::Gone { place, id, why })
 }
@@ -182,7 +182,7 @@ fn weight(origin: &[u8], edge: &[u8], seq: &[u8], weight: &[u8]) -> Result<Effec
     ensures { Reads result (read_form forms.Weight (codes "weight" ∷ origin.now ∷ edge.now ∷ seq.now ∷ weight.now ∷ [])) }
 {
     let origin = node(origin)?;
-    let edge = ranged(edge, 0, u64::from(MAX_EDGES) - 1)? as u16;
+    let edge = ranged(edge, 0, u64::from(MAX_EDGES_2) - 1)? as u16;
     let seq = ranged(seq, 1, MAX_SEQ)?;
     let weight = ranged(weight, 1, u64::from(MAX_WEIGHT))? as u32;
     Ok(Effect::WeightHeld {

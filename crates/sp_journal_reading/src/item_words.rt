@@ -15,7 +15,7 @@ use std::alloc::Global;
 pub const MAX_ITEMS: usize = 1_024;
 
 /// The word of each item.
-const ITEMS: [(&[u8], ItemWord); 23] = [
+const ITEMS: [(&[u8], ItemWord); 26] = [
     (b"weight:new", ItemWord::Weight(AnswerWord::New)),
     (b"weight:foreign", ItemWord::Weight(AnswerWord::Foreign)),
     (b"weight:low", ItemWord::Weight(AnswerWord::Low)),
@@ -23,16 +23,19 @@ const ITEMS: [(&[u8], ItemWord); 23] = [
     (b"weight:badsig", ItemWord::Weight(AnswerWord::BadSig)),
     (b"prio:new", ItemWord::Prio(AnswerWord::New)),
     (b"prio:badend", ItemWord::Prio(AnswerWord::BadEnd)),
+    (b"prio:epoch", ItemWord::Prio(AnswerWord::Epoch)),
     (b"prio:expired", ItemWord::Prio(AnswerWord::Expired)),
     (b"prio:seen", ItemWord::Prio(AnswerWord::Seen)),
     (b"prio:badsig", ItemWord::Prio(AnswerWord::BadSig)),
     (b"ack:new", ItemWord::Ack(AnswerWord::New)),
     (b"ack:badend", ItemWord::Ack(AnswerWord::BadEnd)),
+    (b"ack:epoch", ItemWord::Ack(AnswerWord::Epoch)),
     (b"ack:old", ItemWord::Ack(AnswerWord::Old)),
     (b"ack:ahead", ItemWord::Ack(AnswerWord::Ahead)),
     (b"ack:badsig", ItemWord::Ack(AnswerWord::BadSig)),
     (b"rel:new", ItemWord::Rel(AnswerWord::New)),
     (b"rel:badend", ItemWord::Rel(AnswerWord::BadEnd)),
+    (b"rel:epoch", ItemWord::Rel(AnswerWord::Epoch)),
     (b"rel:old", ItemWord::Rel(AnswerWord::Old)),
     (b"rel:ahead", ItemWord::Rel(AnswerWord::Ahead)),
     (b"rel:gap", ItemWord::Rel(AnswerWord::Gap)),

@@ -4,7 +4,7 @@ ghost use Rattle.sp_lines.specs.Answers.{Reads};
 ghost use Rattle.sp_journal_reading.specs.ReplyTable.{read_form, without_items};
 ghost use Rattle.sp_journal_reading.specs.ReplyTable as forms;
 
-use sp_base::{Listed, MAX_NODES, MAX_PAYLOAD_BYTES, MAX_SEQ, NodeId};
+use sp_base::{Listed, MAX_NODES_2, MAX_PAYLOAD_BYTES, MAX_SEQ, NodeId};
 use sp_journal::{LinkWord, Reply};
 use sp_lines::{Fault, LineRefused, bytes, ranged};
 use std::alloc::Global;
@@ -77,7 +77,7 @@ pub fn payload_prio(
 ) -> Result<Reply, LineRefused>
     ensures { Reads result (read_form forms.PayloadPrio (codes "payload" ∷ src.now ∷ seq.now ∷ payload.now ∷ [])) }
 {
-    let src = ranged(src, 1, u64::from(MAX_NODES))? as u8;
+    let src = ranged(src, 1, u64::from(MAX_NODES_2))? as u8;
     let seq = ranged(seq, 1, MAX_SEQ)?;
     let payload = bytes(alloc, payload, 0, MAX_PAYLOAD_BYTES)?;
     Ok(Reply::PayloadPrio {

@@ -21,7 +21,7 @@ row_back (Name w ∷ cs) xs room are = row_back cs xs room are
 row_back (Number low high ∷ cs) xs room are = rw (number_at_back low high xs.0 room.0 are.0 are.1) (rw (row_back cs xs.1 room.1 are.2) refl)
 row_back (Tested low high test ∷ cs) xs room are = rw (tested_at_back low high xs.0 test room.0 are.0 are.1 are.2) (rw (row_back cs xs.1 room.1 are.3) refl)
 row_back (Bytes low high ∷ cs) xs room are = rw (bytes_at_back low high xs.0 are.0) (rw (row_back cs xs.1 room are.1) refl)
-row_back (Mask ∷ cs) xs room are = rw (mask_at_back xs.0 are.0) (rw (row_back cs xs.1 room are.1) refl)
+row_back (Mask format ∷ cs) xs room are = rw (mask_at_back format xs.0 are.0) (rw (row_back cs xs.1 room are.1) refl)
 
 -- the words of values fit their row
 pub as_many : (cs : List Cell) (xs : Values cs) → length (spelled cs xs) ≡ length cs
@@ -30,7 +30,7 @@ as_many (Name w ∷ cs) xs = omega (arith, as_many cs xs)
 as_many (Number low high ∷ cs) xs = omega (arith, as_many cs xs.1)
 as_many (Tested low high test ∷ cs) xs = omega (arith, as_many cs xs.1)
 as_many (Bytes low high ∷ cs) xs = omega (arith, as_many cs xs.1)
-as_many (Mask ∷ cs) xs = omega (arith, as_many cs xs.1)
+as_many (Mask format ∷ cs) xs = omega (arith, as_many cs xs.1)
 
 agrees_spelled : (cs : List Cell) (xs : Values cs) → agrees cs (spelled cs xs) ≡ true
 agrees_spelled [] xs = refl
@@ -38,7 +38,7 @@ agrees_spelled (Name w ∷ cs) xs = rw (same_self w) (agrees_spelled cs xs)
 agrees_spelled (Number low high ∷ cs) xs = agrees_spelled cs xs.1
 agrees_spelled (Tested low high test ∷ cs) xs = agrees_spelled cs xs.1
 agrees_spelled (Bytes low high ∷ cs) xs = agrees_spelled cs xs.1
-agrees_spelled (Mask ∷ cs) xs = agrees_spelled cs xs.1
+agrees_spelled (Mask format ∷ cs) xs = agrees_spelled cs xs.1
 
 pub fits_spelled : (cs : List Cell) (xs : Values cs) → fits cs (spelled cs xs) ≡ true
 fits_spelled cs xs =
@@ -86,14 +86,14 @@ row_read (Bytes low high ∷ cs) (x ∷ ws) xs long agree e =
     let pair : (one.0, two.0) ≡ xs = let f : Ok (one.0, two.0) ≡ Ok xs = two.2 in cc in
     let both : AreIn (Bytes low high ∷ cs) (one.0, two.0) × ((x ∷ ws) ≡ spelled (Bytes low high ∷ cs) (one.0, two.0)) = ((first.1, more.0), cons_same _ _ _ _ first.0 more.1) in
     subst (λ (z : Values (Bytes low high ∷ cs)). AreIn (Bytes low high ∷ cs) z × ((x ∷ ws) ≡ spelled (Bytes low high ∷ cs) z)) pair both
-row_read (Mask ∷ cs) (x ∷ ws) xs long agree e =
-    let one = then_ok (mask_at x) (λ n. row_at cs ws >>= λ ns. Ok (n, ns)) xs e in
+row_read (Mask format ∷ cs) (x ∷ ws) xs long agree e =
+    let one = then_ok (mask_at format x) (λ n. row_at cs ws >>= λ ns. Ok (n, ns)) xs e in
     let two = then_ok (row_at cs ws) (λ ns. Ok (one.0, ns)) xs one.2 in
-    let first = mask_at_read one.0 x one.1 in
+    let first = mask_at_read format one.0 x one.1 in
     let more = row_read cs ws two.0 (omega (arith, long)) agree two.1 in
     let pair : (one.0, two.0) ≡ xs = let f : Ok (one.0, two.0) ≡ Ok xs = two.2 in cc in
-    let both : AreIn (Mask ∷ cs) (one.0, two.0) × ((x ∷ ws) ≡ spelled (Mask ∷ cs) (one.0, two.0)) = ((first.1, more.0), cons_same _ _ _ _ first.0 more.1) in
-    subst (λ (z : Values (Mask ∷ cs)). AreIn (Mask ∷ cs) z × ((x ∷ ws) ≡ spelled (Mask ∷ cs) z)) pair both
+    let both : AreIn (Mask format ∷ cs) (one.0, two.0) × ((x ∷ ws) ≡ spelled (Mask format ∷ cs) (one.0, two.0)) = ((first.1, more.0), cons_same _ _ _ _ first.0 more.1) in
+    subst (λ (z : Values (Mask format ∷ cs)). AreIn (Mask format ∷ cs) z × ((x ∷ ws) ≡ spelled (Mask format ∷ cs) z)) pair both
 
 -- words that fit a row: their count and their names
 pub fit_parts : (cs : List Cell) (ws : List Word) → fits cs ws ≡ true → (length cs ≡ length ws) × (agrees cs ws ≡ true)

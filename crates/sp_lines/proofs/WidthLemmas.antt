@@ -1,12 +1,14 @@
 -- The lines of a good row can be read: their words are words, and they aren't too long.
-use Rattle.std.proofs.Common.{◌≡◌, ℕ, ◌+◌, ◌*◌, ◌<◌, ◌≤◌, ◌^◌, ◌&&◌, true, List, [], ◌∷◌, length, refl, arith, length-append}
+use Rattle.std.proofs.Common.{◌≡◌, ℕ, ◌+◌, ◌*◌, ◌<◌, ◌≤◌, ◌^◌, ◌&&◌, ◌==◌, ◌++◌, Bool, true, false, if◌then◌else◌, List, [], ◌∷◌, length, refl, arith, length-append}
 use Rattle.std.specs.Prelude.{All, nat_le, nat_lt, slice_index, codes, ◌/◌, ◌%◌}
 use Rattle.std.specs.List.{join_with_byte, list_all}
 use Rattle.std.specs.Fmt.{decimal}
 use Rattle.std.proofs.lemmas.Bool.{and_parts}
 use Rattle.std.proofs.lemmas.Bool.Decides.{nat_tests}
-use Rattle.std.proofs.lemmas.List.Elements.{All-cons, All-head, All-nil, All-tail}
+use Rattle.std.proofs.lemmas.List.Elements.{All-append, All-cons, All-head, All-nil, All-tail}
+use Rattle.sp_base.specs.Formats.{by_format}
 use Rattle.sp_base.specs.Spelling.{AreBytes}
+use Rattle.sp_base.specs.declared.format.TheConstants.{FORMAT_1}
 use Rattle.sp_base.proofs.NumberLemmas.{AreBytes-big_bytes}
 use Rattle.byteorder.specs.Endian.{big_bytes}
 use Rattle.byteorder.specs.Numbers.{length-bytes_high_first}
@@ -47,17 +49,33 @@ short_bytes : (bs : List ℕ) (high : ℕ) → length bs ≤ high → length (he
 short_bytes [] high few = omega arith
 short_bytes (b ∷ bs) high few = omega (arith, length-encode_with lower_digits (b ∷ bs), few)
 
-clean_mask : (n : ℕ) → IsWord (mask_word n)
-unfolding mask_word
-clean_mask n = clean_bytes (big_bytes 16 n) (AreBytes-big_bytes 16 n)
+abbrev halves : Bool → ℕ × ℕ → List ℕ
+halves first mask = if first then big_bytes 16 mask.1 else big_bytes 16 mask.0 ++ big_bytes 16 mask.1
 
-short_mask : (n : ℕ) → length (mask_word n) ≤ 32
+are_halves : (first : Bool) (mask : ℕ × ℕ) → AreBytes (halves first mask)
+are_halves true mask = AreBytes-big_bytes 16 mask.1
+are_halves false mask =
+    All-append (λ b. b < 256) (big_bytes 16 mask.0) (big_bytes 16 mask.1) (AreBytes-big_bytes 16 mask.0) (AreBytes-big_bytes 16 mask.1)
+
+clean_mask : (format : ℕ) (mask : ℕ × ℕ) → IsWord (mask_word format mask)
 unfolding mask_word
-short_mask n = go (big_bytes 16 n) (length-bytes_high_first 16 n)
+clean_mask format mask = clean_bytes (halves (format == FORMAT_1) mask) (are_halves (format == FORMAT_1) mask)
+
+long_hex : (bs : List ℕ) (count : ℕ) → length bs ≡ count → 1 ≤ count → length (hex_word bs) ≤ count * 2
+long_hex [] count long some = absurd (omega (arith, long, some))
+long_hex (b ∷ bs) count long some = omega (arith, long, length-encode_with lower_digits (b ∷ bs))
+
+short_mask : (format : ℕ) (mask : ℕ × ℕ) → length (mask_word format mask) + 1 ≤ by_format format 33 65
+unfolding mask_word
+short_mask format mask = go (format == FORMAT_1)
   where
-    go : (bs : List ℕ) → length bs ≡ 16 → length (hex_word bs) ≤ 32
-    go [] count = omega arith
-    go (b ∷ bs) count = omega (arith, count, length-encode_with lower_digits (b ∷ bs))
+    go : (t : Bool) → length (hex_word (halves t mask)) + 1 ≤ (if t then 33 else 65)
+    go true = let h = long_hex (big_bytes 16 mask.1) 16 (length-bytes_high_first 16 mask.1) (omega arith) in omega (arith, h)
+    go false =
+        let one = length-bytes_high_first 16 mask.0 in
+        let two = length-bytes_high_first 16 mask.1 in
+        let both = length-append (big_bytes 16 mask.0) (big_bytes 16 mask.1) in
+        let h = long_hex (big_bytes 16 mask.0 ++ big_bytes 16 mask.1) 32 (omega (arith, one, two, both)) (omega arith) in omega (arith, h)
 
 -- ---- rows
 
@@ -79,7 +97,7 @@ good_cells (Name w ∷ cs) good = good_cells cs (and_parts (is_good_cell (Name w
 good_cells (Number low high ∷ cs) good = let both = and_parts (is_good_cell (Number low high)) (list_all is_good_cell cs) good in (grind (arith, nat_tests, both.0), good_cells cs both.1)
 good_cells (Tested low high test ∷ cs) good = let both = and_parts (is_good_cell (Tested low high test)) (list_all is_good_cell cs) good in (grind (arith, nat_tests, both.0), good_cells cs both.1)
 good_cells (Bytes low high ∷ cs) good = good_cells cs good
-good_cells (Mask ∷ cs) good = good_cells cs good
+good_cells (Mask format ∷ cs) good = good_cells cs good
 
 -- the words of a row, and how long they are
 record IsClean (ws : List Word) (most : ℕ) : Type 0 where
@@ -108,8 +126,9 @@ clean_row (Tested low high test ∷ cs) xs good are =
     one_more (decimal xs.0) (spelled cs xs.1) 21 (widths cs) (clean_number xs.0 small) (omega (arith, short_number xs.0 small)) (clean_row cs xs.1 both.1 are.3)
 clean_row (Bytes low high ∷ cs) xs good are =
     one_more (hex_word xs.0) (spelled cs xs.1) (high * 2 + 2) (widths cs) (clean_bytes xs.0 are.0.2) (omega (arith, short_bytes xs.0 high are.0.1)) (clean_row cs xs.1 good are.1)
-clean_row (Mask ∷ cs) xs good are =
-    one_more (mask_word xs.0) (spelled cs xs.1) 33 (widths cs) (clean_mask xs.0) (omega (arith, short_mask xs.0)) (clean_row cs xs.1 good are.1)
+clean_row (Mask format ∷ cs) xs good are =
+    one_more (mask_word format xs.0) (spelled cs xs.1) (by_format format 33 65) (widths cs) (clean_mask format xs.0) (short_mask format xs.0)
+    (clean_row cs xs.1 good are.1)
 
 -- the line of values in the ranges of a good row can be read
 pub good_row_line : (cs : List Cell) (xs : Values cs) → is_good_row cs ≡ true → AreIn cs xs → IsGoodLine (spelled cs xs)

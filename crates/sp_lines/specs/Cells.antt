@@ -4,16 +4,18 @@
 --     Number LOW HIGH      a decimal from LOW to HIGH
 --     Tested LOW HIGH T    a decimal from LOW to HIGH that passes the test T
 --     Bytes LOW HIGH       so many bytes in hexadecimal
---     Mask                 a set of edges: 16 bytes in hexadecimal, the highest first, a bit for each edge
-use Rattle.std.specs.Prelude.{ℕ, ◌≤◌, ◌^◌, ◌&&◌, nat_le, nat_lt, nat_eq, Bool, List, [], length, Option, Some, None, Result, Ok, Err, if◌then◌else◌}
+--     Mask FORMAT          a set of edges: 16 bytes in hexadecimal, in format 2 32, the highest first, a bit for each edge
+use Rattle.std.specs.Prelude.{ℕ, ◌<◌, ◌≤◌, ◌^◌, ◌==◌, ◌&&◌, nat_le, nat_lt, nat_eq, Bool, List, [], ◌++◌, drop, length, Option, Some, None, Result, Ok, Err, if◌then◌else◌}
 use Rattle.std.specs.Str.Parse.{digits_value}
 use Rattle.std.specs.Cmp.Lexicographic.{pointwise}
 use Rattle.std.specs.Fmt.{decimal}
 use Rattle.byteorder.specs.Endian.{big_bytes, big_number}
 use Rattle.hex.specs.Hex.{decode_of}
 use Rattle.hex.specs.declared.error.FromHexError.{FromHexError}
+use Rattle.sp_base.specs.Formats.{by_format}
 use Rattle.sp_base.specs.Refusals.{◌>>=◌}
 use Rattle.sp_base.specs.Spelling.{AreBytes}
+use Rattle.sp_base.specs.declared.format.TheConstants.{FORMAT_1}
 use Rattle.sp_base.specs.declared.limits.TheConstants.{MAX_EDGES}
 use Rattle.sp_text.specs.Spelling.{Word, hex_word}
 use Rattle.sp_lines.specs.declared.fault.Fault.{Fault}
@@ -25,7 +27,7 @@ pub data Cell : Type 0 where
   Number : ℕ → ℕ → Cell
   Tested : ℕ → ℕ → (ℕ → Bool) → Cell
   Bytes : ℕ → ℕ → Cell
-  Mask : Cell
+  Mask : ℕ → Cell
 
 -- ---- words as values
 
@@ -70,13 +72,29 @@ of_length low high (Some bs) = if nat_le low (length bs) && nat_le (length bs) h
 unfoldable pub bytes_at : ℕ → ℕ → Word → Result (List ℕ) Fault
 bytes_at low high word = of_length low high (bytes_of word)
 
--- a set of edges as a word
-unfoldable pub mask_word : ℕ → Word
-mask_word n = hex_word (big_bytes 16 n)
+-- a set of edges, its high half and its low half, in bytes. Format 1 has no high half
+abbrev pub mask_bytes : ℕ → ℕ × ℕ → List ℕ
+mask_bytes format mask = if format == FORMAT_1 then big_bytes 16 mask.1 else big_bytes 16 mask.0 ++ big_bytes 16 mask.1
+
+-- as a word
+unfoldable pub mask_word : ℕ → ℕ × ℕ → Word
+mask_word format mask = hex_word (mask_bytes format mask)
 
 -- sixteen bytes whose number has a bit for edges alone
-unfoldable pub mask_at : Word → Result ℕ Fault
-mask_at word = bytes_at 16 16 word >>= λ bs. if nat_lt (big_number 16 bs) (2 ^ MAX_EDGES) then Ok (big_number 16 bs) else Err faults.Range
+unfoldable pub narrow_mask_at : Word → Result (ℕ × ℕ) Fault
+narrow_mask_at word = bytes_at 16 16 word >>= λ bs. if nat_lt (big_number 16 bs) (2 ^ MAX_EDGES) then Ok (0, big_number 16 bs) else Err faults.Range
+
+-- any 32 bytes
+unfoldable pub wide_mask_at : Word → Result (ℕ × ℕ) Fault
+wide_mask_at word = bytes_at 32 32 word >>= λ bs. Ok (big_number 16 bs, big_number 16 (drop 16 bs))
+
+unfoldable pub mask_at : ℕ → Word → Result (ℕ × ℕ) Fault
+mask_at format word = if format == FORMAT_1 then narrow_mask_at word else wide_mask_at word
+
+-- the halves have room in the format
+pub record IsMask (format : ℕ) (mask : ℕ × ℕ) : Type 0 where
+  pub high : mask.0 < by_format format 1 (2 ^ 128)
+  pub low : mask.1 < by_format format (2 ^ MAX_EDGES) (2 ^ 128)
 
 -- so many bytes
 abbrev pub AreSoMany : ℕ → ℕ → List ℕ → Type 0

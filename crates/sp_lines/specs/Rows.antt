@@ -3,15 +3,15 @@ use Rattle.std.specs.Prelude.{ℕ, ◌≡◌, ◌<◌, ◌≤◌, ◌^◌, ◌==
 use Rattle.std.specs.List.{join_with_byte}
 use Rattle.std.specs.Fmt.{decimal}
 use Rattle.sp_base.specs.Refusals.{◌>>=◌}
-use Rattle.sp_base.specs.declared.limits.TheConstants.{MAX_EDGES}
 use Rattle.sp_text.specs.Spelling.{Word, hex_word}
-use Rattle.sp_lines.specs.Cells.{AreSoMany, Bytes, Cell, Mask, Name, Number, Tested, bytes_at, mask_at, mask_word, number_at, same, tested_at}
+use Rattle.sp_lines.specs.Cells.{AreSoMany, Bytes, Cell, IsMask, Mask, Name, Number, Tested, bytes_at, mask_at, mask_word, number_at, same, tested_at}
 use Rattle.sp_lines.specs.declared.fault.Fault.{Fault}
 use Rattle.sp_lines.specs.declared.fault.Fault.TheVariants as faults
 
 -- what a place says
 abbrev pub Value : Cell → Type 0
 Value (Bytes low high) = List ℕ
+Value (Mask format) = ℕ × ℕ
 Value _ = ℕ
 
 -- a value for each place but those of names
@@ -46,7 +46,7 @@ row_at (Name w ∷ cs) (x ∷ words) = row_at cs words
 row_at (Number low high ∷ cs) (x ∷ words) = number_at low high x >>= λ n. row_at cs words >>= λ ns. Ok (n, ns)
 row_at (Tested low high test ∷ cs) (x ∷ words) = tested_at low high test x >>= λ n. row_at cs words >>= λ ns. Ok (n, ns)
 row_at (Bytes low high ∷ cs) (x ∷ words) = bytes_at low high x >>= λ bs. row_at cs words >>= λ ns. Ok (bs, ns)
-row_at (Mask ∷ cs) (x ∷ words) = mask_at x >>= λ n. row_at cs words >>= λ ns. Ok (n, ns)
+row_at (Mask format ∷ cs) (x ∷ words) = mask_at format x >>= λ n. row_at cs words >>= λ ns. Ok (n, ns)
 
 -- the values of a line of this row
 abbrev pub line_of : (cs : List Cell) → List Word → Result (Values cs) Fault
@@ -61,7 +61,7 @@ spelled (Name w ∷ cs) xs = w ∷ spelled cs xs
 spelled (Number low high ∷ cs) xs = decimal xs.0 ∷ spelled cs xs.1
 spelled (Tested low high test ∷ cs) xs = decimal xs.0 ∷ spelled cs xs.1
 spelled (Bytes low high ∷ cs) xs = hex_word xs.0 ∷ spelled cs xs.1
-spelled (Mask ∷ cs) xs = mask_word xs.0 ∷ spelled cs xs.1
+spelled (Mask format ∷ cs) xs = mask_word format xs.0 ∷ spelled cs xs.1
 
 -- each value is in its range
 abbrev pub AreIn : (cs : List Cell) → Values cs → Type 0
@@ -70,7 +70,7 @@ AreIn (Name w ∷ cs) xs = AreIn cs xs
 AreIn (Number low high ∷ cs) xs = (low ≤ xs.0) × (xs.0 ≤ high) × AreIn cs xs.1
 AreIn (Tested low high test ∷ cs) xs = (low ≤ xs.0) × (xs.0 ≤ high) × (test xs.0 ≡ true) × AreIn cs xs.1
 AreIn (Bytes low high ∷ cs) xs = AreSoMany low high xs.0 × AreIn cs xs.1
-AreIn (Mask ∷ cs) xs = (xs.0 < 2 ^ MAX_EDGES) × AreIn cs xs.1
+AreIn (Mask format ∷ cs) xs = IsMask format xs.0 × AreIn cs xs.1
 
 -- each greatest number has room in 64 bits
 abbrev pub HaveRoom : List Cell → Type 0

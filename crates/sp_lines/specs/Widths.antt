@@ -1,6 +1,7 @@
 -- How long the line of a row is at most, and which rows have lines that can be read.
 use Rattle.std.specs.Prelude.{ℕ, ◌+◌, ◌*◌, ◌&&◌, ◌^◌, nat_le, nat_lt, Bool, true, List, [], ◌∷◌, length}
 use Rattle.std.specs.List.{list_all}
+use Rattle.sp_base.specs.Formats.{by_format}
 use Rattle.sp_text.specs.Texts.{is_word_byte}
 use Rattle.sp_base.specs.declared.limits.TheConstants.{MAX_LINE_BYTES}
 use Rattle.sp_lines.specs.Cells.{Bytes, Cell, Mask, Name, Number, Tested}
@@ -11,7 +12,7 @@ width (Name w) = length w + 1
 width (Number low high) = 21
 width (Tested low high test) = 21
 width (Bytes low high) = high * 2 + 2
-width Mask = 33
+width (Mask format) = by_format format 33 65
 
 -- the most bytes of a line with its newline
 abbrev pub widths : List Cell → ℕ

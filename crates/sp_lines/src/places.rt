@@ -2,11 +2,11 @@
 ghost use Rattle.std.specs.Prelude.{◌≡◌, ◌≤◌, IfOk, length};
 ghost use Rattle.sp_base.specs.Refusals.{Gives};
 ghost use Rattle.sp_lines.specs.Answers.{Found, Reads};
-ghost use Rattle.sp_lines.specs.Cells.{bytes_at, bytes_of, mask_at, number_at, number_of, same};
+ghost use Rattle.sp_lines.specs.Cells.{bytes_at, bytes_of, mask_at, narrow_mask_at, number_at, number_of, same, wide_mask_at};
 
 use crate::{Fault, LineRefused};
 use byteorder::{BigEndian, ByteOrder};
-use sp_base::{Bytes, MAX_EDGES, Memory};
+use sp_base::{Bytes, FORMAT_1, MAX_EDGES, Memory};
 use sp_text::{hex_word_bytes, number};
 use std::alloc::Global;
 
@@ -62,17 +62,38 @@ pub fn bytes(alloc: Global, word: &[u8], least: usize, most: usize) -> Result<By
     Ok(bytes)
 }
 
-/// A set of edges.
+/// A set of edges of a format: its high half and its low half.
 #[tactic(auto, unfolding(crate::specs::Cells::mask_at))]
-pub fn mask(alloc: Global, word: &[u8]) -> Result<u128, LineRefused>
-    ensures { Reads result (mask_at word.now) }
+pub fn mask(alloc: Global, word: &[u8], format: u8) -> Result<(u128, u128), LineRefused>
+    ensures { Reads result (mask_at format word.now) }
+{
+    if format == FORMAT_1 {
+        return narrow_mask(alloc, word);
+    }
+    wide_mask(alloc, word)
+}
+
+/// The same of format 1, which has no high half.
+#[tactic(auto, unfolding(crate::specs::Cells::narrow_mask_at))]
+fn narrow_mask(alloc: Global, word: &[u8]) -> Result<(u128, u128), LineRefused>
+    ensures { Reads result (narrow_mask_at word.now) }
 {
     let bytes = bytes(alloc, word, 16, 16)?;
-    let mask = BigEndian::read_u128(bytes.as_slice());
-    if mask >= 1 << MAX_EDGES {
+    let low = BigEndian::read_u128(bytes.as_slice());
+    if low >= 1 << MAX_EDGES {
         return Err(LineRefused::Bad(Fault::Range));
     }
-    Ok(mask)
+    Ok((0, low))
+}
+
+/// The same of format 2.
+#[tactic(auto, unfolding(crate::specs::Cells::wide_mask_at))]
+fn wide_mask(alloc: Global, word: &[u8]) -> Result<(u128, u128), LineRefused>
+    ensures { Reads result (wide_mask_at word.now) }
+{
+    let bytes = digest(alloc, word)?;
+    let (high, low) = bytes.split_at(16);
+    Ok((BigEndian::read_u128(high), BigEndian::read_u128(low)))
 }
 
 /// Exactly 32 bytes.

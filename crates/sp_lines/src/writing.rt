@@ -6,7 +6,7 @@ ghost use Rattle.sp_text.specs.Spelling.{hex_word};
 ghost use Rattle.sp_lines.specs.Cells.{mask_word};
 
 use byteorder::{BigEndian, ByteOrder};
-use sp_base::Memory;
+use sp_base::{FORMAT_1, Memory};
 use sp_text::{push_hex, push_number};
 
 /// Appends a space and a number.
@@ -34,12 +34,17 @@ pub fn push_hex_field(out: &mut String, bytes: &[u8]) -> Result<(), Memory>
     push_hex(out, bytes)
 }
 
-/// Appends a space and a set of edges.
+/// Appends a space and a set of edges of a format, by its halves.
 #[tactic(auto, unfolding(crate::specs::Cells::mask_word))]
-pub fn push_mask_field(out: &mut String, mask: u128) -> Result<(), Memory>
-    ensures { OnOk result (string_bytes out.new ≡ string_bytes out.old ++ (32 ∷ mask_word mask)) }
+pub fn push_mask_field(out: &mut String, format: u8, high: u128, low: u128) -> Result<(), Memory>
+    ensures { OnOk result (string_bytes out.new ≡ string_bytes out.old ++ (32 ∷ mask_word format (high, low))) }
 {
-    let mut bytes = [0u8; 16];
-    BigEndian::write_u128(bytes.as_mut_slice(), mask);
+    let mut bytes = [0u8; 32];
+    let (first, second) = bytes.split_at_mut(16);
+    BigEndian::write_u128(first, high);
+    BigEndian::write_u128(second, low);
+    if format == FORMAT_1 {
+        return push_hex_field(out, second);
+    }
     push_hex_field(out, bytes.as_slice())
 }

@@ -7,12 +7,13 @@ use Rattle.sp_msg.specs.declared.effect.Why.TheVariants.{Taken as TakenAway}
 use Rattle.sp_msg.specs.declared.refused.SendRefused.{SendRefused}
 use Rattle.sp_msg.specs.declared.refused.SendRefused.TheVariants as sends
 use Rattle.sp_node.specs.Calls.{Datagrams, Polls, TakesPrio, TakesRel, Ticks}
-use Rattle.sp_node_format.specs.Format.{format}
+use Rattle.sp_node_format.specs.Format.{format_of}
 use Rattle.sp_node_state.specs.Sends.{Sends}
 use Rattle.sp_rules.specs.Arrivals.{handled}
 use Rattle.sp_rules.specs.Node.{NodeState}
 use Rattle.sp_rules.specs.PrioPeer.{gone}
-use Rattle.sp_rules.specs.Steps.{Arrived, Datagram, Frame, Input, Message, NodeStep, NotCalled, Output, Payload, Poll, Refused, TakePrio, TakeRel, Tick, Ticked, accepted, replied}
+use Rattle.sp_rules.specs.Steps.{Arrived, Datagram, Frame, Input, Message, NodeStep, NotCalled, Output, Payload, Poll, Refused, TakePrio, TakeRel, Tick}
+use Rattle.sp_rules.specs.Steps.{Ticked, accepted, replied}
 use Rattle.sp_rules.specs.declared.node.NodeRefused.{NodeRefused}
 use Rattle.sp_rules.specs.declared.node.NodeRefused.TheVariants as calls
 use Rattle.sp_rules.specs.declared.node.Step.{Step}
@@ -20,8 +21,9 @@ use Rattle.sp_rules.specs.declared.node.Taken.{Taken}
 use Rattle.sp_rules.specs.declared.node.TickReply.{TickReply}
 use Rattle.sp_rules.specs.declared.store.Entry.{Entry as Stored}
 
-pub fixed_stays : (old : NodeState) (input : Input) (output : Output) (new : NodeState) → NodeStep format old input output new → new.fixed ≡ old.fixed
-fixed_stays old input output new step = ap (λ (s : Shape). s.fixed) (shapes_stay format old input output new step)
+pub fixed_stays : (old : NodeState) (input : Input) (output : Output) (new : NodeState) → NodeStep (format_of old.fixed) old input output new
+    → new.fixed ≡ old.fixed
+fixed_stays old input output new step = ap (λ (s : Shape). s.fixed) (shapes_stay (format_of old.fixed) old input output new step)
 
 pub fixed_by_send : (input : Input) (refusal : Option SendRefused) (old new : NodeState) (done : Result (Step ℕ) SendRefused) → Sends input refusal old done new
     → new.fixed ≡ old.fixed
@@ -41,11 +43,16 @@ fixed_by_poll old v new (Err calls.NotNeighbour) gave = fixed_stays old (Poll v)
 fixed_by_poll old v new (Err calls.Worn) gave = fixed_stays old (Poll v) (replied (NotCalled calls.Worn)) new gave
 fixed_by_poll old v new (Err calls.Memory) gave = ap (λ (n : NodeState). n.fixed) gave.1
 
-pub fixed_by_datagram : (old : NodeState) (u : NodeId) (bytes : List ℕ) (new : NodeState) (done : Result (Step Taken) NodeRefused) → Datagrams old u bytes done new
+pub fixed_by_datagram : (old : NodeState) (u : NodeId) (bytes : List ℕ) (new : NodeState) (done : Result (Step Taken) NodeRefused)
+    → Datagrams old u bytes done new
     → new.fixed ≡ old.fixed
 fixed_by_datagram old u bytes new (Ok step) gave =
     fixed_stays old (Datagram u bytes)
-    (record { reply = Arrived step.reply.link step.reply.items; effects = step.effects.list; answered = (handled format old u bytes).answered }) new gave
+    (record {
+      reply = Arrived step.reply.link step.reply.items;
+      effects = step.effects.list;
+      answered = (handled (format_of old.fixed) old u bytes).answered;
+    }) new gave
 fixed_by_datagram old u bytes new (Err calls.NotNeighbour) gave = fixed_stays old (Datagram u bytes) (replied (NotCalled calls.NotNeighbour)) new gave
 fixed_by_datagram old u bytes new (Err calls.Worn) gave = fixed_stays old (Datagram u bytes) (replied (NotCalled calls.Worn)) new gave
 fixed_by_datagram old u bytes new (Err calls.Memory) gave = ap (λ (n : NodeState). n.fixed) gave.1

@@ -3,14 +3,13 @@ use Rattle.std.proofs.Common.{◌≡◌, ℕ, ◌-◌, ◌≤◌, ◌∙◌, Lis
 use Rattle.std.specs.Prelude.{replicate}
 use Rattle.std.proofs.lemmas.List.{length-append, length-replicate}
 use Rattle.std.proofs.Math.Seq.{take-append_seam}
-use Rattle.sp_base.specs.declared.format.TheConstants.{FORMAT_1}
 use Rattle.sp_base.specs.declared.id.NodeId.{NodeId}
 use Rattle.sp_frame.specs.Frames.{frame_bytes, head_bytes, tagged_part}
-use Rattle.sp_frame.specs.Sections.{Contents, sections_bytes, sections_bytes_in}
+use Rattle.sp_frame.specs.Sections.{Contents, sections_bytes_in}
 use Rattle.sp_frame.specs.declared.head.Head.{Head}
 use Rattle.sp_hmac.specs.Hmac.{hmac}
 use Rattle.sp_link.specs.Sealing.{sealed}
-use Rattle.sp_node_format.specs.Format.{format}
+use Rattle.sp_node_format.specs.Format.{format_of}
 use Rattle.sp_rules.specs.Link.{Link, next_head}
 use Rattle.sp_rules.specs.Node.{NodeState, link_in}
 use Rattle.sp_rules.specs.Polls.{contents_to, frame_to}
@@ -21,13 +20,13 @@ signed_is body zeros long =
     let place : length (body ++ zeros) - 32 ≡ length body = omega (arith, length-append body zeros, long) in
     ap (λ (n : ℕ). take n (body ++ zeros)) place ∙ take-append_seam body zeros
 
-pub sealed_is : (key : List ℕ) (h : Head) (s : Contents) → h.format ≡ FORMAT_1
-    → sealed key (frame_bytes h s (replicate 32 0)) ≡ (head_bytes h ++ sections_bytes s) ++ hmac key (head_bytes h ++ sections_bytes s)
+pub sealed_is : (key : List ℕ) (h : Head) (s : Contents)
+    → sealed key (frame_bytes h s (replicate 32 0))
+    ≡ (head_bytes h ++ sections_bytes_in h.format s) ++ hmac key (head_bytes h ++ sections_bytes_in h.format s)
 unfolding frame_bytes
-sealed_is key h s first =
-    let body = head_bytes h ++ sections_bytes s in
-    ap (λ (format : ℕ). sealed key (head_bytes h ++ sections_bytes_in format s ++ replicate 32 0)) first
-    ∙ ap (λ (part : List ℕ). part ++ hmac key part) (signed_is body (replicate 32 0) (length-replicate {A = ℕ} 32 0))
+sealed_is key h s =
+    let body = head_bytes h ++ sections_bytes_in h.format s in
+    ap (λ (part : List ℕ). part ++ hmac key part) (signed_is body (replicate 32 0) (length-replicate {A = ℕ} 32 0))
 
 pub long_enough : (h : Head) (s : Contents) → 32 ≤ length (frame_bytes h s (replicate 32 0))
 unfolding frame_bytes
@@ -36,13 +35,13 @@ long_enough h s =
     omega (arith, zeros, length-append (head_bytes h ++ sections_bytes_in h.format s) (replicate {A = ℕ} 32 0))
 
 -- sealed by the link, it is the frame of the rules
-pub frame_is : (n : NodeState) (v : NodeId) (l : Link) (h : Head) (bytes : List ℕ) → l ≡ link_in n v → h ≡ next_head l n.fixed.topology.version FORMAT_1
-    → bytes ≡ sealed l.key (frame_bytes h (contents_to n.fixed n.parts v) (replicate 32 0)) → bytes ≡ frame_to format n v
+pub frame_is : (n : NodeState) (v : NodeId) (l : Link) (h : Head) (bytes : List ℕ) → l ≡ link_in n v
+    → h ≡ next_head l n.fixed.topology.version n.fixed.topology.format
+    → bytes ≡ sealed l.key (frame_bytes h (contents_to n.fixed n.parts v) (replicate 32 0)) → bytes ≡ frame_to (format_of n.fixed) n v
 frame_is n v l h bytes same head is =
     let c = contents_to n.fixed n.parts v in
-    let version = n.fixed.topology.version in
+    let t = n.fixed.topology in
     is
     ∙ ap (λ (hd : Head). sealed l.key (frame_bytes hd c (replicate 32 0))) head
-    ∙ sealed_is l.key (next_head l version FORMAT_1) c refl
-    ∙ ap (λ (k : Link). (head_bytes (next_head k version FORMAT_1) ++ sections_bytes c)
-    ++ hmac k.key (head_bytes (next_head k version FORMAT_1) ++ sections_bytes c)) same
+    ∙ sealed_is l.key (next_head l t.version t.format) c
+    ∙ ap (λ (k : Link). let part = head_bytes (next_head k t.version t.format) ++ sections_bytes_in t.format c in part ++ hmac k.key part) same

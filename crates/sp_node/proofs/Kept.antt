@@ -3,19 +3,19 @@ use Rattle.std.proofs.Common.{◌≡◌, ◌<◌, ◌≤◌, ◌+◌, ◌^◌, [
 use Rattle.std.specs.List.{All}
 use Rattle.sp_base.specs.declared.id.NodeId.{NodeId}
 use Rattle.sp_base.specs.declared.limits.TheConstants.{MAX_MESSAGES}
-use Rattle.sp_node_format.specs.Format.{format}
-use Rattle.sp_frame.specs.Ranges.{IsContents}
-use Rattle.sp_msg.specs.Bodies.{HasGoodFields}
+use Rattle.sp_node_format.specs.Format.{format_of}
+use Rattle.sp_frame.specs.Ranges.{IsContentsIn}
+use Rattle.sp_msg.specs.Bodies.{HasGoodFieldsIn}
 use Rattle.sp_msg.specs.declared.body.Ack.{Ack}
 use Rattle.sp_msg.specs.declared.body.Body.TheVariants as bodies
 use Rattle.sp_rules.specs.Link.{Link, new_link}
 use Rattle.sp_rules.specs.Node.{NodeState, is_link, link_in}
 use Rattle.sp_rules.specs.Polls.{contents_to}
 use Rattle.sp_rules.specs.Prio.{is_peer, no_peer, peer_in}
-use Rattle.sp_rules.specs.Rel.{due}
+use Rattle.sp_rules.specs.Ticks.{due_now}
 use Rattle.laws_node.proofs.Frames.{frames_fit}
 use Rattle.laws_node.proofs.Priority.{no_peer_holds}
-use Rattle.laws_node.proofs.Reliable.{due_fits}
+use Rattle.laws_node.proofs.Reliable.{due_now_fits}
 use Rattle.laws_node.proofs.Tables.{all_first, all_weaker}
 use Rattle.laws_node.specs.Nodes.{IsKept, LinkHolds}
 use Rattle.laws_node.specs.Sizes.{numbers_after}
@@ -24,25 +24,25 @@ use Rattle.sp_node_state.proofs.Sizes.{sizes}
 
 -- ---- a poll
 
-pub contents_kept : (n : NodeState) (v : NodeId) → IsKept format n → IsContents n.fixed.signature_len (contents_to n.fixed n.parts v)
-contents_kept n v kept = frames_fit format n v kept
+pub contents_kept : (n : NodeState) (v : NodeId) → IsKept (format_of n.fixed) n → IsContentsIn n.fixed.topology.format n.fixed.signature_len (contents_to n.fixed n.parts v)
+contents_kept n v kept = frames_fit (format_of n.fixed) n v kept
 
-pub number_low : (n : NodeState) (v : NodeId) → IsKept format n → (peer_in n.parts.prio v.0).number + MAX_MESSAGES ≤ 2 ^ 63
+pub number_low : (n : NodeState) (v : NodeId) → IsKept (format_of n.fixed) n → (peer_in n.parts.prio v.0).number + MAX_MESSAGES ≤ 2 ^ 63
 number_low n v kept =
     let most = numbers_after n.calls in
     let row = all_first (PrioPeerHolds (sizes n) most _) (is_peer v.0) no_peer n.parts.prio.peers kept.parts.prio.peers (no_peer_holds (sizes n) most _) in
     omega (arith, row.number, kept.calls)
 
-pub links_low : (n : NodeState) → IsKept format n → n.calls < 2 ^ 60 → All (λ (l : Link). l.sent < 2 ^ 60) n.links
+pub links_low : (n : NodeState) → IsKept (format_of n.fixed) n → n.calls < 2 ^ 60 → All (λ (l : Link). l.sent < 2 ^ 60) n.links
 links_low n kept left = all_weaker (LinkHolds n.calls) (λ (l : Link). l.sent < 2 ^ 60) n.links (λ l h. omega (arith, h.sent, left)) kept.links
 
-pub link_low : (n : NodeState) (v : NodeId) → IsKept format n → n.calls < 2 ^ 60 → (link_in n v).sent < 2 ^ 60
+pub link_low : (n : NodeState) (v : NodeId) → IsKept (format_of n.fixed) n → n.calls < 2 ^ 60 → (link_in n v).sent < 2 ^ 60
 link_low n v kept left = all_first (λ (l : Link). l.sent < 2 ^ 60) (is_link v) (new_link n.fixed.me v 0 []) n.links (links_low n kept left) (omega arith)
 
 -- ---- an acknowledgement
 
-pub due_fields : (n : NodeState) (ack : Ack) → IsKept format n → due n.parts.rel ≡ Some ack → HasGoodFields (bodies.Ack ack)
-due_fields n ack kept is = (due_fits (sizes n) n.signer.index n.parts.rel ack is kept.parts.rel).fields
+pub due_fields : (n : NodeState) (ack : Ack) → IsKept (format_of n.fixed) n → due_now n ≡ Some ack → HasGoodFieldsIn n.fixed.topology.format (bodies.Ack ack)
+due_fields n ack kept is = (due_now_fits (sizes n) n ack is kept.parts).fields
 
-pub due_mine : (n : NodeState) (ack : Ack) → IsKept format n → due n.parts.rel ≡ Some ack → ack.dst ≡ n.fixed.me
-due_mine n ack kept is = (due_fits (sizes n) n.signer.index n.parts.rel ack is kept.parts.rel).mine
+pub due_mine : (n : NodeState) (ack : Ack) → IsKept (format_of n.fixed) n → due_now n ≡ Some ack → ack.dst ≡ n.fixed.me
+due_mine n ack kept is = (due_now_fits (sizes n) n ack is kept.parts).mine

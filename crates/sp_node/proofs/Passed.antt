@@ -3,8 +3,8 @@ use Rattle.std.proofs.Common.{rules, ◌≡◌, ◌≤◌, ◌+◌, ◌==◌, �
 use Rattle.std.specs.Prelude.{option_map, unwrap_or}
 use Rattle.std.specs.Result.{result_err}
 use Rattle.sp_base.specs.declared.id.NodeId.{NodeId}
-use Rattle.sp_node_format.specs.Format.{format}
-use Rattle.sp_frame.specs.Frames.{head_of, opened}
+use Rattle.sp_node_format.specs.Format.{format_of}
+use Rattle.sp_frame.specs.Frames.{head_of, opened_in}
 use Rattle.sp_frame.specs.Sections.{Contents}
 use Rattle.sp_frame.specs.declared.refused.SectionRefused.{SectionRefused}
 use Rattle.sp_link.specs.Work.{tags_after}
@@ -32,74 +32,80 @@ none_refuses bytes frame false false false true e f g h is = absurd (cc)
 none_refuses bytes frame false false false false e f g h is = cc
 
 -- a datagram that is a frame is all of it
-pub opened_whole : (bytes frame : List ℕ) → opened bytes ≡ Ok frame → frame ≡ bytes
-opened_whole bytes frame is = search (rules, none_refuses)
+pub opened_whole : (format : ℕ) (bytes frame : List ℕ) → opened_in format bytes ≡ Ok frame → frame ≡ bytes
+opened_whole format bytes frame is = search (rules, none_refuses)
 
 -- ---- one that is no frame
 
-pub no_reply : (n : NodeState) (v : NodeId) (bytes : List ℕ) (refused : FrameRefused) (reply : LinkReply) → opened bytes ≡ Err refused
-    → Some reply ≡ no_frame (Err refused) → reply ≡ reply_at format n v bytes
+pub no_reply : (n : NodeState) (v : NodeId) (bytes : List ℕ) (refused : FrameRefused) (reply : LinkReply)
+    → opened_in n.fixed.topology.format bytes ≡ Err refused → Some reply ≡ no_frame (Err refused) → reply ≡ reply_at (format_of n.fixed) n v bytes
 no_reply n v bytes refused reply is says =
-    says_it refused reply says ∙ sym (ap (of_frame format n.fixed (link_in n v) bytes) is)
+    says_it refused reply says ∙ sym (ap (of_frame (format_of n.fixed) n.fixed (link_in n v) bytes) is)
   where
-    says_it : (refused : FrameRefused) (reply : LinkReply) → Some reply ≡ no_frame (Err refused) → reply ≡ of_frame format n.fixed (link_in n v) bytes (Err refused)
+    says_it : (refused : FrameRefused) (reply : LinkReply) → Some reply ≡ no_frame (Err refused)
+        → reply ≡ of_frame (format_of n.fixed) n.fixed (link_in n v) bytes (Err refused)
     says_it frames.TooLong reply e = cc
     says_it (frames.Short short) reply e = cc
     says_it frames.Magic reply e = cc
     says_it frames.Version reply e = cc
 
-pub same_link : (n : NodeState) (v : NodeId) (bytes : List ℕ) (refused : FrameRefused) → opened bytes ≡ Err refused → link_in n v ≡ link_after format n v bytes
-same_link n v bytes refused is = sym (ap (link_with format (link_in n v) bytes) is ∙ link_stays format (link_in n v) bytes refused)
+pub same_link : (n : NodeState) (v : NodeId) (bytes : List ℕ) (refused : FrameRefused) → opened_in n.fixed.topology.format bytes ≡ Err refused
+    → link_in n v ≡ link_after (format_of n.fixed) n v bytes
+same_link n v bytes refused is = sym (ap (link_with (format_of n.fixed) (link_in n v) bytes) is ∙ link_stays (format_of n.fixed) (link_in n v) bytes refused)
 
-none_of : (f : Fixed) (l : Link) (bytes : List ℕ) (refused : FrameRefused) (pieces : List Piece) → [] ≡ pieces_where (of_frame format f l bytes (Err refused)) pieces
+none_of : (f : Fixed) (l : Link) (bytes : List ℕ) (refused : FrameRefused) (pieces : List Piece)
+    → [] ≡ pieces_where (of_frame (format_of f) f l bytes (Err refused)) pieces
 none_of f l bytes frames.TooLong pieces = refl
 none_of f l bytes (frames.Short short) pieces = refl
 none_of f l bytes frames.Magic pieces = refl
 none_of f l bytes frames.Version pieces = refl
 
-pub no_pieces : (n : NodeState) (v : NodeId) (bytes : List ℕ) (refused : FrameRefused) (pieces : List Piece) → opened bytes ≡ Err refused
-    → [] ≡ pieces_where (reply_at format n v bytes) pieces
+pub no_pieces : (n : NodeState) (v : NodeId) (bytes : List ℕ) (refused : FrameRefused) (pieces : List Piece)
+    → opened_in n.fixed.topology.format bytes ≡ Err refused → [] ≡ pieces_where (reply_at (format_of n.fixed) n v bytes) pieces
 no_pieces n v bytes refused pieces is =
     none_of n.fixed (link_in n v) bytes refused pieces
-    ∙ ap (λ (r : LinkReply). pieces_where r pieces) (sym (ap (of_frame format n.fixed (link_in n v) bytes) is))
+    ∙ ap (λ (r : LinkReply). pieces_where r pieces) (sym (ap (of_frame (format_of n.fixed) n.fixed (link_in n v) bytes) is))
 
 -- ---- a frame
 
-pub reply_is : (n : NodeState) (v : NodeId) (bytes frame : List ℕ) → opened bytes ≡ Ok frame
-    → of_frame format n.fixed (link_in n v) bytes (Ok frame) ≡ reply_at format n v bytes
-reply_is n v bytes frame is = sym (ap (of_frame format n.fixed (link_in n v) bytes) is)
+pub reply_is : (n : NodeState) (v : NodeId) (bytes frame : List ℕ) → opened_in n.fixed.topology.format bytes ≡ Ok frame
+    → of_frame (format_of n.fixed) n.fixed (link_in n v) bytes (Ok frame) ≡ reply_at (format_of n.fixed) n v bytes
+reply_is n v bytes frame is = sym (ap (of_frame (format_of n.fixed) n.fixed (link_in n v) bytes) is)
 
-pub link_is : (n : NodeState) (v : NodeId) (bytes frame : List ℕ) → opened bytes ≡ Ok frame
-    → link_with format (link_in n v) bytes (Ok frame) ≡ link_after format n v bytes
-link_is n v bytes frame is = sym (ap (link_with format (link_in n v) bytes) is)
+pub link_is : (n : NodeState) (v : NodeId) (bytes frame : List ℕ) → opened_in n.fixed.topology.format bytes ≡ Ok frame
+    → link_with (format_of n.fixed) (link_in n v) bytes (Ok frame) ≡ link_after (format_of n.fixed) n v bytes
+link_is n v bytes frame is = sym (ap (link_with (format_of n.fixed) (link_in n v) bytes) is)
 
-pub passed_reply : (n : NodeState) (v : NodeId) (bytes frame : List ℕ) (f : Fixed) (l : Link) (answer : LinkAnswer) (reply : LinkReply) → opened bytes ≡ Ok frame → f ≡ n.fixed
-    → l ≡ link_in n v → answer ≡ link_says format l frame
-    → reply ≡ of_link answer (not_read f.topology.version (head_of frame).topology (sections_in format f frame)) → reply ≡ reply_at format n v bytes
+pub passed_reply : (n : NodeState) (v : NodeId) (bytes frame : List ℕ) (f : Fixed) (l : Link) (answer : LinkAnswer) (reply : LinkReply)
+    → opened_in n.fixed.topology.format bytes ≡ Ok frame → f ≡ n.fixed → l ≡ link_in n v → answer ≡ link_says (format_of n.fixed) l frame
+    → reply ≡ of_link answer (not_read f.topology.version (head_of frame).topology (sections_in (format_of f) f frame))
+    → reply ≡ reply_at (format_of n.fixed) n v bytes
 passed_reply n v bytes frame f l answer reply is fixed link says gives =
     gives
-    ∙ ap (λ (a : LinkAnswer). of_link a (not_read f.topology.version (head_of frame).topology (sections_in format f frame))) says
-    ∙ ap (λ (k : Link). of_frame format f k frame (Ok frame)) link
-    ∙ ap (λ (g : Fixed). of_frame format g (link_in n v) frame (Ok frame)) fixed
-    ∙ ap (λ (b : List ℕ). of_frame format n.fixed (link_in n v) b (Ok frame)) (opened_whole bytes frame is)
+    ∙ ap (λ (a : LinkAnswer). of_link a (not_read f.topology.version (head_of frame).topology (sections_in (format_of f) f frame))) says
+    ∙ ap (λ (k : Link). of_frame (format_of f) f k frame (Ok frame)) link
+    ∙ ap (λ (g : Fixed). of_frame (format_of g) g (link_in n v) frame (Ok frame)) fixed
+    ∙ ap (λ (b : List ℕ). of_frame (format_of n.fixed) n.fixed (link_in n v) b (Ok frame)) (opened_whole n.fixed.topology.format bytes frame is)
     ∙ reply_is n v bytes frame is
 
-pub passed_link : (n : NodeState) (v : NodeId) (bytes frame : List ℕ) (l left : Link) → opened bytes ≡ Ok frame → l ≡ link_in n v
-    → left ≡ link_with format l frame (Ok frame) → left ≡ link_after format n v bytes
+pub passed_link : (n : NodeState) (v : NodeId) (bytes frame : List ℕ) (l left : Link) → opened_in n.fixed.topology.format bytes ≡ Ok frame
+    → l ≡ link_in n v → left ≡ link_with (format_of n.fixed) l frame (Ok frame) → left ≡ link_after (format_of n.fixed) n v bytes
 passed_link n v bytes frame l left is link gives =
     gives
-    ∙ ap (λ (k : Link). link_with format k frame (Ok frame)) link
-    ∙ ap (λ (b : List ℕ). link_with format (link_in n v) b (Ok frame)) (opened_whole bytes frame is)
+    ∙ ap (λ (k : Link). link_with (format_of n.fixed) k frame (Ok frame)) link
+    ∙ ap (λ (b : List ℕ). link_with (format_of n.fixed) (link_in n v) b (Ok frame)) (opened_whole n.fixed.topology.format bytes frame is)
     ∙ link_is n v bytes frame is
 
-pub passed_pieces : (n : NodeState) (v : NodeId) (bytes frame : List ℕ) (f : Fixed) (reply : LinkReply) (pieces : List Piece) → opened bytes ≡ Ok frame → f ≡ n.fixed
-    → reply ≡ reply_at format n v bytes → pieces ≡ pieces_where reply (pieces_in (sections_in format f frame))
-    → pieces ≡ pieces_where (reply_at format n v bytes) (pieces_in (sections_in format n.fixed bytes))
+pub passed_pieces : (n : NodeState) (v : NodeId) (bytes frame : List ℕ) (f : Fixed) (reply : LinkReply) (pieces : List Piece)
+    → opened_in n.fixed.topology.format bytes ≡ Ok frame → f ≡ n.fixed → reply ≡ reply_at (format_of n.fixed) n v bytes
+    → pieces ≡ pieces_where reply (pieces_in (sections_in (format_of f) f frame))
+    → pieces ≡ pieces_where (reply_at (format_of n.fixed) n v bytes) (pieces_in (sections_in (format_of n.fixed) n.fixed bytes))
 passed_pieces n v bytes frame f reply pieces is fixed replied gives =
     gives
-    ∙ ap (λ (r : LinkReply). pieces_where r (pieces_in (sections_in format f frame))) replied
-    ∙ ap (λ (g : Fixed). pieces_where (reply_at format n v bytes) (pieces_in (sections_in format g frame))) fixed
-    ∙ ap (λ (b : List ℕ). pieces_where (reply_at format n v bytes) (pieces_in (sections_in format n.fixed b))) (opened_whole bytes frame is)
+    ∙ ap (λ (r : LinkReply). pieces_where r (pieces_in (sections_in (format_of f) f frame))) replied
+    ∙ ap (λ (g : Fixed). pieces_where (reply_at (format_of n.fixed) n v bytes) (pieces_in (sections_in (format_of g) g frame))) fixed
+    ∙ ap (λ (b : List ℕ). pieces_where (reply_at (format_of n.fixed) n v bytes) (pieces_in (sections_in (format_of n.fixed) n.fixed b)))
+    (opened_whole n.fixed.topology.format bytes frame is)
 
 -- ---- the tag of a frame
 

@@ -1,10 +1,9 @@
 -- A node that starts keeps what every step keeps.
 use Rattle.std.proofs.Common.{◌≡◌, ◌<◌, ◌^◌, ℕ, ◌==◌, Bool, true, false, List, [], ◌∷◌, map, Some, refl, arith, cond}
 use Rattle.std.proofs.lemmas.Bool.Decides.{nat_tests}
-use Rattle.sp_base.specs.declared.format.TheConstants.{FORMAT_1}
 use Rattle.sp_base.specs.declared.id.EdgeId.{EdgeId}
 use Rattle.sp_base.specs.declared.id.NodeId.{NodeId}
-use Rattle.sp_node_format.specs.Format.{format}
+use Rattle.sp_node_format.specs.Format.{format_of}
 use Rattle.sp_hss.specs.KeyTree.{signature_len}
 use Rattle.sp_sign.specs.Heights.{param_of}
 use Rattle.sp_sign.specs.NodeSigner.{NodeSigner}
@@ -20,13 +19,13 @@ use Rattle.sp_node_state.specs.Boots.{IsBootable, booted_of, fixed_of}
 use Rattle.sp_node_state.specs.States.{signer_in}
 use Rattle.sp_node_state.specs.declared.boot.NodeConfig.{NodeConfig}
 
-found_in : (height : LmsHeight) (before : ℕ) (nodes : List NodeKey) (me : NodeId) (key : List ℕ) → AreNodes FORMAT_1 height before nodes
+found_in : (format : ℕ) (height : LmsHeight) (before : ℕ) (nodes : List NodeKey) (me : NodeId) (key : List ℕ) → AreNodes format height before nodes
     → key_of me.0 nodes ≡ Some key
-    → IsNode me
-found_in height before [] me key are found = absurd (cc)
-found_in height before (n ∷ nodes) me key are found = go (n.id.0 == me.0) refl found (λ e. found_in height n.id.0 nodes me key are.2 e)
+    → IsNode format me
+found_in format height before [] me key are found = absurd (cc)
+found_in format height before (n ∷ nodes) me key are found = go (n.id.0 == me.0) refl found (λ e. found_in format height n.id.0 nodes me key are.2 e)
   where
-    go : (t : Bool) → (n.id.0 == me.0) ≡ t → cond t (Some n.key) (key_of me.0 nodes) ≡ Some key → (key_of me.0 nodes ≡ Some key → IsNode me) → IsNode me
+    go : (t : Bool) → (n.id.0 == me.0) ≡ t → cond t (Some n.key) (key_of me.0 nodes) ≡ Some key → (key_of me.0 nodes ≡ Some key → IsNode format me) → IsNode format me
     go true is e later = let same : n.id.0 ≡ me.0 = grind (arith, nat_tests, is) in (omega (arith, same, are.0.0), omega (arith, same, are.0.1))
     go false is e later = later e
 
@@ -34,10 +33,10 @@ short : (h : LmsHeight) → signature_len (param_of h) < 65536
 short Five = omega arith
 short Ten = omega arith
 
-pub kept_at_start : (c : NodeConfig) (own : NodeSigner) (boot : ℕ) → boot < 2 ^ 64 → IsBootable c own boot → SignerHolds (signer_in own) → IsKept format (booted_of c own boot)
+pub kept_at_start : (c : NodeConfig) (own : NodeSigner) (boot : ℕ) → boot < 2 ^ 64 → IsBootable c own boot → SignerHolds (signer_in own) → IsKept (format_of (fixed_of c boot)) (booted_of c own boot)
 kept_at_start c own boot small is holds =
-    boot_keeps format (fixed_of c boot) (signer_in own) (map (λ (k : EdgeId × List ℕ). k.1) c.keys) c.limits.buffer c.limits.store (record {
-      me = found_in c.topology.height 0 c.topology.nodes c.me _ is.topology.nodes is.is_mine;
+    boot_keeps (format_of (fixed_of c boot)) (fixed_of c boot) (signer_in own) (map (λ (k : EdgeId × List ℕ). k.1) c.keys) c.limits.buffer c.limits.store (record {
+      me = found_in c.topology.format c.topology.height 0 c.topology.nodes c.me _ is.topology.ranges.nodes is.is_mine;
       boot = small;
       topology = is.topology;
       short = short c.topology.height;

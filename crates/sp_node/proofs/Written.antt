@@ -3,7 +3,6 @@ use Rattle.std.proofs.Common.{◌≡◌, ℕ, List, [], ◌∷◌, map, Option, 
 use Rattle.std.specs.Prelude.{IfSome, option_copied, option_map}
 use Rattle.std.specs.List.{All}
 use Rattle.std.proofs.lemmas.List.Elements.{All-cons, All-head, All-nil, All-tail}
-use Rattle.sp_base.specs.declared.format.TheConstants.{FORMAT_1}
 use Rattle.sp_frame.specs.Objects.{IsObject}
 use Rattle.sp_frame.specs.Ranges.{IsNumbered, IsReport}
 use Rattle.sp_frame.specs.Reliable.{Report}
@@ -14,55 +13,56 @@ use Rattle.sp_frame.specs.declared.kind.Kind.TheVariants as kinds
 use Rattle.sp_frame.specs.declared.writing.OutSlot.{OutSlot}
 use Rattle.sp_msg.specs.declared.kept.Kept.{Kept}
 
-writable : (kind : Kind) (len : ℕ) (o : Kept) → IsObject FORMAT_1 kind len o → IsWritable FORMAT_1 o
-writable kind len o is = record { fields = is.fields; short = omega (arith, is.long, is.fits) }
+writable : (format : ℕ) (kind : Kind) (len : ℕ) (o : Kept) → IsObject format kind len o → IsWritable format o
+writable format kind len o is = record { fields = is.fields; short = omega (arith, is.long, is.fits) }
 
-pub writable_one : (r : Option (Bor Kept)) (x : Option Kept) (kind : Kind) (len : ℕ) → option_copied r ≡ x → All (IsObject FORMAT_1 kind len) (as_list x)
-    → IfSome r (λ o. IsWritable FORMAT_1 o.now)
-writable_one None x kind len e all = tt
-writable_one (Some b) None kind len e all = absurd (cc)
-writable_one (Some b) (Some o) kind len e all =
+pub writable_one : (format : ℕ) (r : Option (Bor Kept)) (x : Option Kept) (kind : Kind) (len : ℕ) → option_copied r ≡ x
+    → All (IsObject format kind len) (as_list x)
+    → IfSome r (λ o. IsWritable format o.now)
+writable_one format None x kind len e all = tt
+writable_one format (Some b) None kind len e all = absurd (cc)
+writable_one format (Some b) (Some o) kind len e all =
     let same : b.now ≡ o = cc in
-    subst (IsWritable FORMAT_1) (sym same) (writable kind len o (All-head (IsObject FORMAT_1 kind len) o [] all))
+    subst (IsWritable format) (sym same) (writable format kind len o (All-head (IsObject format kind len) o [] all))
 
 -- each message of a list with link numbers
-pub writable_all : (rs : List (ℕ × Bor Kept)) (ms : List (ℕ × Kept)) (len : ℕ) → map (λ (p : ℕ × Bor Kept). (p.0, p.1.now)) rs ≡ ms
-    → All (IsNumbered FORMAT_1 len) ms
-    → All (λ p. IsWritable FORMAT_1 p.1.now) rs
-writable_all rs ms len e all =
-    let lent : All (IsNumbered FORMAT_1 len) (map (λ (p : ℕ × Bor Kept). (p.0, p.1.now)) rs) = subst (All (IsNumbered FORMAT_1 len)) (sym e) all in
+pub writable_all : (format : ℕ) (rs : List (ℕ × Bor Kept)) (ms : List (ℕ × Kept)) (len : ℕ) → map (λ (p : ℕ × Bor Kept). (p.0, p.1.now)) rs ≡ ms
+    → All (IsNumbered format len) ms
+    → All (λ p. IsWritable format p.1.now) rs
+writable_all format rs ms len e all =
+    let lent : All (IsNumbered format len) (map (λ (p : ℕ × Bor Kept). (p.0, p.1.now)) rs) = subst (All (IsNumbered format len)) (sym e) all in
     each rs lent
   where
-    each : (rs : List (ℕ × Bor Kept)) → All (IsNumbered FORMAT_1 len) (map (λ (p : ℕ × Bor Kept). (p.0, p.1.now)) rs)
-        → All (λ p. IsWritable FORMAT_1 p.1.now) rs
-    each [] all = All-nil (λ p. IsWritable FORMAT_1 p.1.now)
+    each : (rs : List (ℕ × Bor Kept)) → All (IsNumbered format len) (map (λ (p : ℕ × Bor Kept). (p.0, p.1.now)) rs)
+        → All (λ p. IsWritable format p.1.now) rs
+    each [] all = All-nil (λ p. IsWritable format p.1.now)
     each (r ∷ rs) all =
         let rest = map (λ (p : ℕ × Bor Kept). (p.0, p.1.now)) rs in
-        All-cons (λ p. IsWritable FORMAT_1 p.1.now) r rs (writable kinds.Prio len r.1.now (All-head (IsNumbered FORMAT_1 len) (r.0, r.1.now) rest all).object)
-        (each rs (All-tail (IsNumbered FORMAT_1 len) (r.0, r.1.now) rest all))
+        All-cons (λ p. IsWritable format p.1.now) r rs (writable format kinds.Prio len r.1.now (All-head (IsNumbered format len) (r.0, r.1.now) rest all).object)
+        (each rs (All-tail (IsNumbered format len) (r.0, r.1.now) rest all))
 
 -- ---- a slot
 
-writable_ack : (ack : Option (Bor Kept)) (len : ℕ) → IfSome (option_map (λ (o : Bor Kept). o.now) ack) (IsObject FORMAT_1 kinds.Ack len)
-    → IfSome ack (λ o. IsWritable FORMAT_1 o.now)
-writable_ack None len good = tt
-writable_ack (Some o) len good = writable kinds.Ack len o.now good
+writable_ack : (format : ℕ) (ack : Option (Bor Kept)) (len : ℕ) → IfSome (option_map (λ (o : Bor Kept). o.now) ack) (IsObject format kinds.Ack len)
+    → IfSome ack (λ o. IsWritable format o.now)
+writable_ack format None len good = tt
+writable_ack format (Some o) len good = writable format kinds.Ack len o.now good
 
-writable_rels : (rels : List (Bor Kept)) (len : ℕ) → All (IsObject FORMAT_1 kinds.Rel len) (map (λ (o : Bor Kept). o.now) rels)
-    → All (λ o. IsWritable FORMAT_1 o.now) rels
-writable_rels [] len all = All-nil (λ o. IsWritable FORMAT_1 o.now)
-writable_rels (o ∷ rels) len all =
+writable_rels : (format : ℕ) (rels : List (Bor Kept)) (len : ℕ) → All (IsObject format kinds.Rel len) (map (λ (o : Bor Kept). o.now) rels)
+    → All (λ o. IsWritable format o.now) rels
+writable_rels format [] len all = All-nil (λ o. IsWritable format o.now)
+writable_rels format (o ∷ rels) len all =
     let rest = map (λ (o : Bor Kept). o.now) rels in
-    All-cons (λ o. IsWritable FORMAT_1 o.now) o rels (writable kinds.Rel len o.now (All-head (IsObject FORMAT_1 kinds.Rel len) o.now rest all))
-    (writable_rels rels len (All-tail (IsObject FORMAT_1 kinds.Rel len) o.now rest all))
+    All-cons (λ o. IsWritable format o.now) o rels (writable format kinds.Rel len o.now (All-head (IsObject format kinds.Rel len) o.now rest all))
+    (writable_rels format rels len (All-tail (IsObject format kinds.Rel len) o.now rest all))
 
 -- its acknowledgement and its messages
-pub writable_slot : (lent : Option (Bor OutSlot)) (slot : Option OutSlot) (report : Option Report) (len : ℕ) → option_copied lent ≡ slot
-    → option_map out_report slot ≡ report → IfSome report (IsReport FORMAT_1 kinds.Ack kinds.Rel len) → IfSome lent (λ s. IsWritableSlot FORMAT_1 s.now)
-writable_slot None slot report len is said good = tt
-writable_slot (Some b) None report len is said good = absurd (cc)
-writable_slot (Some b) (Some s) None len is said good = absurd (cc)
-writable_slot (Some b) (Some s) (Some r) len is said good =
+pub writable_slot : (format : ℕ) (lent : Option (Bor OutSlot)) (slot : Option OutSlot) (report : Option Report) (len : ℕ) → option_copied lent ≡ slot
+    → option_map out_report slot ≡ report → IfSome report (IsReport format kinds.Ack kinds.Rel len) → IfSome lent (λ s. IsWritableSlot format s.now)
+writable_slot format None slot report len is said good = tt
+writable_slot format (Some b) None report len is said good = absurd (cc)
+writable_slot format (Some b) (Some s) None len is said good = absurd (cc)
+writable_slot format (Some b) (Some s) (Some r) len is said good =
     let same : out_report b.now ≡ r = cc in
-    let whole : IsReport FORMAT_1 kinds.Ack kinds.Rel len (out_report b.now) = subst (IsReport FORMAT_1 kinds.Ack kinds.Rel len) (sym same) good in
-    record { ack = writable_ack b.now.ack len whole.ack; rels = writable_rels b.now.rels len whole.rels }
+    let whole : IsReport format kinds.Ack kinds.Rel len (out_report b.now) = subst (IsReport format kinds.Ack kinds.Rel len) (sym same) good in
+    record { ack = writable_ack format b.now.ack len whole.ack; rels = writable_rels format b.now.rels len whole.rels }

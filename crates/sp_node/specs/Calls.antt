@@ -1,8 +1,8 @@
--- What each call of a node does: one step of the rules of this format. Where no memory was left, nothing happened; that is told only where
+-- What each call of a node does: one step of the rules of the node's format. Where no memory was left, nothing happened; that is told only where
 -- the rules refuse the call for no other cause.
 use Rattle.std.specs.Prelude.{ℕ, ◌≡◌, List, [], Option, None, Result, Ok, Err}
 use Rattle.sp_base.specs.declared.id.NodeId.{NodeId}
-use Rattle.sp_node_format.specs.Format.{format}
+use Rattle.sp_node_format.specs.Format.{format_of}
 use Rattle.sp_msg.specs.declared.effect.Why.TheVariants.{Taken as TakenAway}
 use Rattle.sp_rules.specs.Arrivals.{handled}
 use Rattle.sp_rules.specs.Node.{NodeState, call_refusal}
@@ -17,29 +17,29 @@ use Rattle.sp_rules.specs.declared.store.Entry.{Entry}
 
 -- a poll: the frame, or why there is none
 abbrev pub Polls : NodeState → NodeId → Result (List ℕ) NodeRefused → NodeState → Type 0
-Polls old v (Ok bytes) new = NodeStep format old (Poll v) (replied (Frame bytes)) new
-Polls old v (Err calls.NotNeighbour) new = NodeStep format old (Poll v) (replied (NotCalled calls.NotNeighbour)) new
-Polls old v (Err calls.Worn) new = NodeStep format old (Poll v) (replied (NotCalled calls.Worn)) new
+Polls old v (Ok bytes) new = NodeStep (format_of old.fixed) old (Poll v) (replied (Frame bytes)) new
+Polls old v (Err calls.NotNeighbour) new = NodeStep (format_of old.fixed) old (Poll v) (replied (NotCalled calls.NotNeighbour)) new
+Polls old v (Err calls.Worn) new = NodeStep (format_of old.fixed) old (Poll v) (replied (NotCalled calls.Worn)) new
 Polls old v (Err calls.Memory) new = (call_refusal old v ≡ None) × (new ≡ old)
 
 -- a tick: what it did of the acknowledgement that was due, and what it caused
 abbrev pub Ticks : NodeState → ℕ → Result (Step TickReply) NodeRefused → NodeState → Type 0
-Ticks old now (Ok step) new = NodeStep format old (Tick now) (record { reply = Ticked step.reply; effects = step.effects.list; answered = [] }) new
+Ticks old now (Ok step) new = NodeStep (format_of old.fixed) old (Tick now) (record { reply = Ticked step.reply; effects = step.effects.list; answered = [] }) new
 Ticks old now (Err refused) new = (refused ≡ calls.Memory) × (new ≡ old)
 
 -- a datagram: what became of it at its link, the answers to its objects, and what they caused, or why it isn't answered
 abbrev pub Datagrams : NodeState → NodeId → List ℕ → Result (Step Taken) NodeRefused → NodeState → Type 0
 Datagrams old from bytes (Ok step) new =
-    NodeStep format old (Datagram from bytes)
-    (record { reply = Arrived step.reply.link step.reply.items; effects = step.effects.list; answered = (handled format old from bytes).answered }) new
-Datagrams old from bytes (Err calls.NotNeighbour) new = NodeStep format old (Datagram from bytes) (replied (NotCalled calls.NotNeighbour)) new
-Datagrams old from bytes (Err calls.Worn) new = NodeStep format old (Datagram from bytes) (replied (NotCalled calls.Worn)) new
+    NodeStep (format_of old.fixed) old (Datagram from bytes)
+    (record { reply = Arrived step.reply.link step.reply.items; effects = step.effects.list; answered = (handled (format_of old.fixed) old from bytes).answered }) new
+Datagrams old from bytes (Err calls.NotNeighbour) new = NodeStep (format_of old.fixed) old (Datagram from bytes) (replied (NotCalled calls.NotNeighbour)) new
+Datagrams old from bytes (Err calls.Worn) new = NodeStep (format_of old.fixed) old (Datagram from bytes) (replied (NotCalled calls.Worn)) new
 Datagrams old from bytes (Err calls.Memory) new = (call_refusal old from ≡ None) × (new ≡ old)
 
 -- a client takes the oldest message of the flow from a node
 abbrev pub TakesRel : NodeState → NodeId → Option (List ℕ) → NodeState → Type 0
-TakesRel old src payload new = NodeStep format old (TakeRel src) (replied (Payload payload)) new
+TakesRel old src payload new = NodeStep (format_of old.fixed) old (TakeRel src) (replied (Payload payload)) new
 
 -- a client takes the oldest priority message, which leaves the inbox, place 0
 abbrev pub TakesPrio : NodeState → Option Entry → NodeState → Type 0
-TakesPrio old entry new = NodeStep format old TakePrio (record { reply = Message entry; effects = gone 0 TakenAway entry; answered = [] }) new
+TakesPrio old entry new = NodeStep (format_of old.fixed) old TakePrio (record { reply = Message entry; effects = gone 0 TakenAway entry; answered = [] }) new

@@ -3,7 +3,7 @@ use Rattle.std.specs.Prelude.{ℕ, ◌≡◌, List}
 use Rattle.laws_node.specs.Nodes.{IsKept}
 use Rattle.sp_base.specs.declared.id.NodeId.{NodeId}
 use Rattle.sp_node_arrivals.specs.Work.{frame_checks}
-use Rattle.sp_node_format.specs.Format.{format}
+use Rattle.sp_node_format.specs.Format.{format_of}
 use Rattle.sp_rules.specs.Arrivals.{arrival_at, pieces_in, pieces_where, reply_at, sections_in}
 use Rattle.sp_rules.specs.Node.{NodeState}
 use Rattle.sp_rules.specs.declared.node.LinkReply.{LinkReply}
@@ -23,13 +23,13 @@ pub record IsIdle (old new : Life) : Type 0 where
 
 -- what always holds: the bounds, ranges and signatures of what is kept, and that signatures are checked under the keys of the topology
 pub record IsLife (n : NodeState) (keys : List NodeKey) : Type 0 where
-  pub kept : IsKept format n
+  pub kept : IsKept (format_of n.fixed) n
   pub known : keys ≡ n.fixed.topology.nodes
 
 -- how many signatures may be checked for a datagram: none where it isn't fresh and whole; else one for each object that may be new
 abbrev pub datagram_checks : NodeState → NodeId → List ℕ → ℕ
 datagram_checks n v bytes =
-    frame_checks (arrival_at n v) n.parts (pieces_where (reply_at format n v bytes) (pieces_in (sections_in format n.fixed bytes)))
+    frame_checks (arrival_at n v) n.parts (pieces_where (reply_at (format_of n.fixed) n v bytes) (pieces_in (sections_in (format_of n.fixed) n.fixed bytes)))
 
 -- how many tags are checked for a datagram, by what became of it at its link: one of a frame that names the link's ends, and none of any other
 abbrev pub reply_tags : LinkReply → ℕ
@@ -41,4 +41,4 @@ reply_tags replies.NotForMe = 0
 reply_tags _ = 1
 
 abbrev pub datagram_tags : NodeState → NodeId → List ℕ → ℕ
-datagram_tags n v bytes = reply_tags (reply_at format n v bytes)
+datagram_tags n v bytes = reply_tags (reply_at (format_of n.fixed) n v bytes)

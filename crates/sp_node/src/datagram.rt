@@ -1,14 +1,14 @@
 // A datagram arrives from a neighbour.
 ghost use Rattle.std.specs.Prelude.{◌≡◌, ◌≤◌, ◌<◌, ◌+◌, [], IfOk, IfSome, OnErr, Some as There, length, position, slice_index};
-ghost use Rattle.sp_base.specs.declared.format.TheConstants.{FORMAT_1};
 ghost use Rattle.sp_base.specs.Cursor.{or_else};
+ghost use Rattle.sp_base.specs.Refusals.{Gives};
 ghost use Rattle.sp_base.specs.Rows.{replace_where};
 ghost use Rattle.sp_rules.specs.Node.{called, is_link, with_link};
 ghost use Rattle.sp_rules.specs.declared.node.TheConstants.{MAX_CALLS};
 ghost use Rattle.laws_node.specs.Nodes.{IsKept};
 ghost use Rattle.sp_node_arrivals.specs.Admitted.{IsAdmitted};
-ghost use Rattle.sp_node_format.specs.Format.{format};
-ghost use Rattle.sp_frame.specs.Frames.{head_of, opened};
+ghost use Rattle.sp_node_format.specs.Format.{format_of};
+ghost use Rattle.sp_frame.specs.Frames.{head_of, opened_in};
 ghost use Rattle.sp_frame.specs.OfFormat.{AreOf};
 ghost use Rattle.sp_node.specs.Arrived.{pieces_with};
 ghost use Rattle.sp_node.specs.Calls.{Datagrams};
@@ -47,7 +47,7 @@ pub fn datagram(
     from: NodeId,
     bytes: &[u8],
 ) -> Result<Step<Taken>, NodeRefused>
-    requires kept { IsKept format state.old }
+    requires kept { IsKept (format_of state.old.fixed) state.old }
     requires keys { checker.old.nodes ≡ state.old.fixed.topology.nodes }
     ensures step { Datagrams state.old from bytes.now result state.new }
     ensures keys { checker.new.nodes ≡ checker.old.nodes }
@@ -77,15 +77,15 @@ fn passed<'a>(
     tags: &mut u64,
 ) -> Passage<'a>
     requires { IsAnswered state.now from place }
-    ensures reply { result.reply ≡ reply_at format state.entry.now from bytes.now }
-    ensures link { result.link ≡ link_after format state.entry.now from bytes.now }
-    ensures pieces { pieces_with result.sections
-        ≡ pieces_where (reply_at format state.entry.now from bytes.now) (pieces_in (sections_in format state.entry.now.fixed bytes.now)) }
-    ensures formats { IfSome result.sections (AreOf FORMAT_1) }
+    ensures reply { result.reply ≡ reply_at (format_of state.entry.now.fixed) state.entry.now from bytes.now }
+    ensures link { result.link ≡ link_after (format_of state.entry.now.fixed) state.entry.now from bytes.now }
+    ensures pieces { pieces_with result.sections ≡ pieces_where (reply_at (format_of state.entry.now.fixed) state.entry.now from bytes.now)
+        (pieces_in (sections_in (format_of state.entry.now.fixed) state.entry.now.fixed bytes.now)) }
+    ensures formats { IfSome result.sections (AreOf state.entry.now.fixed.topology.format) }
     ensures work { tags.new ≤ tags.old + datagram_tags state.entry.now from bytes.now }
 {
     let mut link = state.link_at(place, from);
-    let frame = match Frame::open(bytes) {
+    let frame = match opened(&state.fixed, bytes) {
         Ok(frame) => frame,
         Err(refused) => {
             return Passage {
@@ -102,6 +102,14 @@ fn passed<'a>(
         link,
         sections,
     }
+}
+
+/// The datagram as a frame of the node's format, or the first test of its bytes that fails.
+fn opened<'a>(fixed: &Fixed, bytes: &'a [u8]) -> Result<Frame<'a>, FrameRefused>
+    ensures opened { Gives (λ frame. frame) result (opened_in fixed.now.topology.format bytes.now) }
+    ensures of_format { IfOk result (λ frame. slice_index frame 2 ≡ fixed.now.topology.format) }
+{
+    Frame::open_in(bytes, fixed.topology.format)
 }
 
 /// A datagram of a neighbour was answered, and left its link, which stands in this place, like this.
@@ -123,10 +131,11 @@ fn admit_sections(
     from: NodeId,
     sections: &Option<Sections<'_>>,
 ) -> Result<Arrived, Memory>
-    requires kept { IsKept format state.old }
+    requires kept { IsKept (format_of state.old.fixed) state.old }
     requires keys { checker.old.nodes ≡ state.old.fixed.topology.nodes }
-    requires formats { IfSome sections.now (AreOf FORMAT_1) }
-    ensures taken { IfOk result (λ a. IsAdmitted (handle_all format (arrival_at state.old from) state.old.parts (pieces_with sections.now))
+    requires formats { IfSome sections.now (AreOf state.old.fixed.topology.format) }
+    ensures taken { IfOk result (λ a. IsAdmitted
+        (handle_all (format_of state.old.fixed) (arrival_at state.old from) state.old.parts (pieces_with sections.now))
         state.new.parts a.items a.effects.list) }
     ensures others { IfOk result (λ _. state.new ≡ record state.old { parts = state.new.parts }) }
     ensures as_before { OnErr result (state.new ≡ state.old) }
@@ -190,11 +199,11 @@ fn after_link<'a>(
     answer: LinkAnswer,
     frame: &Frame<'a>,
 ) -> (LinkReply, Option<Sections<'a>>)
-    requires { slice_index frame.now 2 ≡ FORMAT_1 }
+    requires { slice_index frame.now 2 ≡ fixed.now.topology.format }
     ensures reply { result.0 ≡ or_fresh (or_else (not_fresh answer)
-        (not_read fixed.now.topology.version (head_of frame.now).topology (sections_in format fixed.now frame.now))) }
-    ensures pieces { pieces_with result.1 ≡ pieces_where result.0 (pieces_in (sections_in format fixed.now frame.now)) }
-    ensures formats { IfSome result.1 (AreOf FORMAT_1) }
+        (not_read fixed.now.topology.version (head_of frame.now).topology (sections_in (format_of fixed.now) fixed.now frame.now))) }
+    ensures pieces { pieces_with result.1 ≡ pieces_where result.0 (pieces_in (sections_in (format_of fixed.now) fixed.now frame.now)) }
+    ensures formats { IfSome result.1 (AreOf fixed.now.topology.format) }
 {
     match answer {
         LinkAnswer::NotForMe => (LinkReply::NotForMe, None),
@@ -207,10 +216,11 @@ fn after_link<'a>(
 
 /// What becomes of a fresh frame.
 fn of_fresh<'a>(fixed: &Fixed, frame: &Frame<'a>) -> (LinkReply, Option<Sections<'a>>)
-    requires { slice_index frame.now 2 ≡ FORMAT_1 }
-    ensures reply { result.0 ≡ or_fresh (not_read fixed.now.topology.version (head_of frame.now).topology (sections_in format fixed.now frame.now)) }
-    ensures pieces { pieces_with result.1 ≡ pieces_where result.0 (pieces_in (sections_in format fixed.now frame.now)) }
-    ensures formats { IfSome result.1 (AreOf FORMAT_1) }
+    requires { slice_index frame.now 2 ≡ fixed.now.topology.format }
+    ensures reply { result.0
+        ≡ or_fresh (not_read fixed.now.topology.version (head_of frame.now).topology (sections_in (format_of fixed.now) fixed.now frame.now)) }
+    ensures pieces { pieces_with result.1 ≡ pieces_where result.0 (pieces_in (sections_in (format_of fixed.now) fixed.now frame.now)) }
+    ensures formats { IfSome result.1 (AreOf fixed.now.topology.format) }
 {
     let theirs = frame.head().topology;
     if theirs != fixed.topology.version {

@@ -2,15 +2,15 @@
 ghost use Rattle.std.specs.Prelude.{◌≡◌, ◌≤◌, ◌<◌, ◌+◌, ◌^◌, IfErr, IfOk, IsOk, None as Nothing, length};
 ghost use Rattle.laws_node.specs.Nodes.{IsKept};
 ghost use Rattle.sp_base.specs.declared.limits.TheConstants.{MAX_PAYLOAD_BYTES, MAX_PRIORITY, MAX_WEIGHT};
-ghost use Rattle.sp_node_format.specs.Format.{format};
+ghost use Rattle.sp_node_format.specs.Format.{format_of};
 ghost use Rattle.sp_paths.specs.declared.limits.TheConstants.{MAX_PATHS};
 ghost use Rattle.sp_rules.specs.Node.{extended, link_in};
 ghost use Rattle.sp_rules.specs.Prio.{expiring};
-ghost use Rattle.sp_rules.specs.Rel.{due, position_in};
+ghost use Rattle.sp_rules.specs.Rel.{position_in};
 ghost use Rattle.sp_rules.specs.Messages.{as_send};
 ghost use Rattle.sp_rules.specs.Sends.{prio_refusal, rel_refusal, weight_refusal};
 ghost use Rattle.sp_rules.specs.Steps.{SendPrio, SendRel, SetWeight};
-ghost use Rattle.sp_rules.specs.Ticks.{time_after};
+ghost use Rattle.sp_rules.specs.Ticks.{due_now, time_after};
 ghost use Rattle.sp_node_state.specs.Boots.{IsBootable, booted_of};
 ghost use Rattle.sp_frame.specs.declared.sections.TheConstants.{MOST_OBJECTS};
 ghost use Rattle.sp_node.specs.Calls.{Datagrams, Polls, TakesPrio, TakesRel, Ticks};
@@ -56,7 +56,7 @@ impl Model for Node {
 }
 
 impl Node {
-    /// A node at the start of a life with this boot number, under a topology of format 1. Only want of memory refuses.
+    /// A node at the start of a life with this boot number, under a topology of either format. Only want of memory refuses.
     ///
     /// A boot number never comes again, and is above that of every life before: neighbours take frames of lower ones for stale.
     pub fn boot(
@@ -104,8 +104,8 @@ impl Node {
     /// datagrams. All memory is taken before anything changes.
     ///
     /// Its signatures are checked once for each object that may be new when its turn comes, and for no other: so none of a datagram that isn't
-    /// fresh, nor of an object that is old, seen, expired or of a bad end, and ten at most. One tag is checked where the datagram is a frame that
-    /// names the ends of its link, and none else.
+    /// fresh, nor of an object that is old, seen, expired, of a bad end or of another boot than the one that is held, and ten at most. One tag is
+    /// checked where the datagram is a frame that names the ends of its link, and none else.
     #[tactic(auto, using(crate::proofs::Steps::life_by_datagram))]
     pub fn datagram(
         &mut self,
@@ -135,7 +135,7 @@ impl Node {
     #[tactic(auto, using(crate::proofs::Steps::life_by_tick))]
     pub fn tick(&mut self, alloc: Global, now: u64) -> Result<Step<TickReply>, NodeRefused>
         ensures step { Ticks self.old.state now result self.new.state }
-        ensures quiet { due self.old.state.parts.rel ≡ Nothing → expiring self.old.state.parts.prio (time_after self.old.state now) ≡ 0 → IsOk result }
+        ensures quiet { due_now self.old.state ≡ Nothing → expiring self.old.state.parts.prio (time_after self.old.state now) ≡ 0 → IsOk result }
         ensures work { IsIdle self.old self.new }
     {
         self.state.recall();
@@ -230,7 +230,7 @@ impl Node {
 
     /// What always holds of a node: what it keeps is within its bounds, in its ranges and signed.
     pub fn is_kept(&self)
-        ensures { IsKept format self.entry.now.state }
+        ensures { IsKept (format_of self.entry.now.state.fixed) self.entry.now.state }
     {
         let _state = &self.state;
     }

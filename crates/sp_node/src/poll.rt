@@ -1,10 +1,11 @@
 // A poll: the next frame to a neighbour.
-ghost use Rattle.std.specs.Prelude.{◌≡◌, ◌<◌, ◌≤◌, ◌+◌, ◌^◌, All, IfOk, Some as There, length, position, replicate};
+ghost use Rattle.std.specs.Prelude.{◌≡◌, ◌<◌, ◌≤◌, ◌+◌, ◌^◌, All, IfOk, Some as There, length, option_map, map, position, replicate, take};
 ghost use Rattle.laws_node.specs.Nodes.{IsKept};
-ghost use Rattle.sp_node_format.specs.Format.{format};
-ghost use Rattle.sp_base.specs.declared.format.TheConstants.{FORMAT_1};
+ghost use Rattle.sp_node_format.specs.Format.{format_of};
+ghost use Rattle.sp_base.specs.Formats.{max_rels};
 ghost use Rattle.sp_frame.specs.Frames.{frame_bytes};
-ghost use Rattle.sp_frame.specs.Ranges.{IsContents};
+ghost use Rattle.sp_frame.specs.Writing.{out_report};
+ghost use Rattle.sp_frame.specs.Ranges.{IsContentsIn};
 ghost use Rattle.sp_node.specs.Calls.{Polls};
 ghost use Rattle.sp_node_state.specs.ReadyStates.{IsAnswered};
 ghost use Rattle.sp_base.specs.Rows.{first_where, replace_where};
@@ -13,14 +14,16 @@ ghost use Rattle.sp_rules.specs.Link as rules;
 ghost use Rattle.sp_rules.specs.Link.{advanced, next_head};
 ghost use Rattle.sp_rules.specs.Node.{is_link};
 ghost use Rattle.sp_rules.specs.Parts.{place_in, place_of};
-ghost use Rattle.sp_rules.specs.Polls.{after_poll, contents_to, frame_to};
+ghost use Rattle.sp_rules.specs.Polls.{after_poll, contents_to, dated, frame_to};
 ghost use Rattle.sp_rules.specs.Prio.{carried, peer_in};
-ghost use Rattle.sp_rules.specs.Rel.{served};
+ghost use Rattle.sp_rules.specs.Rel.{served, slot_for};
 ghost use Rattle.sp_rules.specs.Weights.{moved};
 
-use sp_base::{Bytes, FORMAT_1, Memory, NodeId};
-use sp_frame::{Head, write};
+use sp_base::{Bytes, FORMAT_1, Four, Memory, NodeId};
+use sp_frame::{Head, OutSlot, write};
 use sp_link::Link;
+use sp_lives::Lives;
+use sp_msg::Kept;
 use sp_node_parts::{Fixed, Parts};
 use sp_node_state::State;
 use sp_rules::NodeRefused;
@@ -29,7 +32,7 @@ use std::alloc::Global;
 
 /// The next frame to a neighbour. It is written and sealed first; then the link and each cycle go on.
 pub fn poll(state: &mut State, alloc: Global, v: NodeId) -> Result<Bytes, NodeRefused>
-    requires { IsKept format state.old }
+    requires { IsKept (format_of state.old.fixed) state.old }
     ensures { Polls state.old v result state.new }
 {
     let place = state.place_for(v)?;
@@ -40,9 +43,9 @@ pub fn poll(state: &mut State, alloc: Global, v: NodeId) -> Result<Bytes, NodeRe
 
 /// The frame for the neighbour of the link in this place.
 fn frame_at(state: &State, alloc: Global, place: usize, v: NodeId) -> Result<Bytes, Memory>
-    requires kept { IsKept format state.now }
+    requires kept { IsKept (format_of state.now.fixed) state.now }
     requires answered { IsAnswered state.now v place }
-    ensures { IfOk result (λ bytes. bytes ≡ frame_to format state.entry.now v) }
+    ensures { IfOk result (λ bytes. bytes ≡ frame_to (format_of state.entry.now.fixed) state.entry.now v) }
 {
     let link = state.link_at(place, v);
     let head = head_for(&link, &state.fixed);
@@ -53,7 +56,7 @@ fn frame_at(state: &State, alloc: Global, place: usize, v: NodeId) -> Result<Byt
 
 /// The frame for the neighbour of the link in this place was made.
 fn went(state: &mut State, place: usize, v: NodeId)
-    requires kept { IsKept format state.old }
+    requires kept { IsKept (format_of state.old.fixed) state.old }
     requires answered { IsAnswered state.old v place }
     ensures { state.new ≡ after_poll state.old v }
 {
@@ -66,9 +69,9 @@ fn went(state: &mut State, place: usize, v: NodeId)
 /// The head of the next frame over a link.
 fn head_for(link: &Link, fixed: &Fixed) -> Head
     requires { link.now.sent < 2 ^ 60 }
-    ensures { result ≡ next_head link.now fixed.now.topology.version FORMAT_1 }
+    ensures { result ≡ next_head link.now fixed.now.topology.version fixed.now.topology.format }
 {
-    link.head(fixed.topology.version, FORMAT_1)
+    link.head(fixed.topology.version, fixed.topology.format)
 }
 
 /// The bytes of the next frame to a neighbour, with zeros in the place of its tag.
@@ -79,14 +82,14 @@ fn unsealed(
     core: &Parts,
     v: NodeId,
 ) -> Result<Bytes, Memory>
-    requires format { head.now.format ≡ FORMAT_1 }
-    requires contents { IsContents fixed.now.signature_len (contents_to fixed.now core.now v) }
+    requires format { head.now.format ≡ fixed.now.topology.format }
+    requires contents { IsContentsIn fixed.now.topology.format fixed.now.signature_len (contents_to fixed.now core.now v) }
     ensures { IfOk result (λ bytes. bytes ≡ frame_bytes head.now (contents_to fixed.now core.now v) (replicate 32 0)) }
 {
     let weight = core.weights.next(place_of(fixed, v));
     let heard = core.prio.heard_of(v);
     let prios = core.prio.messages_for(v);
-    let slot = core.rel.slot_for(v);
+    let slot = slot_for(fixed, core, v);
     match write(
         alloc,
         head,
@@ -103,10 +106,59 @@ fn unsealed(
     }
 }
 
+/// The slot of the next frame to a neighbour.
+fn slot_for<'a>(fixed: &Fixed, core: &'a Parts, v: NodeId) -> Option<OutSlot<'a>>
+    ensures { option_map out_report result ≡ option_map (dated fixed.now.topology.format core.now.lives) (slot_for core.now.rel v) }
+{
+    match core.rel.slot_for(v) {
+        Some(slot) => Some(dated(slot, fixed.topology.format, &core.lives)),
+        None => None,
+    }
+}
+
+/// A slot under the boots that are held of its ends, with as many messages as a frame of the format may have.
+fn dated<'a>(slot: OutSlot<'a>, format: u8, lives: &Lives) -> OutSlot<'a>
+    ensures { out_report result ≡ dated format lives.now (out_report slot.entry) }
+{
+    let OutSlot {
+        flow,
+        base,
+        have,
+        ack,
+        rels,
+        ..
+    } = slot;
+    OutSlot {
+        flow,
+        sboot: lives.held_boot(flow.src),
+        dboot: lives.held_boot(flow.dst),
+        base,
+        have,
+        ack,
+        rels: first_of(rels, format),
+    }
+}
+
+/// The first messages, as many as a frame of the format may have.
+fn first_of<'a>(rels: Four<&'a Kept>, format: u8) -> Four<&'a Kept>
+    ensures { map (λ o. o.now) result ≡ take (max_rels format) (map (λ o. o.now) rels.entry) }
+{
+    if format == FORMAT_1 || rels.len() < 2 {
+        return rels;
+    }
+    let Some((first, others)) = rels.split() else {
+        return Four::new();
+    };
+    let Some((second, _)) = others.split() else {
+        return Four::new().with(first);
+    };
+    Four::new().with(first).with(second)
+}
+
 /// What was next in turn of each part went to a neighbour, the node in this place.
 fn moved(core: &mut Parts, at: usize, v: NodeId)
     requires { (peer_in core.old.prio v.0).number + MAX_MESSAGES ≤ 2 ^ 63 }
-    ensures { core.new ≡ record { weights = moved core.old.weights at; prio = carried core.old.prio v.0; rel = served core.old.rel v } }
+    ensures { core.new ≡ record { weights = moved core.old.weights at; prio = carried core.old.prio v.0; rel = served core.old.rel v; lives = core.old.lives } }
 {
     core.weights.moved(at);
     core.prio.carry(v);

@@ -1,16 +1,17 @@
 // A tick: the time goes on, what expired leaves, and the acknowledgement that is due is signed.
-ghost use Rattle.std.specs.Prelude.{◌≡◌, ◌≤◌, ◌+◌, ◌-◌, ◌++◌, IfOk, IsOk, [], None as Nothing};
+ghost use Rattle.std.specs.Prelude.{◌≡◌, ◌≤◌, ◌+◌, ◌-◌, ◌++◌, IfOk, IsOk, [], None as Nothing, option_map};
 ghost use Rattle.laws_node.specs.Nodes.{IsKept};
-ghost use Rattle.sp_node_format.specs.Format.{format};
+ghost use Rattle.sp_node_format.specs.Format.{format_of};
 ghost use Rattle.sp_node.specs.Calls.{Ticks};
 ghost use Rattle.sp_node.specs.Ready.{IsDue, told_of};
 ghost use Rattle.sp_rules.specs.Prio.{expired, expired_effects, expiring};
 ghost use Rattle.sp_rules.specs.Rel.{due};
 ghost use Rattle.sp_rules.specs.Sends.{signer_refusal};
-ghost use Rattle.sp_rules.specs.Ticks.{ack_effects, settled_by, tick_reply_of, time_after};
+ghost use Rattle.sp_rules.specs.Ticks.{ack_effects, dated, due_now, settled_by, tick_reply_of, time_after};
 ghost use Rattle.sp_rules.specs.Told.{told};
 
 use sp_base::Memory;
+use sp_lives::Lives;
 use sp_msg::{Ack, Body, Effect, Effects, SendRefused};
 use sp_node_parts::Parts;
 use sp_node_state::State;
@@ -31,9 +32,9 @@ pub enum Due {
 
 /// The time is the greater of the one held and this one. What expired before it leaves, and the acknowledgement that is due is signed.
 pub fn tick(state: &mut State, alloc: Global, now: u64) -> Result<Step<TickReply>, NodeRefused>
-    requires { IsKept format state.old }
+    requires { IsKept (format_of state.old.fixed) state.old }
     ensures step { Ticks state.old now result state.new }
-    ensures quiet { due state.old.parts.rel ≡ Nothing → expiring state.old.parts.prio (time_after state.old now) ≡ 0 → IsOk result }
+    ensures quiet { due_now state.old ≡ Nothing → expiring state.old.parts.prio (time_after state.old now) ≡ 0 → IsOk result }
 {
     let owed = owed(state, alloc)?;
     let time = state.now.max(now);
@@ -46,9 +47,9 @@ pub fn tick(state: &mut State, alloc: Global, now: u64) -> Result<Step<TickReply
 
 /// The acknowledgement that is due.
 fn owed(state: &State, alloc: Global) -> Result<Due, Memory>
-    requires { IsKept format state.now }
+    requires { IsKept (format_of state.now.fixed) state.now }
     ensures owed { IfOk result (IsDue state.entry.now) }
-    ensures none { due state.entry.now.parts.rel ≡ Nothing → IsOk result }
+    ensures none { due_now state.entry.now ≡ Nothing → IsOk result }
 {
     let Some(ack) = due_of(&state.core) else {
         return Ok(Due::Nothing);
@@ -85,9 +86,9 @@ fn room_for(state: &State, alloc: Global, time: u64, owed: &Due) -> Result<Effec
 fn settle(state: &mut State, owed: Due, effects: &mut Effects) -> TickReply
     requires owed { IsDue state.old owed }
     requires room { told_of owed ≤ effects.old.room }
-    ensures reply { result ≡ tick_reply_of (due state.old.parts.rel) (signer_refusal state.old.signer) }
-    ensures state { state.new ≡ settled_by format state.old (due state.old.parts.rel) (signer_refusal state.old.signer) }
-    ensures told { effects.new ≡ told effects.old (ack_effects format (due state.old.parts.rel) (signer_refusal state.old.signer)) }
+    ensures reply { result ≡ tick_reply_of (due_now state.old) (signer_refusal state.old.signer) }
+    ensures state { state.new ≡ settled_by (format_of state.old.fixed) state.old (due_now state.old) (signer_refusal state.old.signer) }
+    ensures told { effects.new ≡ told effects.old (ack_effects (format_of state.old.fixed) (due_now state.old) (signer_refusal state.old.signer)) }
 {
     match owed {
         Due::Nothing => TickReply::Ticked,
@@ -101,11 +102,25 @@ fn settle(state: &mut State, owed: Due, effects: &mut Effects) -> TickReply
     }
 }
 
-/// The acknowledgement that is due.
+/// The acknowledgement that is due, under the boots that are held of its ends.
 fn due_of(core: &Parts) -> Option<Ack>
-    ensures { result ≡ due core.now.rel }
+    ensures { result ≡ option_map (dated core.now.lives) (due core.now.rel) }
 {
-    core.rel.due()
+    match core.rel.due() {
+        Some(ack) => Some(dated(ack, &core.lives)),
+        None => None,
+    }
+}
+
+/// An acknowledgement under the boots that are held of its ends.
+fn dated(ack: Ack, lives: &Lives) -> Ack
+    ensures { result ≡ dated lives.now ack }
+{
+    Ack {
+        sboot: lives.held_boot(ack.src),
+        dboot: lives.held_boot(ack.dst),
+        ..ack
+    }
 }
 
 /// What expired before this time leaves.

@@ -1,6 +1,7 @@
 -- What was made ready of a priority message stays so after an acknowledged link number and after other messages: neither changes where it goes, and
 -- what is new after them was new before. Each message uses up one id in a place at most.
-use Rattle.std.proofs.Common.{◌≡◌, ◌≤◌, ◌^◌, ℕ, zero, suc, ◌+◌, ◌*◌, ◌==◌, nat_lt, Bool, true, false, not, List, [], ◌∷◌, length, map, get_or, set, Option, None, Some}
+use Rattle.std.proofs.Common.{◌≡◌, ◌≤◌, ◌^◌, ℕ, zero, suc, ◌+◌, ◌*◌, ◌==◌, nat_lt, Bool, true, false, not, List, [], ◌∷◌, length, map, get_or, set, Option}
+use Rattle.std.proofs.Common.{None, Some}
 use Rattle.std.proofs.Common.{refl, sym, ap, ◌∙◌, subst, drop, arith, cond}
 use Rattle.std.specs.List.{slice_get}
 use Rattle.std.proofs.lemmas.List.{length-map}
@@ -22,15 +23,18 @@ use Rattle.sp_rules.specs.Answers.{prio_answer}
 use Rattle.sp_rules.specs.Arts.{Arts}
 use Rattle.sp_rules.specs.Handle as rules
 use Rattle.sp_rules.specs.Handle.{handle, prio_handled}
+use Rattle.sp_rules.specs.Lives.{is_dated}
 use Rattle.sp_rules.specs.Parts.{Parts, is_signed}
 use Rattle.sp_rules.specs.Pieces.{PrioPiece}
-use Rattle.sp_rules.specs.Prio.{PrioState, acked, admit_prio, heard, is_here, is_node, is_peer, judge_prio, marked, no_peer, peer_in, place_of, places, window_at, window_in, windows_with}
+use Rattle.sp_rules.specs.Prio.{PrioState, acked, admit_prio, heard, is_here, is_node, is_peer, judge_prio, marked, no_peer, peer_in, place_of, places}
+use Rattle.sp_rules.specs.Prio.{window_at, window_in, windows_with}
 use Rattle.sp_rules.specs.PrioPeer as rows
 use Rattle.sp_rules.specs.PrioPeer.{PrioPeer, goes_to}
 use Rattle.sp_rules.specs.Store.{Store, put, removed, said}
 use Rattle.sp_rules.specs.Window.{is_seen, with_mark}
 use Rattle.sp_rules.specs.declared.answers.PrioAnswer.{PrioAnswer}
 use Rattle.sp_rules.specs.declared.answers.PrioAnswer.TheVariants as answers
+use Rattle.sp_rules.specs.declared.lives.Life.{Life}
 use Rattle.sp_rules.specs.declared.prio.PrioJudged.TheVariants as prios
 use Rattle.sp_node_arrivals.specs.Prio.{ArePriosReady, IsPrioReady}
 use Rattle.sp_node_arrivals.specs.Prio.{HasIds, HasRoom, prio_room}
@@ -96,19 +100,21 @@ follows_both a b c one two = record {
   peers = two.peers ∙ one.peers;
 }
 
-pub prio_follows : (at : rules.Arrival) (old new : PrioState) (o : Kept) (ready : Option Parcel) → Follows old new → IsPrioReady at old o ready
-    → IsPrioReady at new o ready
-prio_follows at old new o None f is = record { parcel = tt; right = λ new_is. is.right (f.judged o.body at.now new_is) }
-prio_follows at old new o (Some p) f is = record {
+pub prio_follows : (at : rules.Arrival) (lives : List Life) (old new : PrioState) (o : Kept) (ready : Option Parcel) → Follows old new
+    → IsPrioReady at lives old o ready
+    → IsPrioReady at lives new o ready
+prio_follows at lives old new o None f is = record { parcel = tt; right = λ dated new_is. is.right dated (f.judged o.body at.now new_is) }
+prio_follows at lives old new o (Some p) f is = record {
   parcel = is.parcel ∙ ap (λ (n : ℕ). let q : Parcel = record { kept = o; came = Some at.from; copies = n } in q) (sym (f.places o.body (Some at.from)));
-  right = λ new_is. is.right (f.judged o.body at.now new_is);
+  right = λ dated new_is. is.right dated (f.judged o.body at.now new_is);
 }
 
-pub prios_follow : (at : rules.Arrival) (old new : PrioState) (ms : List (ℕ × Kept)) (readies : List (Option Parcel)) → Follows old new
-    → ArePriosReady at old ms readies → ArePriosReady at new ms readies
-prios_follow at old new [] readies f are = are
-prios_follow at old new (m ∷ ms) [] f are = are
-prios_follow at old new (m ∷ ms) (ready ∷ readies) f are = (prio_follows at old new m.1 ready f are.0, prios_follow at old new ms readies f are.1)
+pub prios_follow : (at : rules.Arrival) (lives : List Life) (old new : PrioState) (ms : List (ℕ × Kept)) (readies : List (Option Parcel)) → Follows old new
+    → ArePriosReady at lives old ms readies → ArePriosReady at lives new ms readies
+prios_follow at lives old new [] readies f are = are
+prios_follow at lives old new (m ∷ ms) [] f are = are
+prios_follow at lives old new (m ∷ ms) (ready ∷ readies) f are =
+    (prio_follows at lives old new m.1 ready f are.0, prios_follow at lives old new ms readies f are.1)
 
 -- the rows of neighbours change no answer
 judged_by_peers : (s : PrioState) (peers : List PrioPeer) (body : Body) (now : ℕ) → judge_prio (record s { peers = peers }) body now ≡ prios.New
@@ -270,6 +276,7 @@ handled_prio : (P : PrioState → Type 0) (v : NodeId) (answer : PrioAnswer) (nu
 handled_prio P v answers.New number o p same was new = new
 handled_prio P v answers.Seen number o p same was new = was
 handled_prio P v answers.BadEnd number o p same was new = same
+handled_prio P v answers.Epoch number o p same was new = same
 handled_prio P v answers.Expired number o p same was new = same
 handled_prio P v answers.BadSig number o p same was new = same
 
@@ -278,6 +285,14 @@ handled_follows v answer number o p =
     handled_prio (λ s. Follows p.prio s) v answer number o p (follows_itself p.prio) (heard_follows p.prio v.0 number)
     (follows_both p.prio (admit_prio p.prio o (Some v)) (heard (admit_prio p.prio o (Some v)) v.0 number) (admitted_follows p.prio o (Some v))
     (heard_follows (admit_prio p.prio o (Some v)) v.0 number))
+
+handled_lives : (v : NodeId) (answer : PrioAnswer) (number : ℕ) (o : Kept) (p : Parts) → (prio_handled v answer number o p).parts.lives ≡ p.lives
+handled_lives v answers.New number o p = refl
+handled_lives v answers.Seen number o p = refl
+handled_lives v answers.BadEnd number o p = refl
+handled_lives v answers.Epoch number o p = refl
+handled_lives v answers.Expired number o p = refl
+handled_lives v answers.BadSig number o p = refl
 
 fewer_ids : (count : ℕ) (s : PrioState) → HasIds (suc count) s → HasIds count s
 fewer_ids count s has = record {
@@ -295,38 +310,47 @@ handled_ids count v answer number o p has =
 -- ---- one message after another
 
 -- where nothing more is ready, no message is left
-pub none_ready : (at : rules.Arrival) (s : PrioState) (ms : List (ℕ × Kept)) (readies : List (Option Parcel)) → split_first readies ≡ None
-    → ArePriosReady at s ms readies → ms ≡ []
-none_ready at s [] readies split are = refl
-none_ready at s (m ∷ ms) [] split are = absurd are
-none_ready at s (m ∷ ms) (ready ∷ readies) split are = absurd (cc)
+pub none_ready : (at : rules.Arrival) (lives : List Life) (s : PrioState) (ms : List (ℕ × Kept)) (readies : List (Option Parcel)) → split_first readies ≡ None
+    → ArePriosReady at lives s ms readies → ms ≡ []
+none_ready at lives s [] readies split are = refl
+none_ready at lives s (m ∷ ms) [] split are = absurd are
+none_ready at lives s (m ∷ ms) (ready ∷ readies) split are = absurd (cc)
 
 -- where something is, a message is there
-pub never_past : (at : rules.Arrival) (s : PrioState) (prios : List (ℕ × ObjectRef)) (place : ℕ) (readies others : List (Option Parcel)) (first : Option Parcel)
-    → slice_get prios place ≡ None → split_first readies ≡ Some (first, others) → ArePriosReady at s (map as_numbered (drop place prios)) readies → ⊥
-never_past at s prios place readies others first none split are =
+pub never_past : (at : rules.Arrival) (lives : List Life) (s : PrioState) (prios : List (ℕ × ObjectRef)) (place : ℕ)
+    (readies others : List (Option Parcel)) (first : Option Parcel)
+    → slice_get prios place ≡ None → split_first readies ≡ Some (first, others) → ArePriosReady at lives s (map as_numbered (drop place prios)) readies → ⊥
+never_past at lives s prios place readies others first none split are =
     let is : readies ≡ first ∷ others = split_is readies first others split in
-    let left : readies ≡ [] = subst (λ (ps : List (ℕ × ObjectRef)). ArePriosReady at s (map as_numbered ps) readies) (drop_past prios place none) are in
+    let left : readies ≡ [] = subst (λ (ps : List (ℕ × ObjectRef)). ArePriosReady at lives s (map as_numbered ps) readies) (drop_past prios place none) are in
     let both : first ∷ others ≡ [] = sym is ∙ left in
     absurd (cc)
 
 -- the first of both, and the others of both
-pub ready_in_turn : (at : rules.Arrival) (s : PrioState) (prios : List (ℕ × ObjectRef)) (place : ℕ) (x : ℕ × ObjectRef) (readies others : List (Option Parcel))
+pub ready_in_turn : (at : rules.Arrival) (lives : List Life) (s : PrioState) (prios : List (ℕ × ObjectRef)) (place : ℕ) (x : ℕ × ObjectRef)
+    (readies others : List (Option Parcel))
     (first : Option Parcel) → slice_get prios place ≡ Some x → split_first readies ≡ Some (first, others)
-    → ArePriosReady at s (map as_numbered (drop place prios)) readies
-    → IsPrioReady at s (as_object x.1) first × ArePriosReady at s (map as_numbered (drop (place + 1) prios)) others
-ready_in_turn at s prios place x readies others first at_place split are =
-    subst (λ (rs : List (Option Parcel)). ArePriosReady at s (map as_numbered (x ∷ drop (place + 1) prios)) rs) (split_is readies first others split)
-    (subst (λ (ps : List (ℕ × ObjectRef)). ArePriosReady at s (map as_numbered ps) readies) (drop_first prios place x at_place) are)
+    → ArePriosReady at lives s (map as_numbered (drop place prios)) readies
+    → IsPrioReady at lives s (as_object x.1) first × ArePriosReady at lives s (map as_numbered (drop (place + 1) prios)) others
+ready_in_turn at lives s prios place x readies others first at_place split are =
+    subst (λ (rs : List (Option Parcel)). ArePriosReady at lives s (map as_numbered (x ∷ drop (place + 1) prios)) rs) (split_is readies first others split)
+    (subst (λ (ps : List (ℕ × ObjectRef)). ArePriosReady at lives s (map as_numbered ps) readies) (drop_first prios place x at_place) are)
 
 -- ---- the room for those after it
 
 pub piece_follows : (arts : Arts) (at : rules.Arrival) (p : Parts) (number : ℕ) (o : Kept) → Follows p.prio (handle arts at p (PrioPiece number o)).parts.prio
-piece_follows arts at p number o = handled_follows at.from (prio_answer (is_signed arts at.fixed o) (judge_prio p.prio o.body at.now)) number o p
+piece_follows arts at p number o = handled_follows at.from
+    (prio_answer (is_signed arts at.fixed o) (is_dated p.lives o.body) (judge_prio p.prio o.body at.now)) number o p
+
+-- lives stay
+pub piece_lives : (arts : Arts) (at : rules.Arrival) (p : Parts) (number : ℕ) (o : Kept) → (handle arts at p (PrioPiece number o)).parts.lives ≡ p.lives
+piece_lives arts at p number o =
+    handled_lives at.from (prio_answer (is_signed arts at.fixed o) (is_dated p.lives o.body) (judge_prio p.prio o.body at.now)) number o p
 
 pub piece_ids : (arts : Arts) (at : rules.Arrival) (p : Parts) (number : ℕ) (o : Kept) (count : ℕ) → HasIds (suc count) p.prio
     → HasIds count (handle arts at p (PrioPiece number o)).parts.prio
-piece_ids arts at p number o count has = handled_ids count at.from (prio_answer (is_signed arts at.fixed o) (judge_prio p.prio o.body at.now)) number o p has
+piece_ids arts at p number o count has = handled_ids count at.from
+    (prio_answer (is_signed arts at.fixed o) (is_dated p.lives o.body) (judge_prio p.prio o.body at.now)) number o p has
 
 one_less : (n k a b : ℕ) → suc n * k ≤ a → a ≤ b + k → n * k ≤ b
 one_less n k a b all one = omega (arith, all, one)

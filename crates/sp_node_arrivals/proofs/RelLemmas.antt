@@ -18,17 +18,20 @@ use Rattle.sp_rel.proofs.SeatLemmas.{stays_seated}
 use Rattle.sp_rel.specs.Seated.{IsSeated}
 use Rattle.sp_rel.specs.Seats.{SeatState}
 use Rattle.sp_rules.proofs.FlowJudged.{found_ends}
-use Rattle.sp_rules.specs.Answers.{ack_answer, rel_answer}
+use Rattle.sp_rules.specs.Answers.{ack_answer, is_new, rel_answer}
 use Rattle.sp_rules.specs.Flow.{FlowState, acknowledged_by, ends, flow_said, is_flow, is_full, pushed, received}
-use Rattle.sp_rules.specs.Handle.{ack_handled, rel_handled}
-use Rattle.sp_rules.specs.Parts.{Parts}
+use Rattle.sp_rules.specs.Handle.{ack_handled, rel_handled, reported_where}
+use Rattle.sp_rules.specs.Parts.{Fixed, Parts}
 use Rattle.sp_rules.specs.Rel.{RelState, admit_ack, admit_rel, are_ends, flow_in, is_from, is_to, judge_ack_of, judge_rel, judge_rel_of}
 use Rattle.sp_rules.specs.Rel.{peer_in, put_flow, reported, told, with_flow, with_peer}
+use Rattle.sp_rules.specs.declared.answers.AckAnswer.{AckAnswer}
+use Rattle.sp_rules.specs.declared.answers.Item.TheVariants as items
+use Rattle.sp_rules.specs.declared.answers.RelAnswer.{RelAnswer}
+use Rattle.sp_rules.specs.declared.lives.Life.{Life}
 use Rattle.sp_rules.specs.declared.rel.AckJudged.{AckJudged}
 use Rattle.sp_rules.specs.declared.rel.AckJudged.TheVariants as acks
 use Rattle.sp_rules.specs.declared.rel.RelJudged.{RelJudged}
 use Rattle.sp_rules.specs.declared.rel.RelJudged.TheVariants as rels
-use Rattle.sp_topology.specs.declared.topology.NodeKey.{NodeKey}
 use Rattle.sp_node_arrivals.specs.Ack.{IsAckReady}
 use Rattle.sp_node_arrivals.specs.Rel.{AreRelsReady, IsRelReady, StaysReady, may_be_new}
 
@@ -42,19 +45,22 @@ reported_either P r v flow base have moved same = go (flow_in r.flows flow).acti
     go true = moved
     go false = same
 
-pub rel_reported : (acked : Bool) (keys : List NodeKey) (r : RelState) (v : NodeId) (of : Flow) (base have : ℕ) (flow : Flow) (o : Kept)
-    (ready : Option (Kept × List ℕ × SeatState)) → IsRelReady acked keys r flow o ready → IsRelReady acked keys (reported r v of base have) flow o ready
-rel_reported acked keys r v of base have flow o ready is =
-    reported_either (λ s. IsRelReady acked keys s flow o ready) r v of base have
+pub rel_reported : (acked : Bool) (fixed : Fixed) (lives : List Life) (r : RelState) (v : NodeId) (of : Flow) (base have : ℕ) (flow : Flow) (o : Kept)
+    (ready : Option (Kept × List ℕ × SeatState)) → IsRelReady acked fixed lives r flow o ready → IsRelReady acked fixed lives
+    (reported r v of base have) flow o ready
+rel_reported acked fixed lives r v of base have flow o ready is =
+    reported_either (λ s. IsRelReady acked fixed lives s flow o ready) r v of base have
     (record { copy = is.copy; payload = is.payload; seat = is.seat; right = is.right }) is
 
-pub rels_reported : (moved : Bool) (keys : List NodeKey) (r : RelState) (v : NodeId) (of : Flow) (base have : ℕ) (flow : Flow) (os : List Kept)
-    (readies : List (Option (Kept × List ℕ × SeatState))) → AreRelsReady moved keys r flow os readies
-    → AreRelsReady moved keys (reported r v of base have) flow os readies
-rels_reported moved keys r v of base have flow [] readies are = are
-rels_reported moved keys r v of base have flow (o ∷ os) [] are = are
-rels_reported moved keys r v of base have flow (o ∷ os) (ready ∷ readies) are =
-    (rel_reported moved keys r v of base have flow o ready are.0, rels_reported (moved || is_some ready) keys r v of base have flow os readies are.1)
+pub rels_reported : (moved : Bool) (fixed : Fixed) (lives : List Life) (r : RelState) (v : NodeId) (of : Flow) (base have : ℕ) (flow : Flow) (os : List Kept)
+    (readies : List (Option (Kept × List ℕ × SeatState))) → AreRelsReady moved fixed lives r flow os readies
+    → AreRelsReady moved fixed lives (reported r v of base have) flow os readies
+rels_reported moved fixed lives r v of base have flow [] readies are = are
+rels_reported moved fixed lives r v of base have flow (o ∷ os) [] are = are
+rels_reported moved fixed lives r v of base have flow (o ∷ os) (ready ∷ readies) are = (
+  rel_reported moved fixed lives r v of base have flow o ready are.0,
+  rels_reported (moved || is_some ready) fixed lives r v of base have flow os readies are.1,
+)
 
 -- what is said of an acknowledgement stays the same after a report
 ack_judged : (r : RelState) (v : NodeId) (of : Flow) (base have : ℕ) (flow : Flow) (body : Body)
@@ -71,15 +77,32 @@ ack_judged r v of base have flow body =
     go (bodies.Weight m) = refl
     go (bodies.Epoch m) = refl
 
-pub ack_reported : (keys : List NodeKey) (r : RelState) (v : NodeId) (of : Flow) (base have : ℕ) (flow : Flow) (ack : Option Kept)
-    (ready : Option (Kept × SeatState)) → IfSome ack (λ o. IsAckReady keys r flow o ready)
-    → IfSome ack (λ o. IsAckReady keys (reported r v of base have) flow o ready)
-ack_reported keys r v of base have flow None ready is = tt
-ack_reported keys r v of base have flow (Some o) ready is = record {
+pub ack_reported : (fixed : Fixed) (lives : List Life) (r : RelState) (v : NodeId) (of : Flow) (base have : ℕ) (flow : Flow) (ack : Option Kept)
+    (ready : Option (Kept × SeatState)) → IfSome ack (λ o. IsAckReady fixed lives r flow o ready)
+    → IfSome ack (λ o. IsAckReady fixed lives (reported r v of base have) flow o ready)
+ack_reported fixed lives r v of base have flow None ready is = tt
+ack_reported fixed lives r v of base have flow (Some o) ready is = record {
   copy = is.copy;
   seat = reported_either (λ s. IfSome ready (λ a. IsSeated s flow a.1)) r v of base have is.seat is.seat;
-  right = λ new. is.right (sym (ack_judged r v of base have flow o.body) ∙ new);
+  right = λ dated new. is.right dated (sym (ack_judged r v of base have flow o.body) ∙ new);
 }
+
+-- the same of a report that is dropped where its boots aren't held
+rels_where : (held moved : Bool) (fixed : Fixed) (lives : List Life) (p : Parts) (v : NodeId) (of : Flow) (base have : ℕ) (flow : Flow) (os : List Kept)
+    (readies : List (Option (Kept × List ℕ × SeatState))) → AreRelsReady moved fixed lives p.rel flow os readies
+    → AreRelsReady moved fixed lives (reported_where held v of base have p).rel flow os readies
+rels_where true moved fixed lives p v of base have flow os readies are = rels_reported moved fixed lives p.rel v of base have flow os readies are
+rels_where false moved fixed lives p v of base have flow os readies are = are
+
+pub ack_where : (held : Bool) (fixed : Fixed) (lives : List Life) (p : Parts) (v : NodeId) (of : Flow) (base have : ℕ) (flow : Flow) (ack : Option Kept)
+    (ready : Option (Kept × SeatState)) → IfSome ack (λ o. IsAckReady fixed lives p.rel flow o ready)
+    → IfSome ack (λ o. IsAckReady fixed lives (reported_where held v of base have p).rel flow o ready)
+ack_where true fixed lives p v of base have flow ack ready is = ack_reported fixed lives p.rel v of base have flow ack ready is
+ack_where false fixed lives p v of base have flow ack ready is = is
+
+pub report_lives : (held : Bool) (v : NodeId) (of : Flow) (base have : ℕ) (p : Parts) → (reported_where held v of base have p).lives ≡ p.lives
+report_lives true v of base have p = refl
+report_lives false v of base have p = refl
 
 -- ---- a row that moves on
 
@@ -151,14 +174,15 @@ seat_after : (r : RelState) (k flow : Flow) (f : FlowState) (ready : Option (Kep
 seat_after r k flow f None same on seated = tt
 seat_after r k flow f (Some m) same on seated = stays_seated r k flow f m.2 same on seated
 
-moved_on : (moved : Bool) (keys : List NodeKey) (r : RelState) (k flow : Flow) (f : FlowState) (o : Kept) (ready : Option (Kept × List ℕ × SeatState))
-    → (flow_in r.flows flow).at.have ≤ (flow_in (put_flow r.flows k f) flow).at.have → ends f ≡ k → f.active ≡ true → IsRelReady true keys r flow o ready
-    → IsRelReady moved keys (with_flow r k f) flow o ready
-moved_on moved keys r k flow f o ready more same on is = record {
+moved_on : (moved : Bool) (fixed : Fixed) (lives : List Life) (r : RelState) (k flow : Flow) (f : FlowState) (o : Kept)
+    (ready : Option (Kept × List ℕ × SeatState))
+    → (flow_in r.flows flow).at.have ≤ (flow_in (put_flow r.flows k f) flow).at.have → ends f ≡ k → f.active ≡ true → IsRelReady true fixed lives r flow o ready
+    → IsRelReady moved fixed lives (with_flow r k f) flow o ready
+moved_on moved fixed lives r k flow f o ready more same on is = record {
   copy = is.copy;
   payload = is.payload;
   seat = seat_after r k flow f ready same on is.seat;
-  right = λ new. is.right (may_have_been moved r k flow f o.body more new);
+  right = λ dated new. is.right dated (may_have_been moved r k flow f o.body more new);
 }
 
 -- ---- where nothing changed
@@ -173,29 +197,45 @@ wider true moved rels.Old e = absurd (cc)
 wider true moved rels.Ahead e = absurd (cc)
 wider false moved j e = e
 
-pub nothing_comes : (new : Bool) (keys : List NodeKey) (flow : Flow) (r : RelState) → StaysReady new keys flow r r
-nothing_comes new keys flow r moved o ready is = record {
+pub nothing_comes : (new : Bool) (fixed : Fixed) (lives : List Life) (flow : Flow) (r : RelState) → StaysReady new fixed lives flow r r
+nothing_comes new fixed lives flow r moved o ready is = record {
   copy = is.copy;
   payload = is.payload;
   seat = is.seat;
-  right = λ e. is.right (wider new moved (judge_rel_of r flow o.body) e);
+  right = λ dated e. is.right dated (wider new moved (judge_rel_of r flow o.body) e);
 }
 
 -- ---- an acknowledgement, and a message
 
+-- lives stay where nothing new touches them
+either_lives : (t : Bool) (new old : Parts) → new.lives ≡ old.lives → (cond t new old).lives ≡ old.lives
+either_lives true new old same = same
+either_lives false new old same = refl
+
 ack_moves : (r : RelState) (ack : Kept) (flow : Flow) → (flow_in r.flows flow).at.have ≤ (flow_in (admit_ack r ack).flows flow).at.have
 ack_moves r ack flow = have_stays (λ f. acknowledged_by f ack) (λ f. refl) (λ f. omega arith) r.flows (flow_said ack.body) flow
 
--- the acknowledgement is new where it is ready and is judged so, and else nothing changed
-pub stays_ready : (acked : Bool) (keys : List NodeKey) (flow : Flow) (judged : AckJudged) (ack : Kept) (p : Parts)
-    → StaysReady acked keys flow p.rel (ack_handled (ack_answer acked judged) ack p).parts.rel
-stays_ready true keys flow acks.New ack p moved o ready is =
+-- the acknowledgement is new where it is ready, names the boots that are held and is judged so, and else nothing changed
+pub stays_ready : (acked dated : Bool) (fixed : Fixed) (lives : List Life) (flow : Flow) (judged : AckJudged) (ack : Kept) (p : Parts)
+    → StaysReady acked fixed lives flow p.rel (ack_handled (ack_answer acked dated judged) ack p).parts.rel
+stays_ready true true fixed lives flow acks.New ack p moved o ready is =
     let k = flow_said ack.body in
-    moved_on moved keys p.rel k flow (acknowledged_by (flow_in p.rel.flows k) ack) o ready (ack_moves p.rel ack flow) (found_ends p.rel.flows k) refl is
-stays_ready false keys flow acks.New ack p moved o ready is = is
-stays_ready acked keys flow acks.BadEnd ack p moved o ready is = nothing_comes acked keys flow p.rel moved o ready is
-stays_ready acked keys flow acks.Old ack p moved o ready is = nothing_comes acked keys flow p.rel moved o ready is
-stays_ready acked keys flow acks.Ahead ack p moved o ready is = nothing_comes acked keys flow p.rel moved o ready is
+    moved_on moved fixed lives p.rel k flow (acknowledged_by (flow_in p.rel.flows k) ack) o ready (ack_moves p.rel ack flow) (found_ends p.rel.flows k) refl is
+stays_ready false true fixed lives flow acks.New ack p moved o ready is = is
+stays_ready acked true fixed lives flow acks.BadEnd ack p moved o ready is = nothing_comes acked fixed lives flow p.rel moved o ready is
+stays_ready acked true fixed lives flow acks.Old ack p moved o ready is = nothing_comes acked fixed lives flow p.rel moved o ready is
+stays_ready acked true fixed lives flow acks.Ahead ack p moved o ready is = nothing_comes acked fixed lives flow p.rel moved o ready is
+stays_ready acked false fixed lives flow acks.New ack p moved o ready is = nothing_comes acked fixed lives flow p.rel moved o ready is
+stays_ready acked false fixed lives flow acks.BadEnd ack p moved o ready is = nothing_comes acked fixed lives flow p.rel moved o ready is
+stays_ready acked false fixed lives flow acks.Old ack p moved o ready is = nothing_comes acked fixed lives flow p.rel moved o ready is
+stays_ready acked false fixed lives flow acks.Ahead ack p moved o ready is = nothing_comes acked fixed lives flow p.rel moved o ready is
+
+-- lives stay, whatever was answered
+pub ack_lives : (answer : AckAnswer) (o : Kept) (p : Parts) → (ack_handled answer o p).parts.lives ≡ p.lives
+ack_lives answer o p = either_lives (is_new (items.Ack answer)) (record p { rel = admit_ack p.rel o }) p refl
+
+pub rel_lives : (answer : RelAnswer) (o : Kept) (p : Parts) → (rel_handled answer o p).parts.lives ≡ p.lives
+rel_lives answer o p = either_lives (is_new (items.Rel answer)) (record p { rel = admit_rel p.rel o }) p refl
 
 -- the row of a message's flow once it was taken
 taken_row : Bool → Kept → FlowState → FlowState
@@ -216,85 +256,113 @@ unfolding taken_row
 row_on true message f = refl
 row_on false message f = refl
 
-rel_admitted : (moved : Bool) (keys : List NodeKey) (r : RelState) (message : Kept) (flow : Flow) (o : Kept) (ready : Option (Kept × List ℕ × SeatState))
-    → IsRelReady true keys r flow o ready → IsRelReady moved keys (admit_rel r message) flow o ready
+rel_admitted : (moved : Bool) (fixed : Fixed) (lives : List Life) (r : RelState) (message : Kept) (flow : Flow) (o : Kept)
+    (ready : Option (Kept × List ℕ × SeatState))
+    → IsRelReady true fixed lives r flow o ready → IsRelReady moved fixed lives (admit_rel r message) flow o ready
 unfolding taken_row
-rel_admitted moved keys r message flow o ready is =
+rel_admitted moved fixed lives r message flow o ready is =
     let k = flow_said message.body in
     let here = is_to r k in
     let f = flow_in r.flows k in
-    moved_on moved keys r k flow (taken_row here message f) o ready
+    moved_on moved fixed lives r k flow (taken_row here message f) o ready
     (have_stays (taken_row here message) (row_ends here message) (row_has here message) r.flows k flow)
     (row_ends here message f ∙ found_ends r.flows k) (row_on here message f) is
 
--- the message is new where it is ready and is judged so, and else nothing changed
-pub rel_stays_ready : (new : Bool) (keys : List NodeKey) (flow : Flow) (judged : RelJudged) (message : Kept) (p : Parts)
-    → StaysReady new keys flow p.rel (rel_handled (rel_answer new judged) message p).parts.rel
-rel_stays_ready true keys flow rels.New message p moved o ready is = rel_admitted moved keys p.rel message flow o ready is
-rel_stays_ready false keys flow rels.New message p moved o ready is = is
-rel_stays_ready new keys flow rels.BadEnd message p moved o ready is = nothing_comes new keys flow p.rel moved o ready is
-rel_stays_ready new keys flow rels.Old message p moved o ready is = nothing_comes new keys flow p.rel moved o ready is
-rel_stays_ready new keys flow rels.Ahead message p moved o ready is = nothing_comes new keys flow p.rel moved o ready is
-rel_stays_ready new keys flow rels.Gap message p moved o ready is = nothing_comes new keys flow p.rel moved o ready is
-rel_stays_ready new keys flow rels.Full message p moved o ready is = nothing_comes new keys flow p.rel moved o ready is
-rel_stays_ready new keys flow rels.InboxFull message p moved o ready is = nothing_comes new keys flow p.rel moved o ready is
+-- the message is new where it is ready, names the boots that are held and is judged so, and else nothing changed
+pub rel_stays_ready : (new dated : Bool) (fixed : Fixed) (lives : List Life) (flow : Flow) (judged : RelJudged) (message : Kept) (p : Parts)
+    → StaysReady new fixed lives flow p.rel (rel_handled (rel_answer new dated judged) message p).parts.rel
+rel_stays_ready true true fixed lives flow rels.New message p moved o ready is = rel_admitted moved fixed lives p.rel message flow o ready is
+rel_stays_ready false true fixed lives flow rels.New message p moved o ready is = is
+rel_stays_ready new true fixed lives flow rels.BadEnd message p moved o ready is = nothing_comes new fixed lives flow p.rel moved o ready is
+rel_stays_ready new true fixed lives flow rels.Old message p moved o ready is = nothing_comes new fixed lives flow p.rel moved o ready is
+rel_stays_ready new true fixed lives flow rels.Ahead message p moved o ready is = nothing_comes new fixed lives flow p.rel moved o ready is
+rel_stays_ready new true fixed lives flow rels.Gap message p moved o ready is = nothing_comes new fixed lives flow p.rel moved o ready is
+rel_stays_ready new true fixed lives flow rels.Full message p moved o ready is = nothing_comes new fixed lives flow p.rel moved o ready is
+rel_stays_ready new true fixed lives flow rels.InboxFull message p moved o ready is = nothing_comes new fixed lives flow p.rel moved o ready is
+rel_stays_ready new false fixed lives flow rels.New message p moved o ready is = nothing_comes new fixed lives flow p.rel moved o ready is
+rel_stays_ready new false fixed lives flow rels.BadEnd message p moved o ready is = nothing_comes new fixed lives flow p.rel moved o ready is
+rel_stays_ready new false fixed lives flow rels.Old message p moved o ready is = nothing_comes new fixed lives flow p.rel moved o ready is
+rel_stays_ready new false fixed lives flow rels.Ahead message p moved o ready is = nothing_comes new fixed lives flow p.rel moved o ready is
+rel_stays_ready new false fixed lives flow rels.Gap message p moved o ready is = nothing_comes new fixed lives flow p.rel moved o ready is
+rel_stays_ready new false fixed lives flow rels.Full message p moved o ready is = nothing_comes new fixed lives flow p.rel moved o ready is
+rel_stays_ready new false fixed lives flow rels.InboxFull message p moved o ready is = nothing_comes new fixed lives flow p.rel moved o ready is
+
+-- what is ready answers as the signature does, since it is asked only where the message may be new
+pub rel_answered : (ready right dated : Bool) (judged : RelJudged) → (dated ≡ true → may_be_new false judged ≡ true → ready ≡ right)
+    → rel_answer ready dated judged ≡ rel_answer right dated judged
+rel_answered ready right true rels.New same = ap (λ (b : Bool). rel_answer b true rels.New) (same refl refl)
+rel_answered ready right false rels.New same = refl
+rel_answered ready right dated rels.BadEnd same = refl
+rel_answered ready right dated rels.Old same = refl
+rel_answered ready right dated rels.Ahead same = refl
+rel_answered ready right dated rels.Gap same = refl
+rel_answered ready right dated rels.Full same = refl
+rel_answered ready right dated rels.InboxFull same = refl
 
 -- ---- all messages of a slot
 
 -- all that come after an object are ready after it
-pub rels_stay : (new : Bool) (keys : List NodeKey) (flow : Flow) (old left : RelState) → StaysReady new keys flow old left
-    → (moved : Bool) (os : List Kept) (readies : List (Option (Kept × List ℕ × SeatState))) → AreRelsReady (new || moved) keys old flow os readies
-    → AreRelsReady moved keys left flow os readies
-rels_stay new keys flow old left stays moved [] readies are = are
-rels_stay new keys flow old left stays moved (o ∷ os) [] are = are
-rels_stay true keys flow old left stays moved (o ∷ os) (ready ∷ readies) are =
-    (stays moved o ready are.0, rels_stay true keys flow old left stays (moved || is_some ready) os readies are.1)
-rels_stay false keys flow old left stays moved (o ∷ os) (ready ∷ readies) are =
-    (stays moved o ready are.0, rels_stay false keys flow old left stays (moved || is_some ready) os readies are.1)
+pub rels_stay : (new : Bool) (fixed : Fixed) (lives : List Life) (flow : Flow) (old left : RelState) → StaysReady new fixed lives flow old left
+    → (moved : Bool) (os : List Kept) (readies : List (Option (Kept × List ℕ × SeatState))) → AreRelsReady (new || moved) fixed lives old flow os readies
+    → AreRelsReady moved fixed lives left flow os readies
+rels_stay new fixed lives flow old left stays moved [] readies are = are
+rels_stay new fixed lives flow old left stays moved (o ∷ os) [] are = are
+rels_stay true fixed lives flow old left stays moved (o ∷ os) (ready ∷ readies) are =
+    (stays moved o ready are.0, rels_stay true fixed lives flow old left stays (moved || is_some ready) os readies are.1)
+rels_stay false fixed lives flow old left stays moved (o ∷ os) (ready ∷ readies) are =
+    (stays moved o ready are.0, rels_stay false fixed lives flow old left stays (moved || is_some ready) os readies are.1)
 
 or_false : (b : Bool) → (b || false) ≡ b
 or_false true = refl
 or_false false = refl
 
 -- from the first of them on
-pub first_stays : (new : Bool) (keys : List NodeKey) (flow : Flow) (old left : RelState) (os : List Kept)
-    (readies : List (Option (Kept × List ℕ × SeatState))) → StaysReady new keys flow old left → AreRelsReady new keys old flow os readies
-    → AreRelsReady false keys left flow os readies
-first_stays new keys flow old left os readies stays are =
-    rels_stay new keys flow old left stays false os readies (subst (λ (b : Bool). AreRelsReady b keys old flow os readies) (sym (or_false new)) are)
+pub first_stays : (new : Bool) (fixed : Fixed) (lives : List Life) (flow : Flow) (old left : RelState) (os : List Kept)
+    (readies : List (Option (Kept × List ℕ × SeatState))) → StaysReady new fixed lives flow old left → AreRelsReady new fixed lives old flow os readies
+    → AreRelsReady false fixed lives left flow os readies
+first_stays new fixed lives flow old left os readies stays are =
+    rels_stay new fixed lives flow old left stays false os readies
+    (subst (λ (b : Bool). AreRelsReady b fixed lives old flow os readies) (sym (or_false new)) are)
 
--- the messages of a slot, after its report and after its acknowledgement
-pub slot_stays : (acked : Bool) (keys : List NodeKey) (r mid now : RelState) (v : NodeId) (base have : ℕ) (flow : Flow) (os : List Kept)
-    (readies : List (Option (Kept × List ℕ × SeatState))) → mid ≡ reported r v flow base have → StaysReady acked keys flow mid now
-    → AreRelsReady acked keys r flow os readies → AreRelsReady false keys now flow os readies
-slot_stays acked keys r mid now v base have flow os readies is stays before =
-    first_stays acked keys flow mid now os readies stays
-    (subst (λ (s : RelState). AreRelsReady acked keys s flow os readies) (sym is) (rels_reported acked keys r v flow base have flow os readies before))
+-- the messages of a slot, after its report, which is dropped where its boots aren't held, and after its acknowledgement
+pub slot_stays : (acked held : Bool) (fixed : Fixed) (lives : List Life) (p : Parts) (mid now : RelState) (v : NodeId) (of : Flow) (base have : ℕ) (flow : Flow)
+    (os : List Kept) (readies : List (Option (Kept × List ℕ × SeatState))) → mid ≡ (reported_where held v of base have p).rel
+    → StaysReady acked fixed lives flow mid now → AreRelsReady acked fixed lives p.rel flow os readies → AreRelsReady false fixed lives now flow os readies
+slot_stays acked held fixed lives p mid now v of base have flow os readies is stays before =
+    first_stays acked fixed lives flow mid now os readies stays
+    (subst (λ (s : RelState). AreRelsReady acked fixed lives s flow os readies) (sym is)
+    (rels_where held acked fixed lives p v of base have flow os readies before))
 
 -- ---- one message after another
 
 -- where nothing more is ready, no message is left
-pub no_rel_ready : (moved : Bool) (keys : List NodeKey) (r : RelState) (flow : Flow) (os : List Kept) (readies : List (Option (Kept × List ℕ × SeatState))) → split_first readies ≡ None
-    → AreRelsReady moved keys r flow os readies → os ≡ []
-no_rel_ready moved keys r flow [] readies split are = refl
-no_rel_ready moved keys r flow (o ∷ os) [] split are = absurd are
-no_rel_ready moved keys r flow (o ∷ os) (ready ∷ readies) split are = absurd (cc)
+pub no_rel_ready : (moved : Bool) (fixed : Fixed) (lives : List Life) (r : RelState) (flow : Flow) (os : List Kept)
+    (readies : List (Option (Kept × List ℕ × SeatState))) → split_first readies ≡ None
+    → AreRelsReady moved fixed lives r flow os readies → os ≡ []
+no_rel_ready moved fixed lives r flow [] readies split are = refl
+no_rel_ready moved fixed lives r flow (o ∷ os) [] split are = absurd are
+no_rel_ready moved fixed lives r flow (o ∷ os) (ready ∷ readies) split are = absurd (cc)
 
 -- where something is, a message is there
-pub never_past_rel : (moved : Bool) (keys : List NodeKey) (r : RelState) (flow : Flow) (rels : List ObjectRef) (place : ℕ) (readies others : List (Option (Kept × List ℕ × SeatState)))
+pub never_past_rel : (moved : Bool) (fixed : Fixed) (lives : List Life) (r : RelState) (flow : Flow) (rels : List ObjectRef) (place : ℕ)
+    (readies others : List (Option (Kept × List ℕ × SeatState)))
     (first : Option (Kept × List ℕ × SeatState)) → slice_get rels place ≡ None → split_first readies ≡ Some (first, others)
-    → AreRelsReady moved keys r flow (map as_object (drop place rels)) readies → ⊥
-never_past_rel moved keys r flow rels place readies others first none split are =
+    → AreRelsReady moved fixed lives r flow (map as_object (drop place rels)) readies → ⊥
+never_past_rel moved fixed lives r flow rels place readies others first none split are =
     let is : readies ≡ first ∷ others = split_is readies first others split in
-    let left : readies ≡ [] = subst (λ (xs : List ObjectRef). AreRelsReady moved keys r flow (map as_object xs) readies) (drop_past rels place none) are in
+    let left : readies ≡ [] = subst (λ (xs : List ObjectRef). AreRelsReady moved fixed lives r flow (map as_object xs) readies)
+    (drop_past rels place none) are in
     let both : first ∷ others ≡ [] = sym is ∙ left in
     absurd (cc)
 
 -- the first of both, and the others of both
-pub rel_in_turn : (moved : Bool) (keys : List NodeKey) (r : RelState) (flow : Flow) (rels : List ObjectRef) (place : ℕ) (x : ObjectRef)
-    (readies others : List (Option (Kept × List ℕ × SeatState))) (first : Option (Kept × List ℕ × SeatState)) → slice_get rels place ≡ Some x → split_first readies ≡ Some (first, others)
-    → AreRelsReady moved keys r flow (map as_object (drop place rels)) readies
-    → IsRelReady moved keys r flow (as_object x) first × AreRelsReady (moved || is_some first) keys r flow (map as_object (drop (place + 1) rels)) others
-rel_in_turn moved keys r flow rels place x readies others first at_place split are =
-    subst (λ (rs : List (Option (Kept × List ℕ × SeatState))). AreRelsReady moved keys r flow (map as_object (x ∷ drop (place + 1) rels)) rs) (split_is readies first others split)
-    (subst (λ (xs : List ObjectRef). AreRelsReady moved keys r flow (map as_object xs) readies) (drop_first rels place x at_place) are)
+pub rel_in_turn : (moved : Bool) (fixed : Fixed) (lives : List Life) (r : RelState) (flow : Flow) (rels : List ObjectRef) (place : ℕ) (x : ObjectRef)
+    (readies others : List (Option (Kept × List ℕ × SeatState)))
+    (first : Option (Kept × List ℕ × SeatState)) → slice_get rels place ≡ Some x → split_first readies ≡ Some (first, others)
+    → AreRelsReady moved fixed lives r flow (map as_object (drop place rels)) readies
+    → IsRelReady moved fixed lives r flow (as_object x) first × AreRelsReady (moved || is_some first) fixed lives r flow
+    (map as_object (drop (place + 1) rels)) others
+rel_in_turn moved fixed lives r flow rels place x readies others first at_place split are =
+    subst (λ (rs : List (Option (Kept × List ℕ × SeatState))). AreRelsReady moved fixed lives r flow (map as_object (x ∷ drop (place + 1) rels)) rs)
+    (split_is readies first others split)
+    (subst (λ (xs : List ObjectRef). AreRelsReady moved fixed lives r flow (map as_object xs) readies) (drop_first rels place x at_place) are)

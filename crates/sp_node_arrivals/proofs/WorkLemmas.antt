@@ -1,5 +1,5 @@
 -- The checks of what was read of a frame are those of its pieces, and those of its messages are counted one message after another.
-use Rattle.std.proofs.Common.{◌≡◌, ◌≤◌, ℕ, ◌+◌, Bool, true, false, List, [], ◌∷◌, ◌++◌, Option, None, Some, drop, map, option_map, refl, ap, ◌∙◌, arith}
+use Rattle.std.proofs.Common.{◌≡◌, ◌≤◌, ℕ, ◌+◌, Bool, true, false, List, [], ◌∷◌, ◌++◌, Option, None, Some, drop, map, option_map, refl, ap, arith}
 use Rattle.std.specs.List.{slice_get}
 use Rattle.sp_base.proofs.FewLemmas.{drop_first}
 use Rattle.std.specs.Prelude.{◌||◌}
@@ -10,11 +10,11 @@ use Rattle.sp_frame.specs.declared.sections.Sections.{Sections}
 use Rattle.sp_frame.specs.declared.sections.Slot.{Slot}
 use Rattle.sp_msg.specs.declared.kept.Kept.{Kept}
 use Rattle.sp_rules.specs.Handle.{Arrival}
-use Rattle.sp_rules.specs.Parts.{Parts}
+use Rattle.sp_rules.specs.Parts.{Fixed, Parts}
 use Rattle.sp_rules.specs.Pieces.{AckPiece, Piece, PrioAckPiece, RelPiece, WeightPiece, pieces_of, prio_piece, slot_pieces}
 use Rattle.sp_rules.specs.Prio.{PrioState}
 use Rattle.sp_rules.specs.Rel.{RelState}
-use Rattle.sp_topology.specs.declared.topology.NodeKey.{NodeKey}
+use Rattle.sp_rules.specs.declared.lives.Life.{Life}
 use Rattle.sp_node_arrivals.specs.Ack.{ack_checks, acked_by}
 use Rattle.sp_node_arrivals.specs.Prio.{prio_checks, prios_checks}
 use Rattle.sp_node_arrivals.specs.Rel.{is_followed, rel_checks, rels_checks}
@@ -24,25 +24,25 @@ use Rattle.sp_node_arrivals.specs.Weight.{weight_checks}
 use Rattle.sp_node_arrivals.specs.Work.{checks_for, frame_checks, section_checks}
 
 rels_are : (at : Arrival) (p : Parts) (flow : Flow) (moved : Bool) (os : List Kept)
-    → rels_checks moved at.fixed.topology.nodes p.rel flow os ≡ checks_for at p moved (map (RelPiece flow) os)
+    → rels_checks moved at.fixed p.lives p.rel flow os ≡ checks_for at p moved (map (RelPiece flow) os)
 rels_are at p flow moved [] = refl
 rels_are at p flow moved (o ∷ os) =
-    ap (λ (n : ℕ). rel_checks moved p.rel flow o + n) (rels_are at p flow (moved || is_followed moved at.fixed.topology.nodes p.rel flow o) os)
+    ap (λ (n : ℕ). rel_checks moved p.lives p.rel flow o + n) (rels_are at p flow (moved || is_followed moved at.fixed p.lives p.rel flow o) os)
 
 slot_objects : (at : Arrival) (p : Parts) (flow : Flow) (ack : Option Kept) (os : List Kept)
-    → of_some (ack_checks p.rel flow) ack + rels_checks (acked_by at.fixed.topology.nodes p.rel flow ack) at.fixed.topology.nodes p.rel flow os
+    → of_some (ack_checks p.lives p.rel flow) ack + rels_checks (acked_by at.fixed p.lives p.rel flow ack) at.fixed p.lives p.rel flow os
     ≡ checks_for at p false (map (AckPiece flow) (as_list ack) ++ map (RelPiece flow) os)
 slot_objects at p flow None os = let same = rels_are at p flow false os in omega (arith, same)
 slot_objects at p flow (Some a) os =
-    ap (λ (n : ℕ). ack_checks p.rel flow a + n) (rels_are at p flow (acked_by at.fixed.topology.nodes p.rel flow (Some a)) os)
+    ap (λ (n : ℕ). ack_checks p.lives p.rel flow a + n) (rels_are at p flow (acked_by at.fixed p.lives p.rel flow (Some a)) os)
 
 slot_is : (at : Arrival) (p : Parts) (slot : Option Slot)
-    → of_some (slot_checks at.fixed.topology.nodes p.rel) slot ≡ checks_for at p false (slot_pieces (option_map as_report slot))
+    → of_some (slot_checks at.fixed p.lives p.rel) slot ≡ checks_for at p false (slot_pieces (option_map as_report slot))
 slot_is at p None = refl
 slot_is at p (Some s) = slot_objects at p s.flow (option_map as_object s.ack) (map as_object s.rels)
 
 prios_are : (at : Arrival) (p : Parts) (ms : List (ℕ × Kept)) (rest : List Piece)
-    → prios_checks at p.prio ms + checks_for at p false rest ≡ checks_for at p false (map prio_piece ms ++ rest)
+    → prios_checks at p.lives p.prio ms + checks_for at p false rest ≡ checks_for at p false (map prio_piece ms ++ rest)
 prios_are at p [] rest = omega arith
 prios_are at p (m ∷ ms) rest = let others = prios_are at p ms rest in omega (arith, others)
 
@@ -56,8 +56,8 @@ as_pieces at p s =
     let tail : List Piece = slot_pieces (option_map as_report s.slot) in
     let prios : List Piece = map prio_piece (map as_numbered s.prios) ++ tail in
     let weight : ℕ = of_some (weight_checks at.fixed.me p.weights) (option_map as_object s.weight) in
-    let prio : ℕ = prios_checks at p.prio (map as_numbered s.prios) in
-    let slot : ℕ = of_some (slot_checks at.fixed.topology.nodes p.rel) s.slot in
+    let prio : ℕ = prios_checks at p.lives p.prio (map as_numbered s.prios) in
+    let slot : ℕ = of_some (slot_checks at.fixed p.lives p.rel) s.slot in
     let one : slot ≡ checks_for at p false tail = slot_is at p s.slot in
     let two : prio + checks_for at p false tail ≡ checks_for at p false prios = prios_are at p (map as_numbered s.prios) tail in
     let three : weight + checks_for at p false prios ≡ frame_checks at p (pieces_of (as_contents s)) =
@@ -66,15 +66,17 @@ as_pieces at p s =
 
 -- ---- going through the messages by their places
 
-pub prios_from : (at : Arrival) (s : PrioState) (ms : List (ℕ × ObjectRef)) (i : ℕ) (m : ℕ × ObjectRef) → slice_get ms i ≡ Some m
-    → prios_checks at s (map as_numbered (drop i ms)) ≡ prio_checks at s (as_object m.1) + prios_checks at s (map as_numbered (drop (i + 1) ms))
-prios_from at s ms i m there = ap (λ (xs : List (ℕ × ObjectRef)). prios_checks at s (map as_numbered xs)) (drop_first ms i m there)
+pub prios_from : (at : Arrival) (lives : List Life) (s : PrioState) (ms : List (ℕ × ObjectRef)) (i : ℕ) (m : ℕ × ObjectRef) → slice_get ms i ≡ Some m
+    → prios_checks at lives s (map as_numbered (drop i ms)) ≡ prio_checks at lives s (as_object m.1) + prios_checks at lives s
+    (map as_numbered (drop (i + 1) ms))
+prios_from at lives s ms i m there = ap (λ (xs : List (ℕ × ObjectRef)). prios_checks at lives s (map as_numbered xs)) (drop_first ms i m there)
 
-pub rels_from : (moved : Bool) (keys : List NodeKey) (r : RelState) (flow : Flow) (os : List ObjectRef) (i : ℕ) (o : ObjectRef) → slice_get os i ≡ Some o
-    → rels_checks moved keys r flow (map as_object (drop i os))
-    ≡ rel_checks moved r flow (as_object o)
-    + rels_checks (moved || is_followed moved keys r flow (as_object o)) keys r flow (map as_object (drop (i + 1) os))
-rels_from moved keys r flow os i o there = ap (λ (xs : List ObjectRef). rels_checks moved keys r flow (map as_object xs)) (drop_first os i o there)
+pub rels_from : (moved : Bool) (f : Fixed) (lives : List Life) (r : RelState) (flow : Flow) (os : List ObjectRef) (i : ℕ) (o : ObjectRef)
+    → slice_get os i ≡ Some o
+    → rels_checks moved f lives r flow (map as_object (drop i os))
+    ≡ rel_checks moved lives r flow (as_object o)
+    + rels_checks (moved || is_followed moved f lives r flow (as_object o)) f lives r flow (map as_object (drop (i + 1) os))
+rels_from moved f lives r flow os i o there = ap (λ (xs : List ObjectRef). rels_checks moved f lives r flow (map as_object xs)) (drop_first os i o there)
 
 -- something that is ready comes before what is left where it came before this message, or this message is ready
 pub moved_on : (moved first on : Bool) → moved ≡ true → on ≡ moved → on ≡ (moved || first)
@@ -86,12 +88,13 @@ moved_here false first on is same = same
 moved_here true first on is same = absurd (cc)
 
 -- the checks of one message, and then of those after it
-pub rels_then : (moved on : Bool) (keys kept : List NodeKey) (r : RelState) (flow : Flow) (os : List ObjectRef) (i : ℕ) (o : ObjectRef) (old between new : ℕ)
-    → slice_get os i ≡ Some o → on ≡ (moved || is_followed moved keys r flow (as_object o)) → kept ≡ keys
-    → between ≤ old + rel_checks moved r flow (as_object o) → new ≤ between + rels_checks on kept r flow (map as_object (drop (i + 1) os))
-    → new ≤ old + rels_checks moved keys r flow (map as_object (drop i os))
-rels_then moved on keys kept r flow os i o old between new there follows same one two =
+pub rels_then : (moved on : Bool) (f : Fixed) (lives : List Life) (r : RelState) (flow : Flow) (os : List ObjectRef) (i : ℕ) (o : ObjectRef)
+    (old between new : ℕ)
+    → slice_get os i ≡ Some o → on ≡ (moved || is_followed moved f lives r flow (as_object o))
+    → between ≤ old + rel_checks moved lives r flow (as_object o) → new ≤ between + rels_checks on f lives r flow (map as_object (drop (i + 1) os))
+    → new ≤ old + rels_checks moved f lives r flow (map as_object (drop i os))
+rels_then moved on f lives r flow os i o old between new there follows one two =
     let rest : List Kept = map as_object (drop (i + 1) os) in
-    let later = ap (λ (ks : List NodeKey). rels_checks on ks r flow rest) same ∙ ap (λ (b : Bool). rels_checks b keys r flow rest) follows in
-    let all = rels_from moved keys r flow os i o there in
+    let later = ap (λ (b : Bool). rels_checks b f lives r flow rest) follows in
+    let all = rels_from moved f lives r flow os i o there in
     omega (arith, one, two, later, all)

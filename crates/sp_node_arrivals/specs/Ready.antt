@@ -1,5 +1,5 @@
 -- What is ready of each object of a frame before anything is taken: a copy with its memory. It is there exactly where the signature is right, wherever
--- the object can be new when its turn comes; elsewhere nobody asks.
+-- the object can be new when its turn comes; elsewhere nobody asks. An object that names other boots than those that are held can't be new.
 use Rattle.std.specs.Prelude.{map, IfSome, option_map}
 use Rattle.sp_frame.specs.Views.{as_numbered, as_object}
 use Rattle.sp_frame.specs.declared.sections.Sections.{Sections}
@@ -11,6 +11,6 @@ use Rattle.sp_node_arrivals.specs.Weight.{IsWeightReady}
 use Rattle.sp_node_arrivals.specs.declared.arriving.Ready.{Ready}
 
 pub record IsReady (at : rules.Arrival) (p : Parts) (sections : Sections) (ready : Ready) : Type 0 where
-  pub update : IfSome (option_map as_object sections.weight) (λ o. IsWeightReady at.fixed.me at.fixed.topology.nodes p.weights o ready.weight)
-  pub messages : ArePriosReady at p.prio (map as_numbered sections.prios) ready.prios
-  pub slot : IfSome sections.slot (λ s. IsSlotReady at.fixed.topology.nodes p.rel s ready.slot)
+  pub update : IfSome (option_map as_object sections.weight) (λ o. IsWeightReady at.fixed p.weights o ready.weight)
+  pub messages : ArePriosReady at p.lives p.prio (map as_numbered sections.prios) ready.prios
+  pub slot : IfSome sections.slot (λ s. IsSlotReady at.fixed p.lives p.rel s ready.slot)

@@ -5,10 +5,12 @@ use Rattle.sp_msg.specs.Bodies.{payload_of}
 use Rattle.sp_msg.specs.declared.kept.Kept.{Kept}
 use Rattle.sp_rel.specs.Seated.{IsSeated}
 use Rattle.sp_rel.specs.Seats.{SeatState}
+use Rattle.sp_rules.specs.Lives.{is_dated}
+use Rattle.sp_rules.specs.Parts.{Fixed}
 use Rattle.sp_rules.specs.Rel.{RelState, judge_rel_of}
+use Rattle.sp_rules.specs.declared.lives.Life.{Life}
 use Rattle.sp_rules.specs.declared.rel.RelJudged.{RelJudged}
 use Rattle.sp_rules.specs.declared.rel.RelJudged.TheVariants as rels
-use Rattle.sp_topology.specs.declared.topology.NodeKey.{NodeKey}
 use Rattle.sp_node_arrivals.specs.Signed.{is_right, one_if}
 
 -- whether a message that is judged so may be new when its turn comes, by whether something new comes before it in its slot. A new acknowledgement
@@ -23,34 +25,39 @@ may_be_new moved rels.Full = moved
 may_be_new moved rels.InboxFull = moved
 may_be_new moved rels.New = true
 
-pub record IsRelReady (moved : Bool) (keys : List NodeKey) (r : RelState) (flow : Flow) (o : Kept) (ready : Option (Kept × List ℕ × SeatState))
-    : Type 0 where
+-- the same of a message: by the boots that it names, which are those that are held all through a frame, and by its judgement
+abbrev pub may_be_new_rel : Bool → List Life → RelState → Flow → Kept → Bool
+may_be_new_rel moved lives r flow o = is_dated lives o.body && may_be_new moved (judge_rel_of r flow o.body)
+
+pub record IsRelReady (moved : Bool) (f : Fixed) (lives : List Life) (r : RelState) (flow : Flow) (o : Kept)
+    (ready : Option (Kept × List ℕ × SeatState)) : Type 0 where
   pub copy : IfSome ready (λ m. m.0 ≡ o)
   pub payload : IfSome ready (λ m. m.1 ≡ payload_of o.body)
   pub seat : IfSome ready (λ m. IsSeated r flow m.2)
-  pub right : may_be_new moved (judge_rel_of r flow o.body) ≡ true → is_some ready ≡ is_right keys o
+  pub right : is_dated lives o.body ≡ true → may_be_new moved (judge_rel_of r flow o.body) ≡ true → is_some ready ≡ is_right f o
 
 -- of messages one after another: each may be new where something before it is ready
-abbrev pub AreRelsReady : Bool → List NodeKey → RelState → Flow → List Kept → List (Option (Kept × List ℕ × SeatState)) → Type 0
-AreRelsReady moved keys r flow [] readies = readies ≡ []
-AreRelsReady moved keys r flow (o ∷ os) [] = ⊥
-AreRelsReady moved keys r flow (o ∷ os) (ready ∷ readies) =
-    IsRelReady moved keys r flow o ready × AreRelsReady (moved || is_some ready) keys r flow os readies
+abbrev pub AreRelsReady : Bool → Fixed → List Life → RelState → Flow → List Kept → List (Option (Kept × List ℕ × SeatState)) → Type 0
+AreRelsReady moved f lives r flow [] readies = readies ≡ []
+AreRelsReady moved f lives r flow (o ∷ os) [] = ⊥
+AreRelsReady moved f lives r flow (o ∷ os) (ready ∷ readies) =
+    IsRelReady moved f lives r flow o ready × AreRelsReady (moved || is_some ready) f lives r flow os readies
 
 -- a message that was made ready before an object of its slot is ready after it, whether that object was new or not
-abbrev pub StaysReady : Bool → List NodeKey → Flow → RelState → RelState → Type 0
-StaysReady new keys flow old left =
-    (moved : Bool) (o : Kept) (ready : Option (Kept × List ℕ × SeatState)) → IsRelReady (new || moved) keys old flow o ready
-    → IsRelReady moved keys left flow o ready
+abbrev pub StaysReady : Bool → Fixed → List Life → Flow → RelState → RelState → Type 0
+StaysReady new f lives flow old left =
+    (moved : Bool) (o : Kept) (ready : Option (Kept × List ℕ × SeatState)) → IsRelReady (new || moved) f lives old flow o ready
+    → IsRelReady moved f lives left flow o ready
 
 -- it is new now, or may be new after something new before it
-abbrev pub rel_checks : Bool → RelState → Flow → Kept → ℕ
-rel_checks moved r flow o = one_if (may_be_new moved (judge_rel_of r flow o.body))
+abbrev pub rel_checks : Bool → List Life → RelState → Flow → Kept → ℕ
+rel_checks moved lives r flow o = one_if (may_be_new_rel moved lives r flow o)
 
--- it may be new, by its judgement and by its signature, so what comes after it in its slot may be
-abbrev pub is_followed : Bool → List NodeKey → RelState → Flow → Kept → Bool
-is_followed moved keys r flow o = may_be_new moved (judge_rel_of r flow o.body) && is_right keys o
+-- it may be new, and its signature is right, so what comes after it in its slot may be
+abbrev pub is_followed : Bool → Fixed → List Life → RelState → Flow → Kept → Bool
+is_followed moved f lives r flow o = may_be_new_rel moved lives r flow o && is_right f o
 
-abbrev pub rels_checks : Bool → List NodeKey → RelState → Flow → List Kept → ℕ
-rels_checks moved keys r flow [] = 0
-rels_checks moved keys r flow (o ∷ os) = rel_checks moved r flow o + rels_checks (moved || is_followed moved keys r flow o) keys r flow os
+abbrev pub rels_checks : Bool → Fixed → List Life → RelState → Flow → List Kept → ℕ
+rels_checks moved f lives r flow [] = 0
+rels_checks moved f lives r flow (o ∷ os) =
+    rel_checks moved lives r flow o + rels_checks (moved || is_followed moved f lives r flow o) f lives r flow os

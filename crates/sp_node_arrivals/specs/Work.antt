@@ -18,11 +18,11 @@ abbrev pub checks_for : rules.Arrival → Parts → Bool → List Piece → ℕ
 checks_for at p moved [] = 0
 checks_for at p moved (WeightPiece o ∷ rest) = weight_checks at.fixed.me p.weights o + checks_for at p moved rest
 checks_for at p moved (PrioAckPiece number ∷ rest) = checks_for at p moved rest
-checks_for at p moved (PrioPiece number o ∷ rest) = prio_checks at p.prio o + checks_for at p moved rest
-checks_for at p moved (ReportPiece flow base have ∷ rest) = checks_for at p moved rest
-checks_for at p moved (AckPiece flow o ∷ rest) = ack_checks p.rel flow o + checks_for at p (is_acked at.fixed.topology.nodes p.rel flow o) rest
+checks_for at p moved (PrioPiece number o ∷ rest) = prio_checks at p.lives p.prio o + checks_for at p moved rest
+checks_for at p moved (ReportPiece flow sboot dboot base have ∷ rest) = checks_for at p moved rest
+checks_for at p moved (AckPiece flow o ∷ rest) = ack_checks p.lives p.rel flow o + checks_for at p (is_acked at.fixed p.lives p.rel flow o) rest
 checks_for at p moved (RelPiece flow o ∷ rest) =
-    rel_checks moved p.rel flow o + checks_for at p (moved || is_followed moved at.fixed.topology.nodes p.rel flow o) rest
+    rel_checks moved p.lives p.rel flow o + checks_for at p (moved || is_followed moved at.fixed p.lives p.rel flow o) rest
 
 -- the checks for a whole frame
 abbrev pub frame_checks : rules.Arrival → Parts → List Piece → ℕ
@@ -32,5 +32,5 @@ frame_checks at p pieces = checks_for at p false pieces
 abbrev pub section_checks : rules.Arrival → Parts → Sections → ℕ
 section_checks at p sections =
     of_some (weight_checks at.fixed.me p.weights) (option_map as_object sections.weight)
-    + prios_checks at p.prio (map as_numbered sections.prios)
-    + of_some (slot_checks at.fixed.topology.nodes p.rel) sections.slot
+    + prios_checks at p.lives p.prio (map as_numbered sections.prios)
+    + of_some (slot_checks at.fixed p.lives p.rel) sections.slot

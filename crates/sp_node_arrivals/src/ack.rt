@@ -1,22 +1,22 @@
 // The acknowledgement of a slot: whether it may be new, its copy with the memory of its flow, and its taking.
-ghost use Rattle.std.specs.Prelude.{◌≡◌, ◌≢◌, ◌≤◌, ◌+◌, [], ◌∷◌, Bool, false, IfOk, IfSome, is_some, map, option_map};
-ghost use Rattle.sp_base.specs.declared.format.TheConstants.{FORMAT_1};
+ghost use Rattle.std.specs.Prelude.{◌≡◌, ◌≢◌, ◌≤◌, ◌+◌, [], ◌∷◌, Bool, false, true, IfOk, IfSome, is_some, map, option_map};
 ghost use Rattle.sp_frame.specs.OfFormat.{IsOf};
 ghost use Rattle.sp_frame.specs.Views.{as_list, as_object};
-ghost use Rattle.sp_msg.specs.Bodies.{HasGoodFields};
 ghost use Rattle.sp_msg.specs.Caused.{Caused};
 ghost use Rattle.sp_msg.specs.Views.{as_body};
 ghost use Rattle.sp_rel.specs.Places.{IsPlace};
 ghost use Rattle.sp_rel.specs.Seated.{IsSeated};
 ghost use Rattle.sp_rules.specs.Answers.{ack_answer, is_new};
+ghost use Rattle.sp_rules.specs.Changes.{FitsAFormat};
 ghost use Rattle.sp_rules.specs.Handle.{ack_handled, handle_all};
+ghost use Rattle.sp_rules.specs.Lives.{is_dated};
 ghost use Rattle.sp_rules.specs.Pieces.{AckPiece};
 ghost use Rattle.sp_rules.specs.Rel.{judge_ack_of};
 ghost use Rattle.sp_node_arrivals.specs.Ack.{IsAckReady, ack_checks, is_acked};
 ghost use Rattle.sp_node_arrivals.specs.Arrival.{as_arrival};
 ghost use Rattle.sp_node_arrivals.specs.Done.{IsDone};
 ghost use Rattle.sp_node_arrivals.specs.Rel.{StaysReady};
-ghost use Rattle.sp_node_format.specs.Format.{format};
+ghost use Rattle.sp_node_format.specs.Format.{format_of};
 
 use crate::arrival::Arrival;
 use crate::signed::{copy_of, is_right, recall};
@@ -32,23 +32,28 @@ use std::alloc::Global;
 /// Makes an acknowledgement ready.
 pub(crate) fn ready(
     alloc: Global,
+    at: &Arrival<'_>,
     parts: &Parts,
     checker: &mut Checker,
     row: Place,
     object: &ObjectRef<'_>,
 ) -> Result<Option<(Kept, Seat)>, Memory>
-    requires format { IsOf FORMAT_1 object.now }
+    requires format { IsOf at.now.fixed.now.topology.format object.now }
+    requires keys { checker.old.nodes ≡ at.now.fixed.now.topology.nodes }
     requires place { IsPlace parts.now.rel.flows row }
-    ensures ready { IfOk result (IsAckReady checker.old.nodes parts.now.rel row.flow (as_object object.now)) }
+    ensures ready { IfOk result (IsAckReady at.now.fixed.now parts.now.lives parts.now.rel row.flow (as_object object.now)) }
     ensures keys { checker.new.nodes ≡ checker.old.nodes }
-    ensures work { checker.new.checks ≤ checker.old.checks + ack_checks parts.now.rel row.flow (as_object object.now) }
-    ensures new { IfOk result (λ ready. is_some ready ≡ is_acked checker.old.nodes parts.now.rel row.flow (as_object object.now)) }
+    ensures work { checker.new.checks ≤ checker.old.checks + ack_checks parts.now.lives parts.now.rel row.flow (as_object object.now) }
+    ensures new { IfOk result (λ ready. is_some ready ≡ is_acked at.now.fixed.now parts.now.lives parts.now.rel row.flow (as_object object.now)) }
     ensures few { checker.new.checks ≤ checker.old.checks + 1 }
 {
+    if !parts.lives.is_dated(&object.body) {
+        return Ok(None);
+    }
     let AckJudged::New = judge(parts, row, &object.body) else {
         return Ok(None);
     };
-    if !is_right(checker, object) {
+    if !is_right(at, checker, object) {
         return Ok(None);
     }
     let kept = copy_of(alloc, object)?;
@@ -67,12 +72,12 @@ pub(crate) fn admit(
     ready: Option<(Kept, Seat)>,
 ) -> Option<Item>
     requires place { IsPlace parts.old.rel.flows row }
-    requires format { IfSome ack.now (IsOf FORMAT_1) }
-    requires ready { IfSome (option_map as_object ack.now) (λ o. IsAckReady at.now.fixed.now.topology.nodes parts.old.rel row.flow o ready) }
+    requires ready { IfSome (option_map as_object ack.now) (λ o. IsAckReady at.now.fixed.now parts.old.lives parts.old.rel row.flow o ready) }
     ensures done { (c : Caused) → IsDone
-        (handle_all format (as_arrival at.now) parts.old (map (AckPiece row.flow) (as_list (option_map as_object ack.now))))
+        (handle_all (format_of at.now.fixed.now) (as_arrival at.now) parts.old (map (AckPiece row.flow) (as_list (option_map as_object ack.now))))
         parts.new (as_list result) c c }
-    ensures stays { StaysReady (is_some ready) at.now.fixed.now.topology.nodes row.flow parts.old.rel parts.new.rel }
+    ensures lives { parts.new.lives ≡ parts.old.lives }
+    ensures stays { StaysReady (is_some ready) at.now.fixed.now parts.old.lives row.flow parts.old.rel parts.new.rel }
     ensures place { IsPlace parts.new.rel.flows row }
 {
     match ack {
@@ -89,12 +94,12 @@ fn admit_one(
     ready: Option<(Kept, Seat)>,
 ) -> Item
     requires place { IsPlace parts.old.rel.flows row }
-    requires format { IsOf FORMAT_1 object.now }
-    requires ready { IsAckReady at.now.fixed.now.topology.nodes parts.old.rel row.flow (as_object object.now) ready }
+    requires ready { IsAckReady at.now.fixed.now parts.old.lives parts.old.rel row.flow (as_object object.now) ready }
     ensures done { (c : Caused) → IsDone
-        (handle_all format (as_arrival at.now) parts.old (AckPiece row.flow (as_object object.now) ∷ []))
+        (handle_all (format_of at.now.fixed.now) (as_arrival at.now) parts.old (AckPiece row.flow (as_object object.now) ∷ []))
         parts.new (result ∷ []) c c }
-    ensures stays { StaysReady (is_some ready) at.now.fixed.now.topology.nodes row.flow parts.old.rel parts.new.rel }
+    ensures lives { parts.new.lives ≡ parts.old.lives }
+    ensures stays { StaysReady (is_some ready) at.now.fixed.now parts.old.lives row.flow parts.old.rel parts.new.rel }
     ensures place { IsPlace parts.new.rel.flows row }
 {
     recall(object);
@@ -131,14 +136,18 @@ fn take(
     ready: Option<(Kept, Seat)>,
 ) -> AckAnswer
     requires place { IsPlace parts.old.rel.flows row }
-    requires fields { HasGoodFields (as_object object.now).body }
+    requires fields { FitsAFormat (as_object object.now).body }
     requires copy { IfSome ready (λ r. r.0 ≡ as_object object.now) }
     requires seat { IfSome ready (λ r. IsSeated parts.old.rel row.flow r.1) }
-    ensures answer { result ≡ ack_answer (is_some ready) (judge_ack_of parts.old.rel row.flow (as_object object.now).body) }
+    ensures answer { result ≡ ack_answer (is_some ready) (is_dated parts.old.lives (as_object object.now).body)
+        (judge_ack_of parts.old.rel row.flow (as_object object.now).body) }
     ensures parts { parts.new ≡ (ack_handled result (as_object object.now) parts.old).parts }
     ensures place { IsPlace parts.new.rel.flows row }
 {
     let judged = judge(parts, row, &object.body);
+    if !parts.lives.is_dated(&object.body) {
+        return undated(judged);
+    }
     let AckJudged::New = judged else {
         return refusal(judged);
     };
@@ -149,10 +158,21 @@ fn take(
     AckAnswer::New
 }
 
-/// The answer to an acknowledgement that isn't new, whether its signature is right or not.
+/// The answer to an acknowledgement that names another boot of an end than the one that is held, whether its signature is right or not.
+fn undated(judged: AckJudged) -> AckAnswer
+    ensures answer { (right : Bool) → result ≡ ack_answer right false judged }
+    ensures quiet { is_new (Item.Ack result) ≡ false }
+{
+    match judged {
+        AckJudged::BadEnd => AckAnswer::BadEnd,
+        AckJudged::Old | AckJudged::Ahead | AckJudged::New => AckAnswer::Epoch,
+    }
+}
+
+/// The answer to one under held boots that isn't new, whether its signature is right or not.
 fn refusal(judged: AckJudged) -> AckAnswer
     requires { judged ≢ AckJudged.New }
-    ensures answer { (right : Bool) → result ≡ ack_answer right judged }
+    ensures answer { (right : Bool) → result ≡ ack_answer right true judged }
     ensures quiet { is_new (Item.Ack result) ≡ false }
 {
     match judged {

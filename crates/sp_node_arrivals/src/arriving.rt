@@ -1,7 +1,6 @@
 // A fresh frame arrives: all memory and all signatures first, then its objects one after another, kind after kind.
 ghost use Rattle.std.specs.Prelude.{◌≡◌, ◌≤◌, ◌<◌, ◌+◌, ◌-◌, [], ◌++◌, IfOk, OnErr, drop, length, vec_capacity};
 ghost use Rattle.sp_base.specs.declared.limits.TheConstants.{MAX_MESSAGES};
-ghost use Rattle.sp_base.specs.declared.format.TheConstants.{FORMAT_1};
 ghost use Rattle.sp_frame.specs.OfFormat.{AreOf};
 ghost use Rattle.sp_frame.specs.Views.{as_contents, as_list};
 ghost use Rattle.sp_frame.specs.declared.sections.TheConstants.{MOST_OBJECTS};
@@ -14,7 +13,7 @@ ghost use Rattle.sp_node_arrivals.specs.Prio.{HasIds};
 ghost use Rattle.sp_node_arrivals.specs.Ready.{IsReady};
 ghost use Rattle.sp_node_arrivals.specs.Rooms.{frame_room};
 ghost use Rattle.sp_node_arrivals.specs.Work.{frame_checks, section_checks};
-ghost use Rattle.sp_node_format.specs.Format.{format};
+ghost use Rattle.sp_node_format.specs.Format.{format_of};
 
 use crate::arrival::Arrival;
 use crate::slot::{SlotAnswers, SlotReady};
@@ -35,11 +34,11 @@ pub struct Arrived {
     pub effects: Effects,
 }
 
-/// Takes the objects of a fresh frame from a neighbour in the order of the rules: the update of a weight, the acknowledged link number, the
-/// priority messages, and the slot with its report, its acknowledgement and its messages.
+/// Takes the objects of a fresh frame from a neighbour, which are of the topology's format, in the order of the rules: the update of a weight, the
+/// acknowledged link number, the priority messages, and the slot with its report, its acknowledgement and its messages.
 ///
 /// All memory is taken before anything changes, so it is refused for want of memory alone, and then nothing has changed. A signature is checked
-/// once for each object that may be new when its turn comes, and for no other.
+/// once for each object that may be new when its turn comes, and for no other: for none that names other boots than those that are held.
 pub fn arrive(
     alloc: Global,
     fixed: &Fixed,
@@ -49,11 +48,11 @@ pub fn arrive(
     from: NodeId,
     sections: &Sections<'_>,
 ) -> Result<Arrived, Memory>
-    requires formats { AreOf FORMAT_1 sections.now }
+    requires formats { AreOf fixed.now.topology.format sections.now }
     requires keys { checker.old.nodes ≡ fixed.now.topology.nodes }
     requires ids { HasIds MAX_MESSAGES parts.old.prio }
     ensures taken { IfOk result (λ a. IsAdmitted
-        (handle_all format (record { fixed = fixed.now; now = now; from = from }) parts.old (pieces_of (as_contents sections.now)))
+        (handle_all (format_of fixed.now) (record { fixed = fixed.now; now = now; from = from }) parts.old (pieces_of (as_contents sections.now)))
         parts.new a.items a.effects.list) }
     ensures as_before { OnErr result (parts.new ≡ parts.old) }
     ensures keys { checker.new.nodes ≡ checker.old.nodes }
@@ -90,7 +89,7 @@ fn make_ready(
     checker: &mut Checker,
     sections: &Sections<'_>,
 ) -> Result<Ready, Memory>
-    requires formats { AreOf FORMAT_1 sections.now }
+    requires formats { AreOf at.now.fixed.now.topology.format sections.now }
     requires keys { checker.old.nodes ≡ at.now.fixed.now.topology.nodes }
     ensures ready { IfOk result (IsReady (as_arrival at.now) parts.now sections.now) }
     ensures keys { checker.new.nodes ≡ checker.old.nodes }
@@ -160,14 +159,13 @@ fn taken(
     ready: Ready,
     room: Room,
 ) -> Arrived
-    requires formats { AreOf FORMAT_1 sections.now }
     requires ready { IsReady (as_arrival at.now) parts.old sections.now ready }
     requires ids { HasIds MAX_MESSAGES parts.old.prio }
     requires effects { room.effects ≡ record { list = []; room = frame_room parts.old.prio } }
     requires empty { room.items.items ≡ [] }
     requires items { MOST_OBJECTS ≤ vec_capacity room.items }
     ensures { IsAdmitted
-        (handle_all format (as_arrival at.now) parts.old (pieces_of (as_contents sections.now)))
+        (handle_all (format_of at.now.fixed.now) (as_arrival at.now) parts.old (pieces_of (as_contents sections.now)))
         parts.new result.items result.effects.list }
 {
     let Room { mut effects, items } = room;
@@ -186,12 +184,11 @@ fn admit(
     ready: Ready,
     out: &mut Effects,
 ) -> Answers
-    requires formats { AreOf FORMAT_1 sections.now }
     requires ready { IsReady (as_arrival at.now) parts.old sections.now ready }
     requires ids { HasIds MAX_MESSAGES parts.old.prio }
     requires room { frame_room parts.old.prio ≤ out.old.room }
     ensures { IsDone
-        (handle_all format (as_arrival at.now) parts.old (pieces_of (as_contents sections.now)))
+        (handle_all (format_of at.now.fixed.now) (as_arrival at.now) parts.old (pieces_of (as_contents sections.now)))
         parts.new (items_of result) out.old out.new }
 {
     let Ready {

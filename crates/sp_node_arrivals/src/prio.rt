@@ -1,20 +1,20 @@
 // Priority messages, and the acknowledged link number before them: whether each may be new, its parcel, and its taking.
 ghost use Rattle.std.specs.Prelude.{◌≡◌, ◌≤◌, ◌<◌, ◌+◌, ◌-◌, ◌*◌, ◌^◌};
-ghost use Rattle.std.specs.Prelude.{[], ◌∷◌, All, IfOk, IfSome, Some, drop, is_some, length, map};
+ghost use Rattle.std.specs.Prelude.{[], ◌∷◌, ◌⊎◌, All, Bool, false, IfOk, IfSome, Some, drop, is_some, length, map};
 ghost use Rattle.sp_base.specs.declared.limits.TheConstants.{MAX_MESSAGES};
-ghost use Rattle.sp_base.specs.declared.format.TheConstants.{FORMAT_1};
 ghost use Rattle.sp_frame.specs.OfFormat.{IsOf};
 ghost use Rattle.sp_frame.specs.Views.{as_numbered, as_object};
-ghost use Rattle.sp_msg.specs.Bodies.{HasGoodFields};
 ghost use Rattle.sp_rules.specs.Answers.{prio_answer};
+ghost use Rattle.sp_rules.specs.Changes.{FitsAFormat};
 ghost use Rattle.sp_rules.specs.Handle.{handle_all, prio_handled};
+ghost use Rattle.sp_rules.specs.Lives.{is_dated};
 ghost use Rattle.sp_rules.specs.Pieces.{PrioPiece, prio_piece};
 ghost use Rattle.sp_rules.specs.Prio.{acked, acked_effects, judge_prio, places};
 ghost use Rattle.sp_rules.specs.Told.{told};
 ghost use Rattle.sp_node_arrivals.specs.Arrival.{as_arrival};
 ghost use Rattle.sp_node_arrivals.specs.Done.{IsDone};
 ghost use Rattle.sp_node_arrivals.specs.Prio.{ArePriosReady, HasIds, HasRoom, IsPrioReady, prio_checks, prio_room, prios_checks};
-ghost use Rattle.sp_node_format.specs.Format.{format};
+ghost use Rattle.sp_node_format.specs.Format.{format_of};
 
 use crate::arrival::Arrival;
 use crate::signed::{copy_of, is_right, recall};
@@ -36,12 +36,13 @@ pub(crate) fn ready_from(
     prios: &Four<(u64, ObjectRef<'_>)>,
     place: usize,
 ) -> Result<Four<Option<Parcel>>, Memory>
-    requires formats { All (λ p. IsOf FORMAT_1 p.1) prios.now }
+    requires formats { All (λ p. IsOf at.now.fixed.now.topology.format p.1) prios.now }
     requires keys { checker.old.nodes ≡ at.now.fixed.now.topology.nodes }
-    ensures ready { IfOk result (ArePriosReady (as_arrival at.now) parts.now.prio (map as_numbered (drop place prios.now))) }
+    ensures ready { IfOk result (ArePriosReady (as_arrival at.now) parts.now.lives parts.now.prio (map as_numbered (drop place prios.now))) }
     ensures many { IfOk result (λ ready. length ready ≡ length prios.now - place) }
     ensures keys { checker.new.nodes ≡ checker.old.nodes }
-    ensures work { checker.new.checks ≤ checker.old.checks + prios_checks (as_arrival at.now) parts.now.prio (map as_numbered (drop place prios.now)) }
+    ensures work { checker.new.checks ≤ checker.old.checks
+        + prios_checks (as_arrival at.now) parts.now.lives parts.now.prio (map as_numbered (drop place prios.now)) }
     ensures few { checker.new.checks ≤ checker.old.checks + (MAX_MESSAGES - place) }
 {
     let Some((_, object)) = prios.get(place) else {
@@ -59,17 +60,20 @@ fn ready_one(
     checker: &mut Checker,
     object: &ObjectRef<'_>,
 ) -> Result<Option<Parcel>, Memory>
-    requires format { IsOf FORMAT_1 object.now }
+    requires format { IsOf at.now.fixed.now.topology.format object.now }
     requires keys { checker.old.nodes ≡ at.now.fixed.now.topology.nodes }
-    ensures ready { IfOk result (IsPrioReady (as_arrival at.now) parts.now.prio (as_object object.now)) }
+    ensures ready { IfOk result (IsPrioReady (as_arrival at.now) parts.now.lives parts.now.prio (as_object object.now)) }
     ensures keys { checker.new.nodes ≡ checker.old.nodes }
-    ensures work { checker.new.checks ≤ checker.old.checks + prio_checks (as_arrival at.now) parts.now.prio (as_object object.now) }
+    ensures work { checker.new.checks ≤ checker.old.checks + prio_checks (as_arrival at.now) parts.now.lives parts.now.prio (as_object object.now) }
     ensures few { checker.new.checks ≤ checker.old.checks + 1 }
 {
+    if !parts.lives.is_dated(&object.body) {
+        return Ok(None);
+    }
     let PrioJudged::New = parts.prio.judge_ref(&object.body, at.time) else {
         return Ok(None);
     };
-    if !is_right(checker, object) {
+    if !is_right(at, checker, object) {
         return Ok(None);
     }
     let kept = copy_of(alloc, object)?;
@@ -102,14 +106,14 @@ pub(crate) fn admit_from(
     ready: Four<Option<Parcel>>,
     out: &mut Effects,
 ) -> Four<Item>
-    requires ready { ArePriosReady (as_arrival at.now) parts.old.prio (map as_numbered (drop place prios.now)) ready }
-    requires formats { All (λ p. IsOf FORMAT_1 p.1) prios.now }
+    requires ready { ArePriosReady (as_arrival at.now) parts.old.lives parts.old.prio (map as_numbered (drop place prios.now)) ready }
     requires room { HasRoom (MAX_MESSAGES - place) parts.old.prio out.old.room }
     ensures done { IsDone
-        (handle_all format (as_arrival at.now) parts.old (map prio_piece (map as_numbered (drop place prios.now))))
+        (handle_all (format_of at.now.fixed.now) (as_arrival at.now) parts.old (map prio_piece (map as_numbered (drop place prios.now))))
         parts.new result out.old out.new }
     ensures many { length result ≡ length prios.now - place }
     ensures rel { parts.new.rel ≡ parts.old.rel }
+    ensures lives { parts.new.lives ≡ parts.old.lives }
     ensures room { out.old.room ≤ out.new.room + (MAX_MESSAGES - place) * prio_room parts.old.prio }
 {
     let Some((first, others)) = ready.split() else {
@@ -131,14 +135,14 @@ fn admit_one(
     ready: Option<Parcel>,
     out: &mut Effects,
 ) -> Item
-    requires ready { IsPrioReady (as_arrival at.now) parts.old.prio (as_object object.now) ready }
-    requires format { IsOf FORMAT_1 object.now }
+    requires ready { IsPrioReady (as_arrival at.now) parts.old.lives parts.old.prio (as_object object.now) ready }
     requires ids { HasIds 1 parts.old.prio }
     requires room { prio_room parts.old.prio ≤ out.old.room }
     ensures done { IsDone
-        (handle_all format (as_arrival at.now) parts.old (PrioPiece number (as_object object.now) ∷ []))
+        (handle_all (format_of at.now.fixed.now) (as_arrival at.now) parts.old (PrioPiece number (as_object object.now) ∷ []))
         parts.new (result ∷ []) out.old out.new }
     ensures rel { parts.new.rel ≡ parts.old.rel }
+    ensures lives { parts.new.lives ≡ parts.old.lives }
     ensures room { out.old.room ≤ out.new.room + prio_room parts.old.prio }
 {
     recall(object);
@@ -154,7 +158,7 @@ fn take(
     ready: Option<Parcel>,
     out: &mut Effects,
 ) -> PrioAnswer
-    requires fields { HasGoodFields (as_object object.now).body }
+    requires fields { FitsAFormat (as_object object.now).body }
     requires parcel { IfSome ready (λ parcel. parcel ≡ record {
       kept = as_object object.now;
       came = Some at.now.from;
@@ -163,11 +167,16 @@ fn take(
     requires inbox { parts.old.prio.inbox.last < 2 ^ 63 }
     requires stores { All (λ q. q.store.last < 2 ^ 63) parts.old.prio.peers }
     requires room { 2 * length parts.old.prio.peers + 3 ≤ out.old.room }
-    ensures answer { result ≡ prio_answer (is_some ready) (judge_prio parts.old.prio (as_object object.now).body at.now.time) }
+    ensures answer { result ≡ prio_answer (is_some ready) (is_dated parts.old.lives (as_object object.now).body)
+        (judge_prio parts.old.prio (as_object object.now).body at.now.time) }
     ensures parts { parts.new ≡ (prio_handled at.now.from result number (as_object object.now) parts.old).parts }
     ensures told { out.new ≡ told out.old (prio_handled at.now.from result number (as_object object.now) parts.old).effects }
 {
-    match parts.prio.judge_ref(&object.body, at.time) {
+    let judged = parts.prio.judge_ref(&object.body, at.time);
+    if !parts.lives.is_dated(&object.body) {
+        return undated(judged);
+    }
+    match judged {
         PrioJudged::BadEnd => PrioAnswer::BadEnd,
         PrioJudged::Expired => PrioAnswer::Expired,
         PrioJudged::Seen => {
@@ -182,5 +191,16 @@ fn take(
             parts.prio.heard(at.from, number);
             PrioAnswer::New
         }
+    }
+}
+
+/// The answer to a message that names another boot than the one that is held, whether its signature is right or not.
+fn undated(judged: PrioJudged) -> PrioAnswer
+    ensures answer { (right : Bool) → result ≡ prio_answer right false judged }
+    ensures refused { (result ≡ PrioAnswer.BadEnd) ⊎ (result ≡ PrioAnswer.Epoch) }
+{
+    match judged {
+        PrioJudged::BadEnd => PrioAnswer::BadEnd,
+        PrioJudged::Expired | PrioJudged::Seen | PrioJudged::New => PrioAnswer::Epoch,
     }
 }

@@ -1,22 +1,24 @@
 // The reliable messages of a slot: whether each may be new, its copy with the memory of its flow, and its taking.
-ghost use Rattle.std.specs.Prelude.{◌≡◌, ◌≢◌, ◌≤◌, ◌+◌, ◌-◌, [], ◌∷◌, All, Bool, false, IfOk, IfSome, drop, is_some, length, map};
+ghost use Rattle.std.specs.Prelude.{◌≡◌, ◌≢◌, ◌≤◌, ◌+◌, ◌-◌, [], ◌∷◌, All, Bool, false, true};
+ghost use Rattle.std.specs.Prelude.{IfOk, IfSome, drop, is_some, length, map};
 ghost use Rattle.sp_base.specs.declared.limits.TheConstants.{MAX_MESSAGES};
-ghost use Rattle.sp_base.specs.declared.format.TheConstants.{FORMAT_1};
 ghost use Rattle.sp_frame.specs.OfFormat.{IsOf};
 ghost use Rattle.sp_frame.specs.Views.{as_object};
-ghost use Rattle.sp_msg.specs.Bodies.{HasGoodFields, payload_of};
+ghost use Rattle.sp_msg.specs.Bodies.{payload_of};
 ghost use Rattle.sp_msg.specs.Views.{as_body};
 ghost use Rattle.sp_rel.specs.Places.{IsPlace};
 ghost use Rattle.sp_rel.specs.Seated.{IsSeated};
 ghost use Rattle.sp_rules.specs.Answers.{is_new, rel_answer};
+ghost use Rattle.sp_rules.specs.Changes.{FitsAFormat};
 ghost use Rattle.sp_rules.specs.Handle.{handle_all, rel_handled};
+ghost use Rattle.sp_rules.specs.Lives.{is_dated};
 ghost use Rattle.sp_rules.specs.Pieces.{RelPiece};
 ghost use Rattle.sp_rules.specs.Rel.{judge_rel_of};
 ghost use Rattle.sp_rules.specs.Told.{told};
 ghost use Rattle.sp_node_arrivals.specs.Arrival.{as_arrival};
 ghost use Rattle.sp_node_arrivals.specs.Done.{IsDone};
 ghost use Rattle.sp_node_arrivals.specs.Rel.{AreRelsReady, IsRelReady, StaysReady, is_followed, may_be_new, rel_checks, rels_checks};
-ghost use Rattle.sp_node_format.specs.Format.{format};
+ghost use Rattle.sp_node_format.specs.Format.{format_of};
 
 use crate::arrival::Arrival;
 use crate::signed::{copy_of, is_right, recall};
@@ -32,6 +34,7 @@ use std::alloc::Global;
 /// Makes the messages from this place on ready. `moved` is whether something that is ready comes before them in the slot.
 pub(crate) fn ready_from(
     alloc: Global,
+    at: &Arrival<'_>,
     parts: &Parts,
     checker: &mut Checker,
     row: Place,
@@ -39,44 +42,50 @@ pub(crate) fn ready_from(
     place: usize,
     moved: bool,
 ) -> Result<Four<Option<(Kept, Bytes, Seat)>>, Memory>
-    requires formats { All (IsOf FORMAT_1) rels.now }
+    requires formats { All (IsOf at.now.fixed.now.topology.format) rels.now }
+    requires keys { checker.old.nodes ≡ at.now.fixed.now.topology.nodes }
     requires place { IsPlace parts.now.rel.flows row }
-    ensures ready { IfOk result (AreRelsReady moved checker.old.nodes parts.now.rel row.flow (map as_object (drop place rels.now))) }
+    ensures ready { IfOk result (AreRelsReady moved at.now.fixed.now parts.now.lives parts.now.rel row.flow (map as_object (drop place rels.now))) }
     ensures many { IfOk result (λ ready. length ready ≡ length rels.now - place) }
     ensures keys { checker.new.nodes ≡ checker.old.nodes }
     ensures work { checker.new.checks ≤ checker.old.checks
-        + rels_checks moved checker.old.nodes parts.now.rel row.flow (map as_object (drop place rels.now)) }
+        + rels_checks moved at.now.fixed.now parts.now.lives parts.now.rel row.flow (map as_object (drop place rels.now)) }
     ensures few { checker.new.checks ≤ checker.old.checks + (MAX_MESSAGES - place) }
 {
     let Some(object) = rels.get(place) else {
         return Ok(Four::new());
     };
-    let first = ready_one(alloc, parts, checker, row, object, moved)?;
+    let first = ready_one(alloc, at, parts, checker, row, object, moved)?;
     let moved = moved || first.is_some();
-    let others = ready_from(alloc, parts, checker, row, rels, place + 1, moved)?;
+    let others = ready_from(alloc, at, parts, checker, row, rels, place + 1, moved)?;
     Ok(others.led_by(first))
 }
 
 fn ready_one(
     alloc: Global,
+    at: &Arrival<'_>,
     parts: &Parts,
     checker: &mut Checker,
     row: Place,
     object: &ObjectRef<'_>,
     moved: bool,
 ) -> Result<Option<(Kept, Bytes, Seat)>, Memory>
-    requires format { IsOf FORMAT_1 object.now }
+    requires format { IsOf at.now.fixed.now.topology.format object.now }
+    requires keys { checker.old.nodes ≡ at.now.fixed.now.topology.nodes }
     requires place { IsPlace parts.now.rel.flows row }
-    ensures ready { IfOk result (IsRelReady moved checker.old.nodes parts.now.rel row.flow (as_object object.now)) }
+    ensures ready { IfOk result (IsRelReady moved at.now.fixed.now parts.now.lives parts.now.rel row.flow (as_object object.now)) }
     ensures keys { checker.new.nodes ≡ checker.old.nodes }
-    ensures work { checker.new.checks ≤ checker.old.checks + rel_checks moved parts.now.rel row.flow (as_object object.now) }
-    ensures new { IfOk result (λ ready. is_some ready ≡ is_followed moved checker.old.nodes parts.now.rel row.flow (as_object object.now)) }
+    ensures work { checker.new.checks ≤ checker.old.checks + rel_checks moved parts.now.lives parts.now.rel row.flow (as_object object.now) }
+    ensures new { IfOk result (λ ready. is_some ready ≡ is_followed moved at.now.fixed.now parts.now.lives parts.now.rel row.flow (as_object object.now)) }
     ensures few { checker.new.checks ≤ checker.old.checks + 1 }
 {
+    if !parts.lives.is_dated(&object.body) {
+        return Ok(None);
+    }
     if !may_be_new(moved, judge(parts, row, &object.body)) {
         return Ok(None);
     }
-    if !is_right(checker, object) {
+    if !is_right(at, checker, object) {
         return Ok(None);
     }
     let kept = copy_of(alloc, object)?;
@@ -105,11 +114,10 @@ pub(crate) fn admit_from(
     out: &mut Effects,
 ) -> Four<Item>
     requires place { IsPlace parts.old.rel.flows row }
-    requires ready { AreRelsReady false at.now.fixed.now.topology.nodes parts.old.rel row.flow (map as_object (drop place rels.now)) ready }
-    requires formats { All (IsOf FORMAT_1) rels.now }
+    requires ready { AreRelsReady false at.now.fixed.now parts.old.lives parts.old.rel row.flow (map as_object (drop place rels.now)) ready }
     requires room { MAX_MESSAGES - place ≤ out.old.room }
     ensures done { IsDone
-        (handle_all format (as_arrival at.now) parts.old (map (RelPiece row.flow) (map as_object (drop place rels.now))))
+        (handle_all (format_of at.now.fixed.now) (as_arrival at.now) parts.old (map (RelPiece row.flow) (map as_object (drop place rels.now))))
         parts.new result out.old out.new }
     ensures many { length result ≡ length rels.now - place }
 {
@@ -133,13 +141,13 @@ fn admit_one(
     out: &mut Effects,
 ) -> Item
     requires place { IsPlace parts.old.rel.flows row }
-    requires ready { IsRelReady false at.now.fixed.now.topology.nodes parts.old.rel row.flow (as_object object.now) ready }
-    requires format { IsOf FORMAT_1 object.now }
+    requires ready { IsRelReady false at.now.fixed.now parts.old.lives parts.old.rel row.flow (as_object object.now) ready }
     requires room { 1 ≤ out.old.room }
     ensures done { IsDone
-        (handle_all format (as_arrival at.now) parts.old (RelPiece row.flow (as_object object.now) ∷ []))
+        (handle_all (format_of at.now.fixed.now) (as_arrival at.now) parts.old (RelPiece row.flow (as_object object.now) ∷ []))
         parts.new (result ∷ []) out.old out.new }
-    ensures stays { StaysReady (is_some ready) at.now.fixed.now.topology.nodes row.flow parts.old.rel parts.new.rel }
+    ensures lives { parts.new.lives ≡ parts.old.lives }
+    ensures stays { StaysReady (is_some ready) at.now.fixed.now parts.old.lives row.flow parts.old.rel parts.new.rel }
     ensures room { out.old.room ≤ out.new.room + 1 }
     ensures place { IsPlace parts.new.rel.flows row }
 {
@@ -195,17 +203,21 @@ fn take(
     out: &mut Effects,
 ) -> RelAnswer
     requires place { IsPlace parts.old.rel.flows row }
-    requires fields { HasGoodFields (as_object object.now).body }
+    requires fields { FitsAFormat (as_object object.now).body }
     requires copy { IfSome ready (λ r. r.0 ≡ as_object object.now) }
     requires payload { IfSome ready (λ r. r.1 ≡ payload_of (as_object object.now).body) }
     requires seat { IfSome ready (λ r. IsSeated parts.old.rel row.flow r.2) }
     requires room { 1 ≤ out.old.room }
-    ensures answer { result ≡ rel_answer (is_some ready) (judge_rel_of parts.old.rel row.flow (as_object object.now).body) }
+    ensures answer { result ≡ rel_answer (is_some ready) (is_dated parts.old.lives (as_object object.now).body)
+        (judge_rel_of parts.old.rel row.flow (as_object object.now).body) }
     ensures parts { parts.new ≡ (rel_handled result (as_object object.now) parts.old).parts }
     ensures told { out.new ≡ told out.old (rel_handled result (as_object object.now) parts.old).effects }
     ensures place { IsPlace parts.new.rel.flows row }
 {
     let judged = judge(parts, row, &object.body);
+    if !parts.lives.is_dated(&object.body) {
+        return undated(judged);
+    }
     let RelJudged::New = judged else {
         return refusal(judged);
     };
@@ -216,10 +228,26 @@ fn take(
     RelAnswer::New
 }
 
-/// The answer to a message that isn't new, whether its signature is right or not.
+/// The answer to a message that names another boot of an end than the one that is held, whether its signature is right or not.
+fn undated(judged: RelJudged) -> RelAnswer
+    ensures answer { (right : Bool) → result ≡ rel_answer right false judged }
+    ensures quiet { is_new (Item.Rel result) ≡ false }
+{
+    match judged {
+        RelJudged::BadEnd => RelAnswer::BadEnd,
+        RelJudged::Old
+        | RelJudged::Ahead
+        | RelJudged::Gap
+        | RelJudged::Full
+        | RelJudged::InboxFull
+        | RelJudged::New => RelAnswer::Epoch,
+    }
+}
+
+/// The answer to one under held boots that isn't new, whether its signature is right or not.
 fn refusal(judged: RelJudged) -> RelAnswer
     requires { judged ≢ RelJudged.New }
-    ensures answer { (right : Bool) → result ≡ rel_answer right judged }
+    ensures answer { (right : Bool) → result ≡ rel_answer right true judged }
     ensures quiet { is_new (Item.Rel result) ≡ false }
 {
     match judged {

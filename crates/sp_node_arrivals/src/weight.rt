@@ -1,12 +1,11 @@
 // An update of a weight: whether it may be new, its copy, and its taking.
 ghost use Rattle.std.specs.Prelude.{◌≡◌, ◌≤◌, ◌+◌, IfOk, IfSome, is_some, map, option_map};
-ghost use Rattle.sp_base.specs.declared.format.TheConstants.{FORMAT_1};
 ghost use Rattle.sp_frame.specs.OfFormat.{IsOf};
 ghost use Rattle.sp_frame.specs.Views.{as_list, as_object};
-ghost use Rattle.sp_msg.specs.Bodies.{HasGoodFields};
 ghost use Rattle.sp_msg.specs.Views.{as_body};
 ghost use Rattle.sp_msg.specs.declared.body.Body.TheVariants.{Weight};
 ghost use Rattle.sp_rules.specs.Answers.{weight_answer};
+ghost use Rattle.sp_rules.specs.Changes.{FitsAFormat};
 ghost use Rattle.sp_rules.specs.Handle.{handle_all, offer_to, weight_handled};
 ghost use Rattle.sp_rules.specs.Pieces.{WeightPiece};
 ghost use Rattle.sp_rules.specs.Told.{told};
@@ -14,7 +13,7 @@ ghost use Rattle.sp_node_arrivals.specs.Arrival.{as_arrival};
 ghost use Rattle.sp_node_arrivals.specs.Done.{IsDone};
 ghost use Rattle.sp_node_arrivals.specs.Signed.{of_some};
 ghost use Rattle.sp_node_arrivals.specs.Weight.{IsWeightReady, weight_checks};
-ghost use Rattle.sp_node_format.specs.Format.{format};
+ghost use Rattle.sp_node_format.specs.Format.{format_of};
 
 use crate::arrival::Arrival;
 use crate::signed::{copy_of, is_right, recall};
@@ -35,9 +34,9 @@ pub(crate) fn ready(
     update: &Option<ObjectRef<'_>>,
 ) -> Result<Option<Kept>, Memory>
     requires keys { checker.old.nodes ≡ at.now.fixed.now.topology.nodes }
-    requires format { IfSome update.now (IsOf FORMAT_1) }
+    requires format { IfSome update.now (IsOf at.now.fixed.now.topology.format) }
     ensures ready { IfOk result (λ ready. IfSome (option_map as_object update.now)
-        (λ o. IsWeightReady at.now.fixed.now.me at.now.fixed.now.topology.nodes parts.now.weights o ready)) }
+        (λ o. IsWeightReady at.now.fixed.now parts.now.weights o ready)) }
     ensures keys { checker.new.nodes ≡ checker.old.nodes }
     ensures work { checker.new.checks ≤ checker.old.checks
         + of_some (weight_checks at.now.fixed.now.me parts.now.weights) (option_map as_object update.now) }
@@ -50,7 +49,7 @@ pub(crate) fn ready(
     let Offer::New = judge(parts, fixed.me, &object.body) else {
         return Ok(None);
     };
-    if !is_right(checker, object) {
+    if !is_right(at, checker, object) {
         return Ok(None);
     }
     Ok(Some(copy_of(alloc, object)?))
@@ -65,14 +64,14 @@ pub(crate) fn admit(
     out: &mut Effects,
 ) -> Option<Item>
     requires ready { IfSome (option_map as_object update.now)
-        (λ o. IsWeightReady at.now.fixed.now.me at.now.fixed.now.topology.nodes parts.old.weights o ready) }
-    requires format { IfSome update.now (IsOf FORMAT_1) }
+        (λ o. IsWeightReady at.now.fixed.now parts.old.weights o ready) }
     requires room { 1 ≤ out.old.room }
     ensures done { IsDone
-        (handle_all format (as_arrival at.now) parts.old (map WeightPiece (as_list (option_map as_object update.now))))
+        (handle_all (format_of at.now.fixed.now) (as_arrival at.now) parts.old (map WeightPiece (as_list (option_map as_object update.now))))
         parts.new (as_list result) out.old out.new }
     ensures prio { parts.new.prio ≡ parts.old.prio }
     ensures rel { parts.new.rel ≡ parts.old.rel }
+    ensures lives { parts.new.lives ≡ parts.old.lives }
     ensures room { out.old.room ≤ out.new.room + 1 }
 {
     let Some(object) = update else {
@@ -110,7 +109,7 @@ fn take(
     ready: Option<Kept>,
     out: &mut Effects,
 ) -> WeightAnswer
-    requires fields { HasGoodFields (as_object object.now).body }
+    requires fields { FitsAFormat (as_object object.now).body }
     requires copy { IfSome ready (λ kept. kept ≡ as_object object.now) }
     requires room { 1 ≤ out.old.room }
     ensures answer { result ≡ weight_answer (is_some ready) (offer_to me parts.old.weights (as_object object.now).body) }

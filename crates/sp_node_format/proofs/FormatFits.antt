@@ -1,10 +1,9 @@
--- The arts of this format fit a node.
+-- The arts of a format fit a node of it.
 use Rattle.std.proofs.Common.{◌≡◌, ◌<◌, ◌∙◌, ℕ, ◌-◌, ◌/◌, ◌%◌, List, length, take, drop, sym, arith}
 use Rattle.std.proofs.lemmas.List.{length-append}
 use Rattle.std.proofs.lemmas.List.Elements.{All-drop, All-take}
 use Rattle.sp_base.proofs.NumberLemmas.{byte_at_place, number_fits}
 use Rattle.sp_base.specs.Spelling.{AreBytes}
-use Rattle.sp_base.specs.declared.format.TheConstants.{FORMAT_1}
 use Rattle.sp_frame.proofs.SectionLemmas.{read_is_spelled}
 use Rattle.sp_frame.specs.Frames.{head_of, sections_part}
 use Rattle.sp_frame.specs.Ranges.{IsHead}
@@ -55,7 +54,7 @@ format_fits f s is = record {
       (seed_signatures_are_valid (param_of f.topology.height) s.seed message index (omega (arith, below, is.total)));
   heads = head_fits;
   sections = λ bytes contents are reads.
-      (read_is_spelled FORMAT_1 f.signature_len (sections_part bytes) contents
+      (read_is_spelled f.topology.format f.signature_len (sections_part bytes) contents
       (All-drop (λ b. b < 256) 33 (take (length bytes - 32) bytes) (All-take (λ b. b < 256) (length bytes - 32) bytes are)) reads).1;
-  own = λ body fields about. fields_pass body fields;
+  own = λ body fields about. fields_pass f.topology.format body fields;
 }

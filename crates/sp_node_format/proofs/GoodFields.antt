@@ -2,8 +2,7 @@
 use Rattle.std.proofs.Common.{◌≡◌, ℕ, Bool, true, false, List, [], ◌∷◌, refl, arith}
 use Rattle.std.specs.Prelude.{◌&&◌, nat_le, IsTrue}
 use Rattle.std.proofs.lemmas.Bool.Decides.{nat_tests}
-use Rattle.sp_base.specs.declared.format.TheConstants.{FORMAT_1}
-use Rattle.sp_msg.specs.Bodies.{HasGoodFields, fields_of, has_kind, numbers_of}
+use Rattle.sp_msg.specs.Bodies.{HasGoodFieldsIn, fields_of, has_kind, numbers_of}
 use Rattle.sp_msg.specs.Fields.{AreInRange, IsInRange, Rule, free, ranged}
 use Rattle.sp_msg.specs.declared.body.Body.{Body}
 use Rattle.sp_node_format.specs.FormatLaws.{GoodIsInRange}
@@ -44,15 +43,16 @@ are_ranged (r ∷ rs) (x ∷ xs) e =
 are_ranged [] (x ∷ xs) e = absurd (cc)
 are_ranged (r ∷ rs) [] e = absurd (cc)
 
-pub fields_pass : (body : Body) → HasGoodFields body → IsTrue (has_good_fields body)
+pub fields_pass : (format : ℕ) (body : Body) → HasGoodFieldsIn format body → IsTrue (has_good_fields format body)
 unfolding has_good_fields
-fields_pass body h = both_back (has_kind FORMAT_1 body) (are_in_range (fields_of FORMAT_1 body) (numbers_of body)) h.0 (all_pass (fields_of FORMAT_1 body) (numbers_of body) h.1)
+fields_pass format body h =
+    both_back (has_kind format body) (are_in_range (fields_of format body) (numbers_of body)) h.0 (all_pass (fields_of format body) (numbers_of body) h.1)
 
-pub fields_are_good : (body : Body) → IsTrue (has_good_fields body) → HasGoodFields body
+pub fields_are_good : (format : ℕ) (body : Body) → IsTrue (has_good_fields format body) → HasGoodFieldsIn format body
 unfolding has_good_fields
-fields_are_good body e =
-    let h = both (has_kind FORMAT_1 body) (are_in_range (fields_of FORMAT_1 body) (numbers_of body)) e in
-    (h.0, are_ranged (fields_of FORMAT_1 body) (numbers_of body) h.1)
+fields_are_good format body e =
+    let h = both (has_kind format body) (are_in_range (fields_of format body) (numbers_of body)) e in
+    (h.0, are_ranged (fields_of format body) (numbers_of body) h.1)
 
 pub good_is_in_range : GoodIsInRange
-good_is_in_range body = (fields_are_good body, fields_pass body)
+good_is_in_range format body = (fields_are_good format body, fields_pass format body)

@@ -1,5 +1,5 @@
 -- A frame that a node makes is read back: its length first, and then each part where it was put.
-use Rattle.std.proofs.Common.{◌≡◌, ◌≤◌, ℕ, ◌+◌, ◌-◌, ◌*◌, ◌||◌, Bool, true, false, List, [], ◌∷◌, ◌++◌, length, drop, flat_map, Option, Some, None, Ok, nat_eq, append_assoc, length-append, refl, sym, ap, ap₂, ◌∙◌, subst, arith, cond}
+use Rattle.std.proofs.Common.{◌≡◌, ◌≤◌, ℕ, ◌+◌, ◌-◌, ◌*◌, ◌||◌, ◌==◌, ◌<◌, if◌then◌else◌, inl, inr, Bool, true, false, List, [], ◌∷◌, ◌++◌, length, drop, flat_map, Option, Some, None, Ok, nat_eq, append_assoc, length-append, refl, sym, ap, ap₂, ◌∙◌, subst, arith, cond}
 use Rattle.std.specs.Prelude.{IfSome}
 use Rattle.std.specs.List.{All, list_any}
 use Rattle.std.specs.Cmp.Lexicographic.{pointwise}
@@ -9,29 +9,33 @@ use Rattle.std.proofs.lemmas.List.Elements.{All-head, All-tail}
 use Rattle.byteorder.specs.Endian.{big_bytes}
 use Rattle.sha2.proofs.Facts256.{length-sha256}
 use Rattle.sp_base.specs.Rows.{first_where}
+use Rattle.sp_base.specs.Formats.{IsFormat, by_format}
 use Rattle.sp_base.specs.declared.format.TheConstants.{FORMAT_1}
 use Rattle.sp_base.specs.declared.id.NodeId.{NodeId}
 use Rattle.sp_base.specs.declared.limits.TheConstants.{MAX_MESSAGES}
-use Rattle.sp_node_format.specs.Format.{format}
-use Rattle.sp_frame.proofs.FirstFormat.{no_document, sections_are}
+use Rattle.sp_node_format.specs.Format.{format_of}
 use Rattle.sp_frame.proofs.LengthLemmas.{place_long}
 use Rattle.sp_frame.proofs.HeadLemmas.{head_is_read}
 use Rattle.sp_frame.proofs.SectionLemmas.{spelled_is_read}
-use Rattle.sp_frame.specs.Frames.{ends_bytes, head_bytes, head_of, numbers_bytes, opened, tagged_part, tag_part}
-use Rattle.sp_frame.specs.Grammar.{counted_bytes}
-use Rattle.sp_frame.specs.Objects.{IsObject, object_bytes}
+use Rattle.sp_frame.specs.Frames.{ends_bytes, head_bytes, head_of, numbers_bytes, opened_in, tagged_part, tag_part}
+use Rattle.sp_frame.specs.Grammar.{counted_bytes, later_bytes}
+use Rattle.sp_frame.specs.Objects.{IsObject, most, object_bytes}
 use Rattle.sp_frame.specs.Prioritized.{numbered_bytes, prios_bytes}
-use Rattle.sp_frame.specs.Ranges.{IsContents, IsHead, IsNumbered, IsReport}
-use Rattle.sp_frame.specs.Reliable.{Report, ack_bytes, place_bytes, rels_bytes, report_bytes, slot_bytes}
-use Rattle.sp_frame.specs.Sections.{Contents, sections_bytes, sections_of}
+use Rattle.sp_frame.specs.Probes.{epoch_bytes, probe_bytes, probes_bytes}
+use Rattle.sp_frame.specs.Ranges.{IsContentsIn, IsHead, IsNumbered, IsReport}
+use Rattle.sp_frame.specs.Reliable.{Report, ack_bytes, boot_bytes, paths_bytes, place_bytes, rels_bytes, report_bytes, slot_bytes}
+use Rattle.sp_frame.specs.Sections.{Contents, control_bytes, plain_bytes, sections_bytes_in, sections_of_in}
 use Rattle.sp_frame.specs.Weights.{weights_bytes}
 use Rattle.sp_frame.specs.declared.head.Head.{Head}
 use Rattle.sp_frame.specs.declared.kind.Kind.{Kind}
 use Rattle.sp_frame.specs.declared.kind.Kind.TheVariants as kinds
+use Rattle.sp_frame.specs.declared.probe.Probe.{Probe}
 use Rattle.sp_hmac.specs.Hmac.{block_hmac, hmac}
-use Rattle.sp_msg.proofs.GoodFields.{first_long}
-use Rattle.sp_msg.specs.Bodies.{HasGoodFields, encoded}
+use Rattle.sp_msg.proofs.GoodFields.{good_krel, good_prio, good_rel}
+use Rattle.sp_msg.proofs.LongLemmas.{ack_long, epoch_long, kack_long, krel_long, prio_long, rel_long}
+use Rattle.sp_msg.specs.Bodies.{HasGoodFieldsIn, encoded_in}
 use Rattle.sp_msg.specs.declared.body.Body.{Body}
+use Rattle.sp_msg.specs.declared.body.Body.TheVariants as bodies
 use Rattle.sp_msg.specs.declared.kept.Kept.{Kept}
 use Rattle.sp_rules.specs.Link.{new_link, next_head}
 use Rattle.sp_rules.specs.Node.{NodeState, is_link, is_neighbour, link_in}
@@ -47,8 +51,25 @@ pub signatures_are_short : SignaturesAreShort
 signatures_are_short heights.Five = omega arith
 signatures_are_short heights.Ten = omega arith
 
-body_len : (body : Body) → HasGoodFields body → length (encoded body) ≤ 1062
-body_len body good = omega (arith, first_long body good)
+by_most : (format a b most : ℕ) → a ≤ most → b ≤ most → by_format format a b ≤ most
+by_most format a b most one two = go (format == FORMAT_1)
+  where
+    go : (t : Bool) → (if t then a else b) ≤ most
+    go true = one
+    go false = two
+
+-- whatever the format: a priority message of format 2 with the longest payload is the longest
+body_len : (format : ℕ) (body : Body) → HasGoodFieldsIn format body → length (encoded_in format body) ≤ 1086
+body_len format (bodies.Prio p) good =
+    omega (arith, prio_long format p, by_most format 38 62 62 (omega arith) (omega arith), (good_prio format p good).payload)
+body_len format (bodies.Rel r) good =
+    omega (arith, rel_long format r, by_most format 13 29 29 (omega arith) (omega arith), (good_rel format r good).payload)
+body_len format (bodies.Krel r) good =
+    omega (arith, krel_long format r, by_most format 29 61 61 (omega arith) (omega arith), (good_krel format r good).payload)
+body_len format (bodies.Ack a) good = omega (arith, ack_long format a, by_most format 11 27 27 (omega arith) (omega arith))
+body_len format (bodies.Kack a) good = omega (arith, kack_long format a, by_most format 11 27 27 (omega arith) (omega arith))
+body_len format (bodies.Epoch e) good = omega (arith, epoch_long format e, by_most format 2 10 10 (omega arith) (omega arith))
+body_len format (bodies.Weight w) good = omega arith
 
 four : (a b c d : List ℕ) → length (a ++ b ++ c ++ d) ≡ length a + length b + length c + length d
 four a b c d =
@@ -63,19 +84,19 @@ four a b c d =
 two_bytes : (n : ℕ) → length (big_bytes 2 n) ≡ 2
 two_bytes n = omega arith
 
-object_size : (body signature : List ℕ) (len : ℕ) → length body ≤ 1062 → length signature ≡ len → len ≤ most_signature
-    → length (big_bytes 2 (length body) ++ body ++ big_bytes 2 (length signature) ++ signature) ≤ 6142
+object_size : (body signature : List ℕ) (len : ℕ) → length body ≤ 1086 → length signature ≡ len → len ≤ most_signature
+    → length (big_bytes 2 (length body) ++ body ++ big_bytes 2 (length signature) ++ signature) ≤ 6166
 object_size body signature len short long small =
-    subst (λ (k : ℕ). k ≤ 6142) (sym (four (big_bytes 2 (length body)) body (big_bytes 2 (length signature)) signature))
+    subst (λ (k : ℕ). k ≤ 6166) (sym (four (big_bytes 2 (length body)) body (big_bytes 2 (length signature)) signature))
     (let one = two_bytes (length body) in let two = two_bytes (length signature) in omega (arith, short, long, small, one, two))
 
-object_len : (kind : Kind) (len : ℕ) → len ≤ most_signature → (o : Kept) → IsObject FORMAT_1 kind len o → length (object_bytes FORMAT_1 o) ≤ 6142
+object_len : (format : ℕ) (kind : Kind) (len : ℕ) → len ≤ most_signature → (o : Kept) → IsObject format kind len o → length (object_bytes format o) ≤ 6166
 unfolding object_bytes
-object_len kind len small o is = object_size (encoded o.body) o.signature len (body_len o.body is.fields) is.long small
+object_len format kind len small o is = object_size (encoded_in format o.body) o.signature len (body_len format o.body is.fields) is.long small
 
-numbered_len : (len : ℕ) → len ≤ most_signature → (m : ℕ × Kept) → IsNumbered FORMAT_1 len m → length (numbered_bytes FORMAT_1 m) ≤ 6150
+numbered_len : (format : ℕ) (len : ℕ) → len ≤ most_signature → (m : ℕ × Kept) → IsNumbered format len m → length (numbered_bytes format m) ≤ 6174
 unfolding numbered_bytes
-numbered_len len small m is = let one = object_len kinds.Prio len small m.1 is.object in omega (arith, one)
+numbered_len format len small m is = let one = object_len format kinds.Prio len small m.1 is.object in omega (arith, one)
 
 all_len : {X : Type 0} (P : X → Type 0) (spell : X → List ℕ) (each_most : ℕ) → ((x : X) → P x → length (spell x) ≤ each_most) → (xs : List X) → All P xs
     → length (flat_map spell xs) ≤ each_most * length xs
@@ -90,10 +111,10 @@ counted_len : {X : Type 0} (P : X → Type 0) (spell : X → List ℕ) (each_mos
     → length (counted_bytes spell xs) ≤ each_most * length xs + 1
 counted_len P spell each_most each xs all = let spelled = all_len P spell each_most each xs all in omega (arith, spelled)
 
-ack_len : (len : ℕ) → len ≤ most_signature → (o : Option Kept) → IfSome o (IsObject FORMAT_1 kinds.Ack len) → length (ack_bytes FORMAT_1 o) ≤ 6143
+ack_len : (format : ℕ) (len : ℕ) → len ≤ most_signature → (o : Option Kept) → IfSome o (IsObject format kinds.Ack len) → length (ack_bytes format o) ≤ 6167
 unfolding ack_bytes
-ack_len len small None is = omega arith
-ack_len len small (Some o) is = let one = object_len kinds.Ack len small o is in omega (arith, one)
+ack_len format len small None is = omega arith
+ack_len format len small (Some o) is = let one = object_len format kinds.Ack len small o is in omega (arith, one)
 
 three : (a b c : List ℕ) → length (a ++ b ++ c) ≡ length a + length b + length c
 three a b c =
@@ -103,54 +124,105 @@ three a b c =
     let right_two = length-append b c in
     omega (arith, one, two, right_one, right_two)
 
-place_len : (r : Report) → length (place_bytes FORMAT_1 r) ≡ 18
+place_len : (format : ℕ) (r : Report) → length (place_bytes format r) ≤ 34
 unfolding place_bytes
-place_len r = omega (arith, place_long FORMAT_1 r)
+place_len format r = omega (arith, place_long format r, by_most format 0 8 8 (omega arith) (omega arith))
 
-rels_len : (len : ℕ) → len ≤ most_signature → (rs : List Kept) → All (IsObject FORMAT_1 kinds.Rel len) rs → length rs ≤ MAX_MESSAGES
-    → length (rels_bytes FORMAT_1 rs) ≤ 24569
+rels_len : (format : ℕ) (len : ℕ) → len ≤ most_signature → (rs : List Kept) → All (IsObject format kinds.Rel len) rs → length rs ≤ most format kinds.Rel
+    → length (rels_bytes format rs) ≤ 24665
 unfolding rels_bytes
-rels_len len small rs all few =
-    let counted = counted_len (IsObject FORMAT_1 kinds.Rel len) (object_bytes FORMAT_1) 6142 (object_len kinds.Rel len small) rs all in
-    omega (arith, few, counted)
+rels_len format len small rs all few =
+    let counted = counted_len (IsObject format kinds.Rel len) (object_bytes format) 6166 (object_len format kinds.Rel len small) rs all in
+    omega (arith, few, by_most format MAX_MESSAGES 2 4 (omega arith) (omega arith), counted)
 
-report_len : (len : ℕ) → len ≤ most_signature → (r : Report) → IsReport FORMAT_1 kinds.Ack kinds.Rel len r → length (report_bytes FORMAT_1 r) ≤ 30730
+report_len : (format : ℕ) (len : ℕ) → len ≤ most_signature → (r : Report) → IsReport format kinds.Ack kinds.Rel len r → length (report_bytes format r) ≤ 30867
 unfolding report_bytes
-report_len len small r is =
-    subst (λ (k : ℕ). k ≤ 30730) (sym (three (place_bytes FORMAT_1 r) (ack_bytes FORMAT_1 r.ack) (rels_bytes FORMAT_1 r.rels)))
-    (let place = place_len r in let acks = ack_len len small r.ack is.ack in let rels = rels_len len small r.rels is.rels is.few in omega (arith, place, acks, rels))
+report_len format len small r is =
+    subst (λ (k : ℕ). k ≤ 30867) (sym (three (place_bytes format r) (ack_bytes format r.ack) (rels_bytes format r.rels)))
+    (let place = place_len format r in let acks = ack_len format len small r.ack is.ack in let rels = rels_len format len small r.rels is.rels is.few in omega (arith, place, acks, rels))
 
-slot_len : (len : ℕ) → len ≤ most_signature → (s : Option Report) → IfSome s (IsReport FORMAT_1 kinds.Ack kinds.Rel len)
-    → length (slot_bytes FORMAT_1 s) ≤ 30731
+slot_len : (format : ℕ) (len : ℕ) → len ≤ most_signature → (s : Option Report) → IfSome s (IsReport format kinds.Ack kinds.Rel len)
+    → length (slot_bytes format s) ≤ 30868
 unfolding slot_bytes
-slot_len len small None is = omega arith
-slot_len len small (Some r) is = let one = report_len len small r is in omega (arith, one)
+slot_len format len small None is = omega arith
+slot_len format len small (Some r) is = let one = report_len format len small r is in omega (arith, one)
 
-weights_len : (len : ℕ) → len ≤ most_signature → (os : List Kept) → All (IsObject FORMAT_1 kinds.Weight len) os → length os ≤ 1
-    → length (weights_bytes FORMAT_1 os) ≤ 6143
+weights_len : (format : ℕ) (len : ℕ) → len ≤ most_signature → (os : List Kept) → All (IsObject format kinds.Weight len) os → length os ≤ 1
+    → length (weights_bytes format os) ≤ 6167
 unfolding weights_bytes
-weights_len len small os all few =
-    let counted = counted_len (IsObject FORMAT_1 kinds.Weight len) (object_bytes FORMAT_1) 6142 (object_len kinds.Weight len small) os all in
+weights_len format len small os all few =
+    let counted = counted_len (IsObject format kinds.Weight len) (object_bytes format) 6166 (object_len format kinds.Weight len small) os all in
     omega (arith, few, counted)
 
-prios_len : (len : ℕ) → len ≤ most_signature → (ms : List (ℕ × Kept)) → All (IsNumbered FORMAT_1 len) ms → length ms ≤ MAX_MESSAGES
-    → length (prios_bytes FORMAT_1 ms) ≤ 24601
+prios_len : (format : ℕ) (len : ℕ) → len ≤ most_signature → (ms : List (ℕ × Kept)) → All (IsNumbered format len) ms → length ms ≤ MAX_MESSAGES
+    → length (prios_bytes format ms) ≤ 24697
 unfolding prios_bytes
-prios_len len small ms all few =
-    let counted = counted_len (IsNumbered FORMAT_1 len) (numbered_bytes FORMAT_1) 6150 (numbered_len len small) ms all in
+prios_len format len small ms all few =
+    let counted = counted_len (IsNumbered format len) (numbered_bytes format) 6174 (numbered_len format len small) ms all in
     omega (arith, few, counted)
 
 eight_bytes : (n : ℕ) → length (big_bytes 8 n) ≡ 8
 eight_bytes n = omega arith
 
-sections_len : (len : ℕ) → len ≤ most_signature → (s : Contents) → IsContents len s → length (sections_bytes s) ≤ 61483
-sections_len len small s is =
-    subst (λ (k : ℕ). k ≤ 61483) (sym (ap length (sections_are s (no_document len s is)) ∙ four (weights_bytes FORMAT_1 s.weights) (big_bytes 8 s.prio_ack) (prios_bytes FORMAT_1 s.prios) (slot_bytes FORMAT_1 s.slot)))
-    (let one = weights_len len small s.weights is.weights is.few_weights in
+-- a part that the frame doesn't have is one byte at most
+no_paths : (format : ℕ) → length (paths_bytes format None) ≤ 1
+unfolding paths_bytes
+no_paths format = go (format == FORMAT_1)
+  where
+    go : (t : Bool) → length (later_bytes (report_bytes format) t None) ≤ 1
+    go true = omega arith
+    go false = omega arith
+
+no_probe : (format : ℕ) → length (probes_bytes format None) ≤ 1
+unfolding probes_bytes
+no_probe format = go (format == FORMAT_1)
+  where
+    go : (t : Bool) → length (later_bytes probe_bytes t None) ≤ 1
+    go true = omega arith
+    go false = omega arith
+
+no_epoch : (format : ℕ) → length (epoch_bytes format None) ≤ 1
+unfolding epoch_bytes
+no_epoch format = go (format == FORMAT_1)
+  where
+    go : (t : Bool) → length (later_bytes (object_bytes format) t None) ≤ 1
+    go true = omega arith
+    go false = omega arith
+
+seven : (a b c d e f g : List ℕ)
+    → length (a ++ b ++ c ++ d ++ e ++ f ++ g) ≡ length a + length b + length c + length d + length e + length f + length g
+seven a b c d e f g =
+    let first = length-append (((((a ++ b) ++ c) ++ d) ++ e) ++ f) g in
+    let second = length-append ((((a ++ b) ++ c) ++ d) ++ e) f in
+    let third = length-append (((a ++ b) ++ c) ++ d) e in
+    let fourth = length-append ((a ++ b) ++ c) d in
+    let fifth = length-append (a ++ b) c in
+    omega (arith, first, second, third, fourth, fifth, length-append a b)
+
+-- these are the parts that it has
+pub record IsPlain (s : Contents) : Type 0 where
+  pub document : s.document ≡ None
+  pub paths : s.paths ≡ None
+  pub probe : s.probe ≡ None
+  pub epoch : s.epoch ≡ None
+
+sections_len : (format : ℕ) (len : ℕ) → len ≤ most_signature → (s : Contents) → IsPlain s → IsContentsIn format len s
+    → length (sections_bytes_in format s) ≤ 61743
+unfolding sections_bytes_in plain_bytes
+sections_len format len small s plain is =
+    let weights = weights_bytes format s.weights in
+    let prios = prios_bytes format s.prios in
+    let slot = slot_bytes format s.slot in
+    let parts = seven weights (big_bytes 8 s.prio_ack) prios slot (paths_bytes format s.paths) (probes_bytes format s.probe) (epoch_bytes format s.epoch) in
+    let one = weights_len format len small s.weights is.weights is.few_weights in
     let two = eight_bytes s.prio_ack in
-    let more = prios_len len small s.prios is.prios is.few_prios in
-    let slot = slot_len len small s.slot is.slot in
-    omega (arith, one, two, more, slot))
+    let more = prios_len format len small s.prios is.prios is.few_prios in
+    let reported = slot_len format len small s.slot is.slot in
+    let paths = subst (λ (o : Option Report). length (paths_bytes format o) ≤ 1) (sym plain.paths) (no_paths format) in
+    let probe = subst (λ (o : Option Probe). length (probes_bytes format o) ≤ 1) (sym plain.probe) (no_probe format) in
+    let epoch = subst (λ (o : Option Kept). length (epoch_bytes format o) ≤ 1) (sym plain.epoch) (no_epoch format) in
+    subst (λ (d : Option (List ℕ)). length (control_bytes format s d) ≤ 61743) (sym plain.document)
+    (omega (arith, parts, one, two, more, reported, paths, probe, epoch))
 
 head_len : (h : Head) → length (head_bytes h) ≡ 33
 unfolding head_bytes ends_bytes numbers_bytes
@@ -158,24 +230,27 @@ head_len h = omega arith
 
 -- ---- a frame
 
-opens : (h : Head) (rest : List ℕ) → h.format ≡ FORMAT_1 → 32 ≤ length rest → length rest ≤ 65474 → opened (head_bytes h ++ rest) ≡ Ok (head_bytes h ++ rest)
+opens : (h : Head) (rest : List ℕ) → h.format < 256 → 32 ≤ length rest → length rest ≤ 65474
+    → opened_in h.format (head_bytes h ++ rest) ≡ Ok (head_bytes h ++ rest)
 unfolding head_bytes ends_bytes numbers_bytes
-opens h rest first least most = grind (arith, nat_tests, first, least, most)
+opens h rest small least most = grind (arith, nat_tests, small, least, most)
 
-read_back : (len : ℕ) (h : Head) (s : Contents) (tag : List ℕ) → len ≤ most_signature → IsHead h → h.format ≡ FORMAT_1 → IsContents len s → length tag ≡ 32
-    → Reads ((head_bytes h ++ sections_bytes s) ++ tag) len h s
-read_back len h s tag small head first contents long =
-    let inner = head_bytes h ++ sections_bytes s in
+pub read_back : (len : ℕ) (h : Head) (s : Contents) (tag : List ℕ) → len ≤ most_signature → IsHead h → IsPlain s → IsContentsIn h.format len s
+    → length tag ≡ 32 → Reads h.format ((head_bytes h ++ sections_bytes_in h.format s) ++ tag) len h s
+read_back len h s tag small head plain contents long =
+    let sections = sections_bytes_in h.format s in
+    let inner = head_bytes h ++ sections in
     let bytes = inner ++ tag in
-    let together : bytes ≡ head_bytes h ++ (sections_bytes s ++ tag) = append_assoc (head_bytes h) (sections_bytes s) tag in
-    let size = sections_len len small s contents in
-    let all : length (sections_bytes s ++ tag) ≡ length (sections_bytes s) + length tag = length-append (sections_bytes s) tag in
+    let together : bytes ≡ head_bytes h ++ (sections ++ tag) = append_assoc (head_bytes h) sections tag in
+    let size = sections_len h.format len small s plain contents in
+    let all : length (sections ++ tag) ≡ length sections + length tag = length-append sections tag in
     let whole : length bytes ≡ length inner + length tag = length-append inner tag in
     let signed : tagged_part bytes ≡ inner = take_at inner tag (length bytes - 32) (omega (arith, whole, long)) in
     record {
-      opens = rw together (opens h (sections_bytes s ++ tag) first (omega (arith, all, long)) (omega (arith, all, long, size)));
-      head = ap head_of together ∙ head_is_read h (sections_bytes s ++ tag) head;
-      sections = ap (λ (bs : List ℕ). sections_of len (drop 33 bs)) signed ∙ (ap (sections_of len) (drop_at (head_bytes h) (sections_bytes s) 33 (head_len h)) ∙ spelled_is_read FORMAT_1 len s contents);
+      opens = rw together (opens h (sections ++ tag) head.format (omega (arith, all, long)) (omega (arith, all, long, size)));
+      head = ap head_of together ∙ head_is_read h (sections ++ tag) head;
+      sections = ap (λ (bs : List ℕ). sections_of_in h.format len (drop 33 bs)) signed
+          ∙ (ap (sections_of_in h.format len) (drop_at (head_bytes h) sections 33 (head_len h)) ∙ spelled_is_read h.format len s contents);
     }
 
 tag_len : (key message : List ℕ) → length (hmac key message) ≡ 32
@@ -196,24 +271,38 @@ found P test d (x ∷ xs) some all = by (test x) refl (λ rest. found P test d x
     by true is rest some = All-head P x xs all
     by false is rest some = rest some
 
-head_fits : (n : NodeState) (v : NodeId) → IsKept format n → is_neighbour n v ≡ true → IsHead (next_head (link_in n v) n.fixed.topology.version FORMAT_1)
+small_format : (format : ℕ) → IsFormat format → format < 256
+small_format format (inl one) = omega (arith, one)
+small_format format (inr two) = omega (arith, two)
+
+head_fits : (n : NodeState) (v : NodeId) → IsKept (format_of n.fixed) n → is_neighbour n v ≡ true
+    → IsHead (next_head (link_in n v) n.fixed.topology.version n.fixed.topology.format)
 head_fits n v kept is =
     let h = found (LinkHolds n.calls) (is_link v) (new_link n.fixed.me v 0 []) n.links is kept.links in
     let calls = kept.calls in
     let sent = h.sent in
-    record { format = omega arith; from = h.me; to = h.peer; boot = h.boot; echo = h.peer_boot; counter = omega (arith, sent, calls); topology = kept.fixed.topology.version }
+    record {
+      format = small_format n.fixed.topology.format kept.fixed.topology.ranges.format;
+      from = h.me;
+      to = h.peer;
+      boot = h.boot;
+      echo = h.peer_boot;
+      counter = omega (arith, sent, calls);
+      topology = kept.fixed.topology.ranges.version;
+    }
 
 pub polled_is_read_back : PolledIsReadBack
 polled_is_read_back n v kept small is =
     let l = link_in n v in
-    let h = next_head l n.fixed.topology.version FORMAT_1 in
+    let h = next_head l n.fixed.topology.version n.fixed.topology.format in
     let s = contents_to n.fixed n.parts v in
-    let inner = head_bytes h ++ sections_bytes s in
+    let inner = head_bytes h ++ sections_bytes_in h.format s in
     let tag = hmac l.key inner in
     let long = tag_len l.key inner in
     let whole : length (inner ++ tag) ≡ length inner + length tag = length-append inner tag in
     let signed : tagged_part (inner ++ tag) ≡ inner = take_at inner tag (length (inner ++ tag) - 32) (omega (arith, whole, long)) in
     let behind : tag_part (inner ++ tag) ≡ tag = drop_at inner tag (length (inner ++ tag) - 32) (omega (arith, whole, long)) in (
-      read_back n.fixed.signature_len h s tag small (head_fits n v kept is) refl (frames_fit format n v kept) long,
+      read_back n.fixed.signature_len h s tag small (head_fits n v kept is) (record { document = refl; paths = refl; probe = refl; epoch = refl })
+          (frames_fit (format_of n.fixed) n v kept) long,
       ap₂ (λ (a b : List ℕ). pointwise nat_eq a (hmac l.key b)) behind signed ∙ same_bytes tag,
     )

@@ -1,6 +1,5 @@
--- The test whether a message is of this format: its kind, and each field in its range.
+-- The test whether a message is of a format: its kind, and each field in its range.
 use Rattle.std.specs.Prelude.{ℕ, ◌^◌, ◌&&◌, nat_le, nat_lt, Bool, true, false, List, [], ◌∷◌}
-use Rattle.sp_base.specs.declared.format.TheConstants.{FORMAT_1}
 use Rattle.sp_msg.specs.Bodies.{fields_of, has_kind, numbers_of}
 use Rattle.sp_msg.specs.Fields.{Rule, free, ranged}
 use Rattle.sp_msg.specs.declared.body.Body.{Body}
@@ -18,5 +17,5 @@ are_in_range [] (x ∷ xs) = false
 are_in_range (r ∷ rs) [] = false
 
 -- the format has messages of its kind, and each field is in its range
-unfoldable pub has_good_fields : Body → Bool
-has_good_fields body = has_kind FORMAT_1 body && are_in_range (fields_of FORMAT_1 body) (numbers_of body)
+unfoldable pub has_good_fields : ℕ → Body → Bool
+has_good_fields format body = has_kind format body && are_in_range (fields_of format body) (numbers_of body)

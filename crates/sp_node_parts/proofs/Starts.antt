@@ -3,7 +3,7 @@ use Rattle.std.proofs.Common.{◌≡◌, ◌≤◌, ℕ, ◌+◌, List, [], ◌�
 use Rattle.std.proofs.lemmas.List.{length-map}
 use Rattle.sp_base.specs.declared.id.EdgeId.{EdgeId}
 use Rattle.sp_base.specs.declared.id.NodeId.{NodeId}
-use Rattle.sp_base.specs.declared.limits.TheConstants.{MAX_EDGES}
+use Rattle.sp_base.specs.declared.limits.TheConstants.{MAX_EDGES_2}
 use Rattle.sp_rules.specs.Parts.{as_neighbour}
 use Rattle.sp_rules.specs.declared.prio.Neighbour.{Neighbour}
 use Rattle.sp_rules.specs.declared.store.TheConstants.{IDS}
@@ -22,6 +22,6 @@ few me place (e ∷ edges) =
     omega (arith, here, rest, length-append (neighbour place (other_end me e)) (neighbours_from me (place + 1) edges))
 
 pub few_neighbours : (xs : List Neighbour) (joined : List (NodeId × EdgeId)) (me : ℕ) (edges : List Edge) → xs ≡ map as_neighbour joined
-    → joined ≡ neighbours_from me 0 edges → length edges ≤ MAX_EDGES → length xs ≤ IDS
+    → joined ≡ neighbours_from me 0 edges → length edges ≤ MAX_EDGES_2 → length xs ≤ IDS
 few_neighbours xs joined me edges are is most =
     omega (arith, most, few me 0 edges, ap length is, ap length are, length-map joined as_neighbour)

@@ -1,4 +1,4 @@
-//! What a node is made of: what stays as it is in one of its lives, and its three parts in memory.
+//! What a node is made of: what stays as it is in one of its lives, and its parts in memory.
 #![tactic(auto)]
 
 mod fixed;

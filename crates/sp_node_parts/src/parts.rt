@@ -1,14 +1,15 @@
-// The three parts of a node in memory.
+// The parts of a node in memory.
 ghost use Rattle.std.specs.Prelude.{◌≡◌, ◌≤◌, IfOk, length, map};
 ghost use Rattle.sp_rules.specs.Parts.{as_neighbour, empty_parts};
 ghost use Rattle.sp_rules.specs.Prio as prio;
 ghost use Rattle.sp_rules.specs.Rel as rel;
 ghost use Rattle.sp_rules.specs.Weights as weights;
 ghost use Rattle.sp_rules.specs.declared.store.TheConstants.{IDS};
-ghost use Rattle.sp_base.specs.declared.format.TheConstants.{FORMAT_1};
-ghost use Rattle.sp_topology.specs.InFormat.{IsTopologyIn};
+ghost use Rattle.sp_rules.specs.Lives as lives;
+ghost use Rattle.sp_topology.specs.Ranges.{IsTopology};
 
 use sp_base::{EdgeId, Limits, Memory, NodeId};
+use sp_lives::Lives;
 use sp_prio::{Neighbour, PrioTable};
 use sp_rel::RelTable;
 use sp_topology::{NodeKey, Topology};
@@ -16,12 +17,13 @@ use sp_weights::Weights;
 use std::alloc::Global;
 use std::marker::Model;
 
-/// What a node keeps for others. A contract sees the three parts of the rules (`sp_rules`).
+/// What a node keeps for others. A contract sees the parts of the rules (`sp_rules`).
 #[derive(Drop)]
 pub struct Parts {
     pub weights: Weights,
     pub prio: PrioTable,
     pub rel: RelTable,
+    pub lives: Lives,
 }
 
 impl Model for Parts {
@@ -29,20 +31,19 @@ impl Model for Parts {
 
     ghost Value = { rules.Parts };
 
-    ghost view = { λ c. record { weights = c.weights; prio = c.prio; rel = c.rel } };
+    ghost view = { λ c. record { weights = c.weights; prio = c.prio; rel = c.rel; lives = c.lives } };
 }
 
 impl Parts {
     /// The parts of a node under a topology, with nothing in them: room for `limits.buffer` messages of each flow and `limits.store` entries of
     /// each store. It is refused for want of memory alone.
-    #[tactic(auto, using(sp_topology::proofs::InFormat::of_format_1))]
     pub fn new(
         alloc: Global,
         me: NodeId,
         topology: &Topology,
         limits: Limits,
     ) -> Result<Parts, Memory>
-        requires { IsTopologyIn FORMAT_1 topology.now }
+        requires { IsTopology topology.now }
         ensures { IfOk result (λ parts. parts
             ≡ empty_parts (record { me = me; boot = 0; topology = topology.now; signature_len = 0 }) limits.buffer limits.store) }
     {
@@ -56,7 +57,7 @@ impl Parts {
     }
 }
 
-/// The three tables, with nothing in them.
+/// The tables, with nothing in them.
 fn tables_of(
     alloc: Global,
     me: NodeId,
@@ -66,12 +67,13 @@ fn tables_of(
     neighbours: &[Neighbour],
     peers: &[NodeId],
 ) -> Result<Parts, Memory>
-    requires topology { IsTopologyIn FORMAT_1 topology.now }
+    requires topology { IsTopology topology.now }
     requires few { length neighbours.now ≤ IDS }
     ensures { IfOk result (λ parts. parts ≡ record {
       weights = weights.start topology.now;
       prio = prio.start me.0 nodes.now neighbours.now limits.store;
       rel = rel.start me nodes.now peers.now limits.buffer;
+      lives = lives.start nodes.now;
     }) }
 {
     let weights = Weights::new(alloc, topology)?;
@@ -79,7 +81,13 @@ fn tables_of(
     let Ok(rel) = RelTable::new(alloc, me, nodes, peers, limits.buffer) else {
         return Err(Memory);
     };
-    Ok(Parts { weights, prio, rel })
+    let lives = Lives::new(alloc, nodes)?;
+    Ok(Parts {
+        weights,
+        prio,
+        rel,
+        lives,
+    })
 }
 
 fn ids_of(alloc: Global, nodes: &[NodeKey]) -> Result<Vec<NodeId>, Memory>

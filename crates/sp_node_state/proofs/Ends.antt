@@ -2,7 +2,7 @@
 use Rattle.std.proofs.Common.{◌≡◌, ◌≢◌, ◌∙◌, ℕ, ◌==◌, ◌||◌, not, Bool, true, false, List, [], ◌∷◌, map, Option, Some, None, refl, sym, ap, arith, cond}
 use Rattle.std.proofs.lemmas.Bool.Decides.{nat_tests}
 use Rattle.sp_base.specs.declared.id.NodeId.{NodeId}
-use Rattle.sp_node_format.specs.Format.{format}
+use Rattle.sp_node_format.specs.Format.{format_of}
 use Rattle.sp_msg.specs.declared.refused.SendRefused.{SendRefused}
 use Rattle.sp_rules.specs.Node.{NodeState}
 use Rattle.sp_rules.specs.Parts.{nodes_of}
@@ -27,7 +27,7 @@ other true b refused rest is = absurd (cc)
 other false true refused rest is = (refl, refl)
 other false false refused rest is = absurd (cc)
 
-pub ends_of : (n : NodeState) (m : PrioSend) (key : List ℕ) → key_of n.fixed.me.0 n.fixed.topology.nodes ≡ Some key → prio_refusal n m ≡ None → IsKept format n
+pub ends_of : (n : NodeState) (m : PrioSend) (key : List ℕ) → key_of n.fixed.me.0 n.fixed.topology.nodes ≡ Some key → prio_refusal n m ≡ None → IsKept (format_of n.fixed) n
     → (is_node (nodes_of n.fixed.topology) n.fixed.me.0 ≡ true) × (is_node (nodes_of n.fixed.topology) m.dst.0 ≡ true) × (n.fixed.me ≢ m.dst)
 ends_of n m key mine free kept =
     let two = other (m.dst.0 == n.fixed.me.0) (is_node n.parts.prio.nodes m.dst.0) _ _ free in (

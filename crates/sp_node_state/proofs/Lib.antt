@@ -6,3 +6,4 @@ pub mod Ends
 pub mod InEffect
 pub mod Sent
 pub mod Urgent
+pub mod Spares

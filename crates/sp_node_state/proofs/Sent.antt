@@ -5,8 +5,8 @@ use Rattle.std.proofs.lemmas.Bool.Decides.{nat_tests}
 use Rattle.sp_base.specs.Cursor.{or_else}
 use Rattle.sp_base.specs.declared.id.NodeId.{NodeId}
 use Rattle.sp_base.specs.declared.limits.TheConstants.{MAX_PAYLOAD_BYTES}
-use Rattle.sp_node_format.specs.Format.{format}
-use Rattle.sp_msg.specs.Bodies.{HasGoodFields}
+use Rattle.sp_node_format.specs.Format.{format_of}
+use Rattle.sp_msg.specs.Bodies.{HasGoodFieldsIn}
 use Rattle.sp_msg.specs.declared.body.WeightBody.{WeightBody}
 use Rattle.sp_msg.specs.declared.refused.SendRefused.{SendRefused}
 use Rattle.sp_msg.specs.declared.refused.SendRefused.TheVariants as refusals
@@ -24,7 +24,7 @@ use Rattle.laws_node.specs.Inputs.{PrioSendFits}
 use Rattle.laws_node.specs.Nodes.{IsKept}
 use Rattle.sp_node_state.proofs.Sizes.{sizes}
 
-pub rel_sent : (n : NodeState) (dst : NodeId) (payload : List ℕ) → length payload ≤ MAX_PAYLOAD_BYTES → rel_refusal n dst ≡ None → IsKept format n
+pub rel_sent : (n : NodeState) (dst : NodeId) (payload : List ℕ) → length payload ≤ MAX_PAYLOAD_BYTES → rel_refusal n dst ≡ None → IsKept (format_of n.fixed) n
     → RelSent (sizes n) n dst payload
 rel_sent n dst payload short free kept = rel_sent_fits (sizes n) n dst payload short free kept
 
@@ -44,7 +44,7 @@ offer_new s me edge weight row is low = go (row_in s.edges edge me.0) is (minimu
         let old : nat_le (last + 1) last ≡ false = grind (arith, nat_tests) in
         rw (is, low, old) refl
 
-pub own_is_new : (n : NodeState) (v : NodeId) (weight : ℕ) → weight_refusal n v weight ≡ None → IsKept format n
+pub own_is_new : (n : NodeState) (v : NodeId) (weight : ℕ) → weight_refusal n v weight ≡ None → IsKept (format_of n.fixed) n
     → offer_of n.parts.weights (weight_body n v weight) ≡ offers.New
 own_is_new n v weight free kept = go (edge_to n.fixed v) refl free
   where
@@ -69,7 +69,7 @@ own_is_new n v weight free kept = go (edge_to n.fixed v) refl free
 -- ---- an own priority message
 
 pub prio_sent : (n : NodeState) (m : PrioSend) (mask : ℕ) → PrioSendFits m → prio_refusal n m ≡ None
-    → IsChoice (graph_of n.fixed.topology n.parts.weights) n.fixed.me m.dst m.paths (Mask mask) → IsKept format n → HasGoodFields (prio_body n m mask)
+    → IsChoice (graph_of n.fixed.topology n.parts.weights) n.fixed.me m.dst m.paths (Mask mask) → IsKept (format_of n.fixed) n → HasGoodFieldsIn n.fixed.topology.format (prio_body n m mask)
 prio_sent n m mask fits free is kept =
     let none : send_prio_refusal n m (Mask mask) ≡ None = ap (λ (o : Option SendRefused). or_else o (no_paths (Mask mask))) free in
     (prio_sent_fits (sizes n) n m (Mask mask) fits none is kept).fields

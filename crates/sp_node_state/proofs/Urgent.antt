@@ -2,7 +2,7 @@
 use Rattle.std.proofs.Common.{◌≡◌, ◌≢◌, ◌∙◌, ℕ, List, ◌∷◌, Option, Some, None, Result, Ok, Err, refl, sym, ap, subst}
 use Rattle.std.specs.Result.{IsErrAnd}
 use Rattle.sp_base.specs.Cursor.{or_else}
-use Rattle.sp_node_format.specs.Format.{format}
+use Rattle.sp_node_format.specs.Format.{format_of}
 use Rattle.sp_msg.specs.declared.body.Body.{Body}
 use Rattle.sp_msg.specs.declared.effect.Effect.{Effect}
 use Rattle.sp_msg.specs.declared.refused.SendRefused.{SendRefused}
@@ -19,13 +19,13 @@ abbrev Chooses : NodeState → PrioSend → Choice → Type 0
 Chooses n m choice = IsChoice (graph_of n.fixed.topology n.parts.weights) n.fixed.me m.dst m.paths choice
 
 abbrev done : NodeState → PrioSend → Choice → NodeState
-done n m choice = signed_once n (record n.parts { prio = admit_prio n.parts.prio (own_prio format n m choice) None })
+done n m choice = signed_once n (record n.parts { prio = admit_prio n.parts.prio (own_prio (format_of n.fixed) n m choice) None })
 
 abbrev told : NodeState → PrioSend → Choice → Output
-told n m choice = accepted n.parts.prio.next (prio_sent format n m choice)
+told n m choice = accepted n.parts.prio.next (prio_sent (format_of n.fixed) n m choice)
 
 refused_by : (n : NodeState) (m : PrioSend) (choice : Choice) (r : SendRefused) → send_prio_refusal n m choice ≡ Some r
-    → (prio_refusal n m ≡ None → Chooses n m choice) → NodeStep format n (SendPrio m) (replied (Refused r)) n
+    → (prio_refusal n m ≡ None → Chooses n m choice) → NodeStep (format_of n.fixed) n (SendPrio m) (replied (Refused r)) n
 refused_by n m choice r is chosen = record {
   choice = choice;
   is_choice = chosen;
@@ -33,7 +33,7 @@ refused_by n m choice r is chosen = record {
   new_is = sym (ap (λ (o : Option SendRefused). kept_or o n (done n m choice)) is);
 }
 
-at_once : (n : NodeState) (m : PrioSend) (r : SendRefused) → prio_refusal n m ≡ Some r → NodeStep format n (SendPrio m) (replied (Refused r)) n
+at_once : (n : NodeState) (m : PrioSend) (r : SendRefused) → prio_refusal n m ≡ Some r → NodeStep (format_of n.fixed) n (SendPrio m) (replied (Refused r)) n
 at_once n m r is =
     refused_by n m (Mask 0) r (ap (λ (o : Option SendRefused). or_else o (no_paths (Mask 0))) is) (λ free. absurd (let e : Some r ≡ None = sym is ∙ free in cc))
 
@@ -55,8 +55,8 @@ few_paths n m found free is =
 
 pub accepted_prio : (n new : NodeState) (m : PrioSend) (mask : ℕ) (body : Body) (step : Step ℕ) → prio_refusal n m ≡ None → Chooses n m (Mask mask)
     → body ≡ prio_body n m mask → step.reply ≡ n.parts.prio.next
-    → step.effects.list ≡ signed_effect format body ∷ prio_effects n.parts.prio (signed_now format n body) None
-    → new ≡ signed_once n (record n.parts { prio = admit_prio n.parts.prio (signed_now format n body) None })
+    → step.effects.list ≡ signed_effect (format_of n.fixed) body ∷ prio_effects n.parts.prio (signed_now (format_of n.fixed) n body) None
+    → new ≡ signed_once n (record n.parts { prio = admit_prio n.parts.prio (signed_now (format_of n.fixed) n body) None })
     → Sends (SendPrio m) (prio_refusal n m) n (Ok step) new
 accepted_prio n new m mask body step free chosen is number effects after =
     let none : send_prio_refusal n m (Mask mask) ≡ None = ap (λ (o : Option SendRefused). or_else o (no_paths (Mask mask))) free in
@@ -66,11 +66,11 @@ accepted_prio n new m mask body step free chosen is number effects after =
       output_is =
           ap (λ (q : ℕ). accepted q step.effects.list) number
           ∙ ap (λ (es : List Effect). accepted n.parts.prio.next es)
-          (effects ∙ ap (λ (b : Body). signed_effect format b ∷ prio_effects n.parts.prio (signed_now format n b) None) is)
+          (effects ∙ ap (λ (b : Body). signed_effect (format_of n.fixed) b ∷ prio_effects n.parts.prio (signed_now (format_of n.fixed) n b) None) is)
           ∙ sym (ap (λ (o : Option SendRefused). refused_send o (told n m (Mask mask))) none);
       new_is =
           after
-          ∙ ap (λ (b : Body). signed_once n (record n.parts { prio = admit_prio n.parts.prio (signed_now format n b) None })) is
+          ∙ ap (λ (b : Body). signed_once n (record n.parts { prio = admit_prio n.parts.prio (signed_now (format_of n.fixed) n b) None })) is
           ∙ sym (ap (λ (o : Option SendRefused). kept_or o n (done n m (Mask mask))) none);
     }
 

@@ -6,8 +6,7 @@ use Rattle.sp_rules.specs.Parts.{Fixed, neighbours_of}
 use Rattle.sp_sign.specs.Heights.{param_of}
 use Rattle.sp_sign.specs.NodeSigner.{NodeSigner}
 use Rattle.sp_topology.specs.Keys.{key_of}
-use Rattle.sp_base.specs.declared.format.TheConstants.{FORMAT_1}
-use Rattle.sp_topology.specs.InFormat.{IsTopologyIn}
+use Rattle.sp_rules.specs.Topologies.{IsRunnable}
 use Rattle.sp_node_state.specs.States.{signer_in}
 use Rattle.sp_node_state.specs.declared.boot.NodeConfig.{NodeConfig}
 
@@ -15,10 +14,10 @@ use Rattle.sp_node_state.specs.declared.boot.NodeConfig.{NodeConfig}
 abbrev pub fixed_of : NodeConfig → ℕ → Fixed
 fixed_of c boot = record { me = c.me; boot = boot; topology = c.topology; signature_len = signature_len (param_of c.topology.height) }
 
--- the topology is of format 1, under which alone nodes run. The node is one of it, the signer is its own, with the key that the topology has for
--- it, and there is a link key for each of its edges, in their order
+-- the node is one of a topology that nodes run under, the signer is its own, with the key that the topology has for it, and there is a link key for
+-- each of its edges, in their order
 pub record IsBootable (c : NodeConfig) (own : NodeSigner) (boot : ℕ) : Type 0 where
-  pub topology : IsTopologyIn FORMAT_1 c.topology
+  pub topology : IsRunnable c.topology
   pub node : own.node ≡ c.me
   pub height : own.signer.height ≡ param_of c.topology.height
   pub is_mine : key_of c.me.0 c.topology.nodes ≡ Some (public_key own.signer.height own.signer.seed)

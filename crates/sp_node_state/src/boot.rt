@@ -7,8 +7,8 @@ ghost use Rattle.sp_rules.specs.Parts.{neighbours_of};
 ghost use Rattle.sp_sign.specs.Heights.{param_of};
 ghost use Rattle.sp_topology.specs.Keys.{key_of};
 ghost use Rattle.sp_topology.specs.Neighbours.{neighbours_from};
-ghost use Rattle.sp_base.specs.declared.format.TheConstants.{FORMAT_1};
-ghost use Rattle.sp_topology.specs.InFormat.{IsTopologyIn};
+ghost use Rattle.sp_rules.specs.Topologies.{IsRunnable};
+ghost use Rattle.sp_topology.specs.Ranges.{IsTopology};
 
 use crate::state::State;
 use sp_base::{EdgeId, Limits, Listed, Memory, NodeId};
@@ -40,8 +40,9 @@ impl fmt::Debug for NodeConfig {
 }
 
 /// Whether a node may start a life with these: what `Node::boot` asks for. It takes no memory.
+#[tactic(auto, using(sp_base::proofs::FormatLemmas::few_edges))]
 pub fn can_boot(config: &NodeConfig, signer: &NodeSigner, boot: u64) -> bool
-    requires { IsTopologyIn FORMAT_1 config.now.topology }
+    requires { IsRunnable config.now.topology }
     ensures { IsTrue result ↔ IsBootable config.now signer.now boot }
 {
     let topology = &config.topology;
@@ -132,9 +133,8 @@ impl State {
 }
 
 /// A link to each neighbour, with the key of the edge to it.
-#[tactic(auto, using(sp_topology::proofs::InFormat::of_format_1))]
 fn links_of(alloc: Global, fixed: &Fixed, keys: &[(EdgeId, [u8; 32])]) -> Result<Vec<Link>, Memory>
-    requires { IsTopologyIn FORMAT_1 fixed.now.topology }
+    requires { IsTopology fixed.now.topology }
     ensures { IfOk result (λ links. links.items ≡ map (λ p. new_link fixed.now.me p.0.0 fixed.now.boot p.1.1) (zip (neighbours_of fixed.now) keys.now)) }
 {
     let Ok(neighbours) = fixed.topology.neighbours(alloc, fixed.me) else {

@@ -3,9 +3,8 @@ ghost use Rattle.std.specs.Prelude.{ℕ, ◌≡◌, ◌≢◌, ◌≤◌, ◌<�
 ghost use Rattle.sp_base.specs.declared.limits.TheConstants.{MAX_WEIGHT};
 ghost use Rattle.laws_node.specs.Inputs.{PrioSendFits};
 ghost use Rattle.laws_node.specs.Nodes.{IsKept};
-ghost use Rattle.sp_node_format.specs.Format.{format};
+ghost use Rattle.sp_node_format.specs.Format.{format_of};
 ghost use Rattle.sp_routes.specs.Fewer.{SaysFewer};
-ghost use Rattle.sp_msg.specs.Bodies.{HasGoodFields};
 ghost use Rattle.sp_msg.specs.Masks.{bits, of_halves};
 ghost use Rattle.sp_node_state.specs.Sends.{Sends};
 ghost use Rattle.sp_rules.specs.Messages.{as_send};
@@ -20,8 +19,8 @@ ghost use Rattle.sp_rules.specs.Sends.{prio_body, prio_refusal, signed_effect};
 ghost use Rattle.sp_rules.specs.Steps.{SendPrio};
 ghost use Rattle.sp_rules.specs.Told.{told};
 ghost use Rattle.sp_rules.specs.Weights.{effective};
-ghost use Rattle.sp_base.specs.declared.format.TheConstants.{FORMAT_1};
-ghost use Rattle.sp_topology.specs.InFormat.{IsTopologyIn};
+ghost use Rattle.sp_rules.specs.Changes.{FitsAFormat};
+ghost use Rattle.sp_rules.specs.Topologies.{IsRunnable};
 
 use crate::State;
 use sp_base::{Bytes, Memory};
@@ -49,7 +48,7 @@ pub fn send_prio(
     alloc: Global,
     message: &PrioSend<'_>,
 ) -> Result<Step<u64>, SendRefused>
-    requires kept { IsKept format state.old }
+    requires kept { IsKept (format_of state.old.fixed) state.old }
     requires fits { PrioSendFits (as_send message.now) }
     requires few { message.now.paths ≤ MAX_PATHS }
     ensures { Sends (SendPrio (as_send message.now)) (prio_refusal state.old (as_send message.now)) state.old result state.new }
@@ -92,7 +91,7 @@ fn mask_for(
     alloc: Global,
     message: &PrioSend<'_>,
 ) -> Result<Mask, SendRefused>
-    requires kept { IsKept format state.now }
+    requires kept { IsKept (format_of state.now.fixed) state.now }
     requires few { message.now.paths ≤ MAX_PATHS }
     requires free { prio_refusal state.now (as_send message.now) ≡ Nothing }
     ensures { IsMaskFor state.entry.now (as_send message.now) result }
@@ -137,7 +136,7 @@ fn prio_over(
     Ok(Body::Prio(Prio {
         src: state.fixed.me,
         dst: message.dst,
-        sboot: 0,
+        sboot: state.core.lives.held_boot(state.fixed.me),
         seq: next_number(state),
         prio: message.prio,
         expiry: message.expiry,
@@ -153,7 +152,7 @@ fn ready_prio(
     message: &PrioSend<'_>,
     mask: Mask,
 ) -> Result<ReadyPrio, Memory>
-    requires kept { IsKept format state.now }
+    requires kept { IsKept (format_of state.now.fixed) state.now }
     requires fits { PrioSendFits (as_send message.now) }
     requires free { prio_refusal state.now (as_send message.now) ≡ Nothing }
     requires mask { IsMaskFor state.now (as_send message.now) (Ok mask) }
@@ -177,9 +176,9 @@ fn ready_prio(
 fn admit_own(state: &mut State, ready: ReadyPrio) -> Effects
     requires { IsReadyPrio state.old ready }
     ensures state { state.new ≡ signed_once state.old
-        (record state.old.parts { prio = admit_prio state.old.parts.prio (signed_now format state.old ready.blank.kept.body) Nothing }) }
-    ensures told { result.list ≡ signed_effect format ready.blank.kept.body ∷ prio_effects state.old.parts.prio
-        (signed_now format state.old ready.blank.kept.body) Nothing }
+        (record state.old.parts { prio = admit_prio state.old.parts.prio (signed_now (format_of state.old.fixed) state.old ready.blank.kept.body) Nothing }) }
+    ensures told { result.list ≡ signed_effect (format_of state.old.fixed) ready.blank.kept.body ∷ prio_effects state.old.parts.prio
+        (signed_now (format_of state.old.fixed) state.old ready.blank.kept.body) Nothing }
 {
     state.recall();
     let ReadyPrio {
@@ -201,7 +200,7 @@ fn choose(
     core: &Parts,
     message: &PrioSend<'_>,
 ) -> Result<Mask, NoMask>
-    requires topology { IsTopologyIn FORMAT_1 fixed.now.topology }
+    requires topology { IsRunnable fixed.now.topology }
     requires edges { core.now.weights.edges ≡ fixed.now.topology.edges }
     requires small { (edge : ℕ) → effective core.now.weights edge ≤ MAX_WEIGHT }
     requires from { is_node (nodes_of fixed.now.topology) fixed.now.me.0 ≡ true }
@@ -226,7 +225,7 @@ fn choose(
 fn place_own(core: &mut Parts, kept: Kept, spare: Spare, out: &mut Effects)
     requires spare { IsSpareFor kept spare }
     requires copies { spare.copies ≡ places core.old.prio kept.body Nothing }
-    requires fields { HasGoodFields kept.body }
+    requires fields { FitsAFormat kept.body }
     requires inbox { core.old.prio.inbox.last < 2 ^ 63 }
     requires stores { All (λ q. q.store.last < 2 ^ 63) core.old.prio.peers }
     requires room { 2 * length core.old.prio.peers + 3 ≤ out.old.room }

@@ -2,7 +2,7 @@
 ghost use Rattle.std.specs.Prelude.{◌≡◌, ◌≢◌, ◌≤◌, IfErr, IfOk, None as Nothing, Some as There, [], ◌∷◌, length};
 ghost use Rattle.laws_node.specs.Nodes.{IsKept};
 ghost use Rattle.sp_base.specs.declared.limits.TheConstants.{MAX_PAYLOAD_BYTES};
-ghost use Rattle.sp_node_format.specs.Format.{format};
+ghost use Rattle.sp_node_format.specs.Format.{format_of};
 ghost use Rattle.sp_node_state.specs.Sends.{Sends};
 ghost use Rattle.sp_node_state.specs.ReadySends.{IsReadyRel};
 ghost use Rattle.sp_rules.specs.Node.{signed_now, signed_once};
@@ -33,7 +33,7 @@ pub fn send_rel(
     dst: NodeId,
     payload: &[u8],
 ) -> Result<Step<u64>, SendRefused>
-    requires kept { IsKept format state.old }
+    requires kept { IsKept (format_of state.old.fixed) state.old }
     requires short { length payload.now ≤ MAX_PAYLOAD_BYTES }
     ensures { Sends (SendRel dst payload.now) (rel_refusal state.old dst) state.old result state.new }
 {
@@ -81,8 +81,8 @@ fn rel_body(
     Ok(Body::Rel(Rel {
         src: state.fixed.me,
         dst,
-        sboot: 0,
-        dboot: 0,
+        sboot: state.core.lives.held_boot(state.fixed.me),
+        dboot: state.core.lives.held_boot(dst),
         seq: number,
         payload: Bytes::copy(alloc, payload)?,
     }))
@@ -96,7 +96,7 @@ fn ready_rel(
     number: u64,
     payload: &[u8],
 ) -> Result<ReadyRel, Memory>
-    requires kept { IsKept format state.now }
+    requires kept { IsKept (format_of state.now.fixed) state.now }
     requires short { length payload.now ≤ MAX_PAYLOAD_BYTES }
     requires free { rel_refusal state.now dst ≡ Nothing }
     requires number { number ≡ rel_number state.now dst }
@@ -127,8 +127,8 @@ fn ready_rel(
 fn push_rel(state: &mut State, ready: ReadyRel) -> Effects
     requires { IsReadyRel state.old ready }
     ensures state { state.new ≡ signed_once state.old
-        (record state.old.parts { rel = pushed_in state.old.parts.rel (signed_now format state.old ready.blank.kept.body) }) }
-    ensures told { result.list ≡ signed_effect format ready.blank.kept.body ∷ [] }
+        (record state.old.parts { rel = pushed_in state.old.parts.rel (signed_now (format_of state.old.fixed) state.old ready.blank.kept.body) }) }
+    ensures told { result.list ≡ signed_effect (format_of state.old.fixed) ready.blank.kept.body ∷ [] }
 {
     let ReadyRel {
         blank,

@@ -1,7 +1,7 @@
 // Signing the messages of this node: memory first, and then the signature of the next index.
 ghost use Rattle.std.specs.Prelude.{◌≡◌, IfOk, None as Nothing};
-ghost use Rattle.sp_node_format.specs.Format.{format};
-ghost use Rattle.sp_msg.specs.Bodies.{HasGoodFields, encoded};
+ghost use Rattle.sp_node_format.specs.Format.{format_of};
+ghost use Rattle.sp_msg.specs.Bodies.{HasGoodFieldsIn, encoded_in};
 ghost use Rattle.sp_msg.specs.Views.{signer_of};
 ghost use Rattle.sp_node_state.specs.ReadyStates.{IsReadyBlank};
 ghost use Rattle.sp_rules.specs.Node.{signed_now, signed_once};
@@ -33,11 +33,12 @@ impl State {
     pub fn blank(&self, alloc: Global, body: Body) -> Result<Blank, Memory>
         requires free { signer_refusal self.now.signer ≡ Nothing }
         requires mine { signer_of body ≡ self.now.fixed.me }
-        requires fields { HasGoodFields body }
+        requires fields { HasGoodFieldsIn self.now.fixed.topology.format body }
         ensures ready { IfOk result (IsReadyBlank self.entry.now) }
         ensures body { IfOk result (λ blank. blank.kept.body ≡ body) }
     {
-        match self.signer.blank(alloc, body) {
+        let format = self.fixed.topology.format;
+        match self.signer.blank_in(alloc, body, format) {
             Ok(blank) => Ok(blank),
             Err(_) => Err(Memory),
         }
@@ -46,8 +47,8 @@ impl State {
     /// The message with the signature of the next index, which is used then.
     pub fn sign(&mut self, blank: Blank) -> Blank
         requires { IsReadyBlank self.old blank }
-        ensures kept { result.kept ≡ signed_now format self.old blank.kept.body }
-        ensures bytes { result.bytes ≡ encoded blank.kept.body }
+        ensures kept { result.kept ≡ signed_now (format_of self.old.fixed) self.old blank.kept.body }
+        ensures bytes { result.bytes ≡ encoded_in self.old.fixed.topology.format blank.kept.body }
         ensures state { self.new ≡ signed_once self.old self.old.parts }
     {
         let mut blank = blank;

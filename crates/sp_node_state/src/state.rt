@@ -1,7 +1,7 @@
 // A node in memory: its parts, and where the link to a neighbour stands among them.
 ghost use Rattle.std.specs.Prelude.{◌≡◌, ◌≢◌, ◌≤◌, IfErr, IfOk, Some as There, position};
 ghost use Rattle.laws_node.specs.Inputs.{ArtsFit};
-ghost use Rattle.sp_node_format.specs.Format.{format};
+ghost use Rattle.sp_node_format.specs.Format.{format_of};
 ghost use Rattle.sp_node_state.specs.ReadyStates.{IsAnswered};
 ghost use Rattle.sp_node_state.specs.States.{is_other};
 ghost use Rattle.sp_rules.specs.Node.{call_refusal, is_link, link_in};
@@ -40,7 +40,7 @@ impl State {
     /// For the prover alone, it does nothing when it runs: the arts of the format fit the node.
     #[tactic(auto, using(crate::proofs::Fitted::fitted))]
     pub fn recall(&self)
-        ensures { ArtsFit format self.entry.now.fixed self.entry.now.signer }
+        ensures { ArtsFit (format_of self.entry.now.fixed) self.entry.now.fixed self.entry.now.signer }
     {
         let _me = &self.fixed;
     }

@@ -2,7 +2,7 @@
 ghost use Rattle.std.specs.Prelude.{◌≡◌, ◌≢◌, ◌≤◌, IfErr, IfOk, None as Nothing, Some as There, ◌∷◌};
 ghost use Rattle.laws_node.specs.Nodes.{IsKept};
 ghost use Rattle.sp_base.specs.declared.limits.TheConstants.{MAX_WEIGHT};
-ghost use Rattle.sp_node_format.specs.Format.{format};
+ghost use Rattle.sp_node_format.specs.Format.{format_of};
 ghost use Rattle.sp_node_state.specs.Sends.{Sends};
 ghost use Rattle.sp_node_state.specs.ReadySends.{IsReadyUpdate};
 ghost use Rattle.sp_rules.specs.Handle.{weight_effects};
@@ -34,7 +34,7 @@ pub fn set_weight(
     peer: NodeId,
     weight: u32,
 ) -> Result<Step<u64>, SendRefused>
-    requires kept { IsKept format state.old }
+    requires kept { IsKept (format_of state.old.fixed) state.old }
     requires least { 1 ≤ weight }
     requires most { weight ≤ MAX_WEIGHT }
     ensures { Sends (SetWeight peer weight) (weight_refusal state.old peer weight) state.old result state.new }
@@ -52,9 +52,8 @@ pub fn set_weight(
 }
 
 /// The edge to a neighbour, or why its weight isn't set.
-#[tactic(auto, using(sp_topology::proofs::InFormat::of_format_1))]
 fn edge_for(state: &State, peer: NodeId, weight: u32) -> Result<EdgeId, SendRefused>
-    requires { IsKept format state.now }
+    requires { IsKept (format_of state.now.fixed) state.now }
     ensures edge { IfOk result (λ edge. edge_to state.entry.now.fixed peer ≡ There edge.0) }
     ensures free { IfOk result (λ _. weight_refusal state.entry.now peer weight ≡ Nothing) }
     ensures refused { IfErr result (λ refused. weight_refusal state.entry.now peer weight ≡ There refused) }
@@ -96,7 +95,7 @@ fn ready_update(
     edge: EdgeId,
     weight: u32,
 ) -> Result<ReadyUpdate, Memory>
-    requires kept { IsKept format state.now }
+    requires kept { IsKept (format_of state.now.fixed) state.now }
     requires least { 1 ≤ weight }
     requires most { weight ≤ MAX_WEIGHT }
     requires edge { edge_to state.now.fixed peer ≡ There edge.0 }
@@ -115,8 +114,8 @@ fn ready_update(
 fn hold_own(state: &mut State, ready: ReadyUpdate) -> Effects
     requires { IsReadyUpdate state.old ready }
     ensures state { state.new ≡ signed_once state.old
-        (record state.old.parts { weights = held state.old.parts.weights (signed_now format state.old ready.blank.kept.body) }) }
-    ensures told { result.list ≡ signed_effect format ready.blank.kept.body ∷ weight_effects ready.blank.kept.body }
+        (record state.old.parts { weights = held state.old.parts.weights (signed_now (format_of state.old.fixed) state.old ready.blank.kept.body) }) }
+    ensures told { result.list ≡ signed_effect (format_of state.old.fixed) ready.blank.kept.body ∷ weight_effects ready.blank.kept.body }
 {
     let ReadyUpdate { blank, mut effects } = ready;
     let Blank { kept, bytes } = state.sign(blank);

@@ -63,6 +63,7 @@ weight_word weights.New = answers.New
 -- the answer to a priority message
 abbrev pub prio_word : PrioAnswer → AnswerWord
 prio_word prios.BadEnd = answers.BadEnd
+prio_word prios.Epoch = answers.Epoch
 prio_word prios.Expired = answers.Expired
 prio_word prios.Seen = answers.Seen
 prio_word prios.BadSig = answers.BadSig
@@ -71,6 +72,7 @@ prio_word prios.New = answers.New
 -- the answer to an acknowledgement
 abbrev pub ack_word : AckAnswer → AnswerWord
 ack_word acks.BadEnd = answers.BadEnd
+ack_word acks.Epoch = answers.Epoch
 ack_word acks.Old = answers.Old
 ack_word acks.Ahead = answers.Ahead
 ack_word acks.BadSig = answers.BadSig
@@ -79,6 +81,7 @@ ack_word acks.New = answers.New
 -- the answer to a reliable message
 abbrev pub rel_word : RelAnswer → AnswerWord
 rel_word rels.BadEnd = answers.BadEnd
+rel_word rels.Epoch = answers.Epoch
 rel_word rels.Old = answers.Old
 rel_word rels.Ahead = answers.Ahead
 rel_word rels.Gap = answers.Gap

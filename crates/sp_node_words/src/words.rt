@@ -68,6 +68,7 @@ fn prio_word(answer: PrioAnswer) -> AnswerWord
 {
     match answer {
         PrioAnswer::BadEnd => AnswerWord::BadEnd,
+        PrioAnswer::Epoch => AnswerWord::Epoch,
         PrioAnswer::Expired => AnswerWord::Expired,
         PrioAnswer::Seen => AnswerWord::Seen,
         PrioAnswer::BadSig => AnswerWord::BadSig,
@@ -80,6 +81,7 @@ fn ack_word(answer: AckAnswer) -> AnswerWord
 {
     match answer {
         AckAnswer::BadEnd => AnswerWord::BadEnd,
+        AckAnswer::Epoch => AnswerWord::Epoch,
         AckAnswer::Old => AnswerWord::Old,
         AckAnswer::Ahead => AnswerWord::Ahead,
         AckAnswer::BadSig => AnswerWord::BadSig,
@@ -92,6 +94,7 @@ fn rel_word(answer: RelAnswer) -> AnswerWord
 {
     match answer {
         RelAnswer::BadEnd => AnswerWord::BadEnd,
+        RelAnswer::Epoch => AnswerWord::Epoch,
         RelAnswer::Old => AnswerWord::Old,
         RelAnswer::Ahead => AnswerWord::Ahead,
         RelAnswer::Gap => AnswerWord::Gap,

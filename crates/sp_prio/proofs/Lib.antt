@@ -4,3 +4,4 @@ pub mod RowLemmas
 pub mod TellLemmas
 mod BesideLemmas
 mod SpareLemmas
+pub mod Numbers

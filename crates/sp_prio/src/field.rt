@@ -1,7 +1,7 @@
 // The fields of a priority message. A message of another kind has none: its numbers read as 0.
 ghost use Rattle.std.specs.Prelude.{◌≡◌, ◌≤◌};
 ghost use Rattle.sp_base.specs.declared.limits.TheConstants.{MAX_SEQ};
-ghost use Rattle.sp_msg.specs.Bodies.{HasGoodFields};
+ghost use Rattle.sp_rules.specs.Changes.{FitsAFormat};
 ghost use Rattle.sp_msg.specs.Masks.{bits};
 ghost use Rattle.sp_rules.specs.Prio.{next_after_own};
 ghost use Rattle.sp_rules.specs.Store.{said};
@@ -30,9 +30,10 @@ pub fn dst_of(body: &Body) -> u8
 }
 
 /// The number that the source gave it.
+#[tactic(auto, using(crate::proofs::Numbers::small_seq))]
 pub fn seq_of(body: &Body) -> u64
     ensures number { result ≡ said (λ p. p.seq) body.now }
-    ensures range { HasGoodFields body.now → result ≤ MAX_SEQ }
+    ensures range { FitsAFormat body.now → result ≤ MAX_SEQ }
 {
     match body {
         Body::Prio(prio) => prio.seq,
@@ -52,7 +53,7 @@ pub fn mask_of(body: &Body) -> Mask
 
 /// The number of this node's next own message after this message: one from nowhere is its own.
 pub fn next_after_own(next: u64, body: &Body, came: Option<NodeId>) -> u64
-    requires { HasGoodFields body.now }
+    requires { FitsAFormat body.now }
     ensures { result ≡ next_after_own next body.now came }
 {
     match came {

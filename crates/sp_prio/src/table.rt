@@ -1,7 +1,7 @@
 // The table of the priority part. Every call is judged first, its memory taken next, and changes come last.
 ghost use Rattle.std.specs.Prelude.{◌≡◌, ◌<◌, ◌≤◌, ◌+◌, ◌*◌, ◌^◌, All, IfOk, length, map, vec_capacity};
 ghost use Rattle.sp_base.specs.declared.limits.TheConstants.{MAX_MESSAGES};
-ghost use Rattle.sp_msg.specs.Bodies.{HasGoodFields};
+ghost use Rattle.sp_rules.specs.Changes.{FitsAFormat};
 ghost use Rattle.sp_msg.specs.Views.{as_body};
 ghost use Rattle.sp_rules.specs.Polls.{as_message};
 ghost use Rattle.sp_rules.specs.Prio.{acked, acked_effects, admit_prio, carried, expired, expired_effects, expiring, heard, is_node};
@@ -125,7 +125,7 @@ impl PrioTable {
     /// Marks a message as seen and puts it into its places, and tells so. One from nowhere is this node's own, and uses up its number.
     pub fn admit(&mut self, parcel: Parcel, out: &mut Effects)
         requires copies { parcel.copies ≡ places self.old parcel.kept.body parcel.came }
-        requires fields { HasGoodFields parcel.kept.body }
+        requires fields { FitsAFormat parcel.kept.body }
         requires inbox { self.old.inbox.last < 2 ^ 63 }
         requires stores { All (λ q. q.store.last < 2 ^ 63) self.old.peers }
         requires room { 2 * length self.old.peers + 3 ≤ out.old.room }
@@ -242,7 +242,7 @@ impl PrioTable {
 
     /// Marks the number of a message in the window of its source. An own message uses up its number.
     fn mark(&mut self, body: &Body, came: Option<NodeId>)
-        requires { HasGoodFields body.now }
+        requires { FitsAFormat body.now }
         ensures { self.new ≡ marked self.old body.now came }
     {
         mark(&mut self.windows, &self.nodes, src_of(body), seq_of(body));

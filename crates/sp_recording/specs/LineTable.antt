@@ -8,7 +8,7 @@
 use Rattle.std.specs.Prelude.{ℕ, ◌-◌, ◌^◌, ◌==◌, nat_lt, Bool, List, [], ◌∷◌, Option, Some, None, Result, Ok, Err, codes}
 use Rattle.std.specs.List.{list_any}
 use Rattle.sp_base.specs.Refusals.{◌>>=◌}
-use Rattle.sp_base.specs.declared.limits.TheConstants.{MAX_NODES}
+use Rattle.sp_base.specs.declared.limits.TheConstants.{MAX_NODES_2}
 use Rattle.sp_base.specs.declared.id.NodeId.{NodeId}
 use Rattle.sp_text.specs.Spelling.{Word}
 use Rattle.sp_lines.specs.Cells.{Bytes, Cell, Name, Number, Tested}
@@ -43,7 +43,7 @@ abbrev pub is_neighbour : List NodeId → ℕ → Bool
 is_neighbour near n = list_any (λ id. id.0 == n) near
 
 abbrev pub neighbour : List NodeId → Cell
-neighbour near = Tested 1 MAX_NODES (is_neighbour near)
+neighbour near = Tested 1 MAX_NODES_2 (is_neighbour near)
 
 abbrev pub datagram : Cell
 datagram = Bytes 0 DATAGRAM_BYTES

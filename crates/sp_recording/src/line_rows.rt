@@ -1,7 +1,7 @@
 // A line between the first and the end line, read from its words.
 ghost use Rattle.std.specs.Prelude.{◌≡◌, [], ◌∷◌, codes, map};
 ghost use Rattle.sp_base.specs.Refusals.{Gives};
-ghost use Rattle.sp_base.specs.declared.limits.TheConstants.{MAX_NODES};
+ghost use Rattle.sp_base.specs.declared.limits.TheConstants.{MAX_NODES_2};
 ghost use Rattle.sp_lines.specs.Answers.{Reads};
 ghost use Rattle.sp_lines.specs.Cells.{bytes_at, number_at, tested_at};
 ghost use Rattle.sp_outside.specs.declared.wire.TheConstants.{DATAGRAM_BYTES};
@@ -9,7 +9,7 @@ ghost use Rattle.sp_recording.specs.LineTable.{MAX_PORT, is_above, is_neighbour,
 ghost use Rattle.sp_recording.specs.LineTable as forms;
 
 use crate::{Digest, Line};
-use sp_base::{Bytes, MAX_NODES, NodeId};
+use sp_base::{Bytes, MAX_NODES_2, NodeId};
 use sp_lines::{Fault, LineRefused, bytes, digest, named, ranged};
 use sp_outside::DATAGRAM_BYTES;
 use std::alloc::Global;
@@ -100,9 +100,9 @@ fn is_neighbour(neighbours: &[NodeId], n: u64) -> bool
 
 #[tactic(auto, unfolding(sp_lines::specs::Cells::tested_at))]
 fn neighbour(neighbours: &[NodeId], word: &[u8]) -> Result<NodeId, Fault>
-    ensures { Gives (λ id. id.0) result (tested_at 1 MAX_NODES (is_neighbour neighbours.now) word.now) }
+    ensures { Gives (λ id. id.0) result (tested_at 1 MAX_NODES_2 (is_neighbour neighbours.now) word.now) }
 {
-    let n = ranged(word, 1, u64::from(MAX_NODES))?;
+    let n = ranged(word, 1, u64::from(MAX_NODES_2))?;
     if !is_neighbour(neighbours, n) {
         return Err(Fault::Range);
     }

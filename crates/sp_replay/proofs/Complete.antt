@@ -55,10 +55,10 @@ none_forged (stages.Events s es) past number what unforged f =
 none_forged (stages.End s es) past number what unforged f =
     never_forged s es past f.event f.rest f.events unforged past.events f.event f.rest past.journal f.next.world what refl f.next.run f.next.forged
 none_forged stages.Start past number what unforged f = f.events
-none_forged stages.Version past number what unforged f = f.events
-none_forged (stages.Seed seed) past number what unforged f = f.events
-none_forged (stages.Height seed height) past number what unforged f = f.events
-none_forged (stages.Bounds seed height limits) past number what unforged f = f.events
+none_forged (stages.Version format) past number what unforged f = f.events
+none_forged (stages.Seed format seed) past number what unforged f = f.events
+none_forged (stages.Height format seed height) past number what unforged f = f.events
+none_forged (stages.Bounds format seed height limits) past number what unforged f = f.events
 none_forged (stages.Edges s) past number what unforged f = f.events
 none_forged (stages.Bads s) past number what unforged f = f.events
 

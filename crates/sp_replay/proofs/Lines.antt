@@ -3,16 +3,15 @@ use Rattle.std.proofs.Common.{◌≡◌, ◌+◌, ℕ, Bool, List, [], ◌∷◌
 use Rattle.std.specs.Io.KnownBytes.{Appends}
 use Rattle.std.proofs.KnownBytes.{Appends-trans}
 use Rattle.std.proofs.lemmas.List.{same_from_push}
-use Rattle.sp_base.specs.declared.format.TheConstants.{FORMAT_1}
-use Rattle.sp_graph.specs.Edges.{IsGraphIn}
 use Rattle.sp_journal.specs.JournalText.{entry_text, journal_lines}
 use Rattle.sp_lines.specs.Texts.{At_end, Good, Leads, Nothing_left}
 use Rattle.sp_lines.proofs.LeadLemmas.{led_by}
 use Rattle.sp_outside.specs.Streams.{AppendsFront}
-use Rattle.sp_node_format.specs.Format.{format}
+use Rattle.laws_runs_format.specs.Arts.{arts_of}
+use Rattle.laws_runs_format.proofs.Schedules.{header_of}
 use Rattle.laws_runs_format.proofs.Hostile.{only_hostile}
 use Rattle.sp_runs.specs.Runs.{Clean, Starts}
-use Rattle.sp_runs.specs.Scenarios.{setting_of}
+use Rattle.sp_runs.specs.Scenarios.{IsHeader, setting_of}
 use Rattle.sp_runs.specs.Worlds.{at_start}
 use Rattle.sp_runs.specs.declared.what.What.{What}
 use Rattle.sp_schedule.proofs.FeedLemmas.{step}
@@ -66,10 +65,10 @@ leads_line old new given leads takes = λ rest last end stop more.
 
 no_world : (stage : Stage) → IsInHeader stage → HasNoWorld stage
 no_world stages.Start is = tt
-no_world stages.Version is = tt
-no_world (stages.Seed seed) is = tt
-no_world (stages.Height seed height) is = tt
-no_world (stages.Bounds seed height limits) is = tt
+no_world (stages.Version format) is = tt
+no_world (stages.Seed format seed) is = tt
+no_world (stages.Height format seed height) is = tt
+no_world (stages.Bounds format seed height limits) is = tt
 no_world (stages.Edges s) is = tt
 no_world (stages.Bads s) is = tt
 no_world (stages.Events s es) is = absurd is
@@ -77,10 +76,10 @@ no_world (stages.End s es) is = absurd is
 
 not_of_header : (stage : Stage) (s : Scenario) (es : List Event) → IsInHeader stage → IsOfStage stage s es → ⊥
 not_of_header stages.Start s es is of = of
-not_of_header stages.Version s es is of = of
-not_of_header (stages.Seed seed) s es is of = of
-not_of_header (stages.Height seed height) s es is of = of
-not_of_header (stages.Bounds seed height limits) s es is of = of
+not_of_header (stages.Version format) s es is of = of
+not_of_header (stages.Seed format seed) s es is of = of
+not_of_header (stages.Height format seed height) s es is of = of
+not_of_header (stages.Bounds format seed height limits) s es is of = of
 not_of_header (stages.Edges t) s es is of = of
 not_of_header (stages.Bads t) s es is of = of
 not_of_header (stages.Events t fs) s es is of = is
@@ -104,10 +103,10 @@ end_done : (old next : Stage) (world : Option Past) → IsParsed old parts.Ended
 end_done (stages.Events s es) next None parsed done = absurd done
 end_done (stages.Events s es) next (Some p) parsed done = subst (λ (z : Stage). AreDone z (Some p)) (sym parsed) done
 end_done stages.Start next world parsed done = absurd parsed
-end_done stages.Version next world parsed done = absurd parsed
-end_done (stages.Seed seed) next world parsed done = absurd parsed
-end_done (stages.Height seed height) next world parsed done = absurd parsed
-end_done (stages.Bounds seed height limits) next world parsed done = absurd parsed
+end_done (stages.Version format) next world parsed done = absurd parsed
+end_done (stages.Seed format seed) next world parsed done = absurd parsed
+end_done (stages.Height format seed height) next world parsed done = absurd parsed
+end_done (stages.Bounds format seed height limits) next world parsed done = absurd parsed
 end_done (stages.Edges s) next world parsed done = absurd parsed
 end_done (stages.Bads s) next world parsed done = absurd parsed
 end_done (stages.End s es) next world parsed done = absurd parsed
@@ -135,10 +134,10 @@ pub fit : (stage : Stage) (p : Past) → IsGoodStage stage → IsOfStage stage p
 fit (stages.Events s es) p good of = fit_of s es p good of.0 of.1
 fit (stages.End s es) p good of = fit_of s es p good of.0 of.1
 fit stages.Start p good of = absurd of
-fit stages.Version p good of = absurd of
-fit (stages.Seed seed) p good of = absurd of
-fit (stages.Height seed height) p good of = absurd of
-fit (stages.Bounds seed height limits) p good of = absurd of
+fit (stages.Version format) p good of = absurd of
+fit (stages.Seed format seed) p good of = absurd of
+fit (stages.Height format seed height) p good of = absurd of
+fit (stages.Bounds format seed height limits) p good of = absurd of
 fit (stages.Edges s) p good of = absurd of
 fit (stages.Bads s) p good of = absurd of
 
@@ -190,14 +189,15 @@ begun_done old next s parsed = subst (λ (z : Stage). AreDone z (Some (at_first 
     begun_next : (old next : Stage) (s : Scenario) → IsParsed old (parts.Began s) next → next ≡ stages.Events s []
     begun_next old next s parsed = parsed.1
 
-pub begun_graph : (old next : Stage) (s : Scenario) → IsParsed old (parts.Began s) next → IsGoodStage next → IsGraphIn FORMAT_1 s.graph
-begun_graph old next s parsed good = let schedule : IsSchedule s [] = subst IsGoodStage (begun_next old next s parsed) good in schedule.scenario.graph
+pub begun_header : (old next : Stage) (s : Scenario) → IsParsed old (parts.Began s) next → IsGoodStage next → IsHeader s
+begun_header old next s parsed good =
+    header_of s [] (subst IsGoodStage (begun_next old next s parsed) good)
   where
     begun_next : (old next : Stage) (s : Scenario) → IsParsed old (parts.Began s) next → next ≡ stages.Events s []
     begun_next old next s parsed = parsed.1
 
-past_at_first : (s : Scenario) → IsGraphIn FORMAT_1 s.graph → IsPast (at_first s)
-past_at_first s graph = record { graph = graph; last = at_start (setting_of s); clean = Starts; left = refl }
+past_at_first : (s : Scenario) → IsHeader s → IsPast (at_first s)
+past_at_first s header = record { header = header; last = at_start (setting_of s); clean = Starts; left = refl }
 
 none_before : (old next : Stage) (s : Scenario) (world : Option Past) → IsParsed old (parts.Began s) next → AreDone old world → world ≡ None
 none_before old next s None parsed done = refl
@@ -224,8 +224,8 @@ plays_begun old new world made s before after (Ok done) so_far takes good text r
 plays_begun old new world made s before after (Err halts.Sink) so_far takes good text reads_old reads begins =
     rw (none_before old.stage new.stage s world takes.leads.parsed so_far.done, begins.0, ← text)
     (λ start written.
-    let graph = begun_graph old.stage new.stage s takes.leads.parsed good in
-    sunk_there new (at_first s) start before after (journal_lines []) reads good (begun_done old.stage new.stage s takes.leads.parsed) (past_at_first s graph) refl written begins.1)
+    let header = begun_header old.stage new.stage s takes.leads.parsed good in
+    sunk_there new (at_first s) start before after (journal_lines []) reads good (begun_done old.stage new.stage s takes.leads.parsed) (past_at_first s header) refl written begins.1)
 plays_begun old new world made s before after (Err halts.Memory) so_far takes good text reads_old reads begins =
     let none = none_before old.stage new.stage s world takes.leads.parsed so_far.done in
     let done : AreDone old.stage None = subst (AreDone old.stage) none so_far.done in
@@ -260,10 +260,10 @@ is_next (stages.Events s es) next p e parsed done good =
     let at : next ≡ stages.Events p.scenario (p.events ++ e ∷ []) = rw (← done.0.0, ← done.0.1) parsed in
     record { schedule = subst IsGoodStage at good; stage_is = at; going = done.1 }
 is_next stages.Start next p e parsed done good = absurd parsed
-is_next stages.Version next p e parsed done good = absurd parsed
-is_next (stages.Seed seed) next p e parsed done good = absurd parsed
-is_next (stages.Height seed height) next p e parsed done good = absurd parsed
-is_next (stages.Bounds seed height limits) next p e parsed done good = absurd parsed
+is_next (stages.Version format) next p e parsed done good = absurd parsed
+is_next (stages.Seed format seed) next p e parsed done good = absurd parsed
+is_next (stages.Height format seed height) next p e parsed done good = absurd parsed
+is_next (stages.Bounds format seed height limits) next p e parsed done good = absurd parsed
 is_next (stages.Edges s) next p e parsed done good = absurd parsed
 is_next (stages.Bads s) next p e parsed done good = absurd parsed
 is_next (stages.End s es) next p e parsed done good = absurd parsed
@@ -271,10 +271,10 @@ is_next (stages.End s es) next p e parsed done good = absurd parsed
 pub no_event_without_world : (old next : Stage) (e : Event) → IsParsed old (parts.Event e) next → AreDone old None → ⊥
 no_event_without_world (stages.Events s es) next e parsed done = done
 no_event_without_world stages.Start next e parsed done = parsed
-no_event_without_world stages.Version next e parsed done = parsed
-no_event_without_world (stages.Seed seed) next e parsed done = parsed
-no_event_without_world (stages.Height seed height) next e parsed done = parsed
-no_event_without_world (stages.Bounds seed height limits) next e parsed done = parsed
+no_event_without_world (stages.Version format) next e parsed done = parsed
+no_event_without_world (stages.Seed format seed) next e parsed done = parsed
+no_event_without_world (stages.Height format seed height) next e parsed done = parsed
+no_event_without_world (stages.Bounds format seed height limits) next e parsed done = parsed
 no_event_without_world (stages.Edges s) next e parsed done = parsed
 no_event_without_world (stages.Bads s) next e parsed done = parsed
 no_event_without_world (stages.End s es) next e parsed done = parsed
@@ -304,7 +304,7 @@ pub forged_in : (stage : Stage) (p q : Past) (e : Event) (rest : List Event) (nu
 forged_in stage p q e rest number what past going refused events =
     let forged : IsForged p e number what q = refused.first going in
     let same : p.world ≡ past.last = subst (λ (t : Option WorldRefused). IsLeft t past.last p.world) going past.left in
-    let run : Clean format (setting_of p.scenario) p.events p.journal p.world = rw same past.clean in
+    let run : Clean (arts_of (setting_of p.scenario)) (setting_of p.scenario) p.events p.journal p.world = rw same past.clean in
     record {
       event = e;
       rest = rest;
@@ -314,7 +314,7 @@ forged_in stage p q e rest number what past going refused events =
         world = p.world;
         run = rw (refused.scenario, refused.events, refused.journal) run;
         forged = rw (refused.scenario, refused.events, refused.journal) forged.forged;
-        hostile = only_hostile p.scenario p.events p.journal p.world e what past.graph run forged.forged;
+        hostile = only_hostile p.scenario p.events p.journal p.world e what past.header run forged.forged;
         left = forged.world;
         stopped = forged.stopped;
       };

@@ -45,10 +45,10 @@ ended_well false stage line Nothing_left e = at_end stage e
     at_end (stages.End s es) e = record { whole = refl; scenario = s; events = es; end = refl }
     at_end (stages.Events s es) e = absurd cc
     at_end stages.Start e = absurd cc
-    at_end stages.Version e = absurd cc
-    at_end (stages.Seed seed) e = absurd cc
-    at_end (stages.Height seed height) e = absurd cc
-    at_end (stages.Bounds seed height limits) e = absurd cc
+    at_end (stages.Version format) e = absurd cc
+    at_end (stages.Seed format seed) e = absurd cc
+    at_end (stages.Height format seed height) e = absurd cc
+    at_end (stages.Bounds format seed height limits) e = absurd cc
     at_end (stages.Edges s) e = absurd cc
     at_end (stages.Bads s) e = absurd cc
 ended_well is_cut stage line (No_words refused) e = absurd (never is_cut refused e)

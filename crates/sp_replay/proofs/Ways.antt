@@ -5,7 +5,7 @@ use Rattle.std.proofs.lemmas.List.{take-append-drop}
 use Rattle.sp_journal.specs.declared.entry.Entry.{Entry}
 use Rattle.sp_journal.specs.JournalText.{entries_from, entry_text, journal_lines, journal_text, summary_words, version_words}
 use Rattle.sp_lines.specs.Rows.{line_text}
-use Rattle.sp_node_format.specs.Format.{format}
+use Rattle.laws_runs_format.specs.Arts.{arts_of}
 use Rattle.sp_runs.specs.Inputs.{acting}
 use Rattle.sp_runs.specs.Runs.{Clean, IsForgedAt, Starts, Turn, Turned, forged_in}
 use Rattle.sp_runs.specs.Scenarios.{setting_of}
@@ -13,7 +13,7 @@ use Rattle.sp_runs.specs.Worlds.{World, at_start}
 use Rattle.sp_runs.specs.declared.what.What.{What}
 use Rattle.laws_runs_format.proofs.Headline.{every_run}
 use Rattle.laws_runs_format.proofs.Hostile.{only_hostile}
-use Rattle.laws_runs_format.proofs.Schedules.{scheduled_events_are_in_range}
+use Rattle.laws_runs_format.proofs.Schedules.{header_of, scheduled_events_are_in_range}
 use Rattle.laws_runs_format.proofs.Turned.{scheduled_events_have_turns}
 use Rattle.sp_schedule.proofs.LawLemmas.{good_stage}
 use Rattle.sp_schedule.specs.Feeds.{Fed, IsOf, ReadsOn, text_of}
@@ -79,7 +79,7 @@ record RunsOn (s : Scenario) (all es : List Event) (js : List Entry) : Type 0 wh
   played : IsPlayedBy (stages.End s all) whole whole.stopped
 
 module _ (s : Scenario) (all : List Event) (schedule : IsSchedule s all) where
-  run_on : (rest es : List Event) (js : List Entry) (w : World) → Clean format (setting_of s) es js w → all ≡ es ++ rest → RunsOn s all es js
+  run_on : (rest es : List Event) (js : List Entry) (w : World) → Clean (arts_of (setting_of s)) (setting_of s) es js w → all ≡ es ++ rest → RunsOn s all es js
   run_on [] es js w clean same = record {
     whole = record { scenario = s; events = es; journal = js; world = w; stopped = None };
     scenario = refl;
@@ -87,19 +87,19 @@ module _ (s : Scenario) (all : List Event) (schedule : IsSchedule s all) where
     events = sym (append-nil es);
     entries = [];
     journal = sym (append-nil js);
-    past = record { graph = schedule.scenario.graph; last = w; clean = clean; left = refl };
+    past = record { header = header_of s all schedule; last = w; clean = clean; left = refl };
     played = ((refl, same ∙ append-nil es), refl);
   }
   run_on (e ∷ rest) es js w clean same =
       let few : length es < 2 ^ 60 = let long = ap length same in omega (arith, long, length-append es (e ∷ rest), schedule.count) in
       let range = scheduled_events_are_in_range s all es rest e schedule same in
-      let turn = scheduled_events_have_turns s es js w schedule.scenario.graph clean few e range in
+      let turn = scheduled_events_have_turns s es js w (header_of s all schedule) clean few e range in
       let again : all ≡ (es ++ e ∷ []) ++ rest = same ∙ sym (append_assoc es (e ∷ []) rest) in
-      go turn.entry turn.new turn.turn (λ j new next. run_on rest (es ++ e ∷ []) (js ++ j ∷ []) new next again) (forged_in format (setting_of s) es js w e turn.entry turn.new turn.turn) refl
+      go turn.entry turn.new turn.turn (λ j new next. run_on rest (es ++ e ∷ []) (js ++ j ∷ []) new next again) (forged_in (arts_of (setting_of s)) (setting_of s) es js w e turn.entry turn.new turn.turn) refl
     where
-      go : (j : Entry) (new : World) (turn : Turn format (setting_of s) es w e j new)
-          → ((j : Entry) (new : World) → Clean format (setting_of s) (es ++ e ∷ []) (js ++ j ∷ []) new → RunsOn s all (es ++ e ∷ []) (js ++ j ∷ []))
-          → (f : Option What) → forged_in format (setting_of s) es js w e j new turn ≡ f → RunsOn s all es js
+      go : (j : Entry) (new : World) (turn : Turn (arts_of (setting_of s)) (setting_of s) es w e j new)
+          → ((j : Entry) (new : World) → Clean (arts_of (setting_of s)) (setting_of s) (es ++ e ∷ []) (js ++ j ∷ []) new → RunsOn s all (es ++ e ∷ []) (js ++ j ∷ []))
+          → (f : Option What) → forged_in (arts_of (setting_of s)) (setting_of s) es js w e j new turn ≡ f → RunsOn s all es js
       go j new turn further None is =
           let range = scheduled_events_are_in_range s all es rest e schedule same in
           let on = further j new (Turned clean range turn is) in
@@ -120,9 +120,9 @@ module _ (s : Scenario) (all : List Event) (schedule : IsSchedule s all) where
         events = sym (append-nil es);
         entries = [];
         journal = sym (append-nil js);
-        past = record { graph = schedule.scenario.graph; last = w; clean = clean; left = (acting e, refl) };
+        past = record { header = header_of s all schedule; last = w; clean = clean; left = (acting e, refl) };
         played =
-            let forged : IsForgedAt format (setting_of s) es js w e what = record { entry = j; new = new; turn = turn; is = is } in
+            let forged : IsForgedAt (arts_of (setting_of s)) (setting_of s) es js w e what = record { entry = j; new = new; turn = turn; is = is } in
             record {
               event = e;
               rest = rest;
@@ -132,7 +132,7 @@ module _ (s : Scenario) (all : List Event) (schedule : IsSchedule s all) where
                 world = w;
                 run = clean;
                 forged = forged;
-                hostile = only_hostile s es js w e what schedule.scenario.graph clean forged;
+                hostile = only_hostile s es js w e what (header_of s all schedule) clean forged;
                 left = refl;
                 stopped = refl;
               };
@@ -143,7 +143,7 @@ module _ (s : Scenario) (all : List Event) (schedule : IsSchedule s all) where
   claims_of p past same =
       let some : 1 ≤ s.limits.buffer = schedule.scenario.limits.buffer.0 in
       let buffers : 1 ≤ p.scenario.limits.buffer = rw same some in
-      record { run = past; claims = every_run p.scenario p.events p.journal past.last past.graph buffers past.clean }
+      record { run = past; claims = every_run p.scenario p.events p.journal past.last past.header buffers past.clean }
 
 -- ---- what is written of them
 
@@ -208,7 +208,7 @@ module _ (text : List ℕ) (is_cut : Bool) (stage : Stage) (ending : Ending) (re
   on_from : (s : Scenario) (all : List Event) → IsSchedule s all → ((p : Past) → IsPlayedBy (stages.End s all) p p.stopped → IsPlayedBy stage p p.stopped)
       → (past : Past) (more : List Event) → IsPast past → s ≡ past.scenario → all ≡ past.events ++ more → Way text is_cut (Some past)
   on_from s all schedule at past more is same events =
-      let clean : Clean format (setting_of s) past.events past.journal is.last = rw same is.clean in
+      let clean : Clean (arts_of (setting_of s)) (setting_of s) past.events past.journal is.last = rw same is.clean in
       let on = run_on s all schedule more past.events past.journal is.last clean events in
       way_of past on.whole
       (record { scenario = on.scenario ∙ same; more = on.more; events = on.events; entries = on.entries; journal = on.journal })
@@ -241,10 +241,10 @@ from_none text is_cut (stages.Events s es) ending good reading =
     on_from_start text is_cut (stages.Events s es) ending reading s es good (λ p played. without_end s es p p.stopped played)
 from_none text is_cut (stages.End s es) ending good reading = on_from_start text is_cut (stages.End s es) ending reading s es good (λ p played. played)
 from_none text is_cut stages.Start ending good reading = refused_header text is_cut stages.Start ending tt reading
-from_none text is_cut stages.Version ending good reading = refused_header text is_cut stages.Version ending tt reading
-from_none text is_cut (stages.Seed seed) ending good reading = refused_header text is_cut (stages.Seed seed) ending tt reading
-from_none text is_cut (stages.Height seed height) ending good reading = refused_header text is_cut (stages.Height seed height) ending tt reading
-from_none text is_cut (stages.Bounds seed height limits) ending good reading = refused_header text is_cut (stages.Bounds seed height limits) ending tt reading
+from_none text is_cut (stages.Version format) ending good reading = refused_header text is_cut (stages.Version format) ending tt reading
+from_none text is_cut (stages.Seed format seed) ending good reading = refused_header text is_cut (stages.Seed format seed) ending tt reading
+from_none text is_cut (stages.Height format seed height) ending good reading = refused_header text is_cut (stages.Height format seed height) ending tt reading
+from_none text is_cut (stages.Bounds format seed height limits) ending good reading = refused_header text is_cut (stages.Bounds format seed height limits) ending tt reading
 from_none text is_cut (stages.Edges s) ending good reading = refused_header text is_cut (stages.Edges s) ending tt reading
 from_none text is_cut (stages.Bads s) ending good reading = refused_header text is_cut (stages.Bads s) ending tt reading
 
@@ -255,10 +255,10 @@ from_past text is_cut (stages.Events s es) ending good reading past more is of =
 from_past text is_cut (stages.End s es) ending good reading past more is of =
     on_from text is_cut (stages.End s es) ending reading s es good (λ p played. played) past more is of.0 of.1
 from_past text is_cut stages.Start ending good reading past more is of = absurd of
-from_past text is_cut stages.Version ending good reading past more is of = absurd of
-from_past text is_cut (stages.Seed seed) ending good reading past more is of = absurd of
-from_past text is_cut (stages.Height seed height) ending good reading past more is of = absurd of
-from_past text is_cut (stages.Bounds seed height limits) ending good reading past more is of = absurd of
+from_past text is_cut (stages.Version format) ending good reading past more is of = absurd of
+from_past text is_cut (stages.Seed format seed) ending good reading past more is of = absurd of
+from_past text is_cut (stages.Height format seed height) ending good reading past more is of = absurd of
+from_past text is_cut (stages.Bounds format seed height limits) ending good reading past more is of = absurd of
 from_past text is_cut (stages.Edges s) ending good reading past more is of = absurd of
 from_past text is_cut (stages.Bads s) ending good reading past more is of = absurd of
 
@@ -267,10 +267,10 @@ pub is_of : (stage : Stage) (s : Scenario) (es : List Event) → IsOfStage stage
 is_of (stages.Events t fs) s es of = of
 is_of (stages.End t fs) s es of = of
 is_of stages.Start s es of = absurd of
-is_of stages.Version s es of = absurd of
-is_of (stages.Seed seed) s es of = absurd of
-is_of (stages.Height seed height) s es of = absurd of
-is_of (stages.Bounds seed height limits) s es of = absurd of
+is_of (stages.Version format) s es of = absurd of
+is_of (stages.Seed format seed) s es of = absurd of
+is_of (stages.Height format seed height) s es of = absurd of
+is_of (stages.Bounds format seed height limits) s es of = absurd of
 is_of (stages.Edges t) s es of = absurd of
 is_of (stages.Bads t) s es of = absurd of
 
@@ -278,10 +278,10 @@ pub of_stage : (stage : Stage) (s : Scenario) (es : List Event) → IsOf stage s
 of_stage (stages.Events t fs) s es of = of
 of_stage (stages.End t fs) s es of = of
 of_stage stages.Start s es of = absurd of
-of_stage stages.Version s es of = absurd of
-of_stage (stages.Seed seed) s es of = absurd of
-of_stage (stages.Height seed height) s es of = absurd of
-of_stage (stages.Bounds seed height limits) s es of = absurd of
+of_stage (stages.Version format) s es of = absurd of
+of_stage (stages.Seed format seed) s es of = absurd of
+of_stage (stages.Height format seed height) s es of = absurd of
+of_stage (stages.Bounds format seed height limits) s es of = absurd of
 of_stage (stages.Edges t) s es of = absurd of
 of_stage (stages.Bads t) s es of = absurd of
 

@@ -6,7 +6,7 @@ use Rattle.sp_world.specs.Past.{Past, IsPast}
 use Rattle.sp_replay.specs.Played.{IsShort}
 
 countable : JournalsAreCountable → (p : Past) → IsPast p → IsCountable p.events p.journal
-countable law p is = law p.scenario p.events p.journal is.last is.graph is.clean
+countable law p is = law p.scenario p.events p.journal is.last is.header is.clean
 
 pub journal_is_short : JournalsAreCountable → (p : Past) → IsPast p → IsShort p → length p.journal < 2 ^ 32
 journal_is_short law p is short = omega (arith, (countable law p is).entries, short)

@@ -8,7 +8,7 @@ use Rattle.laws_runs_format.specs.Unforged.{IsHarmless}
 use Rattle.sp_base.specs.declared.id.NodeId.{NodeId}
 use Rattle.sp_journal.specs.JournalText.{journal_lines}
 use Rattle.sp_journal.specs.declared.entry.Entry.{Entry}
-use Rattle.sp_node_format.specs.Format.{format}
+use Rattle.laws_runs_format.specs.Arts.{arts_of}
 use Rattle.sp_replay.specs.Claims.{IsSunk}
 use Rattle.sp_replay.specs.Complete.{EndsAs, IsCompleteReplay}
 use Rattle.sp_replay.specs.Fronts.{IsBrokenOff}
@@ -49,7 +49,7 @@ pub record LeavesOthers (past : Past) : Type 0 where
   pub event : Event
   pub hostile : IsHostile event
   pub world : World
-  pub run : Clean format (setting_of past.scenario) past.events past.journal world
+  pub run : Clean (arts_of (setting_of past.scenario)) (setting_of past.scenario) past.events past.journal world
   pub frames : past.world.directions ≡ world.directions
   pub nodes : (u : NodeId) → u ≢ acting event → node_in past.world.nodes u ≡ node_in world.nodes u
 

@@ -9,7 +9,7 @@ use Rattle.sp_generate.specs.Generated.{generated_events, generated_scenario}
 use Rattle.sp_journal.specs.JournalText.{journal_lines, journal_text, summary_words}
 use Rattle.sp_journal.specs.declared.entry.Entry.{Entry}
 use Rattle.sp_lines.specs.Rows.{after_spaces, line_text}
-use Rattle.sp_node_format.specs.Format.{format}
+use Rattle.laws_runs_format.specs.Arts.{arts_of}
 use Rattle.sp_runs.specs.Inputs.{acting}
 use Rattle.sp_runs.specs.Runs.{Clean, IsForgedAt}
 use Rattle.sp_runs.specs.Scenarios.{setting_of}
@@ -81,8 +81,8 @@ AreDone stage None = HasNoWorld stage
 pub record IsForgedNext (past : Past) (event : Event) (number : ℕ) (what : What) : Type 0 where
   pub counted : number ≡ length past.events + 1
   pub world : World
-  pub run : Clean format (setting_of past.scenario) past.events past.journal world
-  pub forged : IsForgedAt format (setting_of past.scenario) past.events past.journal world event what
+  pub run : Clean (arts_of (setting_of past.scenario)) (setting_of past.scenario) past.events past.journal world
+  pub forged : IsForgedAt (arts_of (setting_of past.scenario)) (setting_of past.scenario) past.events past.journal world event what
   pub hostile : IsHostile event
   pub left : past.world ≡ without world (acting event)
   pub stopped : past.stopped ≡ Some (stops.Forged number what)

@@ -2,11 +2,9 @@
 ghost use Rattle.std.specs.Prelude.{◌≡◌, ◌<◌, ◌+◌, ◌∷◌, ◌++◌, [], true, false, length, List, IfSome, None as Nothing, OnOk};
 ghost use Rattle.std.specs.Io.KnownBytes.{Appends};
 ghost use Rattle.sp_base.specs.declared.limits.TheConstants.{MAX_EVENTS};
-ghost use Rattle.sp_base.specs.declared.format.TheConstants.{FORMAT_1};
-ghost use Rattle.sp_graph.specs.Edges.{IsGraphIn};
 ghost use Rattle.sp_journal.specs.declared.entry.Entry as noted;
 ghost use Rattle.sp_runs.specs.Runs.{InRange};
-ghost use Rattle.sp_runs.specs.Scenarios.{setting_of};
+ghost use Rattle.sp_runs.specs.Scenarios.{IsHeader, setting_of};
 ghost use Rattle.sp_schedule.specs.Feeds.{is_ready, text_of};
 ghost use Rattle.sp_replay.specs.Played.{IsShort};
 ghost use Rattle.sp_replay.specs.Playing.{Begins, NotesEvent, NotesLast, Plays, SinkCountsIn, SoFar};
@@ -74,7 +72,7 @@ fn begin<K: Sink>(
     world: &mut Option<World>,
     sink: &mut K,
 ) -> Result<(), Halt>
-    requires { IsGraphIn FORMAT_1 scenario.graph }
+    requires { IsHeader scenario }
     ensures begins { Begins scenario world.new (K.contents sink.old) (K.contents sink.new) result }
     ensures counts { SinkCountsIn result (K.faults sink.old) (K.faults sink.new) }
 {

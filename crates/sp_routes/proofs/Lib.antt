@@ -1,3 +1,4 @@
+pub mod AllEdges
 pub mod ChoiceLemmas
 pub mod FewSets
 pub mod JoinedLemmas

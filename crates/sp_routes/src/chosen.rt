@@ -1,6 +1,6 @@
 // The edges that an own message takes to its destination.
 ghost use Rattle.std.specs.Prelude.{◌≡◌, ◌≢◌, ◌≤◌, ◌-◌, ◌^◌, ℕ, IfErr, IfOk, IsOk, true};
-ghost use Rattle.sp_base.specs.declared.limits.TheConstants.{MAX_EDGES, MAX_WEIGHT};
+ghost use Rattle.sp_base.specs.declared.limits.TheConstants.{MAX_EDGES_2, MAX_WEIGHT};
 ghost use Rattle.sp_msg.specs.Masks.{bits};
 ghost use Rattle.sp_routes.specs.Fewer.{SaysFewer};
 ghost use Rattle.sp_paths.specs.declared.limits.TheConstants.{MAX_PATHS};
@@ -8,8 +8,7 @@ ghost use Rattle.sp_rules.specs.Masks.{IsChoice, Mask as Over, graph_of};
 ghost use Rattle.sp_rules.specs.Parts.{nodes_of};
 ghost use Rattle.sp_rules.specs.Prio.{is_node};
 ghost use Rattle.sp_rules.specs.Weights.{effective};
-ghost use Rattle.sp_base.specs.declared.format.TheConstants.{FORMAT_1};
-ghost use Rattle.sp_topology.specs.InFormat.{IsTopologyIn};
+ghost use Rattle.sp_rules.specs.Topologies.{IsRunnable};
 
 use crate::PathBook;
 use crate::cheapest::cheapest_mask;
@@ -22,13 +21,26 @@ use sp_weights::Weights;
 use std::alloc::Global;
 
 /// The mask of all of so many edges.
+#[tactic(auto, using(crate::proofs::AllEdges::of_halves_of_ones))]
 fn all_edges(count: usize) -> Mask
-    requires { count ≤ MAX_EDGES }
+    requires { count ≤ MAX_EDGES_2 }
     ensures { bits result ≡ 2 ^ count - 1 }
 {
     Mask {
-        low: (1 << count) - 1,
-        high: 0,
+        low: ones(count.min(128)),
+        high: ones(count.saturating_sub(128)),
+    }
+}
+
+/// The number whose first so many bits are 1, and no others.
+fn ones(count: usize) -> u128
+    requires { count ≤ 128 }
+    ensures { result ≡ 2 ^ count - 1 }
+{
+    if count == 128 {
+        u128::MAX
+    } else {
+        (1 << count) - 1
     }
 }
 
@@ -45,7 +57,7 @@ pub fn mask_to(
     to: NodeId,
     paths: u8,
 ) -> Result<Mask, NoMask>
-    requires topology { IsTopologyIn FORMAT_1 topology.now }
+    requires topology { IsRunnable topology.now }
     requires edges { weights.now.edges ≡ topology.now.edges }
     requires small { (edge : ℕ) → effective weights.now edge ≤ MAX_WEIGHT }
     requires ends { (is_node (nodes_of topology.now) from.0 ≡ true) × (is_node (nodes_of topology.now) to.0 ≡ true) × (from ≢ to) }

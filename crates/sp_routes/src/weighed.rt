@@ -1,9 +1,8 @@
 // The topology as a graph, under the weights that are in effect.
 ghost use Rattle.std.specs.Prelude.{◌≡◌, ◌≤◌, IfOk, length};
-ghost use Rattle.sp_base.specs.declared.limits.TheConstants.{MAX_EDGES};
+ghost use Rattle.sp_base.specs.declared.limits.TheConstants.{MAX_EDGES_2};
 ghost use Rattle.sp_rules.specs.Masks.{graph_of, greatest_id, weighed};
-ghost use Rattle.sp_base.specs.declared.format.TheConstants.{FORMAT_1};
-ghost use Rattle.sp_topology.specs.InFormat.{IsTopologyIn};
+ghost use Rattle.sp_rules.specs.Topologies.{IsRunnable};
 
 use sp_base::{EdgeId, Listed, Memory};
 use sp_graph::Graph;
@@ -25,7 +24,7 @@ fn greatest_id(nodes: &[NodeKey]) -> u8
 /// The edges with the weights that are in effect.
 fn weighed(alloc: Global, weights: &Weights, edges: &[Edge]) -> Result<Vec<Edge>, Memory>
     requires edges { weights.now.edges ≡ edges.now }
-    requires few { length edges.now ≤ MAX_EDGES }
+    requires few { length edges.now ≤ MAX_EDGES_2 }
     ensures { IfOk result (λ made. made.items ≡ weighed weights.now 0 edges.now) }
 {
     let mut made = Vec::with_capacity(alloc, edges.len())?;
@@ -43,7 +42,7 @@ fn weighed(alloc: Global, weights: &Weights, edges: &[Edge]) -> Result<Vec<Edge>
 
 /// The graph in which paths are sought: the topology under the weights that are in effect.
 pub fn graph_of(alloc: Global, topology: &Topology, weights: &Weights) -> Result<Graph, Memory>
-    requires topology { IsTopologyIn FORMAT_1 topology.now }
+    requires topology { IsRunnable topology.now }
     requires edges { weights.now.edges ≡ topology.now.edges }
     ensures { IfOk result (λ graph. graph ≡ graph_of topology.now weights.now) }
 {

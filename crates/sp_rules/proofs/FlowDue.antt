@@ -14,7 +14,7 @@ use Rattle.sp_msg.specs.declared.body.Body.{Body}
 use Rattle.sp_msg.specs.declared.body.Body.TheVariants as bodies
 use Rattle.sp_rules.specs.Changes.{CanConclude, FitsAFormat}
 use Rattle.sp_rules.specs.Flow.{FlowState, IsStanding, ends, flow_said}
-use Rattle.sp_rules.specs.Rel.{AreStanding, RelState, ack_of, due, due_place, flow_at, flow_in, is_due, plain, plain_ack}
+use Rattle.sp_rules.specs.Rel.{AreStanding, RelState, ack_of, due, due_place, flow_at, flow_in, is_due, plain, plain_ack, undated}
 use Rattle.sp_rules.proofs.FlowJudged.{found_ends}
 use Rattle.sp_rules.proofs.Standing.{standing_in}
 
@@ -106,7 +106,7 @@ can_conclude r body is good standing = go (option_and_then (flow_at r.flows) (du
     numbered : (body : Body) (a : Ack) → bodies.Ack a ≡ plain body → FitsAFormat body
         → (record { src = a.src; dst = a.dst } ≡ flow_said body) × (1 ≤ a.seq)
     numbered (bodies.Ack b) a is good =
-        let same : a ≡ b = cc in
+        let same : a ≡ undated b = cc in
         (ap (λ (x : Ack). record { src = x.src; dst = x.dst }) same, subst (λ (x : Ack). 1 ≤ x.seq) (sym same) (good_ack good.0 b good.1).seq.0)
     numbered (bodies.Kack b) a is good =
         let same : a ≡ plain_ack b = cc in

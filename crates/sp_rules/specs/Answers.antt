@@ -1,5 +1,5 @@
 -- The answer to an object: what the rules of its part say, and where they would take it, what its signature says.
-use Rattle.std.specs.Prelude.{Bool, true, false, if◌then◌else◌}
+use Rattle.std.specs.Prelude.{Bool, true, false, not, if◌then◌else◌}
 use Rattle.sp_rules.specs.declared.answers.AckAnswer.{AckAnswer}
 use Rattle.sp_rules.specs.declared.answers.AckAnswer.TheVariants as ack
 use Rattle.sp_rules.specs.declared.answers.Item.{Item}
@@ -19,33 +19,33 @@ use Rattle.sp_rules.specs.declared.rel.RelJudged.TheVariants as rels
 use Rattle.sp_rules.specs.declared.weights.Offer.{Offer}
 use Rattle.sp_rules.specs.declared.weights.Offer.TheVariants as offers
 
--- each with whether the signature is right
+-- each with whether the signature is right, and of what names boots, whether they are those that are held
 abbrev pub weight_answer : Bool → Offer → WeightAnswer
 weight_answer right offers.Foreign = weight.Foreign
 weight_answer right (offers.Low least) = weight.Low least
 weight_answer right (offers.Old held) = weight.Old held
 weight_answer right offers.New = if right then weight.New else weight.BadSig
 
-abbrev pub prio_answer : Bool → PrioJudged → PrioAnswer
-prio_answer right prios.BadEnd = prio.BadEnd
-prio_answer right prios.Expired = prio.Expired
-prio_answer right prios.Seen = prio.Seen
-prio_answer right prios.New = if right then prio.New else prio.BadSig
+abbrev pub prio_answer : (right dated : Bool) → PrioJudged → PrioAnswer
+prio_answer right dated prios.BadEnd = prio.BadEnd
+prio_answer right dated prios.Expired = if dated then prio.Expired else prio.Epoch
+prio_answer right dated prios.Seen = if dated then prio.Seen else prio.Epoch
+prio_answer right dated prios.New = if not dated then prio.Epoch else if right then prio.New else prio.BadSig
 
-abbrev pub ack_answer : Bool → AckJudged → AckAnswer
-ack_answer right acks.BadEnd = ack.BadEnd
-ack_answer right acks.Old = ack.Old
-ack_answer right acks.Ahead = ack.Ahead
-ack_answer right acks.New = if right then ack.New else ack.BadSig
+abbrev pub ack_answer : (right dated : Bool) → AckJudged → AckAnswer
+ack_answer right dated acks.BadEnd = ack.BadEnd
+ack_answer right dated acks.Old = if dated then ack.Old else ack.Epoch
+ack_answer right dated acks.Ahead = if dated then ack.Ahead else ack.Epoch
+ack_answer right dated acks.New = if not dated then ack.Epoch else if right then ack.New else ack.BadSig
 
-abbrev pub rel_answer : Bool → RelJudged → RelAnswer
-rel_answer right rels.BadEnd = rel.BadEnd
-rel_answer right rels.Old = rel.Old
-rel_answer right rels.Ahead = rel.Ahead
-rel_answer right rels.Gap = rel.Gap
-rel_answer right rels.Full = rel.Full
-rel_answer right rels.InboxFull = rel.InboxFull
-rel_answer right rels.New = if right then rel.New else rel.BadSig
+abbrev pub rel_answer : (right dated : Bool) → RelJudged → RelAnswer
+rel_answer right dated rels.BadEnd = rel.BadEnd
+rel_answer right dated rels.Old = if dated then rel.Old else rel.Epoch
+rel_answer right dated rels.Ahead = if dated then rel.Ahead else rel.Epoch
+rel_answer right dated rels.Gap = if dated then rel.Gap else rel.Epoch
+rel_answer right dated rels.Full = if dated then rel.Full else rel.Epoch
+rel_answer right dated rels.InboxFull = if dated then rel.InboxFull else rel.Epoch
+rel_answer right dated rels.New = if not dated then rel.Epoch else if right then rel.New else rel.BadSig
 
 abbrev pub is_new : Item → Bool
 is_new (items.Weight weight.New) = true

@@ -1,6 +1,7 @@
 -- What a node does with the pieces of a fresh frame, one after another. An object changes what the node keeps exactly where it is new: where
 -- the rules of its part take it, and its signature is right.
-use Rattle.std.specs.Prelude.{ℕ, ◌==◌, ◌&&◌, nat_lt, Some, List, [], ◌∷◌, ◌++◌, if◌then◌else◌}
+use Rattle.std.specs.Prelude.{ℕ, ◌==◌, ◌&&◌, nat_lt, Bool, Some, List, [], ◌∷◌, ◌++◌, if◌then◌else◌}
+use Rattle.sp_base.specs.declared.id.Flow.{Flow}
 use Rattle.sp_base.specs.declared.id.NodeId.{NodeId}
 use Rattle.sp_msg.specs.declared.body.Body.{Body}
 use Rattle.sp_msg.specs.declared.body.Body.TheVariants as bodies
@@ -9,6 +10,7 @@ use Rattle.sp_msg.specs.declared.effect.Effect.TheVariants.{WeightHeld}
 use Rattle.sp_msg.specs.declared.kept.Kept.{Kept}
 use Rattle.sp_rules.specs.Answers.{ack_answer, is_new, prio_answer, rel_answer, weight_answer}
 use Rattle.sp_rules.specs.Arts.{Arts}
+use Rattle.sp_rules.specs.Lives.{are_held, is_dated}
 use Rattle.sp_rules.specs.Parts.{Fixed, Parts, is_signed}
 use Rattle.sp_rules.specs.Pieces.{Piece, WeightPiece, PrioAckPiece, PrioPiece, ReportPiece, AckPiece, RelPiece}
 use Rattle.sp_rules.specs.Prio.{acked, acked_effects, admit_prio, heard, judge_prio, prio_effects}
@@ -89,16 +91,22 @@ ack_handled answer o p = where_new (items.Ack answer) o p (record p { rel = admi
 abbrev pub rel_handled : RelAnswer → Kept → Parts → Handled
 rel_handled answer o p = where_new (items.Rel answer) o p (record p { rel = admit_rel p.rel o }) (rel_effects p.rel o)
 
+-- a report that names other boots than those that are held is dropped
+abbrev pub reported_where : Bool → NodeId → Flow → (base have : ℕ) → Parts → Parts
+reported_where dated v flow base have p = if dated then record p { rel = reported p.rel v flow base have } else p
+
 -- ---- all pieces
 
 abbrev pub handle : Arts → Arrival → Parts → Piece → Handled
 handle arts at p (WeightPiece o) = weight_handled (weight_answer (is_signed arts at.fixed o) (offer_to at.fixed.me p.weights o.body)) o p
 handle arts at p (PrioAckPiece number) = quietly (record p { prio = acked p.prio at.from.0 number }) (acked_effects p.prio at.from.0 number)
 handle arts at p (PrioPiece number o) =
-    prio_handled at.from (prio_answer (is_signed arts at.fixed o) (judge_prio p.prio o.body at.now)) number o p
-handle arts at p (ReportPiece flow base have) = quietly (record p { rel = reported p.rel at.from flow base have }) []
-handle arts at p (AckPiece flow o) = ack_handled (ack_answer (is_signed arts at.fixed o) (judge_ack_of p.rel flow o.body)) o p
-handle arts at p (RelPiece flow o) = rel_handled (rel_answer (is_signed arts at.fixed o) (judge_rel_of p.rel flow o.body)) o p
+    prio_handled at.from (prio_answer (is_signed arts at.fixed o) (is_dated p.lives o.body) (judge_prio p.prio o.body at.now)) number o p
+handle arts at p (ReportPiece flow sboot dboot base have) = quietly (reported_where (are_held p.lives flow sboot dboot) at.from flow base have p) []
+handle arts at p (AckPiece flow o) =
+    ack_handled (ack_answer (is_signed arts at.fixed o) (is_dated p.lives o.body) (judge_ack_of p.rel flow o.body)) o p
+handle arts at p (RelPiece flow o) =
+    rel_handled (rel_answer (is_signed arts at.fixed o) (is_dated p.lives o.body) (judge_rel_of p.rel flow o.body)) o p
 
 -- one after another: each piece meets what those before it left
 abbrev pub handle_all : Arts → Arrival → Parts → List Piece → Handled

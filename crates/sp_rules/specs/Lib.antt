@@ -3,6 +3,7 @@ pub mod Changes
 pub mod Choices
 pub mod Flow
 pub mod Link
+pub mod Lives
 pub mod Prio
 pub mod PrioPeer
 pub mod Rel
@@ -24,3 +25,4 @@ pub mod Polls
 pub mod Sends
 pub mod Steps
 pub mod Ticks
+pub mod Topologies

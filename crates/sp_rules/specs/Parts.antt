@@ -1,4 +1,5 @@
--- What a node keeps for others: the weights of links, priority messages and reliable messages. And what stays as it is in one of its lives.
+-- What a node keeps for others: the weights of links, priority messages and reliable messages, and which lives of nodes it knows. And what stays as it is in
+-- one of its lives.
 use Rattle.std.specs.Prelude.{ℕ, ◌==◌, ◌+◌, Bool, false, List, [], ◌∷◌, map, position, Option, None, Some, if◌then◌else◌}
 use Rattle.sp_base.specs.declared.id.EdgeId.{EdgeId}
 use Rattle.sp_base.specs.declared.id.NodeId.{NodeId}
@@ -9,12 +10,14 @@ use Rattle.sp_topology.specs.Neighbours.{joins, neighbours_from}
 use Rattle.sp_topology.specs.declared.topology.NodeKey.{NodeKey}
 use Rattle.sp_topology.specs.declared.topology.Topology.{Topology}
 use Rattle.sp_rules.specs.Arts.{Arts}
+use Rattle.sp_rules.specs.Lives as lives
 use Rattle.sp_rules.specs.Prio.{PrioState}
 use Rattle.sp_rules.specs.Prio as prio
 use Rattle.sp_rules.specs.Rel.{RelState}
 use Rattle.sp_rules.specs.Rel as rel
 use Rattle.sp_rules.specs.Weights.{WeightState}
 use Rattle.sp_rules.specs.Weights as weights
+use Rattle.sp_rules.specs.declared.lives.Life.{Life}
 use Rattle.sp_rules.specs.declared.prio.Neighbour.{Neighbour}
 
 -- this node, its boot number, the topology that it runs under, and how long all signatures are there
@@ -28,6 +31,7 @@ pub record Parts : Type 0 where
   pub weights : WeightState
   pub prio : PrioState
   pub rel : RelState
+  pub lives : List Life
 
 -- ---- the topology as a node sees it
 
@@ -71,4 +75,5 @@ empty_parts f buffer store = record {
   weights = weights.start f.topology;
   prio = prio.start f.me.0 (nodes_of f.topology) (map as_neighbour (neighbours_of f)) store;
   rel = rel.start f.me (nodes_of f.topology) (map (λ n. n.0) (neighbours_of f)) buffer;
+  lives = lives.start (nodes_of f.topology);
 }

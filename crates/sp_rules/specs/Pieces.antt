@@ -13,7 +13,8 @@ pub data Piece : Type 0 where
   -- the sender heard the priority messages of this node up to this link number
   PrioAckPiece : (number : ℕ) → Piece
   PrioPiece : (number : ℕ) (object : Kept) → Piece
-  ReportPiece : (flow : Flow) (base have : ℕ) → Piece
+  -- under the boots of the two ends
+  ReportPiece : (flow : Flow) (sboot dboot base have : ℕ) → Piece
   AckPiece : (flow : Flow) (object : Kept) → Piece
   RelPiece : (flow : Flow) (object : Kept) → Piece
 
@@ -22,7 +23,7 @@ prio_piece message = PrioPiece message.0 message.1
 
 abbrev pub slot_pieces : Option Report → List Piece
 slot_pieces None = []
-slot_pieces (Some r) = ReportPiece r.flow r.base r.have ∷ (map (AckPiece r.flow) (as_list r.ack) ++ map (RelPiece r.flow) r.rels)
+slot_pieces (Some r) = ReportPiece r.flow r.sboot r.dboot r.base r.have ∷ (map (AckPiece r.flow) (as_list r.ack) ++ map (RelPiece r.flow) r.rels)
 
 abbrev pub pieces_of : Contents → List Piece
 pieces_of s = map WeightPiece s.weights ++ (PrioAckPiece s.prio_ack ∷ (map prio_piece s.prios ++ slot_pieces s.slot))

@@ -181,11 +181,15 @@ judge_ack r flow ack =
     else if is_to r flow then acks.Ahead
     else acks.New
 
--- a receipt of a K-path flow as the acknowledgement that it says. It names no boots
+-- an acknowledgement, or a receipt of a K-path flow, as what it says of its flow, whatever boots it names
+abbrev pub undated : Ack → Ack
+undated a = record { src = a.src; dst = a.dst; sboot = 0; dboot = 0; seq = a.seq }
+
 abbrev pub plain_ack : Kack → Ack
 plain_ack a = record { src = a.src; dst = a.dst; sboot = 0; dboot = 0; seq = a.seq }
 
 abbrev pub plain : Body → Body
+plain (bodies.Ack a) = bodies.Ack (undated a)
 plain (bodies.Kack a) = bodies.Ack (plain_ack a)
 plain body = body
 
@@ -246,7 +250,7 @@ abbrev pub messages_after : {X : Type 0} → Position X → ℕ → List X
 messages_after at number = take MAX_MESSAGES (drop (number - at.base) at.list)
 
 -- where the flow stands, the kept acknowledgement unless the neighbour has its base, and, but at the destination, the first messages
--- after those that the neighbour has. Its boots are 0
+-- after those that the neighbour has. The node dates it
 abbrev pub slot_of : RelState → NodeId → Flow → Report
 slot_of r v flow =
     let f = flow_in r.flows flow in
@@ -284,7 +288,7 @@ is_due me f = (f.dst.0 == me.0) && nat_lt f.at.base f.at.have
 abbrev pub due_place : RelState → Option ℕ
 due_place r = next_after r.signed (map (is_due r.me) r.flows)
 
--- the acknowledgement of all that came
+-- the acknowledgement of all that came. The node dates it
 abbrev pub ack_of : RelState → Flow → Ack
 ack_of r flow = record { src = flow.src; dst = flow.dst; sboot = 0; dboot = 0; seq = (flow_in r.flows flow).at.have }
 

@@ -7,6 +7,7 @@ use Rattle.sp_msg.specs.Masks.{mask_from}
 use Rattle.sp_msg.specs.declared.body.Body.{Body}
 use Rattle.sp_msg.specs.declared.body.Body.TheVariants as bodies
 use Rattle.sp_msg.specs.declared.body.Prio.{Prio}
+use Rattle.sp_msg.specs.declared.body.Rel.{Rel}
 use Rattle.sp_msg.specs.declared.effect.Effect.{Effect}
 use Rattle.sp_msg.specs.declared.effect.Effect.TheVariants.{Signed}
 use Rattle.sp_msg.specs.declared.effect.Why.TheVariants.{Taken}
@@ -15,6 +16,7 @@ use Rattle.sp_msg.specs.declared.refused.SendRefused.{SendRefused}
 use Rattle.sp_msg.specs.declared.refused.SendRefused.TheVariants as refusals
 use Rattle.sp_rules.specs.Arts.{Arts}
 use Rattle.sp_rules.specs.Handle.{weight_effects}
+use Rattle.sp_rules.specs.Lives.{held_boot}
 use Rattle.sp_rules.specs.Masks.{Choice, Mask, OnlyPaths}
 use Rattle.sp_rules.specs.Node.{NodeState, Signer, kept_or, signed_now, signed_once}
 use Rattle.sp_rules.specs.Parts.{edge_to}
@@ -45,8 +47,18 @@ rel_refusal n dst = or_else (no_room (room n.parts.rel dst)) (signer_refusal n.s
 abbrev pub rel_number : NodeState → NodeId → ℕ
 rel_number n dst = (flow_in n.parts.rel.flows (own_flow n.parts.rel dst)).at.have + 1
 
+abbrev pub rel_of : NodeState → NodeId → List ℕ → Rel
+rel_of n dst payload = record {
+  src = n.fixed.me;
+  dst = dst;
+  sboot = held_boot n.parts.lives n.fixed.me;
+  dboot = held_boot n.parts.lives dst;
+  seq = rel_number n dst;
+  payload = payload;
+}
+
 abbrev pub rel_body : NodeState → NodeId → List ℕ → Body
-rel_body n dst payload = bodies.Rel (record { src = n.fixed.me; dst = dst; sboot = 0; dboot = 0; seq = rel_number n dst; payload = payload })
+rel_body n dst payload = bodies.Rel (rel_of n dst payload)
 
 abbrev pub after_send_rel : Arts → NodeState → NodeId → List ℕ → NodeState
 after_send_rel arts n dst payload =
@@ -72,7 +84,7 @@ abbrev pub prio_of : NodeState → PrioSend → ℕ → Prio
 prio_of n m mask = record {
   src = n.fixed.me;
   dst = m.dst;
-  sboot = 0;
+  sboot = held_boot n.parts.lives n.fixed.me;
   seq = n.parts.prio.next;
   prio = m.prio;
   expiry = m.expiry;

@@ -1,15 +1,18 @@
 -- A tick: the time goes on, what expired leaves, and at most one acknowledgement is signed, of the flow to this node that is next in turn.
 use Rattle.std.specs.Prelude.{ℕ, max, List, [], ◌∷◌, ◌++◌, Option, None, Some}
+use Rattle.std.specs.Option.{option_map}
 use Rattle.sp_msg.specs.declared.body.Ack.{Ack}
 use Rattle.sp_msg.specs.declared.body.Body.TheVariants as bodies
 use Rattle.sp_msg.specs.declared.effect.Effect.{Effect}
 use Rattle.sp_msg.specs.declared.refused.SendRefused.{SendRefused}
 use Rattle.sp_msg.specs.declared.refused.SendRefused.TheVariants as refusals
 use Rattle.sp_rules.specs.Arts.{Arts}
+use Rattle.sp_rules.specs.Lives.{held_boot}
 use Rattle.sp_rules.specs.Node.{NodeState, signed_now, signed_once}
 use Rattle.sp_rules.specs.Prio.{expired, expired_effects}
 use Rattle.sp_rules.specs.Rel.{due, settled}
 use Rattle.sp_rules.specs.Sends.{signed_effect, signer_refusal}
+use Rattle.sp_rules.specs.declared.lives.Life.{Life}
 use Rattle.sp_rules.specs.declared.node.TickReply.{TickReply}
 use Rattle.sp_rules.specs.declared.node.TickReply.TheVariants as replies
 
@@ -26,9 +29,16 @@ settled_by arts n None refusal = n
 settled_by arts n (Some ack) (Some refusal) = n
 settled_by arts n (Some ack) None = signed_once n (record n.parts { rel = settled n.parts.rel (signed_now arts n (bodies.Ack ack)) })
 
+-- the acknowledgement under the boots that are held of its ends
+abbrev pub dated : List Life → Ack → Ack
+dated lives a = record a { sboot = held_boot lives a.src; dboot = held_boot lives a.dst }
+
+abbrev pub due_now : NodeState → Option Ack
+due_now n = option_map (dated n.parts.lives) (due n.parts.rel)
+
 -- what is due doesn't depend on what expired
 abbrev pub after_tick : Arts → NodeState → ℕ → NodeState
-after_tick arts n now = settled_by arts (at_time n now) (due n.parts.rel) (signer_refusal n.signer)
+after_tick arts n now = settled_by arts (at_time n now) (due_now n) (signer_refusal n.signer)
 
 -- the reply, where an acknowledgement is due
 abbrev pub reply_of : Option SendRefused → TickReply
@@ -41,7 +51,7 @@ tick_reply_of None refusal = replies.Ticked
 tick_reply_of (Some ack) refusal = reply_of refusal
 
 abbrev pub tick_reply : NodeState → TickReply
-tick_reply n = tick_reply_of (due n.parts.rel) (signer_refusal n.signer)
+tick_reply n = tick_reply_of (due_now n) (signer_refusal n.signer)
 
 abbrev pub ack_effects : Arts → Option Ack → Option SendRefused → List Effect
 ack_effects arts None refusal = []
@@ -49,4 +59,4 @@ ack_effects arts (Some ack) (Some refusal) = []
 ack_effects arts (Some ack) None = signed_effect arts (bodies.Ack ack) ∷ []
 
 abbrev pub tick_effects : Arts → NodeState → ℕ → List Effect
-tick_effects arts n now = expired_effects n.parts.prio (time_after n now) ++ ack_effects arts (due n.parts.rel) (signer_refusal n.signer)
+tick_effects arts n now = expired_effects n.parts.prio (time_after n now) ++ ack_effects arts (due_now n) (signer_refusal n.signer)

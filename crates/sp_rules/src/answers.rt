@@ -19,6 +19,8 @@ pub enum WeightAnswer {
 pub enum PrioAnswer {
     /// Its source or its destination isn't a node, or both are the same.
     BadEnd,
+    /// It names another boot of its source than the one that is held. Normal after a restart. An answer of format 2 alone.
+    Epoch,
     /// Its expiry is before the node's time. Normal for a message that took long.
     Expired,
     /// It came before, or is past its source's window, or is this node's own. Normal where messages take several ways.
@@ -33,6 +35,8 @@ pub enum PrioAnswer {
 pub enum AckAnswer {
     /// Its ends aren't the flow of the slot, or aren't two different nodes.
     BadEnd,
+    /// It names another boot of an end than the one that is held. Normal after a restart. An answer of format 2 alone.
+    Epoch,
     /// What it acknowledges is acknowledged. Normal where slots overtake one another.
     Old,
     /// It acknowledges what the source hasn't sent, or comes to the destination, which makes it. An attack.
@@ -47,6 +51,8 @@ pub enum AckAnswer {
 pub enum RelAnswer {
     /// Its ends aren't the flow of the slot, or aren't two different nodes.
     BadEnd,
+    /// It names another boot of an end than the one that is held. Normal after a restart. An answer of format 2 alone.
+    Epoch,
     /// The message is here, or acknowledged. Normal where slots are repeated.
     Old,
     /// The source hasn't sent it. An attack.

@@ -4,6 +4,7 @@
 
 mod answers;
 mod link;
+mod lives;
 mod node;
 mod prio;
 mod rel;
@@ -14,6 +15,7 @@ mod window;
 
 pub use answers::{AckAnswer, Item, PrioAnswer, RelAnswer, WeightAnswer};
 pub use link::LinkAnswer;
+pub use lives::Life;
 pub use node::{LinkReply, MAX_CALLS, NodeRefused, Step, Taken, TickReply};
 pub use prio::{Neighbour, PrioJudged};
 pub use rel::{AckJudged, RelJudged, RelRefused};

@@ -1,7 +1,6 @@
 -- What reaches the node that acts: what its clients and its clock say, and the bytes that the network and the adversary bring.
 use Rattle.std.specs.Prelude.{ℕ, ◌+◌, ◌-◌, ◌^◌, ◌==◌, nat_lt, Bool, false, List, [], ◌∷◌}
 use Rattle.std.specs.Prelude.{◌++◌, length, count_by, bit_xor, slice_index_or, slice_set, Option, None, Some, option_map, if◌then◌else◌}
-use Rattle.sp_base.specs.declared.format.TheConstants.{FORMAT_1}
 use Rattle.sp_base.specs.declared.id.Flow.{Flow}
 use Rattle.sp_base.specs.declared.id.NodeId.{NodeId}
 use Rattle.sp_frame.specs.Reliable.{Report}
@@ -42,10 +41,10 @@ crafted_head n c = record {
   echo = n.fixed.boot;
   counter = counter_after (link_in n c).seen.1;
   topology = n.fixed.topology.version;
-  format = FORMAT_1;
+  format = n.fixed.topology.format;
 }
 
--- a report on this flow, with boots 0
+-- a report on this flow, with boots 0: no node holds any other
 abbrev pub report_on : Flow → (base have : ℕ) → Option Kept → List Kept → Report
 report_on flow base have ack rels = record { flow = flow; sboot = 0; dboot = 0; base = base; have = have; ack = ack; rels = rels }
 
@@ -58,7 +57,7 @@ contents_with weights prios slot =
 abbrev pub slot_alone : Flow → (base have : ℕ) → Option Kept → List Kept → Contents
 slot_alone flow base have ack rels = contents_with [] [] (Some (report_on flow base have ack rels))
 
--- one object in its section. What format 1 lacks has none
+-- one object in its section. What no schedule crafts has none
 abbrev pub object_alone : Body → Kept → Contents
 object_alone (bodies.Prio p) o = contents_with [] ((1, o) ∷ []) None
 object_alone (bodies.Rel r) o = slot_alone (flow_said (bodies.Rel r)) 0 0 None (o ∷ [])

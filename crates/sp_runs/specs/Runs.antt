@@ -5,7 +5,7 @@ use Rattle.sp_base.specs.Spelling.{AreBytes}
 use Rattle.sp_base.specs.declared.id.NodeId.{NodeId}
 use Rattle.sp_base.specs.declared.limits.TheConstants.{MAX_PAYLOAD_BYTES, MAX_PRIORITY, MAX_WEIGHT}
 use Rattle.sp_frame.specs.declared.frame.TheConstants.{MAX_FRAME_BYTES}
-use Rattle.sp_msg.specs.Bodies.{HasGoodFields, payload_of}
+use Rattle.sp_msg.specs.Bodies.{HasGoodFieldsIn, payload_of}
 use Rattle.sp_topology.specs.Neighbours.{joins}
 use Rattle.sp_rules.specs.Arts.{Arts}
 use Rattle.sp_rules.specs.Node.{NodeState}
@@ -100,7 +100,8 @@ InRange x es (events.Flip u v number back bit) =
     IsTrue (is_correct x u) × IsTrue (is_correct x v) × IsTrue (is_hop x u v) × IsMade es u v number × (1 ≤ back) × (back ≤ 64) × (bit ≤ 7)
 InRange x es (events.Inject u v bytes) = IsTrue (is_correct x v) × IsTrue (is_hop x u v) × (length bytes ≤ MAX_FRAME_BYTES) × AreBytes bytes
 InRange x es (events.Craft c v key object) =
-    IsTrue (is_correct x v) × IsTrue (is_hop x c v) × IsTrue (is_node x key) × HasGoodFields (body_of object) × AreBytes (payload_of (body_of object))
+    IsTrue (is_correct x v) × IsTrue (is_hop x c v) × IsTrue (is_node x key)
+    × HasGoodFieldsIn x.topology.format (body_of object) × AreBytes (payload_of (body_of object))
 InRange x es (events.CraftStatus c v s d base have) =
     IsTrue (is_correct x v) × IsTrue (is_hop x c v) × IsTrue (is_node x s) × IsTrue (is_other x s d) × (base < 2 ^ 64) × (have < 2 ^ 64)
 

@@ -2,8 +2,9 @@
 use Rattle.std.specs.Prelude.{ℕ, ◌++◌, List, codes, map}
 use Rattle.std.specs.List.{range_with_len}
 use Rattle.sha2.specs.Sha256.{sha256}
-use Rattle.sp_base.specs.declared.format.TheConstants.{FORMAT_1}
+use Rattle.sp_base.specs.Formats.{IsFormat}
 use Rattle.sp_base.specs.declared.id.NodeId.{NodeId}
+use Rattle.sp_graph.specs.Edges.{IsGraphIn}
 use Rattle.sp_hmac.specs.Hmac.{hmac}
 use Rattle.sp_hss.specs.KeyTree.{public_key, signature_len, total}
 use Rattle.sp_ots.specs.Strings.{u16str, u8str}
@@ -30,10 +31,15 @@ numbered u = record { 0 = u }
 abbrev pub node_key : LmsHeight → List ℕ → ℕ → NodeKey
 node_key height seed u = record { id = numbered u; key = public_key (param_of height) (node_seed seed u) }
 
+-- the format of a header is one of the two, and its graph is in that format's ranges
+pub record IsHeader (s : Scenario) : Type 0 where
+  pub format : IsFormat s.format
+  pub graph : IsGraphIn s.format s.graph
+
 -- the topology that all nodes run under
 abbrev pub topology_of : Scenario → Topology
 topology_of s =
-    record { format = FORMAT_1; version = 1; height = s.height; nodes = map (node_key s.height s.seed) (range_with_len 1 s.graph.nodes); edges = s.graph.edges }
+    record { format = s.format; version = 1; height = s.height; nodes = map (node_key s.height s.seed) (range_with_len 1 s.graph.nodes); edges = s.graph.edges }
 
 -- the setting of a header
 abbrev pub setting_of : Scenario → Setting

@@ -2,12 +2,11 @@
 use Rattle.std.specs.Prelude.{ℕ, ◌<◌, ◌≤◌, ◌==◌, ◌&&◌, Bool, not, IsTrue, List, map, filter}
 use Rattle.std.specs.List.{list_any}
 use Rattle.sp_base.specs.declared.id.NodeId.{NodeId}
-use Rattle.sp_base.specs.declared.format.TheConstants.{FORMAT_1}
-use Rattle.sp_topology.specs.InFormat.{IsTopologyIn}
 use Rattle.sp_topology.specs.declared.topology.Topology.{Topology}
 use Rattle.sp_rules.specs.Arts.{Arts}
 use Rattle.sp_rules.specs.Node.{NodeState, Signer, booted}
 use Rattle.sp_rules.specs.Parts.{Fixed, neighbours_of, nodes_of}
+use Rattle.sp_rules.specs.Topologies.{IsRunnable}
 use Rattle.laws_node.specs.Inputs.{ArtsFit}
 use Rattle.laws_node.specs.Sizes.{most_indexes}
 
@@ -63,10 +62,10 @@ node_at_boot x u = booted (fixed_of x u) (first_signer x u) (link_keys x u) x.bu
 abbrev pub correct_nodes : Setting → List NodeId
 correct_nodes x = filter (is_correct x) (nodes_of x.topology)
 
--- ---- what is asked of a setting and of arts. Each is proved of this format's arts and of what a schedule's header makes
+-- ---- what is asked of a setting and of arts. Each is proved of the arts of a format and of what a schedule's header makes
 
 pub record SettingFits (arts : Arts) (x : Setting) : Type 0 where
-  pub topology : IsTopologyIn FORMAT_1 x.topology
+  pub topology : IsRunnable x.topology
   pub short : x.signature_len < 65536
   pub total : x.total ≤ most_indexes
   -- each correct node signs validly under the key that the topology has for it, and what it reads is in its ranges

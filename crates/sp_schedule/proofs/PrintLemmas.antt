@@ -34,13 +34,13 @@ parts front edges bads events begin end =
     join : (a b c d e f : List ℕ) → ((a ++ (b ++ c)) ++ d) ++ (e ++ f) ≡ ((((a ++ b) ++ c) ++ d) ++ e) ++ f
     join a b c d e f = simp append_assoc
 
-pub printed : (s : Scenario) (es : List Event) (a b c d e f : List ℕ) → a ≡ flat_map line_text (front_lines s.seed s.height s.limits s.graph.nodes)
+pub printed : (s : Scenario) (es : List Event) (a b c d e f : List ℕ) → a ≡ flat_map line_text (front_lines s.format s.seed s.height s.limits s.graph.nodes)
     → b ≡ a ++ flat_map (λ x. line_text (edge_words x)) s.graph.edges → c ≡ b ++ flat_map (λ x. line_text (bad_words x)) s.bad → d ≡ c ++ codes "begin\n"
     → e ≡ d ++ flat_map (λ x. line_text (event_words s x)) es → f ≡ e ++ codes "end\n" → f ≡ schedule_text s es
 unfolding schedule_text
 printed s es a b c d e f is_a is_b is_c is_d is_e is_f =
-    let text = parts (front_lines s.seed s.height s.limits s.graph.nodes) (map edge_words s.graph.edges) (map bad_words s.bad) (map (event_words s) es) begin_words end_words in
-    let front = flat_map line_text (front_lines s.seed s.height s.limits s.graph.nodes) in
+    let text = parts (front_lines s.format s.seed s.height s.limits s.graph.nodes) (map edge_words s.graph.edges) (map bad_words s.bad) (map (event_words s) es) begin_words end_words in
+    let front = flat_map line_text (front_lines s.format s.seed s.height s.limits s.graph.nodes) in
     let edges = lines_of edge_words s.graph.edges in
     let bads = lines_of bad_words s.bad in
     let events = lines_of (event_words s) es in

@@ -5,8 +5,9 @@ use Rattle.std.proofs.lemmas.Bool.{and_parts, cases_Bool, eqb-true}
 use Rattle.std.proofs.lemmas.Bool.Decides.{nat_tests}
 use Rattle.std.proofs.lemmas.List.{map-append}
 use Rattle.sp_base.proofs.RefusalLemmas.{then_ok}
-use Rattle.sp_base.specs.declared.format.TheConstants.{FORMAT_1}
-use Rattle.sp_base.specs.declared.limits.TheConstants.{MAX_EDGES, MAX_EVENTS}
+use Rattle.sp_base.specs.Formats.{IsFormat, max_edges}
+use Rattle.sp_base.specs.declared.format.TheConstants.{FORMAT_1, FORMAT_2}
+use Rattle.sp_base.specs.declared.limits.TheConstants.{MAX_EVENTS}
 use Rattle.sp_base.specs.declared.id.NodeId.{NodeId}
 use Rattle.sp_text.specs.Spelling.{Word}
 use Rattle.sp_lines.specs.Cells.{Name, same}
@@ -38,10 +39,10 @@ use Rattle.sp_schedule.specs.declared.stage.Stage.TheVariants as stages
 -- all that was read is in its ranges
 abbrev pub AreGood : Stage → Type 0
 AreGood stages.Start = Unit {0}
-AreGood stages.Version = Unit {0}
-AreGood (stages.Seed seed) = IsSeed seed
-AreGood (stages.Height seed height) = IsSeed seed
-AreGood (stages.Bounds seed height limits) = IsSeed seed × AreBounds limits
+AreGood (stages.Version format) = IsFormat format
+AreGood (stages.Seed format seed) = IsFormat format × IsSeed seed
+AreGood (stages.Height format seed height) = IsFormat format × IsSeed seed
+AreGood (stages.Bounds format seed height limits) = IsFormat format × IsSeed seed × AreBounds limits
 AreGood (stages.Edges s) = IsScenario s × (s.bad ≡ [])
 AreGood (stages.Bads s) = IsScenario s
 AreGood (stages.Events s es) = IsSchedule s es
@@ -93,10 +94,10 @@ above_means : (last : Option Edge) (e : Edge) → is_above last e ≡ true → I
 above_means None e is = tt
 above_means (Some f) e is = lower_means f e is
 
-next_means : (g : Graph) (e : Edge) → AreIn (edge_cells g.nodes) (e.low.0, (e.high.0, (e.weight, tt))) → is_next_edge g e ≡ true
-    → IsNextEdge FORMAT_1 g e
-next_means g e are is =
-    let all = and_parts (nat_lt e.low.0 e.high.0 && is_above (last_edge g.edges) e) (nat_lt (length g.edges) MAX_EDGES) is in
+next_means : (format : ℕ) (g : Graph) (e : Edge) → AreIn (edge_cells g.nodes) (e.low.0, (e.high.0, (e.weight, tt))) → is_next_edge format g e ≡ true
+    → IsNextEdge format g e
+next_means format g e are is =
+    let all = and_parts (nat_lt e.low.0 e.high.0 && is_above (last_edge g.edges) e) (nat_lt (length g.edges) (max_edges format)) is in
     let both = and_parts (nat_lt e.low.0 e.high.0) (is_above (last_edge g.edges) e) all.0 in
     let less : e.low.0 < e.high.0 = grind (arith, nat_tests, both.0) in
     record {
@@ -114,7 +115,7 @@ ascend_push low nodes (c ∷ bs) b good above below = (good.0, good.1, ascend_pu
 
 edge_lines : (s : Scenario) (e : Edge) → s.bad ≡ [] → scenario_lines (with_edge s e) ≡ scenario_lines s ++ edge_words e ∷ []
 edge_lines s e none =
-    let front = front_lines s.seed s.height s.limits s.graph.nodes in
+    let front = front_lines s.format s.seed s.height s.limits s.graph.nodes in
     let no_bad : map bad_words s.bad ≡ [] = ap (map bad_words) none in
     let one : map edge_words (s.graph.edges ++ e ∷ []) ≡ map edge_words s.graph.edges ++ edge_words e ∷ [] = map-append edge_words s.graph.edges (e ∷ []) in
     let left : map edge_words (s.graph.edges ++ e ∷ []) ++ map bad_words s.bad ≡ map edge_words s.graph.edges ++ edge_words e ∷ [] =
@@ -126,7 +127,7 @@ edge_lines s e none =
 
 bad_lines : (s : Scenario) (id : NodeId) → scenario_lines (with_bad s id) ≡ scenario_lines s ++ bad_words id ∷ []
 bad_lines s id =
-    let front = front_lines s.seed s.height s.limits s.graph.nodes in
+    let front = front_lines s.format s.seed s.height s.limits s.graph.nodes in
     let edges = map edge_words s.graph.edges in
     let one : map bad_words (s.bad ++ id ∷ []) ≡ map bad_words s.bad ++ bad_words id ∷ [] = map-append bad_words s.bad (id ∷ []) in
     ap (λ (xs : List (List Word)). front ++ (edges ++ xs)) one
@@ -150,29 +151,30 @@ bad_more s words next good says_it =
     let read = line_read (bad_cells (next_after 1 s.bad) s.graph.nodes) words step.0 step.1 in
     subst (λ (z : Stage). (lines_to z ≡ scenario_lines s ++ words ∷ []) × AreGood z) step.2 (
       bad_lines s (bad_node step.0.0) ∙ ap (λ (ws : List Word). scenario_lines s ++ ws ∷ []) (sym read.1),
-      record { seed = good.seed; limits = good.limits; graph = good.graph; bad = ascend_push 1 s.graph.nodes s.bad (bad_node step.0.0) good.bad read.0.0 read.0.1 },
+      record { format = good.format; seed = good.seed; limits = good.limits; graph = good.graph; bad = ascend_push 1 s.graph.nodes s.bad (bad_node step.0.0) good.bad read.0.0 read.0.1 },
     )
 
 edge_more : (s : Scenario) (words : List Word) (next : Stage) → IsScenario s → s.bad ≡ [] → says_edge s words ≡ Ok next → (lines_to next ≡ scenario_lines s ++ words ∷ []) × AreGood next
 edge_more s words next good none says_it =
     let step = header_ok (next_edge s words) (λ e. stages.Edges (with_edge s e)) next says_it in
     let e = step.0 in
-    let found = then_ok (line_of (edge_cells s.graph.nodes) words) (λ x. if_next s.graph (edge_of s.graph.nodes x)) e step.1 in
+    let found = then_ok (line_of (edge_cells s.graph.nodes) words) (λ x. if_next s.format s.graph (edge_of s.graph.nodes x)) e step.1 in
     let read = line_read (edge_cells s.graph.nodes) words found.0 found.1 in
     let x = found.0 in
-    let all : IsNextEdge FORMAT_1 s.graph e × (words ≡ edge_words e) =
-    elim (if_cases (is_next_edge s.graph (edge_of s.graph.nodes x)) (Ok (edge_of s.graph.nodes x)) (Err faults.Range) (Ok e) found.2) [
+    let all : IsNextEdge s.format s.graph e × (words ≡ edge_words e) =
+    elim (if_cases (is_next_edge s.format s.graph (edge_of s.graph.nodes x)) (Ok (edge_of s.graph.nodes x)) (Err faults.Range) (Ok e) found.2) [
       | inl is ↦ (
           let is_e : edge_of s.graph.nodes x ≡ e = cc in
-          subst (λ (z : Edge). IsNextEdge FORMAT_1 s.graph z × (words ≡ edge_words z)) is_e (next_means s.graph (edge_of s.graph.nodes x) read.0 is.0, read.1))
+          subst (λ (z : Edge). IsNextEdge s.format s.graph z × (words ≡ edge_words z)) is_e (next_means s.format s.graph (edge_of s.graph.nodes x) read.0 is.0, read.1))
       | inr other ↦ absurd (let out = other.1 in cc)
     ] in
     subst (λ (z : Stage). (lines_to z ≡ scenario_lines s ++ words ∷ []) × AreGood z) step.2 (
       edge_lines s e none ∙ ap (λ (ws : List Word). scenario_lines s ++ ws ∷ []) (sym all.1),
-      (record { seed = good.seed; limits = good.limits; graph = graph_grows FORMAT_1 s.graph e good.graph all.0; bad = good.bad }, none),
+      (record { format = good.format; seed = good.seed; limits = good.limits; graph = graph_grows s.format s.graph e good.graph all.0; bad = good.bad }, none),
     )
 
-event_said : (s : Scenario) (es : List Event) (words : List Word) (r : Result Event Fault) (next : Stage) → read_event s es words ≡ r → IsSchedule s es → length es < MAX_EVENTS → event_more s es r ≡ Ok next
+event_said : (s : Scenario) (es : List Event) (words : List Word) (r : Result Event Fault) (next : Stage) → read_event s es words ≡ r → IsSchedule s es → length es < MAX_EVENTS
+    → event_more s es words r ≡ Ok next
     → (lines_to next ≡ lines_to (stages.Events s es) ++ words ∷ []) × AreGood next
 event_said s es words (Err fault) next read good room is = absurd cc
 event_said s es words (Ok e) next read good room is =
@@ -192,39 +194,48 @@ ends s es words next good fit is =
     subst (λ (z : Stage). (lines_to z ≡ lines_to (stages.Events s es) ++ words ∷ []) × AreGood z) is
     (sym (append_assoc (header_lines s) (map (event_words s) es) (end_words ∷ [])) ∙ ap (λ (ws : List Word). (header_lines s ++ map (event_words s) es) ++ ws ∷ []) (sym line), good)
 
+-- a number that may stand in the first line is that of a format
+one_of_two : (n : ℕ) → FORMAT_1 ≤ n → n ≤ FORMAT_2 → IsFormat n
+one_of_two n low high =
+    elim (cases_Bool (n == FORMAT_1)) [
+      | inl one ↦ inl (eqb-true n FORMAT_1 one)
+      | inr other ↦ inr (grind (arith, nat_tests, low, high, other))
+    ]
+
 pub says_more : (stage : Stage) (words : List Word) (next : Stage) → AreGood stage → says stage words ≡ Ok next → (lines_to next ≡ lines_to stage ++ words ∷ []) × AreGood next
 says_more stages.Start words next good is =
-    let step = header_ok (line_of version_cells words) (λ x. stages.Version) next is in
+    let step = header_ok (line_of version_cells words) (λ x. stages.Version x.0) next is in
     let read = line_read version_cells words step.0 step.1 in
-    subst (λ (z : Stage). (lines_to z ≡ words ∷ []) × AreGood z) step.2 (ap (λ (ws : List Word). ws ∷ []) (sym read.1), tt)
-says_more stages.Version words next good is =
-    let step = header_ok (line_of seed_cells words) (λ x. stages.Seed x.0) next is in
+    subst (λ (z : Stage). (lines_to z ≡ words ∷ []) × AreGood z) step.2 (ap (λ (ws : List Word). ws ∷ []) (sym read.1), one_of_two step.0.0 read.0.0 read.0.1)
+says_more (stages.Version format) words next good is =
+    let step = header_ok (line_of seed_cells words) (λ x. stages.Seed format x.0) next is in
     let read = line_read seed_cells words step.0 step.1 in
-    subst (λ (z : Stage). (lines_to z ≡ version_words ∷ words ∷ []) × AreGood z) step.2
-    (ap (λ (ws : List Word). version_words ∷ ws ∷ []) (sym read.1), (omega (arith, read.0.0.0, read.0.0.1), read.0.0.2))
-says_more (stages.Seed seed) words next good is =
-    let step = header_ok (line_of height_cells words) (λ x. stages.Height seed (height_at x.0)) next is in
+    subst (λ (z : Stage). (lines_to z ≡ version_words format ∷ words ∷ []) × AreGood z) step.2
+    (ap (λ (ws : List Word). version_words format ∷ ws ∷ []) (sym read.1), (good, (omega (arith, read.0.0.0, read.0.0.1), read.0.0.2)))
+says_more (stages.Seed format seed) words next good is =
+    let step = header_ok (line_of height_cells words) (λ x. stages.Height format seed (height_at x.0)) next is in
     let read = line_read height_cells words step.0 step.1 in
     let same_number : height_number (height_at step.0.0) ≡ step.0.0 = height_back step.0.0 read.0.2 in
     let line : height_words (height_at step.0.0) ≡ words = ap (λ (n : ℕ). spelled height_cells (n, tt)) same_number ∙ sym read.1 in
-    subst (λ (z : Stage). (lines_to z ≡ version_words ∷ seed_words seed ∷ words ∷ []) × AreGood z) step.2
-    (ap (λ (ws : List Word). version_words ∷ seed_words seed ∷ ws ∷ []) line, good)
-says_more (stages.Height seed height) words next good is =
-    let step = header_ok (line_of bounds_cells words) (λ x. stages.Bounds seed height (limits_of x)) next is in
+    subst (λ (z : Stage). (lines_to z ≡ version_words format ∷ seed_words seed ∷ words ∷ []) × AreGood z) step.2
+    (ap (λ (ws : List Word). version_words format ∷ seed_words seed ∷ ws ∷ []) line, good)
+says_more (stages.Height format seed height) words next good is =
+    let step = header_ok (line_of bounds_cells words) (λ x. stages.Bounds format seed height (limits_of x)) next is in
     let read = line_read bounds_cells words step.0 step.1 in
-    subst (λ (z : Stage). (lines_to z ≡ version_words ∷ seed_words seed ∷ height_words height ∷ words ∷ []) × AreGood z) step.2 (
-      ap (λ (ws : List Word). version_words ∷ seed_words seed ∷ height_words height ∷ ws ∷ []) (sym read.1),
-      (good, record { buffer = (read.0.0, read.0.1); store = (read.0.2.0, read.0.2.1) }),
+    subst (λ (z : Stage). (lines_to z ≡ version_words format ∷ seed_words seed ∷ height_words height ∷ words ∷ []) × AreGood z) step.2 (
+      ap (λ (ws : List Word). version_words format ∷ seed_words seed ∷ height_words height ∷ ws ∷ []) (sym read.1),
+      (good.0, good.1, record { buffer = (read.0.0, read.0.1); store = (read.0.2.0, read.0.2.1) }),
     )
-says_more (stages.Bounds seed height limits) words next good is =
-    let step = header_ok (line_of nodes_cells words) (λ x. stages.Edges (bare seed height limits x.0)) next is in
-    let read = line_read nodes_cells words step.0 step.1 in
-    subst (λ (z : Stage). (lines_to z ≡ version_words ∷ seed_words seed ∷ height_words height ∷ bounds_words limits ∷ words ∷ []) × AreGood z) step.2 (
-      ap (λ (ws : List Word). version_words ∷ seed_words seed ∷ height_words height ∷ bounds_words limits ∷ ws ∷ []) (sym read.1),
+says_more (stages.Bounds format seed height limits) words next good is =
+    let step = header_ok (line_of (nodes_cells format) words) (λ x. stages.Edges (bare format seed height limits x.0)) next is in
+    let read = line_read (nodes_cells format) words step.0 step.1 in
+    subst (λ (z : Stage). (lines_to z ≡ version_words format ∷ seed_words seed ∷ height_words height ∷ bounds_words limits ∷ words ∷ []) × AreGood z) step.2 (
+      ap (λ (ws : List Word). version_words format ∷ seed_words seed ∷ height_words height ∷ bounds_words limits ∷ ws ∷ []) (sym read.1),
       (
         record {
-          seed = good.0;
-          limits = good.1;
+          format = good.0;
+          seed = good.1;
+          limits = good.2;
           graph = record { nodes = (read.0.0, read.0.1); few = omega arith; edges = λ k d inside. absurd (omega (arith, inside)); ascend = λ i j d less inside. absurd (omega (arith, inside)) };
           bad = tt;
         },
@@ -246,10 +257,10 @@ says_more (stages.Bads s) words next good is =
       | inr bad ↦ bad_more s words next good bad.1
     ]
 says_more (stages.Events s es) words next good is =
-    elim (if_cases (fits end_cells words) (Ok (stages.End s es)) (if nat_le MAX_EVENTS (length es) then Err kinds.TooMany else event_more s es (read_event s es words)) (Ok next) is) [
+    elim (if_cases (fits end_cells words) (Ok (stages.End s es)) (if nat_le MAX_EVENTS (length es) then Err kinds.TooMany else event_more s es words (read_event s es words)) (Ok next) is) [
       | inl end ↦ ends s es words next good end.0 (let to = end.1 in cc)
       | inr other ↦
-          elim (if_cases (nat_le MAX_EVENTS (length es)) (Err kinds.TooMany) (event_more s es (read_event s es words)) (Ok next) other.1) [
+          elim (if_cases (nat_le MAX_EVENTS (length es)) (Err kinds.TooMany) (event_more s es words (read_event s es words)) (Ok next) other.1) [
             | inl many ↦ absurd (let out = many.1 in cc)
             | inr event ↦ event_said s es words (read_event s es words) next refl good (grind (arith, nat_tests, event.0)) event.1
           ]
@@ -269,10 +280,10 @@ all_lines (words ∷ lines) stage last good is =
 
 pub is_good_stage : (stage : Stage) → AreGood stage → IsGoodStage stage
 is_good_stage stages.Start good = tt
-is_good_stage stages.Version good = tt
-is_good_stage (stages.Seed seed) good = tt
-is_good_stage (stages.Height seed height) good = tt
-is_good_stage (stages.Bounds seed height limits) good = tt
+is_good_stage (stages.Version format) good = tt
+is_good_stage (stages.Seed format seed) good = tt
+is_good_stage (stages.Height format seed height) good = tt
+is_good_stage (stages.Bounds format seed height limits) good = tt
 is_good_stage (stages.Edges s) good = tt
 is_good_stage (stages.Bads s) good = tt
 is_good_stage (stages.Events s es) good = good

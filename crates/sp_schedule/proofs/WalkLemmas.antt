@@ -6,7 +6,9 @@ use Rattle.std.proofs.lemmas.Bool.Decides.{nat_tests}
 use Rattle.std.proofs.lemmas.List.{map-append}
 use Rattle.std.proofs.lemmas.List.Elements.{All-append, All-cons, All-nil}
 use Rattle.sp_base.proofs.RefusalLemmas.{then_ok}
-use Rattle.sp_base.specs.declared.limits.TheConstants.{MAX_EDGES, MAX_EVENTS, MAX_NODES}
+use Rattle.sp_base.specs.Formats.{IsFormat, max_edges, max_nodes}
+use Rattle.sp_base.specs.declared.format.TheConstants.{FORMAT_1, FORMAT_2}
+use Rattle.sp_base.specs.declared.limits.TheConstants.{MAX_EVENTS}
 use Rattle.sp_base.specs.declared.id.NodeId.{NodeId}
 use Rattle.sp_text.specs.Spelling.{Word}
 use Rattle.sp_lines.specs.Rows.{AreIn, fits, line_of}
@@ -14,7 +16,6 @@ use Rattle.sp_lines.specs.Texts.{follow_all}
 use Rattle.sp_lines.proofs.RowLemmas.{line_back}
 use Rattle.sp_lines.proofs.TextLemmas.{IsGoodLine}
 use Rattle.sp_lines.proofs.WidthLemmas.{good_row_line}
-use Rattle.sp_base.specs.declared.format.TheConstants.{FORMAT_1}
 use Rattle.sp_graph.specs.Edges.{IsEdge, IsGraphIn, IsLower, IsNextEdge, last_edge}
 use Rattle.sp_graph.specs.declared.graph.Graph.{Graph}
 use Rattle.sp_graph.proofs.Texts.{next_of, with_edges}
@@ -29,7 +30,7 @@ use Rattle.sp_schedule_events.specs.declared.event.Event.TheVariants as events
 use Rattle.sp_schedule_crafts.specs.declared.object.CraftedObject.TheVariants as crafted
 use Rattle.sp_lines.specs.declared.fault.Fault.{Fault}
 use Rattle.sp_schedule.specs.declared.refused.Kind.TheVariants as kinds
-use Rattle.sp_schedule_events.proofs.EventLemmas.{events_have_one_line, good_event_line}
+use Rattle.sp_schedule_events.proofs.EventLemmas.{events_have_one_line, good_event_line, nodes_small}
 use Rattle.sp_schedule.specs.Header.{bad_cells, begin_cells, bounds_cells, bounds_values, edge_cells, edge_values, end_cells, height_cells, height_number, next_after, nodes_cells, seed_cells, version_cells}
 use Rattle.sp_schedule.specs.Lines.{bare, event_more, is_above, is_lower, is_next_edge, says}
 use Rattle.sp_schedule.specs.Scenarios.{AreInRange, Ascend, IsScenario, IsSchedule, None_yet, One_more}
@@ -66,27 +67,36 @@ height_is : (h : LmsHeight) → (5 ≤ height_number h) × (height_number h ≤ 
 height_is Five = (omega arith, omega arith)
 height_is Ten = (omega arith, omega arith)
 
-height_line : (seed : List ℕ) (h : LmsHeight) → says (stages.Seed seed) (height_words h) ≡ Ok (stages.Height seed h)
-height_line seed Five = rw (line_back height_cells (5, tt) (omega arith, tt) (omega arith, omega arith, refl, tt)) refl
-height_line seed Ten = rw (line_back height_cells (10, tt) (omega arith, tt) (omega arith, omega arith, refl, tt)) refl
+height_line : (format : ℕ) (seed : List ℕ) (h : LmsHeight) → says (stages.Seed format seed) (height_words h) ≡ Ok (stages.Height format seed h)
+height_line format seed Five = rw (line_back height_cells (5, tt) (omega arith, tt) (omega arith, omega arith, refl, tt)) refl
+height_line format seed Ten = rw (line_back height_cells (10, tt) (omega arith, tt) (omega arith, omega arith, refl, tt)) refl
 
 height_good : (h : LmsHeight) → IsGoodLine (height_words h)
 height_good Five = good_row_line height_cells (5, tt) refl (omega arith, omega arith, refl, tt)
 height_good Ten = good_row_line height_cells (10, tt) refl (omega arith, omega arith, refl, tt)
 
-front_follows : (s : Scenario) → IsScenario s → Follows stages.Start (front_lines s.seed s.height s.limits s.graph.nodes) (stages.Edges (bare s.seed s.height s.limits s.graph.nodes))
+-- a format may stand in the first line
+in_first_line : (n : ℕ) → IsFormat n → (FORMAT_1 ≤ n) × (n ≤ FORMAT_2)
+in_first_line n (inl one) = rw one (omega arith, omega arith)
+in_first_line n (inr two) = rw two (omega arith, omega arith)
+
+front_follows : (s : Scenario) → IsScenario s → Follows stages.Start (front_lines s.format s.seed s.height s.limits s.graph.nodes) (stages.Edges (bare s.format s.seed s.height s.limits s.graph.nodes))
 front_follows s good =
+    let format_is = in_first_line s.format good.format in
     let seed : AreIn seed_cells (s.seed, tt) = ((omega (arith, good.seed.0), omega (arith, good.seed.0), good.seed.1), tt) in
     let bounds : AreIn bounds_cells (bounds_values s.limits) = (good.limits.buffer.0, good.limits.buffer.1, (good.limits.store.0, good.limits.store.1, tt)) in
-    let nodes : AreIn nodes_cells (s.graph.nodes, tt) = (good.graph.nodes.0, good.graph.nodes.1, tt) in
-    let a = one stages.Start stages.Version version_words (good_row_line version_cells tt refl tt) refl in
-    let b = one stages.Version (stages.Seed s.seed) (seed_words s.seed) (good_row_line seed_cells (s.seed, tt) refl seed) (rw (line_back seed_cells (s.seed, tt) tt seed) refl) in
-    let c = one (stages.Seed s.seed) (stages.Height s.seed s.height) (height_words s.height) (height_good s.height) (height_line s.seed s.height) in
-    let d = one (stages.Height s.seed s.height) (stages.Bounds s.seed s.height s.limits) (bounds_words s.limits) (good_row_line bounds_cells (bounds_values s.limits) refl bounds)
+    let nodes : AreIn (nodes_cells s.format) (s.graph.nodes, tt) = (good.graph.nodes.0, good.graph.nodes.1, tt) in
+    let version : AreIn version_cells (s.format, tt) = (format_is.0, format_is.1, tt) in
+    let room : nat_lt (max_nodes s.format) (2 ^ 64) ≡ true = grind (arith, nat_tests, nodes_small s.format) in
+    let a = one stages.Start (stages.Version s.format) (version_words s.format) (good_row_line version_cells (s.format, tt) refl version)
+    (rw (line_back version_cells (s.format, tt) (omega arith, tt) version) refl) in
+    let b = one (stages.Version s.format) (stages.Seed s.format s.seed) (seed_words s.seed) (good_row_line seed_cells (s.seed, tt) refl seed) (rw (line_back seed_cells (s.seed, tt) tt seed) refl) in
+    let c = one (stages.Seed s.format s.seed) (stages.Height s.format s.seed s.height) (height_words s.height) (height_good s.height) (height_line s.format s.seed s.height) in
+    let d = one (stages.Height s.format s.seed s.height) (stages.Bounds s.format s.seed s.height s.limits) (bounds_words s.limits) (good_row_line bounds_cells (bounds_values s.limits) refl bounds)
     (rw (line_back bounds_cells (bounds_values s.limits) (omega arith, (omega arith, tt)) bounds) refl) in
-    let e = one (stages.Bounds s.seed s.height s.limits) (stages.Edges (bare s.seed s.height s.limits s.graph.nodes)) (nodes_words s.graph.nodes) (good_row_line nodes_cells (s.graph.nodes, tt) refl nodes)
-    (rw (line_back nodes_cells (s.graph.nodes, tt) (omega arith, tt) nodes) refl) in
-    both (version_words ∷ []) _ _ _ _ a (both (seed_words s.seed ∷ []) _ _ _ _ b (both (height_words s.height ∷ []) _ _ _ _ c (both (bounds_words s.limits ∷ []) _ _ _ _ d e)))
+    let e = one (stages.Bounds s.format s.seed s.height s.limits) (stages.Edges (bare s.format s.seed s.height s.limits s.graph.nodes)) (nodes_words s.graph.nodes)
+    (good_row_line (nodes_cells s.format) (s.graph.nodes, tt) (rw room refl) nodes) (rw (line_back (nodes_cells s.format) (s.graph.nodes, tt) (nodes_small s.format, tt) nodes) refl) in
+    both (version_words s.format ∷ []) _ _ _ _ a (both (seed_words s.seed ∷ []) _ _ _ _ b (both (height_words s.height ∷ []) _ _ _ _ c (both (bounds_words s.limits ∷ []) _ _ _ _ d e)))
 
 -- ---- edges
 
@@ -104,42 +114,42 @@ above_is : (last : Option Edge) (e : Edge) → IfSome last (λ f. IsLower f e) �
 above_is None e is = refl
 above_is (Some f) e is = lower_is f e is
 
-next_is : (g : Graph) (e : Edge) → IsNextEdge FORMAT_1 g e → is_next_edge g e ≡ true
-next_is g e is =
+next_is : (format : ℕ) (g : Graph) (e : Edge) → IsNextEdge format g e → is_next_edge format g e ≡ true
+next_is format g e is =
     let less : nat_lt e.low.0 e.high.0 ≡ true = let h = is.ends.1 in grind (arith, nat_tests, h) in
-    let few : nat_lt (length g.edges) MAX_EDGES ≡ true = let h = is.few in grind (arith, nat_tests, h) in
-    and_from (nat_lt e.low.0 e.high.0 && is_above (last_edge g.edges) e) (nat_lt (length g.edges) MAX_EDGES)
+    let few : nat_lt (length g.edges) (max_edges format) ≡ true = let h = is.few in grind (arith, nat_tests, h) in
+    and_from (nat_lt e.low.0 e.high.0 && is_above (last_edge g.edges) e) (nat_lt (length g.edges) (max_edges format))
     (and_from (nat_lt e.low.0 e.high.0) (is_above (last_edge g.edges) e) less (above_is (last_edge g.edges) e is.ascends)) few
 
 -- the scenario with these edges alone, and no compromised node
 abbrev edges_so_far : Scenario → List Edge → Scenario
-edges_so_far s edges = record { seed = s.seed; height = s.height; limits = s.limits; graph = with_edges s.graph edges; bad = [] }
+edges_so_far s edges = record { format = s.format; seed = s.seed; height = s.height; limits = s.limits; graph = with_edges s.graph edges; bad = [] }
 
-few_nodes : (n : ℕ) → n ≤ MAX_NODES → nat_lt n (2 ^ 64) ≡ true
-few_nodes n few = grind (arith, nat_tests, few)
+few_nodes : (format n : ℕ) → n ≤ max_nodes format → nat_lt n (2 ^ 64) ≡ true
+few_nodes format n few = grind (arith, nat_tests, few, nodes_small format)
 
 edge_in : (s : Scenario) (e : Edge) → IsEdge s.graph.nodes e → AreIn (edge_cells s.graph.nodes) (edge_values s.graph.nodes e)
 edge_in s e is = (is.0, omega (arith, is.1, is.2), (omega (arith, is.0, is.1), is.2, (is.3.0, is.3.1, tt)))
 
-edge_good : (s : Scenario) (e : Edge) → s.graph.nodes ≤ MAX_NODES → IsEdge s.graph.nodes e → IsGoodLine (edge_words e)
-edge_good s e few is = good_row_line (edge_cells s.graph.nodes) (edge_values s.graph.nodes e) (rw (few_nodes s.graph.nodes few) refl) (edge_in s e is)
+edge_good : (s : Scenario) (e : Edge) → s.graph.nodes ≤ max_nodes s.format → IsEdge s.graph.nodes e → IsGoodLine (edge_words e)
+edge_good s e few is = good_row_line (edge_cells s.graph.nodes) (edge_values s.graph.nodes e) (rw (few_nodes s.format s.graph.nodes few) refl) (edge_in s e is)
 
-edge_line : (s : Scenario) (front : List Edge) (e : Edge) → s.graph.nodes ≤ MAX_NODES → IsEdge s.graph.nodes e
-    → IsNextEdge FORMAT_1 (with_edges s.graph front) e
+edge_line : (s : Scenario) (front : List Edge) (e : Edge) → s.graph.nodes ≤ max_nodes s.format → IsEdge s.graph.nodes e
+    → IsNextEdge s.format (with_edges s.graph front) e
     → says (stages.Edges (edges_so_far s front)) (edge_words e) ≡ Ok (stages.Edges (edges_so_far s (front ++ e ∷ [])))
 edge_line s front e few is next =
-    let room : s.graph.nodes < 2 ^ 64 = omega (arith, few) in
+    let room : s.graph.nodes < 2 ^ 64 = omega (arith, few, nodes_small s.format) in
     let read : line_of (edge_cells s.graph.nodes) (edge_words e) ≡ Ok (edge_values s.graph.nodes e) =
     line_back (edge_cells s.graph.nodes) (edge_values s.graph.nodes e) (room, (room, (omega arith, tt))) (edge_in s e is) in
-    rw read (rw (next_is (with_edges s.graph front) e next) refl)
+    rw read (rw (next_is s.format (with_edges s.graph front) e next) refl)
 
-edges_follow : (s : Scenario) (front back : List Edge) → IsGraphIn FORMAT_1 s.graph → s.graph.edges ≡ front ++ back
+edges_follow : (s : Scenario) (front back : List Edge) → IsGraphIn s.format s.graph → s.graph.edges ≡ front ++ back
     → Follows (stages.Edges (edges_so_far s front)) (map edge_words back) (stages.Edges (edges_so_far s s.graph.edges))
 edges_follow s front [] good is =
     let all : front ≡ s.graph.edges = sym (is ∙ append-nil front) in
     subst (λ (es : List Edge). Follows (stages.Edges (edges_so_far s front)) [] (stages.Edges (edges_so_far s es))) all (none (stages.Edges (edges_so_far s front)))
 edges_follow s front (e ∷ back) good is =
-    let next = next_of FORMAT_1 s.graph front back e good is in
+    let next = next_of s.format s.graph front back e good is in
     let few = good.nodes.1 in
     let first = one (stages.Edges (edges_so_far s front)) (stages.Edges (edges_so_far s (front ++ e ∷ []))) (edge_words e) (edge_good s e few next.0) (edge_line s front e few next.0 next.1) in
     both (edge_words e ∷ []) (map edge_words back) _ _ _ first (edges_follow s (front ++ e ∷ []) back good (is ∙ sym (append_assoc front (e ∷ []) back)))
@@ -148,20 +158,20 @@ edges_follow s front (e ∷ back) good is =
 
 -- the scenario with these compromised nodes alone
 abbrev bads_so_far : Scenario → List NodeId → Scenario
-bads_so_far s bad = record { seed = s.seed; height = s.height; limits = s.limits; graph = s.graph; bad = bad }
+bads_so_far s bad = record { format = s.format; seed = s.seed; height = s.height; limits = s.limits; graph = s.graph; bad = bad }
 
 next_after_append : (low : ℕ) (front : List NodeId) (b : NodeId) → next_after low (front ++ b ∷ []) ≡ b.0 + 1
 next_after_append low [] b = refl
 next_after_append low (c ∷ front) b = next_after_append (c.0 + 1) front b
 
-bad_read : (s : Scenario) (front : List NodeId) (b : NodeId) → s.graph.nodes ≤ MAX_NODES → next_after 1 front ≤ b.0 → b.0 ≤ s.graph.nodes
+bad_read : (s : Scenario) (front : List NodeId) (b : NodeId) → s.graph.nodes ≤ max_nodes s.format → next_after 1 front ≤ b.0 → b.0 ≤ s.graph.nodes
     → line_of (bad_cells (next_after 1 front) s.graph.nodes) (bad_words b) ≡ Ok (b.0, tt)
-bad_read s front b few above below = line_back (bad_cells (next_after 1 front) s.graph.nodes) (b.0, tt) (omega (arith, few), tt) (above, below, tt)
+bad_read s front b few above below = line_back (bad_cells (next_after 1 front) s.graph.nodes) (b.0, tt) (omega (arith, few, nodes_small s.format), tt) (above, below, tt)
 
-bad_good : (s : Scenario) (b : NodeId) → s.graph.nodes ≤ MAX_NODES → b.0 ≤ s.graph.nodes → IsGoodLine (bad_words b)
-bad_good s b few below = good_row_line (bad_cells 0 s.graph.nodes) (b.0, tt) (rw (few_nodes s.graph.nodes few) refl) (omega arith, below, tt)
+bad_good : (s : Scenario) (b : NodeId) → s.graph.nodes ≤ max_nodes s.format → b.0 ≤ s.graph.nodes → IsGoodLine (bad_words b)
+bad_good s b few below = good_row_line (bad_cells 0 s.graph.nodes) (b.0, tt) (rw (few_nodes s.format s.graph.nodes few) refl) (omega arith, below, tt)
 
-bads_follow : (s : Scenario) (front back : List NodeId) → s.graph.nodes ≤ MAX_NODES → Ascend (next_after 1 front) s.graph.nodes back
+bads_follow : (s : Scenario) (front back : List NodeId) → s.graph.nodes ≤ max_nodes s.format → Ascend (next_after 1 front) s.graph.nodes back
     → Follows (stages.Bads (bads_so_far s front)) (map bad_words back) (stages.Bads (bads_so_far s (front ++ back)))
 bads_follow s front [] few good =
     subst (λ (bs : List NodeId). Follows (stages.Bads (bads_so_far s front)) [] (stages.Bads (bads_so_far s bs))) (sym (append-nil front)) (none (stages.Bads (bads_so_far s front)))
@@ -176,7 +186,7 @@ bads_follow s front (b ∷ back) few good =
 begin_good : IsGoodLine begin_words
 begin_good = good_row_line begin_cells tt refl tt
 
-bads_and_begin : (s : Scenario) (bad : List NodeId) → s.graph.nodes ≤ MAX_NODES → Ascend 1 s.graph.nodes bad
+bads_and_begin : (s : Scenario) (bad : List NodeId) → s.graph.nodes ≤ max_nodes s.format → Ascend 1 s.graph.nodes bad
     → Follows (stages.Edges (bads_so_far s [])) (map bad_words bad ++ begin_words ∷ []) (stages.Events (bads_so_far s bad) [])
 bads_and_begin s [] few good = one (stages.Edges (bads_so_far s [])) (stages.Events (bads_so_far s []) []) begin_words begin_good refl
 bads_and_begin s (b ∷ back) few good =
@@ -192,11 +202,11 @@ header_follows s good =
     let front = front_follows s good in
     let edges = edges_follow s [] s.graph.edges good.graph refl in
     let bads = bads_and_begin s s.bad few good.bad in
-    let all = both (front_lines s.seed s.height s.limits s.graph.nodes) (map edge_words s.graph.edges ++ (map bad_words s.bad ++ begin_words ∷ [])) _ _ _ front
+    let all = both (front_lines s.format s.seed s.height s.limits s.graph.nodes) (map edge_words s.graph.edges ++ (map bad_words s.bad ++ begin_words ∷ [])) _ _ _ front
     (both (map edge_words s.graph.edges) (map bad_words s.bad ++ begin_words ∷ []) _ _ _ edges bads) in
-    let lines : front_lines s.seed s.height s.limits s.graph.nodes ++ (map edge_words s.graph.edges ++ (map bad_words s.bad ++ begin_words ∷ [])) ≡ header_lines s =
-    ap (λ (xs : List (List Word)). front_lines s.seed s.height s.limits s.graph.nodes ++ xs) (sym (append_assoc (map edge_words s.graph.edges) (map bad_words s.bad) (begin_words ∷ [])))
-    ∙ sym (append_assoc (front_lines s.seed s.height s.limits s.graph.nodes) (map edge_words s.graph.edges ++ map bad_words s.bad) (begin_words ∷ [])) in
+    let lines : front_lines s.format s.seed s.height s.limits s.graph.nodes ++ (map edge_words s.graph.edges ++ (map bad_words s.bad ++ begin_words ∷ [])) ≡ header_lines s =
+    ap (λ (xs : List (List Word)). front_lines s.format s.seed s.height s.limits s.graph.nodes ++ xs) (sym (append_assoc (map edge_words s.graph.edges) (map bad_words s.bad) (begin_words ∷ [])))
+    ∙ sym (append_assoc (front_lines s.format s.seed s.height s.limits s.graph.nodes) (map edge_words s.graph.edges ++ map bad_words s.bad) (begin_words ∷ [])) in
     subst (λ (ls : List (List Word)). Follows stages.Start ls (stages.Events s [])) lines all
 
 -- ---- events
@@ -219,7 +229,7 @@ end_not z (events.Craft c v key (crafted.Ack a)) = refl
 end_not z (events.Craft c v key (crafted.Prio p)) = refl
 end_not z (events.Craft c v key (crafted.Weight w)) = refl
 
-event_line : (s : Scenario) (es : List Event) (e : Event) → s.graph.nodes ≤ MAX_NODES → length es < MAX_EVENTS → InRange s es e
+event_line : (s : Scenario) (es : List Event) (e : Event) → s.graph.nodes ≤ max_nodes s.format → length es < MAX_EVENTS → InRange s es e
     → says (stages.Events s es) (event_words s e) ≡ Ok (stages.Events s (es ++ e ∷ []))
 event_line s es e few room is =
     let read : read_event s es (event_words s e) ≡ Ok e = (events_have_one_line s es (event_words s e) e few).1 (is, refl) in
@@ -227,10 +237,10 @@ event_line s es e few room is =
     go (fits end_cells (event_words s e)) (nat_le MAX_EVENTS (length es)) (read_event s es (event_words s e)) (end_not s e) more read
   where
     go : (a b : Bool) (r : Result Event Fault) → a ≡ false → b ≡ false → r ≡ Ok e
-        → (if a then Ok (stages.End s es) else (if b then Err kinds.TooMany else event_more s es r)) ≡ Ok (stages.Events s (es ++ e ∷ []))
+        → (if a then Ok (stages.End s es) else (if b then Err kinds.TooMany else event_more s es (event_words s e) r)) ≡ Ok (stages.Events s (es ++ e ∷ []))
     go a b r no_end some read = rw (no_end, some, read) refl
 
-events_follow : (s : Scenario) (es : List Event) → s.graph.nodes ≤ MAX_NODES → AreInRange s es → length es ≤ MAX_EVENTS
+events_follow : (s : Scenario) (es : List Event) → s.graph.nodes ≤ max_nodes s.format → AreInRange s es → length es ≤ MAX_EVENTS
     → Follows (stages.Events s []) (map (event_words s) es) (stages.Events s es)
 events_follow s es few None_yet count = none (stages.Events s [])
 events_follow s es few (One_more {before = before} e are is) count =

@@ -44,10 +44,10 @@ unfed = record { stage = stages.Start; count = 0; waiting = [] }
 -- the lines that lead to a stage
 abbrev pub lines_to : Stage → List (List Word)
 lines_to stages.Start = []
-lines_to stages.Version = version_words ∷ []
-lines_to (stages.Seed seed) = version_words ∷ seed_words seed ∷ []
-lines_to (stages.Height seed height) = version_words ∷ seed_words seed ∷ height_words height ∷ []
-lines_to (stages.Bounds seed height limits) = version_words ∷ seed_words seed ∷ height_words height ∷ bounds_words limits ∷ []
+lines_to (stages.Version format) = version_words format ∷ []
+lines_to (stages.Seed format seed) = version_words format ∷ seed_words seed ∷ []
+lines_to (stages.Height format seed height) = version_words format ∷ seed_words seed ∷ height_words height ∷ []
+lines_to (stages.Bounds format seed height limits) = version_words format ∷ seed_words seed ∷ height_words height ∷ bounds_words limits ∷ []
 lines_to (stages.Edges s) = scenario_lines s
 lines_to (stages.Bads s) = scenario_lines s
 lines_to (stages.Events s es) = header_lines s ++ map (event_words s) es

@@ -1,15 +1,17 @@
 -- The lines of a schedule's header, a row for each, and the line that ends a schedule.
 --
---     schedule 1
+--     schedule FORMAT     1 or 2
 --     seed HEX64
 --     height H            5 or 10
 --     bounds B C
---     nodes N             2..=16; the nodes are 1 to N
---     edge A B W          none or more, A < B, lexically ascending
+--     nodes N             2..=16, in format 2 2..=32; the nodes are 1 to N
+--     edge A B W          at most 120, in format 2 256; A < B, lexically ascending
 --     bad I               none or more, ascending
 --     begin
 use Rattle.std.specs.Prelude.{ℕ, ◌==◌, ◌||◌, ◌+◌, Bool, List, [], ◌∷◌, codes, if◌then◌else◌}
-use Rattle.sp_base.specs.declared.limits.TheConstants.{MAX_BUFFER, MAX_NODES, MAX_STORE, MAX_WEIGHT}
+use Rattle.sp_base.specs.Formats.{max_nodes}
+use Rattle.sp_base.specs.declared.format.TheConstants.{FORMAT_1, FORMAT_2}
+use Rattle.sp_base.specs.declared.limits.TheConstants.{MAX_BUFFER, MAX_STORE, MAX_WEIGHT}
 use Rattle.sp_base.specs.declared.id.NodeId.{NodeId}
 use Rattle.sp_base.specs.declared.id.Limits.{Limits}
 use Rattle.sp_lines.specs.Cells.{Bytes, Cell, Name, Number, Tested}
@@ -37,7 +39,7 @@ next_after low (b ∷ bs) = next_after (b.0 + 1) bs
 -- ---- rows
 
 abbrev pub version_cells : List Cell
-version_cells = Name (codes "schedule") ∷ Name (codes "1") ∷ []
+version_cells = Name (codes "schedule") ∷ Number FORMAT_1 FORMAT_2 ∷ []
 
 abbrev pub seed_cells : List Cell
 seed_cells = Name (codes "seed") ∷ Bytes 32 32 ∷ []
@@ -48,8 +50,8 @@ height_cells = Name (codes "height") ∷ Tested 5 10 is_height ∷ []
 abbrev pub bounds_cells : List Cell
 bounds_cells = Name (codes "bounds") ∷ Number 1 MAX_BUFFER ∷ Number 1 MAX_STORE ∷ []
 
-abbrev pub nodes_cells : List Cell
-nodes_cells = Name (codes "nodes") ∷ Number 2 MAX_NODES ∷ []
+abbrev pub nodes_cells : (format : ℕ) → List Cell
+nodes_cells format = Name (codes "nodes") ∷ Number 2 (max_nodes format) ∷ []
 
 -- an edge between so many nodes
 abbrev pub edge_cells : ℕ → List Cell

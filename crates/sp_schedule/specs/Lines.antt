@@ -1,7 +1,7 @@
 -- What one line of a schedule says at its stage: the next stage, or why it is refused.
 --
 --     stage       good lines       the next stage
---     Start       schedule 1       Version
+--     Start       schedule FORMAT  Version
 --     Version     seed HEX64       Seed
 --     Seed        height H         Height
 --     Height      bounds B C       Bounds
@@ -15,11 +15,13 @@
 --                 end              End
 --     End         none
 --
--- Every bad line of the header is `Header`. After 16,384 events each line but `end` is `TooMany`, whatever else is wrong with it.
+-- Every bad line of the header is `Header`. After 16,384 events each line but `end` is `TooMany`, whatever else is wrong with it. A good line of which no
+-- event is built is `Unbuilt`.
 use Rattle.std.specs.Prelude.{ℕ, ◌≡◌, ◌&&◌, ◌||◌, ◌==◌, nat_le, nat_lt, Bool, true, if◌then◌else◌}
 use Rattle.std.specs.Prelude.{List, [], ◌∷◌, ◌++◌, length, Option, Some, None, Result, Ok, Err}
+use Rattle.sp_base.specs.Formats.{max_edges}
 use Rattle.sp_base.specs.Refusals.{◌>>=◌}
-use Rattle.sp_base.specs.declared.limits.TheConstants.{MAX_EDGES, MAX_EVENTS}
+use Rattle.sp_base.specs.declared.limits.TheConstants.{MAX_EVENTS}
 use Rattle.sp_base.specs.declared.id.NodeId.{NodeId}
 use Rattle.sp_base.specs.declared.id.Limits.{Limits}
 use Rattle.sp_text.specs.Spelling.{Word}
@@ -31,6 +33,7 @@ use Rattle.sp_graph.specs.declared.graph.Graph.{Graph}
 use Rattle.sp_topology.specs.declared.topology.Edge.{Edge}
 use Rattle.sp_topology.specs.declared.topology.LmsHeight.{LmsHeight}
 use Rattle.sp_schedule_events.specs.EventLines.{read_event}
+use Rattle.sp_schedule_events.specs.Later.{later_line}
 use Rattle.sp_schedule_events.specs.declared.scenario.Scenario.{Scenario}
 use Rattle.sp_schedule_events.specs.declared.event.Event.{Event}
 use Rattle.sp_schedule.specs.Header.{bad_cells, begin_cells, bounds_cells, edge_cells, end_cells, height_cells, nodes_cells, seed_cells, version_cells}
@@ -48,16 +51,17 @@ use Rattle.sp_schedule.specs.declared.refused.Kind.TheVariants as kinds
 -- ---- scenarios that grow
 
 -- no edge yet, and no compromised node
-abbrev pub bare : List ℕ → LmsHeight → Limits → ℕ → Scenario
-bare seed height limits nodes = record { seed = seed; height = height; limits = limits; graph = record { nodes = nodes; edges = [] }; bad = [] }
+abbrev pub bare : (format : ℕ) → List ℕ → LmsHeight → Limits → ℕ → Scenario
+bare format seed height limits nodes =
+    record { format = format; seed = seed; height = height; limits = limits; graph = record { nodes = nodes; edges = [] }; bad = [] }
 
 -- one edge more
 abbrev pub with_edge : Scenario → Edge → Scenario
-with_edge s e = record { seed = s.seed; height = s.height; limits = s.limits; graph = with_edge_more s.graph e; bad = s.bad }
+with_edge s e = record { format = s.format; seed = s.seed; height = s.height; limits = s.limits; graph = with_edge_more s.graph e; bad = s.bad }
 
 -- one compromised node more
 abbrev pub with_bad : Scenario → NodeId → Scenario
-with_bad s id = record { seed = s.seed; height = s.height; limits = s.limits; graph = s.graph; bad = s.bad ++ id ∷ [] }
+with_bad s id = record { format = s.format; seed = s.seed; height = s.height; limits = s.limits; graph = s.graph; bad = s.bad ++ id ∷ [] }
 
 -- the first edge stands before the second in the order of their ends
 abbrev pub is_lower : Edge → Edge → Bool
@@ -68,8 +72,8 @@ is_above None e = true
 is_above (Some f) e = is_lower f e
 
 -- the lower end comes first, and the edge stands after the edges so far, which aren't too many
-abbrev pub is_next_edge : Graph → Edge → Bool
-is_next_edge g e = nat_lt e.low.0 e.high.0 && is_above (last_edge g.edges) e && nat_lt (length g.edges) MAX_EDGES
+abbrev pub is_next_edge : (format : ℕ) → Graph → Edge → Bool
+is_next_edge format g e = nat_lt e.low.0 e.high.0 && is_above (last_edge g.edges) e && nat_lt (length g.edges) (max_edges format)
 
 -- ---- lines
 
@@ -78,12 +82,12 @@ abbrev pub header : {X : Type 0} → Result X Fault → (X → Stage) → Result
 header (Ok x) next = Ok (next x)
 header (Err fault) next = Err kinds.Header
 
-abbrev pub if_next : Graph → Edge → Result Edge Fault
-if_next g e = if is_next_edge g e then Ok e else Err faults.Range
+abbrev pub if_next : (format : ℕ) → Graph → Edge → Result Edge Fault
+if_next format g e = if is_next_edge format g e then Ok e else Err faults.Range
 
 -- the edge of a line, where it may come next
 abbrev pub next_edge : Scenario → List Word → Result Edge Fault
-next_edge s words = line_of (edge_cells s.graph.nodes) words >>= λ x. if_next s.graph (edge_of s.graph.nodes x)
+next_edge s words = line_of (edge_cells s.graph.nodes) words >>= λ x. if_next s.format s.graph (edge_of s.graph.nodes x)
 
 abbrev pub bad_node : ℕ → NodeId
 bad_node n = record { 0 = n }
@@ -96,24 +100,34 @@ says_bad s words = header (line_of (bad_cells (next_after 1 s.bad) s.graph.nodes
 abbrev pub says_edge : Scenario → List Word → Result Stage Kind
 says_edge s words = header (next_edge s words) (λ e. stages.Edges (with_edge s e))
 
+-- a line of no event is `Unbuilt` where nothing else is wrong with it
+abbrev pub without_event : Result (Unit {0}) Fault → Kind
+without_event (Ok good) = kinds.Unbuilt
+without_event (Err fault) = kind_of fault
+
+-- why the words aren't an event: they fit no row of an event, or are bad in theirs
+abbrev pub no_event : Scenario → List Word → Fault → Kind
+no_event s words faults.Form = without_event (later_line s words)
+no_event s words fault = kind_of fault
+
 -- an event is one event more
-abbrev pub event_more : Scenario → List Event → Result Event Fault → Result Stage Kind
-event_more s es (Ok e) = Ok (stages.Events s (es ++ e ∷ []))
-event_more s es (Err fault) = Err (kind_of fault)
+abbrev pub event_more : Scenario → List Event → List Word → Result Event Fault → Result Stage Kind
+event_more s es words (Ok e) = Ok (stages.Events s (es ++ e ∷ []))
+event_more s es words (Err fault) = Err (no_event s words fault)
 
 -- what the words of a line say at a stage: where they lead, or why they are refused
 abbrev pub says : Stage → List Word → Result Stage Kind
-says stages.Start words = header (line_of version_cells words) (λ x. stages.Version)
-says stages.Version words = header (line_of seed_cells words) (λ x. stages.Seed x.0)
-says (stages.Seed seed) words = header (line_of height_cells words) (λ x. stages.Height seed (height_at x.0))
-says (stages.Height seed height) words = header (line_of bounds_cells words) (λ x. stages.Bounds seed height (limits_of x))
-says (stages.Bounds seed height limits) words = header (line_of nodes_cells words) (λ x. stages.Edges (bare seed height limits x.0))
+says stages.Start words = header (line_of version_cells words) (λ x. stages.Version x.0)
+says (stages.Version format) words = header (line_of seed_cells words) (λ x. stages.Seed format x.0)
+says (stages.Seed format seed) words = header (line_of height_cells words) (λ x. stages.Height format seed (height_at x.0))
+says (stages.Height format seed height) words = header (line_of bounds_cells words) (λ x. stages.Bounds format seed height (limits_of x))
+says (stages.Bounds format seed height limits) words = header (line_of (nodes_cells format) words) (λ x. stages.Edges (bare format seed height limits x.0))
 says (stages.Edges s) words =
     if fits begin_cells words then Ok (stages.Events s []) else (if fits (bad_cells 0 0) words then says_bad s words else says_edge s words)
 says (stages.Bads s) words = if fits begin_cells words then Ok (stages.Events s []) else says_bad s words
 says (stages.Events s es) words =
     if fits end_cells words then Ok (stages.End s es)
-    else (if nat_le MAX_EVENTS (length es) then Err kinds.TooMany else event_more s es (read_event s es words))
+    else (if nat_le MAX_EVENTS (length es) then Err kinds.TooMany else event_more s es words (read_event s es words))
 says (stages.End s es) words = Err kinds.AfterEnd
 
 -- the header isn't whole

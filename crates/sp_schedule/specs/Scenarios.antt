@@ -1,10 +1,10 @@
 -- A scenario in its ranges, and events in theirs, one after the other.
 use Rattle.std.specs.Prelude.{ℕ, ◌≡◌, ◌+◌, ◌≤◌, List, [], ◌∷◌, ◌++◌, length}
+use Rattle.sp_base.specs.Formats.{IsFormat}
 use Rattle.sp_base.specs.Spelling.{AreBytes}
 use Rattle.sp_base.specs.declared.limits.TheConstants.{MAX_BUFFER, MAX_EVENTS, MAX_STORE}
 use Rattle.sp_base.specs.declared.id.NodeId.{NodeId}
 use Rattle.sp_base.specs.declared.id.Limits.{Limits}
-use Rattle.sp_base.specs.declared.format.TheConstants.{FORMAT_1}
 use Rattle.sp_graph.specs.Edges.{IsGraphIn}
 use Rattle.sp_schedule_events.specs.EventLines.{InRange}
 use Rattle.sp_schedule_events.specs.declared.scenario.Scenario.{Scenario}
@@ -24,9 +24,10 @@ Ascend low nodes [] = Unit {0}
 Ascend low nodes (b ∷ bs) = (low ≤ b.0) × (b.0 ≤ nodes) × Ascend (b.0 + 1) nodes bs
 
 pub record IsScenario (s : Scenario) : Type 0 where
+  pub format : IsFormat s.format
   pub seed : IsSeed s.seed
   pub limits : AreBounds s.limits
-  pub graph : IsGraphIn FORMAT_1 s.graph
+  pub graph : IsGraphIn s.format s.graph
   pub bad : Ascend 1 s.graph.nodes s.bad
 
 -- each event may come after those before it

@@ -1,6 +1,7 @@
 -- A schedule as text: its header, a line for each event, and `end`.
 use Rattle.std.specs.Prelude.{ℕ, List, [], ◌∷◌, ◌++◌, map}
 use Rattle.std.specs.List.{flat_map}
+use Rattle.sp_base.specs.declared.format.TheConstants.{FORMAT_1}
 use Rattle.sp_base.specs.declared.id.NodeId.{NodeId}
 use Rattle.sp_base.specs.declared.id.Limits.{Limits}
 use Rattle.sp_text.specs.Spelling.{Word}
@@ -15,8 +16,8 @@ use Rattle.sp_schedule.specs.Header.{bounds_values, edge_values, height_number}
 
 -- ---- the words of each line
 
-abbrev pub version_words : List Word
-version_words = spelled version_cells tt
+abbrev pub version_words : (format : ℕ) → List Word
+version_words format = spelled version_cells (format, tt)
 
 abbrev pub seed_words : List ℕ → List Word
 seed_words seed = spelled seed_cells (seed, tt)
@@ -28,7 +29,7 @@ abbrev pub bounds_words : Limits → List Word
 bounds_words limits = spelled bounds_cells (bounds_values limits)
 
 abbrev pub nodes_words : ℕ → List Word
-nodes_words nodes = spelled nodes_cells (nodes, tt)
+nodes_words nodes = spelled (nodes_cells FORMAT_1) (nodes, tt)
 
 abbrev pub edge_words : Edge → List Word
 edge_words e = spelled (edge_cells 0) (edge_values 0 e)
@@ -45,12 +46,13 @@ end_words = spelled end_cells tt
 -- ---- the whole text
 
 -- the lines up to the number of nodes
-abbrev pub front_lines : List ℕ → LmsHeight → Limits → ℕ → List (List Word)
-front_lines seed height limits nodes = version_words ∷ seed_words seed ∷ height_words height ∷ bounds_words limits ∷ nodes_words nodes ∷ []
+abbrev pub front_lines : (format : ℕ) → List ℕ → LmsHeight → Limits → ℕ → List (List Word)
+front_lines format seed height limits nodes =
+    version_words format ∷ seed_words seed ∷ height_words height ∷ bounds_words limits ∷ nodes_words nodes ∷ []
 
 -- the lines before `begin`
 abbrev pub scenario_lines : Scenario → List (List Word)
-scenario_lines s = front_lines s.seed s.height s.limits s.graph.nodes ++ (map edge_words s.graph.edges ++ map bad_words s.bad)
+scenario_lines s = front_lines s.format s.seed s.height s.limits s.graph.nodes ++ (map edge_words s.graph.edges ++ map bad_words s.bad)
 
 abbrev pub header_lines : Scenario → List (List Word)
 header_lines s = scenario_lines s ++ begin_words ∷ []

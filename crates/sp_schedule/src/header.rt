@@ -11,18 +11,26 @@ ghost use Rattle.sp_schedule.specs.Header.{bounds_values, edge_values, height_nu
 ghost use Rattle.sp_schedule.specs.Lines.{is_above, is_lower, is_next_edge};
 
 use crate::{Edge, Graph, LmsHeight};
-use sp_base::{Limits, MAX_BUFFER, MAX_EDGES, MAX_NODES, MAX_STORE, MAX_WEIGHT, NodeId};
+use sp_base::{
+    FORMAT_1, FORMAT_2, Limits, MAX_BUFFER, MAX_STORE, MAX_WEIGHT, NodeId, max_edges, max_nodes,
+};
 use sp_lines::{named, ranged};
 use sp_text::hex_array;
 
-/// Whether the line is `schedule 1`.
-pub fn is_version(words: &[&[u8]]) -> bool
-    ensures { result ≡ fits version_cells (map (λ w. w.now) words.now) }
+/// The format of a line `schedule FORMAT`.
+pub fn version(words: &[&[u8]]) -> Option<u8>
+    ensures { Says (λ format. (format, tt)) result (line_of version_cells (map (λ w. w.now) words.now)) }
 {
-    match words {
-        [name, version] => named(name, b"schedule") && named(version, b"1"),
-        _ => false,
+    let [name, format] = words else {
+        return None;
+    };
+    if !named(name, b"schedule") {
+        return None;
     }
+    let Ok(format) = ranged(format, u64::from(FORMAT_1), u64::from(FORMAT_2)) else {
+        return None;
+    };
+    Some(format as u8)
 }
 
 /// The seed of a line `seed HEX64`.
@@ -98,9 +106,9 @@ pub fn bounds(words: &[&[u8]]) -> Option<Limits>
     })
 }
 
-/// The number of nodes of a line `nodes N`.
-pub fn nodes(words: &[&[u8]]) -> Option<u8>
-    ensures { Says (λ nodes. (nodes, tt)) result (line_of nodes_cells (map (λ w. w.now) words.now)) }
+/// The number of nodes of a line `nodes N` in a format.
+pub fn nodes(format: u8, words: &[&[u8]]) -> Option<u8>
+    ensures { Says (λ nodes. (nodes, tt)) result (line_of (nodes_cells format) (map (λ w. w.now) words.now)) }
 {
     let [name, nodes] = words else {
         return None;
@@ -108,7 +116,7 @@ pub fn nodes(words: &[&[u8]]) -> Option<u8>
     if !named(name, b"nodes") {
         return None;
     }
-    let Ok(nodes) = ranged(nodes, 2, u64::from(MAX_NODES)) else {
+    let Ok(nodes) = ranged(nodes, 2, u64::from(max_nodes(format))) else {
         return None;
     };
     Some(nodes as u8)
@@ -144,12 +152,12 @@ fn edge_of(nodes: u8, low: &[u8], high: &[u8], weight: &[u8]) -> Option<Edge>
 }
 
 /// Whether the edge goes from a lower node to a higher one, and stands after the edges so far, which aren't too many.
-pub fn is_next_edge(graph: &Graph, edge: &Edge) -> bool
-    ensures { result ≡ is_next_edge graph.now edge.now }
+pub fn is_next_edge(format: u8, graph: &Graph, edge: &Edge) -> bool
+    ensures { result ≡ is_next_edge format graph.now edge.now }
 {
     edge.low.0 < edge.high.0
         && is_above(graph.edges.as_slice(), edge)
-        && graph.edges.as_slice().len() < usize::from(MAX_EDGES)
+        && graph.edges.as_slice().len() < usize::from(max_edges(format))
 }
 
 /// Whether the edge stands after the last of those so far.

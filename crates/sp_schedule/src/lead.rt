@@ -4,17 +4,19 @@ ghost use Rattle.sp_base.specs.declared.limits.TheConstants.{MAX_EVENTS};
 ghost use Rattle.sp_lines.specs.Answers.{Says};
 ghost use Rattle.sp_lines.specs.Rows.{line_of};
 ghost use Rattle.sp_schedule.specs.Header.{bad_cells, next_after};
-ghost use Rattle.sp_schedule.specs.Lines.{IsLead, next_edge, with_bad, with_edge};
+ghost use Rattle.sp_schedule.specs.Lines.{IsLead, next_edge, no_event, with_bad, with_edge, without_event};
 
 use crate::header::{
-    bad, bounds, edge, height, is_bad_line, is_begin, is_end, is_next_edge, is_version, next_after,
-    nodes, seed,
+    bad, bounds, edge, height, is_bad_line, is_begin, is_end, is_next_edge, next_after, nodes,
+    seed, version,
 };
 use crate::refused::kind_of;
 use crate::scenario_copy::copy_of;
-use crate::{Edge, Event, Graph, Kind, LineRefused, LmsHeight, Parsed, Scenario, Stage, Timeline};
+use crate::{
+    Edge, Event, Fault, Graph, Kind, LineRefused, LmsHeight, Parsed, Scenario, Stage, Timeline,
+};
 use sp_base::{Limits, Listed, MAX_EVENTS, Memory, NodeId, push};
-use sp_schedule_events::read_event;
+use sp_schedule_events::{later_line, read_event};
 use std::alloc::Global;
 
 /// What comes of a line.
@@ -34,14 +36,19 @@ pub fn follow(alloc: Global, stage: Stage, words: &[&[u8]]) -> Lead
 {
     match stage {
         Stage::Start => after_start(words),
-        Stage::Version => after_version(words),
-        Stage::Seed { seed } => after_seed(seed, words),
-        Stage::Height { seed, height } => after_height(seed, height, words),
+        Stage::Version { format } => after_version(format, words),
+        Stage::Seed { format, seed } => after_seed(format, seed, words),
+        Stage::Height {
+            format,
+            seed,
+            height,
+        } => after_height(format, seed, height, words),
         Stage::Bounds {
+            format,
             seed,
             height,
             limits,
-        } => after_bounds(alloc, seed, height, limits, words),
+        } => after_bounds(alloc, format, seed, height, limits, words),
         Stage::Edges(scenario) => after_edges(alloc, scenario, words),
         Stage::Bads(scenario) => after_bads(alloc, scenario, words),
         Stage::Events(scenario, events) => after_events(alloc, scenario, events, words),
@@ -59,55 +66,68 @@ fn on(stage: Stage) -> Lead
 fn after_start(words: &[&[u8]]) -> Lead
     ensures { IsLead Stage.Start (map (λ w. w.now) words.now) result }
 {
-    if is_version(words) {
-        on(Stage::Version)
-    } else {
-        Lead::Bad(Stage::Start, Kind::Header)
+    match version(words) {
+        Some(format) => on(Stage::Version { format }),
+        None => Lead::Bad(Stage::Start, Kind::Header),
     }
 }
 
-fn after_version(words: &[&[u8]]) -> Lead
-    ensures { IsLead Stage.Version (map (λ w. w.now) words.now) result }
+fn after_version(format: u8, words: &[&[u8]]) -> Lead
+    ensures { IsLead (Stage.Version format) (map (λ w. w.now) words.now) result }
 {
     match seed(words) {
-        Some(seed) => on(Stage::Seed { seed }),
-        None => Lead::Bad(Stage::Version, Kind::Header),
+        Some(seed) => on(Stage::Seed { format, seed }),
+        None => Lead::Bad(Stage::Version { format }, Kind::Header),
     }
 }
 
-fn after_seed(seed: [u8; 32], words: &[&[u8]]) -> Lead
-    ensures { IsLead (Stage.Seed seed) (map (λ w. w.now) words.now) result }
+fn after_seed(format: u8, seed: [u8; 32], words: &[&[u8]]) -> Lead
+    ensures { IsLead (Stage.Seed format seed) (map (λ w. w.now) words.now) result }
 {
     match height(words) {
-        Some(height) => on(Stage::Height { seed, height }),
-        None => Lead::Bad(Stage::Seed { seed }, Kind::Header),
+        Some(height) => on(Stage::Height {
+            format,
+            seed,
+            height,
+        }),
+        None => Lead::Bad(Stage::Seed { format, seed }, Kind::Header),
     }
 }
 
-fn after_height(seed: [u8; 32], height: LmsHeight, words: &[&[u8]]) -> Lead
-    ensures { IsLead (Stage.Height seed height) (map (λ w. w.now) words.now) result }
+fn after_height(format: u8, seed: [u8; 32], height: LmsHeight, words: &[&[u8]]) -> Lead
+    ensures { IsLead (Stage.Height format seed height) (map (λ w. w.now) words.now) result }
 {
     match bounds(words) {
         Some(limits) => on(Stage::Bounds {
+            format,
             seed,
             height,
             limits,
         }),
-        None => Lead::Bad(Stage::Height { seed, height }, Kind::Header),
+        None => Lead::Bad(
+            Stage::Height {
+                format,
+                seed,
+                height,
+            },
+            Kind::Header,
+        ),
     }
 }
 
 fn after_bounds(
     alloc: Global,
+    format: u8,
     seed: [u8; 32],
     height: LmsHeight,
     limits: Limits,
     words: &[&[u8]],
 ) -> Lead
-    ensures { IsLead (Stage.Bounds seed height limits) (map (λ w. w.now) words.now) result }
+    ensures { IsLead (Stage.Bounds format seed height limits) (map (λ w. w.now) words.now) result }
 {
-    match nodes(words) {
+    match nodes(format, words) {
         Some(nodes) => on(Stage::Edges(Scenario {
+            format,
             seed,
             height,
             limits,
@@ -119,6 +139,7 @@ fn after_bounds(
         })),
         None => Lead::Bad(
             Stage::Bounds {
+                format,
                 seed,
                 height,
                 limits,
@@ -192,7 +213,7 @@ fn next_edge(scenario: &Scenario, words: &[&[u8]]) -> Option<Edge>
     ensures { Says (λ e. e) result (next_edge scenario.now (map (λ w. w.now) words.now)) }
 {
     let edge = edge(scenario.graph.nodes, words)?;
-    if is_next_edge(&scenario.graph, &edge) {
+    if is_next_edge(scenario.format, &scenario.graph, &edge) {
         Some(edge)
     } else {
         None
@@ -216,6 +237,7 @@ fn with_edge(scenario: Scenario, edge: Edge) -> Result<Scenario, Scenario>
     ensures err { IfErr result (λ back. back ≡ scenario) }
 {
     let Scenario {
+        format,
         seed,
         height,
         limits,
@@ -225,6 +247,7 @@ fn with_edge(scenario: Scenario, edge: Edge) -> Result<Scenario, Scenario>
     let mut edges = edges.into_vec();
     let pushed = push(&mut edges, edge);
     let scenario = Scenario {
+        format,
         seed,
         height,
         limits,
@@ -246,6 +269,7 @@ fn with_bad(scenario: Scenario, id: NodeId) -> Result<Scenario, Scenario>
     ensures err { IfErr result (λ back. back ≡ scenario) }
 {
     let Scenario {
+        format,
         seed,
         height,
         limits,
@@ -255,6 +279,7 @@ fn with_bad(scenario: Scenario, id: NodeId) -> Result<Scenario, Scenario>
     let mut bad = bad.into_vec();
     let pushed = push(&mut bad, id);
     let scenario = Scenario {
+        format,
         seed,
         height,
         limits,
@@ -281,8 +306,31 @@ fn after_events(alloc: Global, scenario: Scenario, mut events: Timeline, words: 
             Ok(copied) => Lead::To(Stage::Events(scenario, events), Parsed::Event(copied)),
             Err(Memory) => Lead::Unread(Stage::Events(scenario, events)),
         },
-        Err(LineRefused::Bad(fault)) => Lead::Bad(Stage::Events(scenario, events), kind_of(fault)),
+        Err(LineRefused::Bad(fault)) => {
+            let kind = no_event(&scenario, words, fault);
+            Lead::Bad(Stage::Events(scenario, events), kind)
+        }
         Err(LineRefused::Memory) => Lead::Unread(Stage::Events(scenario, events)),
+    }
+}
+
+/// Why the words of a line aren't an event: they fit no row of an event, or are bad in theirs.
+fn no_event(scenario: &Scenario, words: &[&[u8]], fault: Fault) -> Kind
+    ensures { result ≡ no_event scenario.now (map (λ w. w.now) words.now) fault }
+{
+    match fault {
+        Fault::Form => without_event(later_line(scenario, words)),
+        fault => kind_of(fault),
+    }
+}
+
+/// Why a line of no event is refused.
+fn without_event(line: Result<(), Fault>) -> Kind
+    ensures { result ≡ without_event line }
+{
+    match line {
+        Ok(()) => Kind::Unbuilt,
+        Err(fault) => kind_of(fault),
     }
 }
 

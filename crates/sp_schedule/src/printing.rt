@@ -4,7 +4,6 @@ ghost use Rattle.std.specs.List.{flat_map};
 ghost use Rattle.std.specs.String.{string_bytes};
 ghost use Rattle.sp_lines.specs.Rows.{line_text};
 ghost use Rattle.sp_schedule_events.specs.Events.{event_words};
-ghost use Rattle.sp_schedule_events.specs.declared.scenario.Scenario.{Scenario};
 ghost use Rattle.sp_schedule.specs.Spelling.{bad_words, begin_words, bounds_words, edge_words, end_words, height_words, nodes_words, seed_words, version_words};
 ghost use Rattle.sp_schedule.specs.Spelling.{front_lines, schedule_text};
 
@@ -23,7 +22,7 @@ pub fn print(alloc: Global, scenario: &Scenario, events: &[Event]) -> Result<Str
     push_edges(&mut out, scenario.graph.edges.as_slice())?;
     push_bads(&mut out, scenario.bad.as_slice())?;
     out.push_str("begin\n")?;
-    push_events(&mut out, events)?;
+    push_events(&mut out, scenario, events)?;
     out.push_str("end\n")?;
     Ok(out)
 }
@@ -31,13 +30,22 @@ pub fn print(alloc: Global, scenario: &Scenario, events: &[Event]) -> Result<Str
 /// Appends the lines up to the number of nodes.
 fn push_front(out: &mut String, scenario: &Scenario) -> Result<(), Memory>
     ensures { OnOk result (string_bytes out.new ≡ string_bytes out.old
-        ++ flat_map line_text (front_lines scenario.now.seed scenario.now.height scenario.now.limits scenario.now.graph.nodes)) }
+        ++ flat_map line_text (front_lines scenario.now.format scenario.now.seed scenario.now.height scenario.now.limits scenario.now.graph.nodes)) }
 {
-    out.push_str("schedule 1\n")?;
+    push_version(out, scenario.format)?;
     push_seed(out, scenario.seed.as_slice())?;
     push_height(out, scenario.height)?;
     push_bounds(out, scenario.limits)?;
     push_nodes(out, scenario.graph.nodes)
+}
+
+fn push_version(out: &mut String, format: u8) -> Result<(), Memory>
+    ensures { OnOk result (string_bytes out.new ≡ string_bytes out.old ++ line_text (version_words format)) }
+{
+    out.push_str("schedule")?;
+    push_field(out, u64::from(format))?;
+    out.push_str("\n")?;
+    Ok(())
 }
 
 fn push_seed(out: &mut String, seed: &[u8]) -> Result<(), Memory>
@@ -118,11 +126,11 @@ fn push_bad(out: &mut String, id: NodeId) -> Result<(), Memory>
     Ok(())
 }
 
-fn push_events(out: &mut String, events: &[Event]) -> Result<(), Memory>
-    ensures { OnOk result ((s : Scenario) → string_bytes out.new ≡ string_bytes out.old ++ flat_map (λ e. line_text (event_words s e)) events.now) }
+fn push_events(out: &mut String, scenario: &Scenario, events: &[Event]) -> Result<(), Memory>
+    ensures { OnOk result (string_bytes out.new ≡ string_bytes out.old ++ flat_map (λ e. line_text (event_words scenario.now e)) events.now) }
 {
     'events: for event in events {
-        push_event(out, event)?;
+        push_event(out, scenario, event)?;
     }
     Ok(())
 }

@@ -12,6 +12,7 @@ pub fn copy_of(alloc: Global, scenario: &Scenario) -> Result<Scenario, Memory>
     let edges = Vec::from_slice(alloc, scenario.graph.edges.as_slice())?;
     let bad = Vec::from_slice(alloc, scenario.bad.as_slice())?;
     Ok(Scenario {
+        format: scenario.format,
         seed: scenario.seed,
         height: scenario.height,
         limits: scenario.limits,

@@ -7,15 +7,21 @@ use sp_base::Limits;
 pub enum Stage {
     /// No line was read.
     Start,
-    Version,
+    /// The format, 1 or 2.
+    Version {
+        format: u8,
+    },
     Seed {
+        format: u8,
         seed: [u8; 32],
     },
     Height {
+        format: u8,
         seed: [u8; 32],
         height: LmsHeight,
     },
     Bounds {
+        format: u8,
         seed: [u8; 32],
         height: LmsHeight,
         limits: Limits,

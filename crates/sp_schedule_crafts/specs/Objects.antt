@@ -5,10 +5,11 @@
 --     prio S D SEQ P EXPIRY MASK HEX
 --     weight O E SEQ W
 --
--- What an object says is in the ranges of its format alone: the graph needn't have its nodes and edges.
+-- What an object says is in the ranges of the format alone: the graph needn't have its nodes and edges.
 use Rattle.std.specs.Prelude.{ℕ, ◌-◌, ◌^◌, List, [], ◌∷◌, codes}
+use Rattle.sp_base.specs.Formats.{max_edges, max_nodes}
 use Rattle.sp_base.specs.declared.id.NodeId.{NodeId}
-use Rattle.sp_base.specs.declared.limits.TheConstants.{MAX_EDGES, MAX_NODES, MAX_PAYLOAD_BYTES, MAX_PRIORITY, MAX_SEQ, MAX_WEIGHT}
+use Rattle.sp_base.specs.declared.limits.TheConstants.{MAX_PAYLOAD_BYTES, MAX_PRIORITY, MAX_SEQ, MAX_WEIGHT}
 use Rattle.sp_msg.specs.declared.body.Body.{Body}
 use Rattle.sp_msg.specs.declared.body.Body.TheVariants as bodies
 use Rattle.sp_lines.specs.Cells.{Bytes, Cell, Mask, Name, Number}
@@ -26,20 +27,21 @@ any_number = Number 0 (2 ^ 64 - 1)
 abbrev pub payload : Cell
 payload = Bytes 0 MAX_PAYLOAD_BYTES
 
-abbrev pub any_id : Cell
-any_id = Number 1 MAX_NODES
+abbrev pub any_id : ℕ → Cell
+any_id format = Number 1 (max_nodes format)
 
 abbrev pub seq : Cell
 seq = Number 1 MAX_SEQ
 
 -- ---- rows
 
--- the row of a form
-abbrev pub cells : ObjectForm → List Cell
-cells Rel = Name (codes "rel") ∷ any_id ∷ any_id ∷ seq ∷ payload ∷ []
-cells Ack = Name (codes "ack") ∷ any_id ∷ any_id ∷ seq ∷ []
-cells Prio = Name (codes "prio") ∷ any_id ∷ any_id ∷ seq ∷ Number 1 MAX_PRIORITY ∷ any_number ∷ Mask ∷ payload ∷ []
-cells Weight = Name (codes "weight") ∷ any_id ∷ Number 0 (MAX_EDGES - 1) ∷ seq ∷ Number 1 MAX_WEIGHT ∷ []
+-- the row of a form in a format
+abbrev pub cells : (format : ℕ) → ObjectForm → List Cell
+cells format Rel = Name (codes "rel") ∷ any_id format ∷ any_id format ∷ seq ∷ payload ∷ []
+cells format Ack = Name (codes "ack") ∷ any_id format ∷ any_id format ∷ seq ∷ []
+cells format Prio =
+    Name (codes "prio") ∷ any_id format ∷ any_id format ∷ seq ∷ Number 1 MAX_PRIORITY ∷ any_number ∷ Mask format ∷ payload ∷ []
+cells format Weight = Name (codes "weight") ∷ any_id format ∷ Number 0 (max_edges format - 1) ∷ seq ∷ Number 1 MAX_WEIGHT ∷ []
 
 -- all forms
 abbrev pub forms : List ObjectForm
@@ -52,20 +54,20 @@ abbrev pub id : ℕ → NodeId
 id n = record { 0 = n }
 
 -- the object of a row with these values
-abbrev pub object_of : (form : ObjectForm) → Values (cells form) → CraftedObject
-object_of Rel x = crafted.Rel (record { src = id x.0; dst = id x.1.0; seq = x.1.1.0; payload = x.1.1.1.0 })
-object_of Ack x = crafted.Ack (record { src = id x.0; dst = id x.1.0; seq = x.1.1.0 })
-object_of Prio x =
+abbrev pub object_of : (format : ℕ) (form : ObjectForm) → Values (cells format form) → CraftedObject
+object_of format Rel x = crafted.Rel (record { src = id x.0; dst = id x.1.0; seq = x.1.1.0; payload = x.1.1.1.0 })
+object_of format Ack x = crafted.Ack (record { src = id x.0; dst = id x.1.0; seq = x.1.1.0 })
+object_of format Prio x =
     crafted.Prio (record {
       src = id x.0;
       dst = id x.1.0;
       seq = x.1.1.0;
       prio = x.1.1.1.0;
       expiry = x.1.1.1.1.0;
-      mask = x.1.1.1.1.1.0;
+      mask = record { low = x.1.1.1.1.1.0.1; high = x.1.1.1.1.1.0.0 };
       payload = x.1.1.1.1.1.1.0;
     })
-object_of Weight x = crafted.Weight (record { origin = id x.0; edge = record { 0 = x.1.0 }; seq = x.1.1.0; weight = x.1.1.1.0 })
+object_of format Weight x = crafted.Weight (record { origin = id x.0; edge = record { 0 = x.1.0 }; seq = x.1.1.0; weight = x.1.1.1.0 })
 
 -- the row of an object
 abbrev pub form_of : CraftedObject → ObjectForm
@@ -75,13 +77,13 @@ form_of (crafted.Prio p) = Prio
 form_of (crafted.Weight w) = Weight
 
 -- its values in that row
-abbrev pub values_of : (o : CraftedObject) → Values (cells (form_of o))
-values_of (crafted.Rel r) = (r.src.0, (r.dst.0, (r.seq, (r.payload, tt))))
-values_of (crafted.Ack a) = (a.src.0, (a.dst.0, (a.seq, tt)))
-values_of (crafted.Prio p) = (p.src.0, (p.dst.0, (p.seq, (p.prio, (p.expiry, (p.mask, (p.payload, tt)))))))
-values_of (crafted.Weight w) = (w.origin.0, (w.edge.0, (w.seq, (w.weight, tt))))
+abbrev pub values_of : (format : ℕ) (o : CraftedObject) → Values (cells format (form_of o))
+values_of format (crafted.Rel r) = (r.src.0, (r.dst.0, (r.seq, (r.payload, tt))))
+values_of format (crafted.Ack a) = (a.src.0, (a.dst.0, (a.seq, tt)))
+values_of format (crafted.Prio p) = (p.src.0, (p.dst.0, (p.seq, (p.prio, (p.expiry, ((p.mask.high, p.mask.low), (p.payload, tt)))))))
+values_of format (crafted.Weight w) = (w.origin.0, (w.edge.0, (w.seq, (w.weight, tt))))
 
--- the message of format 1 that it is: no end has a boot
+-- the message that it is: no end has a boot
 abbrev pub body_of : CraftedObject → Body
 body_of (crafted.Rel r) = bodies.Rel (record { src = r.src; dst = r.dst; sboot = 0; dboot = 0; seq = r.seq; payload = r.payload })
 body_of (crafted.Ack a) = bodies.Ack (record { src = a.src; dst = a.dst; sboot = 0; dboot = 0; seq = a.seq })
@@ -93,7 +95,7 @@ body_of (crafted.Prio p) =
       seq = p.seq;
       prio = p.prio;
       expiry = p.expiry;
-      mask = record { low = p.mask; high = 0 };
+      mask = p.mask;
       payload = p.payload;
     })
 body_of (crafted.Weight w) = bodies.Weight w

@@ -1,15 +1,33 @@
 -- An object as it is written.
-use Rattle.std.specs.Prelude.{List, [], ◌∷◌, codes}
+use Rattle.std.specs.Prelude.{ℕ, List, [], ◌∷◌, codes}
 use Rattle.std.specs.Fmt.{decimal}
 use Rattle.sp_text.specs.Spelling.{Word, hex_word}
 use Rattle.sp_lines.specs.Cells.{mask_word}
+use Rattle.sp_msg.specs.declared.body.WeightBody.{WeightBody}
+use Rattle.sp_schedule_crafts.specs.declared.object.CraftedAck.{CraftedAck}
 use Rattle.sp_schedule_crafts.specs.declared.object.CraftedObject.{CraftedObject}
 use Rattle.sp_schedule_crafts.specs.declared.object.CraftedObject.TheVariants as crafted
+use Rattle.sp_schedule_crafts.specs.declared.object.CraftedPrio.{CraftedPrio}
+use Rattle.sp_schedule_crafts.specs.declared.object.CraftedRel.{CraftedRel}
 
--- the words of an object
-abbrev pub object_words : CraftedObject → List Word
-object_words (crafted.Rel r) = codes "rel" ∷ decimal r.src.0 ∷ decimal r.dst.0 ∷ decimal r.seq ∷ hex_word r.payload ∷ []
-object_words (crafted.Ack a) = codes "ack" ∷ decimal a.src.0 ∷ decimal a.dst.0 ∷ decimal a.seq ∷ []
-object_words (crafted.Prio p) =
-    codes "prio" ∷ decimal p.src.0 ∷ decimal p.dst.0 ∷ decimal p.seq ∷ decimal p.prio ∷ decimal p.expiry ∷ mask_word p.mask ∷ hex_word p.payload ∷ []
-object_words (crafted.Weight w) = codes "weight" ∷ decimal w.origin.0 ∷ decimal w.edge.0 ∷ decimal w.seq ∷ decimal w.weight ∷ []
+-- the words of a crafted message of each kind
+abbrev pub rel_words : CraftedRel → List Word
+rel_words r = codes "rel" ∷ decimal r.src.0 ∷ decimal r.dst.0 ∷ decimal r.seq ∷ hex_word r.payload ∷ []
+
+abbrev pub ack_words : CraftedAck → List Word
+ack_words a = codes "ack" ∷ decimal a.src.0 ∷ decimal a.dst.0 ∷ decimal a.seq ∷ []
+
+abbrev pub prio_words : (format : ℕ) → CraftedPrio → List Word
+prio_words format p =
+    codes "prio" ∷ decimal p.src.0 ∷ decimal p.dst.0 ∷ decimal p.seq ∷ decimal p.prio ∷ decimal p.expiry
+    ∷ mask_word format (p.mask.high, p.mask.low) ∷ hex_word p.payload ∷ []
+
+abbrev pub weight_words : WeightBody → List Word
+weight_words w = codes "weight" ∷ decimal w.origin.0 ∷ decimal w.edge.0 ∷ decimal w.seq ∷ decimal w.weight ∷ []
+
+-- the words of an object in a format
+abbrev pub object_words : (format : ℕ) → CraftedObject → List Word
+object_words format (crafted.Rel r) = rel_words r
+object_words format (crafted.Ack a) = ack_words a
+object_words format (crafted.Prio p) = prio_words format p
+object_words format (crafted.Weight w) = weight_words w

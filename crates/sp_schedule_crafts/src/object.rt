@@ -31,7 +31,7 @@ pub struct CraftedPrio {
     pub seq: u64,
     pub prio: u8,
     pub expiry: u64,
-    pub mask: u128,
+    pub mask: Mask,
     pub payload: Bytes,
 }
 
@@ -45,7 +45,7 @@ pub enum CraftedObject {
 }
 
 impl CraftedObject {
-    /// The message of format 1 that it is, in memory of its own.
+    /// The message that it is, in memory of its own. No end has a boot.
     pub fn body(&self, alloc: Global) -> Result<Body, Memory>
         ensures { IfOk result (λ body. body ≡ body_of self.now) }
     {
@@ -72,10 +72,7 @@ impl CraftedObject {
                 seq: prio.seq,
                 prio: prio.prio,
                 expiry: prio.expiry,
-                mask: Mask {
-                    low: prio.mask,
-                    high: 0,
-                },
+                mask: prio.mask,
                 payload: Bytes::copy(alloc, prio.payload.as_slice())?,
             })),
             CraftedObject::Weight(weight) => Ok(Body::Weight(*weight)),

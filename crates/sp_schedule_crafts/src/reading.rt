@@ -1,21 +1,18 @@
 // Crafted objects, read: first the row of the table, then its values.
 ghost use Rattle.std.specs.Prelude.{◌≡◌, ◌∷◌, ◌&&◌, ◌==◌, Some, codes, find, map, option_map};
 ghost use Rattle.sp_base.specs.Refusals.{Gives};
-ghost use Rattle.sp_base.specs.declared.limits.TheConstants.{MAX_NODES};
+ghost use Rattle.sp_base.specs.Formats.{max_nodes};
 ghost use Rattle.sp_lines.specs.Answers.{Reads};
 ghost use Rattle.sp_lines.specs.Cells.{number_at, same};
 ghost use Rattle.sp_schedule_crafts.specs.Reading.{form_named, line_for, name};
 
 use crate::{CraftedAck, CraftedObject, CraftedPrio, CraftedRel, ObjectForm};
 use sp_base::{
-    EdgeId, MAX_EDGES, MAX_NODES, MAX_PAYLOAD_BYTES, MAX_PRIORITY, MAX_SEQ, MAX_WEIGHT, NodeId,
+    EdgeId, MAX_PAYLOAD_BYTES, MAX_PRIORITY, MAX_SEQ, MAX_WEIGHT, NodeId, max_edges, max_nodes,
 };
 use sp_lines::{Fault, LineRefused, bytes, mask, named, ranged};
-use sp_msg::WeightBody;
+use sp_msg::{Mask, WeightBody};
 use std::alloc::Global;
-
-/// The greatest number of an edge.
-const LAST_EDGE: u64 = MAX_EDGES as u64 - 1;
 
 /// The name of each form, and how many words stand behind it.
 const OBJECTS: [(&[u8], usize, ObjectForm); 4] = [
@@ -42,32 +39,33 @@ fn form_in(rows: &[(&[u8], usize, ObjectForm)], name: &[u8], count: usize) -> Op
     Some(row.2)
 }
 
-/// The object of this form with these words behind its name, or the first fault.
+/// The object of this form in a format with these words behind its name, or the first fault.
 pub fn read_object(
     alloc: Global,
+    format: u8,
     form: ObjectForm,
     fields: &[&[u8]],
 ) -> Result<CraftedObject, LineRefused>
-    ensures { Reads result (line_for form (name form ∷ map (λ w. w.now) fields.now)) }
+    ensures { Reads result (line_for format form (name form ∷ map (λ w. w.now) fields.now)) }
 {
     match form {
-        ObjectForm::Rel => rel(alloc, fields),
-        ObjectForm::Ack => ack(fields),
-        ObjectForm::Prio => prio(alloc, fields),
-        ObjectForm::Weight => weight(fields),
+        ObjectForm::Rel => rel(alloc, format, fields),
+        ObjectForm::Ack => ack(format, fields),
+        ObjectForm::Prio => prio(alloc, format, fields),
+        ObjectForm::Weight => weight(format, fields),
     }
 }
 
 /// `rel S D SEQ HEX`.
 #[tactic(auto, unfolding(crate::specs::Reading::read_form))]
-fn rel(alloc: Global, fields: &[&[u8]]) -> Result<CraftedObject, LineRefused>
-    ensures { Reads result (line_for ObjectForm.Rel (codes "rel" ∷ map (λ w. w.now) fields.now)) }
+fn rel(alloc: Global, format: u8, fields: &[&[u8]]) -> Result<CraftedObject, LineRefused>
+    ensures { Reads result (line_for format ObjectForm.Rel (codes "rel" ∷ map (λ w. w.now) fields.now)) }
 {
     let [src, dst, seq, payload] = fields else {
         return Err(LineRefused::Bad(Fault::Form));
     };
-    let src = any_id(src)?;
-    let dst = any_id(dst)?;
+    let src = any_id(format, src)?;
+    let dst = any_id(format, dst)?;
     let seq = ranged(seq, 1, MAX_SEQ)?;
     let payload = bytes(alloc, payload, 0, MAX_PAYLOAD_BYTES)?;
     Ok(CraftedObject::Rel(CraftedRel {
@@ -80,32 +78,32 @@ fn rel(alloc: Global, fields: &[&[u8]]) -> Result<CraftedObject, LineRefused>
 
 /// `ack S D SEQ`.
 #[tactic(auto, unfolding(crate::specs::Reading::read_form))]
-fn ack(fields: &[&[u8]]) -> Result<CraftedObject, LineRefused>
-    ensures { Reads result (line_for ObjectForm.Ack (codes "ack" ∷ map (λ w. w.now) fields.now)) }
+fn ack(format: u8, fields: &[&[u8]]) -> Result<CraftedObject, LineRefused>
+    ensures { Reads result (line_for format ObjectForm.Ack (codes "ack" ∷ map (λ w. w.now) fields.now)) }
 {
     let [src, dst, seq] = fields else {
         return Err(LineRefused::Bad(Fault::Form));
     };
-    let src = any_id(src)?;
-    let dst = any_id(dst)?;
+    let src = any_id(format, src)?;
+    let dst = any_id(format, dst)?;
     let seq = ranged(seq, 1, MAX_SEQ)?;
     Ok(CraftedObject::Ack(CraftedAck { src, dst, seq }))
 }
 
 /// `prio S D SEQ P EXPIRY MASK HEX`.
 #[tactic(auto, unfolding(crate::specs::Reading::read_form))]
-fn prio(alloc: Global, fields: &[&[u8]]) -> Result<CraftedObject, LineRefused>
-    ensures { Reads result (line_for ObjectForm.Prio (codes "prio" ∷ map (λ w. w.now) fields.now)) }
+fn prio(alloc: Global, format: u8, fields: &[&[u8]]) -> Result<CraftedObject, LineRefused>
+    ensures { Reads result (line_for format ObjectForm.Prio (codes "prio" ∷ map (λ w. w.now) fields.now)) }
 {
     let [src, dst, seq, prio, expiry, mask_word, payload] = fields else {
         return Err(LineRefused::Bad(Fault::Form));
     };
-    let src = any_id(src)?;
-    let dst = any_id(dst)?;
+    let src = any_id(format, src)?;
+    let dst = any_id(format, dst)?;
     let seq = ranged(seq, 1, MAX_SEQ)?;
     let prio = ranged(prio, 1, u64::from(MAX_PRIORITY))? as u8;
     let expiry = ranged(expiry, 0, u64::MAX)?;
-    let mask = mask(alloc, mask_word)?;
+    let (high, low) = mask(alloc, mask_word, format)?;
     let payload = bytes(alloc, payload, 0, MAX_PAYLOAD_BYTES)?;
     Ok(CraftedObject::Prio(CraftedPrio {
         src,
@@ -113,21 +111,21 @@ fn prio(alloc: Global, fields: &[&[u8]]) -> Result<CraftedObject, LineRefused>
         seq,
         prio,
         expiry,
-        mask,
+        mask: Mask { low, high },
         payload,
     }))
 }
 
 /// `weight O E SEQ W`.
 #[tactic(auto, unfolding(crate::specs::Reading::read_form))]
-fn weight(fields: &[&[u8]]) -> Result<CraftedObject, LineRefused>
-    ensures { Reads result (line_for ObjectForm.Weight (codes "weight" ∷ map (λ w. w.now) fields.now)) }
+fn weight(format: u8, fields: &[&[u8]]) -> Result<CraftedObject, LineRefused>
+    ensures { Reads result (line_for format ObjectForm.Weight (codes "weight" ∷ map (λ w. w.now) fields.now)) }
 {
     let [origin, edge, seq, weight] = fields else {
         return Err(LineRefused::Bad(Fault::Form));
     };
-    let origin = any_id(origin)?;
-    let edge = ranged(edge, 0, LAST_EDGE)? as u16;
+    let origin = any_id(format, origin)?;
+    let edge = ranged(edge, 0, u64::from(max_edges(format)) - 1)? as u16;
     let seq = ranged(seq, 1, MAX_SEQ)?;
     let weight = ranged(weight, 1, u64::from(MAX_WEIGHT))? as u32;
     Ok(CraftedObject::Weight(WeightBody {
@@ -139,9 +137,9 @@ fn weight(fields: &[&[u8]]) -> Result<CraftedObject, LineRefused>
 }
 
 /// The id of a node, which the graph needn't have.
-fn any_id(word: &[u8]) -> Result<NodeId, Fault>
-    ensures { Gives (λ id. id.0) result (number_at 1 MAX_NODES word.now) }
+fn any_id(format: u8, word: &[u8]) -> Result<NodeId, Fault>
+    ensures { Gives (λ id. id.0) result (number_at 1 (max_nodes format) word.now) }
 {
-    let n = ranged(word, 1, u64::from(MAX_NODES))?;
+    let n = ranged(word, 1, u64::from(max_nodes(format)))?;
     Ok(NodeId(n as u8))
 }

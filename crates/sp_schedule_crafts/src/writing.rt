@@ -5,27 +5,27 @@ ghost use Rattle.std.specs.String.{string_bytes};
 ghost use Rattle.sp_text.specs.Spelling.{hex_word};
 ghost use Rattle.sp_lines.specs.Cells.{mask_word};
 ghost use Rattle.sp_lines.specs.Rows.{after_spaces};
-ghost use Rattle.sp_schedule_crafts.specs.Written.{object_words};
+ghost use Rattle.sp_schedule_crafts.specs.Written.{ack_words, object_words, prio_words, rel_words, weight_words};
 
 use crate::{CraftedAck, CraftedObject, CraftedPrio, CraftedRel};
 use sp_base::Memory;
 use sp_lines::{push_field, push_hex_field, push_mask_field, push_name_field};
 use sp_msg::WeightBody;
 
-/// Appends the words of an object, each after a space. After an error the text is unspecified.
-pub fn push_object(out: &mut String, object: &CraftedObject) -> Result<(), Memory>
-    ensures { OnOk result (string_bytes out.new ≡ string_bytes out.old ++ after_spaces (object_words object.now)) }
+/// Appends the words of an object in a format, each after a space. After an error the text is unspecified.
+pub fn push_object(out: &mut String, format: u8, object: &CraftedObject) -> Result<(), Memory>
+    ensures { OnOk result (string_bytes out.new ≡ string_bytes out.old ++ after_spaces (object_words format object.now)) }
 {
     match object {
         CraftedObject::Rel(rel) => push_rel(out, rel),
         CraftedObject::Ack(ack) => push_ack(out, ack),
-        CraftedObject::Prio(prio) => push_prio(out, prio),
+        CraftedObject::Prio(prio) => push_prio(out, format, prio),
         CraftedObject::Weight(weight) => push_weight(out, weight),
     }
 }
 
 fn push_rel(out: &mut String, rel: &CraftedRel) -> Result<(), Memory>
-    ensures { OnOk result (string_bytes out.new ≡ string_bytes out.old ++ after_spaces (object_words (CraftedObject.Rel rel.now))) }
+    ensures { OnOk result (string_bytes out.new ≡ string_bytes out.old ++ after_spaces (rel_words rel.now)) }
 {
     push_name_field(out, "rel")?;
     push_field(out, u64::from(rel.src.0))?;
@@ -35,7 +35,7 @@ fn push_rel(out: &mut String, rel: &CraftedRel) -> Result<(), Memory>
 }
 
 fn push_ack(out: &mut String, ack: &CraftedAck) -> Result<(), Memory>
-    ensures { OnOk result (string_bytes out.new ≡ string_bytes out.old ++ after_spaces (object_words (CraftedObject.Ack ack.now))) }
+    ensures { OnOk result (string_bytes out.new ≡ string_bytes out.old ++ after_spaces (ack_words ack.now)) }
 {
     push_name_field(out, "ack")?;
     push_field(out, u64::from(ack.src.0))?;
@@ -43,28 +43,29 @@ fn push_ack(out: &mut String, ack: &CraftedAck) -> Result<(), Memory>
     push_field(out, ack.seq)
 }
 
-fn push_prio(out: &mut String, prio: &CraftedPrio) -> Result<(), Memory>
-    ensures { OnOk result (string_bytes out.new ≡ string_bytes out.old ++ after_spaces (object_words (CraftedObject.Prio prio.now))) }
+fn push_prio(out: &mut String, format: u8, prio: &CraftedPrio) -> Result<(), Memory>
+    ensures { OnOk result (string_bytes out.new ≡ string_bytes out.old ++ after_spaces (prio_words format prio.now)) }
 {
     push_name_field(out, "prio")?;
     push_field(out, u64::from(prio.src.0))?;
     push_field(out, u64::from(prio.dst.0))?;
     push_field(out, prio.seq)?;
-    push_prio_fields(out, prio)
+    push_prio_fields(out, format, prio)
 }
 
-fn push_prio_fields(out: &mut String, prio: &CraftedPrio) -> Result<(), Memory>
+fn push_prio_fields(out: &mut String, format: u8, prio: &CraftedPrio) -> Result<(), Memory>
     ensures { OnOk result (string_bytes out.new ≡ string_bytes out.old
-        ++ after_spaces (decimal prio.now.prio ∷ decimal prio.now.expiry ∷ mask_word prio.now.mask ∷ hex_word prio.now.payload ∷ [])) }
+        ++ after_spaces (decimal prio.now.prio ∷ decimal prio.now.expiry
+        ∷ mask_word format (prio.now.mask.high, prio.now.mask.low) ∷ hex_word prio.now.payload ∷ [])) }
 {
     push_field(out, u64::from(prio.prio))?;
     push_field(out, prio.expiry)?;
-    push_mask_field(out, prio.mask)?;
+    push_mask_field(out, format, prio.mask.high, prio.mask.low)?;
     push_hex_field(out, prio.payload.as_slice())
 }
 
 fn push_weight(out: &mut String, weight: &WeightBody) -> Result<(), Memory>
-    ensures { OnOk result (string_bytes out.new ≡ string_bytes out.old ++ after_spaces (object_words (CraftedObject.Weight weight.now))) }
+    ensures { OnOk result (string_bytes out.new ≡ string_bytes out.old ++ after_spaces (weight_words weight.now)) }
 {
     push_name_field(out, "weight")?;
     push_field(out, u64::from(weight.origin.0))?;

@@ -44,8 +44,8 @@ agrees_all (Tested low high test ∷ cs) free [] = refl
 agrees_all (Tested low high test ∷ cs) free (x ∷ xs) = agrees_all cs free xs
 agrees_all (Bytes low high ∷ cs) free [] = refl
 agrees_all (Bytes low high ∷ cs) free (x ∷ xs) = agrees_all cs free xs
-agrees_all (Mask ∷ cs) free [] = refl
-agrees_all (Mask ∷ cs) free (x ∷ xs) = agrees_all cs free xs
+agrees_all (Mask format ∷ cs) free [] = refl
+agrees_all (Mask format ∷ cs) free (x ∷ xs) = agrees_all cs free xs
 
 turned : (a b : Bool) → (a && b) ≡ (b && a)
 turned true true = refl
@@ -75,15 +75,15 @@ row_of a b c w cs free x y z name fields is =
     always false = refl
 
 -- the places behind an object's name
-abbrev rest : ObjectForm → List Cell
-rest o = drop 1 (objects.cells o)
+abbrev rest : (format : ℕ) → ObjectForm → List Cell
+rest format o = drop 1 (objects.cells format o)
 
 object_row : (s : Scenario) (o : ObjectForm) (c v key name : Word) (fields : List Word)
     → starts (cells s (forms.Craft o)) (codes "craft" ∷ c ∷ v ∷ key ∷ name ∷ fields) ≡ (same name (reading.name o) && (length fields == reading.count o))
-object_row s objs.Rel c v key name fields = row_of (forms.node s) (forms.correct s) (forms.node s) (codes "rel") (rest objs.Rel) tt c v key name fields refl
-object_row s objs.Ack c v key name fields = row_of (forms.node s) (forms.correct s) (forms.node s) (codes "ack") (rest objs.Ack) tt c v key name fields refl
-object_row s objs.Prio c v key name fields = row_of (forms.node s) (forms.correct s) (forms.node s) (codes "prio") (rest objs.Prio) tt c v key name fields refl
-object_row s objs.Weight c v key name fields = row_of (forms.node s) (forms.correct s) (forms.node s) (codes "weight") (rest objs.Weight) tt c v key name fields refl
+object_row s objs.Rel c v key name fields = row_of (forms.node s) (forms.correct s) (forms.node s) (codes "rel") (rest s.format objs.Rel) tt c v key name fields refl
+object_row s objs.Ack c v key name fields = row_of (forms.node s) (forms.correct s) (forms.node s) (codes "ack") (rest s.format objs.Ack) tt c v key name fields refl
+object_row s objs.Prio c v key name fields = row_of (forms.node s) (forms.correct s) (forms.node s) (codes "prio") (rest s.format objs.Prio) tt c v key name fields refl
+object_row s objs.Weight c v key name fields = row_of (forms.node s) (forms.correct s) (forms.node s) (codes "weight") (rest s.format objs.Weight) tt c v key name fields refl
 
 status_row : (s : Scenario) (c v key name : Word) (fields : List Word)
     → starts (cells s forms.CraftStatus) (codes "craft" ∷ c ∷ v ∷ key ∷ name ∷ fields) ≡ (same key (codes "status") && (length fields == 3))
@@ -138,25 +138,25 @@ fits_named : (fields : List Word) (w : Word) (cs : List Cell) → HasNoName cs �
 fits_named fields w cs free is = rw (one_less (length cs) (length fields), turned_count (length cs) (length fields), is, same_self w) (agrees_all cs free fields)
 
 -- an object's row reads what stands behind its name
-object_read : (o : ObjectForm) (name : Word) (fields : List Word) → (length fields == reading.count o) ≡ true
-    → reading.line_for o (reading.name o ∷ fields) ≡ reading.read_form o (name ∷ fields)
+object_read : (format : ℕ) (o : ObjectForm) (name : Word) (fields : List Word) → (length fields == reading.count o) ≡ true
+    → reading.line_for format o (reading.name o ∷ fields) ≡ reading.read_form format o (name ∷ fields)
 unfolding reading.read_form
-object_read objs.Rel name fields is = rw (fits_named fields (codes "rel") (rest objs.Rel) tt is) refl
-object_read objs.Ack name fields is = rw (fits_named fields (codes "ack") (rest objs.Ack) tt is) refl
-object_read objs.Prio name fields is = rw (fits_named fields (codes "prio") (rest objs.Prio) tt is) refl
-object_read objs.Weight name fields is = rw (fits_named fields (codes "weight") (rest objs.Weight) tt is) refl
+object_read format objs.Rel name fields is = rw (fits_named fields (codes "rel") (rest format objs.Rel) tt is) refl
+object_read format objs.Ack name fields is = rw (fits_named fields (codes "ack") (rest format objs.Ack) tt is) refl
+object_read format objs.Prio name fields is = rw (fits_named fields (codes "prio") (rest format objs.Prio) tt is) refl
+object_read format objs.Weight name fields is = rw (fits_named fields (codes "weight") (rest format objs.Weight) tt is) refl
 
 craft_read : (s : Scenario) (es : List Event) (o : ObjectForm) (c v key name : Word) (fields : List Word) → (length fields == reading.count o) ≡ true
     → read_form s es (forms.Craft o) (codes "craft" ∷ c ∷ v ∷ key ∷ name ∷ fields) ≡ crafted_event s c v key o fields
 unfolding read_form reading.read_form
 craft_read s es o c v key name fields count =
-    steps (number_at 1 s.graph.nodes c) (tested_at 1 s.graph.nodes (is_correct s) v) (number_at 1 s.graph.nodes key) (row_at (objects.cells o) (name ∷ fields)) (λ xs. if_joined s es (event_of s (forms.Craft o) xs)) (objects.object_of o)
+    steps (number_at 1 s.graph.nodes c) (tested_at 1 s.graph.nodes (is_correct s) v) (number_at 1 s.graph.nodes key) (row_at (objects.cells s.format o) (name ∷ fields)) (λ xs. if_joined s es (event_of s (forms.Craft o) xs)) (objects.object_of s.format o)
     (λ from to signer object. if are_joined s from to then Ok (events.Craft (id from) (id to) (id signer) object) else Err faults.Range) (λ a b k n. refl)
     ∙ ap
     (λ (r : Result CraftedObject Fault).
     number_at 1 s.graph.nodes c >>= λ from. tested_at 1 s.graph.nodes (is_correct s) v >>= λ to. number_at 1 s.graph.nodes key >>= λ signer.
     r >>= λ object. if are_joined s from to then Ok (events.Craft (id from) (id to) (id signer) object) else Err faults.Range)
-    (sym (object_read o name fields count))
+    (sym (object_read s.format o name fields count))
 
 -- the form that was found has so many words
 found_count : (name : Word) (count : ℕ) (o : ObjectForm) → reading.form_named name count ≡ Some o → (count == reading.count o) ≡ true

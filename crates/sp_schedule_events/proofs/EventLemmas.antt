@@ -1,5 +1,5 @@
 -- Events, their rows and their words.
-use Rattle.std.proofs.Common.{◌≡◌, ℕ, ◌<◌, ◌≤◌, ◌^◌, Bool, true, false, List, [], ◌∷◌, Option, Some, None, Ok, Err, refl, sym, subst, ◌∙◌, arith, inl, inr, if◌then◌else◌}
+use Rattle.std.proofs.Common.{◌≡◌, ℕ, ◌<◌, ◌≤◌, ◌^◌, ◌-◌, ◌==◌, Bool, true, false, List, [], ◌∷◌, Option, Some, None, Ok, Err, refl, sym, subst, ◌∙◌, arith, inl, inr, if◌then◌else◌}
 use Rattle.std.specs.Prelude.{codes, find, nat_lt}
 use Rattle.std.specs.Fmt.{decimal}
 use Rattle.std.specs.Str.Parse.{AllDigits}
@@ -7,7 +7,8 @@ use Rattle.std.proofs.lemmas.Fmt.{decimal_is_IsNumeral}
 use Rattle.std.proofs.lemmas.Str.Parse.{digit_from_value}
 use Rattle.std.proofs.lemmas.Bool.{cases_Bool}
 use Rattle.std.proofs.lemmas.Bool.Decides.{nat_tests}
-use Rattle.sp_base.specs.declared.limits.TheConstants.{MAX_NODES}
+use Rattle.sp_base.specs.Formats.{max_edges, max_nodes}
+use Rattle.sp_base.specs.declared.format.TheConstants.{FORMAT_1}
 use Rattle.sp_base.proofs.RefusalLemmas.{then_ok}
 use Rattle.sp_schedule_crafts.specs.declared.object.CraftedObject.TheVariants as crafted
 use Rattle.sp_text.specs.Spelling.{Word}
@@ -84,11 +85,24 @@ not_status n small =
       | inl is_same ↦ absurd (not_digits (subst (AllDigits 10) (same_words (decimal n) (codes "status") is_same) (decimal_is_IsNumeral n small).0.1))
     ]
 
--- the key of an acknowledgement is a node
-key_small : (s : Scenario) → s.graph.nodes ≤ MAX_NODES → (n : ℕ) → n ≤ s.graph.nodes → n < 2 ^ 64
-key_small s few n below = omega (arith, few, below)
+-- the nodes and the edges of a format are few
+pub nodes_small : (format : ℕ) → max_nodes format < 2 ^ 64
+nodes_small format = elim (cases_Bool (format == FORMAT_1)) [
+  | inl one ↦ rw one (omega arith)
+  | inr two ↦ rw two (omega arith)
+]
 
-form_again : (s : Scenario) (e : Event) → s.graph.nodes ≤ MAX_NODES → AreIn (cells s (form_of e)) (values_of s e) → form_for s (event_words s e) ≡ Some (form_of e)
+edges_small : (format : ℕ) → max_edges format - 1 < 2 ^ 64
+edges_small format = elim (cases_Bool (format == FORMAT_1)) [
+  | inl one ↦ rw one (omega arith)
+  | inr two ↦ rw two (omega arith)
+]
+
+-- the key of an acknowledgement is a node
+key_small : (s : Scenario) → s.graph.nodes ≤ max_nodes s.format → (n : ℕ) → n ≤ s.graph.nodes → n < 2 ^ 64
+key_small s few n below = omega (arith, few, below, nodes_small s.format)
+
+form_again : (s : Scenario) (e : Event) → s.graph.nodes ≤ max_nodes s.format → AreIn (cells s (form_of e)) (values_of s e) → form_for s (event_words s e) ≡ Some (form_of e)
 form_again z (events.Rel s d payload) few are = refl
 form_again z (events.Prio s d prio expiry paths payload) few are = refl
 form_again z (events.Take d s) few are = refl
@@ -117,11 +131,17 @@ found_fits test (x ∷ all) found is =
 -- ---- good rows
 
 -- each row of the table has lines that can be read
-pub good_form : (s : Scenario) (form : Form) → s.graph.nodes ≤ MAX_NODES → is_good_row (cells s form) ≡ true
+pub good_form : (s : Scenario) (form : Form) → s.graph.nodes ≤ max_nodes s.format → is_good_row (cells s form) ≡ true
 good_form s form few = go form
   where
     room : nat_lt s.graph.nodes (2 ^ 64) ≡ true
-    room = grind (arith, nat_tests, few)
+    room = grind (arith, nat_tests, few, nodes_small s.format)
+
+    ids : nat_lt (max_nodes s.format) (2 ^ 64) ≡ true
+    ids = grind (arith, nat_tests, nodes_small s.format)
+
+    edges : nat_lt (max_edges s.format - 1) (2 ^ 64) ≡ true
+    edges = grind (arith, nat_tests, edges_small s.format)
 
     go : (f : Form) → is_good_row (cells s f) ≡ true
     go forms.Rel = rw room refl
@@ -135,13 +155,16 @@ good_form s form few = go form
     go forms.Flip = rw room refl
     go forms.Inject = rw room refl
     go forms.CraftStatus = rw room refl
-    go (forms.Craft objects.Rel) = rw room refl
-    go (forms.Craft objects.Ack) = rw room refl
-    go (forms.Craft objects.Prio) = rw room refl
-    go (forms.Craft objects.Weight) = rw room refl
+    go (forms.Craft objects.Rel) = rw (room, ids) refl
+    go (forms.Craft objects.Ack) = rw (room, ids) refl
+    go (forms.Craft objects.Prio) = elim (cases_Bool (s.format == FORMAT_1)) [
+      | inl one ↦ rw (room, ids, one) refl
+      | inr two ↦ rw (room, ids, two) refl
+    ]
+    go (forms.Craft objects.Weight) = rw (room, ids, edges) refl
 
 -- the line of an event in its ranges can be read
-pub good_event_line : (s : Scenario) (es : List Event) (e : Event) → s.graph.nodes ≤ MAX_NODES → InRange s es e → IsGoodLine (event_words s e)
+pub good_event_line : (s : Scenario) (es : List Event) (e : Event) → s.graph.nodes ≤ max_nodes s.format → InRange s es e → IsGoodLine (event_words s e)
 good_event_line s es e few is = good_row_line (cells s (form_of e)) (values_of s e) (good_form s (form_of e) few) is.values
 
 -- ---- both ways
@@ -169,7 +192,7 @@ event_read : (s : Scenario) (es : List Event) (words : List Word) (e : Event) �
 event_read s es words e None is read = absurd cc
 event_read s es words e (Some form) is read = form_read s es form words e (found_fits (λ f. fits (cells s f) words) forms.forms form is) read
 
-event_back_read : (s : Scenario) (es : List Event) (e : Event) → s.graph.nodes ≤ MAX_NODES → InRange s es e → read_event s es (event_words s e) ≡ Ok e
+event_back_read : (s : Scenario) (es : List Event) (e : Event) → s.graph.nodes ≤ max_nodes s.format → InRange s es e → read_event s es (event_words s e) ≡ Ok e
 unfolding read_form
 event_back_read s es e few is =
     let row = row_back (cells s (form_of e)) (values_of s e) (good_row_room (cells s (form_of e)) (good_form s (form_of e) few)) is.values in

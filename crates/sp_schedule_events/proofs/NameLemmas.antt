@@ -41,7 +41,7 @@ starts_so (Name w ∷ cs) x xs = elim (cases_Bool (same x w)) [
 starts_so (Number low high ∷ cs) x xs = refl
 starts_so (Tested low high test ∷ cs) x xs = refl
 starts_so (Bytes low high ∷ cs) x xs = refl
-starts_so (Mask ∷ cs) x xs = refl
+starts_so (Mask format ∷ cs) x xs = refl
 
 pub same_search : {F : Type 0} (t u : F → Bool) → ((f : F) → t f ≡ u f) → (all : List F) → find t all ≡ find u all
 same_search t u are [] = refl

@@ -24,7 +24,7 @@ event_of s forms.Pass x = events.Pass (id x.0) (id x.1.0) x.1.1.0
 event_of s forms.Flip x = events.Flip (id x.0) (id x.1.0) x.1.1.0 x.1.1.1.0 x.1.1.1.1.0
 event_of s forms.Inject x = events.Inject (id x.0) (id x.1.0) x.1.1.0
 event_of s forms.CraftStatus x = events.CraftStatus (id x.0) (id x.1.0) (id x.1.1.0) (id x.1.1.1.0) x.1.1.1.1.0 x.1.1.1.1.1.0
-event_of s (forms.Craft object) x = events.Craft (id x.0) (id x.1.0) (id x.1.1.0) (objects.object_of object x.1.1.1)
+event_of s (forms.Craft object) x = events.Craft (id x.0) (id x.1.0) (id x.1.1.0) (objects.object_of s.format object x.1.1.1)
 
 -- the row of an event
 abbrev pub form_of : Event → Form
@@ -54,9 +54,9 @@ values_of z (events.Pass u v n) = (u.0, (v.0, (n, tt)))
 values_of z (events.Flip u v n back bit) = (u.0, (v.0, (n, (back, (bit, tt)))))
 values_of z (events.Inject u v bytes) = (u.0, (v.0, (bytes, tt)))
 values_of z (events.CraftStatus c v s d base have) = (c.0, (v.0, (s.0, (d.0, (base, (have, tt))))))
-values_of z (events.Craft c v key object) = (c.0, (v.0, (key.0, objects.values_of object)))
+values_of z (events.Craft c v key object) = (c.0, (v.0, (key.0, objects.values_of z.format object)))
 
--- the words of an event. They are the same in each scenario
+-- the words of an event. They are the same in each scenario of a format
 abbrev pub event_words : Scenario → Event → List Word
 event_words s e = spelled (cells s (form_of e)) (values_of s e)
 

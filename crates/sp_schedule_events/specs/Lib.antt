@@ -4,6 +4,7 @@ pub mod Events
 pub mod Acting
 pub mod EventLines
 pub mod Laws
+pub mod Later
 -- ---- what proofs and the parts of this crate use among themselves
 pub mod Counts
 pub mod Kinds

@@ -48,5 +48,5 @@ line_for s es form words = if fits (cells s form) words then read_form s es form
 abbrev pub crafted_event : Scenario → Word → Word → Word → ObjectForm → List Word → Result Event Fault
 crafted_event s c v key form fields =
     number_at 1 s.graph.nodes c >>= λ from. tested_at 1 s.graph.nodes (is_correct s) v >>= λ to. number_at 1 s.graph.nodes key >>= λ signer.
-    objects.line_for form (objects.name form ∷ fields) >>= λ object.
+    objects.line_for s.format form (objects.name form ∷ fields) >>= λ object.
     if are_joined s from to then Ok (events.Craft (id from) (id to) (id signer) object) else Err faults.Range

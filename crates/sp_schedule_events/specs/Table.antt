@@ -55,7 +55,7 @@ cells s Pass = Name (codes "pass") ∷ correct s ∷ correct s ∷ any_number �
 cells s Flip = Name (codes "flip") ∷ correct s ∷ correct s ∷ any_number ∷ Number 1 64 ∷ Number 0 7 ∷ []
 cells s Inject = Name (codes "inject") ∷ node s ∷ correct s ∷ Bytes 0 65507 ∷ []
 cells s CraftStatus = Name (codes "craft") ∷ node s ∷ correct s ∷ Name (codes "status") ∷ node s ∷ node s ∷ any_number ∷ any_number ∷ []
-cells s (Craft object) = Name (codes "craft") ∷ node s ∷ correct s ∷ node s ∷ objects.cells object
+cells s (Craft object) = Name (codes "craft") ∷ node s ∷ correct s ∷ node s ∷ objects.cells s.format object
 
 -- all forms; the report stands before the acknowledgement, since a line of both has the word `status` in the place of a key
 abbrev pub forms : List Form

@@ -1,4 +1,4 @@
--- An event as it is written: its name, and its other words, each after a space.
+-- An event as it is written in a format: its name, and its other words, each after a space.
 use Rattle.std.specs.Prelude.{ℕ, List, [], ◌∷◌, ◌++◌, codes}
 use Rattle.std.specs.Fmt.{decimal}
 use Rattle.sp_base.specs.declared.id.NodeId.{NodeId}
@@ -42,20 +42,20 @@ front_words (events.CraftStatus c v s d base have) = pair_words c v
 front_words (events.Craft c v key object) = pair_words c v
 
 -- what comes after these
-abbrev pub back_words : Event → List Word
-back_words (events.Rel s d payload) = hex_word payload ∷ []
-back_words (events.Prio s d prio expiry paths payload) = decimal prio ∷ decimal expiry ∷ decimal paths ∷ hex_word payload ∷ []
-back_words (events.Take d s) = []
-back_words (events.TakePrio d) = []
-back_words (events.Tick u now) = []
-back_words (events.Weight u v weight) = decimal weight ∷ []
-back_words (events.Poll u v) = []
-back_words (events.Pass u v n) = decimal n ∷ []
-back_words (events.Flip u v n back bit) = decimal n ∷ decimal back ∷ decimal bit ∷ []
-back_words (events.Inject u v bytes) = hex_word bytes ∷ []
-back_words (events.CraftStatus c v s d base have) = codes "status" ∷ decimal s.0 ∷ decimal d.0 ∷ decimal base ∷ decimal have ∷ []
-back_words (events.Craft c v key object) = decimal key.0 ∷ object_words object
+abbrev pub back_words : (format : ℕ) → Event → List Word
+back_words format (events.Rel s d payload) = hex_word payload ∷ []
+back_words format (events.Prio s d prio expiry paths payload) = decimal prio ∷ decimal expiry ∷ decimal paths ∷ hex_word payload ∷ []
+back_words format (events.Take d s) = []
+back_words format (events.TakePrio d) = []
+back_words format (events.Tick u now) = []
+back_words format (events.Weight u v weight) = decimal weight ∷ []
+back_words format (events.Poll u v) = []
+back_words format (events.Pass u v n) = decimal n ∷ []
+back_words format (events.Flip u v n back bit) = decimal n ∷ decimal back ∷ decimal bit ∷ []
+back_words format (events.Inject u v bytes) = hex_word bytes ∷ []
+back_words format (events.CraftStatus c v s d base have) = codes "status" ∷ decimal s.0 ∷ decimal d.0 ∷ decimal base ∷ decimal have ∷ []
+back_words format (events.Craft c v key object) = decimal key.0 ∷ object_words format object
 
 -- all words of an event
-abbrev pub words_of : Event → List Word
-words_of e = event_name e ∷ (front_words e ++ back_words e)
+abbrev pub words_of : (format : ℕ) → Event → List Word
+words_of format e = event_name e ∷ (front_words e ++ back_words format e)

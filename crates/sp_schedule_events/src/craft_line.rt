@@ -97,7 +97,7 @@ fn object(
     let c = node(line.scenario, c)?;
     let v = correct(line.scenario, v)?;
     let key = node(line.scenario, key)?;
-    let object = read_object(line.alloc, form, fields)?;
+    let object = read_object(line.alloc, line.scenario.format, form, fields)?;
     if_joined(
         are_joined(line.scenario, c, v),
         Event::Craft { c, v, key, object },

@@ -6,20 +6,19 @@ ghost use Rattle.sp_text.specs.Spelling.{hex_word};
 ghost use Rattle.sp_lines.specs.Rows.{after_spaces, line_text};
 ghost use Rattle.sp_schedule_events.specs.Events.{event_words};
 ghost use Rattle.sp_schedule_events.specs.Written.{back_words, event_name, front_words, pair_words};
-ghost use Rattle.sp_schedule_events.specs.declared.scenario.Scenario.{Scenario};
 
-use crate::Event;
+use crate::{Event, Scenario};
 use sp_base::{Memory, NodeId};
 use sp_lines::{push_field, push_hex_field, push_name_field};
 use sp_schedule_crafts::push_object;
 
-/// Appends the line of an event. After an error the text is unspecified.
-pub fn push_event(out: &mut String, event: &Event) -> Result<(), Memory>
-    ensures { OnOk result ((s : Scenario) → string_bytes out.new ≡ string_bytes out.old ++ line_text (event_words s event.now)) }
+/// Appends the line of an event of a scenario. After an error the text is unspecified.
+pub fn push_event(out: &mut String, scenario: &Scenario, event: &Event) -> Result<(), Memory>
+    ensures { OnOk result (string_bytes out.new ≡ string_bytes out.old ++ line_text (event_words scenario.now event.now)) }
 {
     out.push_str(event_name(event))?;
     push_front(out, event)?;
-    push_back(out, event)?;
+    push_back(out, scenario.format, event)?;
     out.push_str("\n")?;
     Ok(())
 }
@@ -62,8 +61,8 @@ fn push_front(out: &mut String, event: &Event) -> Result<(), Memory>
 }
 
 /// Appends what comes after these.
-fn push_back(out: &mut String, event: &Event) -> Result<(), Memory>
-    ensures { OnOk result (string_bytes out.new ≡ string_bytes out.old ++ after_spaces (back_words event.now)) }
+fn push_back(out: &mut String, format: u8, event: &Event) -> Result<(), Memory>
+    ensures { OnOk result (string_bytes out.new ≡ string_bytes out.old ++ after_spaces (back_words format event.now)) }
 {
     match event {
         Event::Rel { payload, .. } => push_hex_field(out, payload.as_slice()),
@@ -88,7 +87,7 @@ fn push_back(out: &mut String, event: &Event) -> Result<(), Memory>
         Event::Inject { bytes, .. } => push_hex_field(out, bytes.as_slice()),
         Event::Craft { key, object, .. } => {
             push_field(out, u64::from(key.0))?;
-            push_object(out, object)
+            push_object(out, format, object)
         }
         Event::CraftStatus {
             s,

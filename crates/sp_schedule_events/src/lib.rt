@@ -9,6 +9,7 @@ mod event_line;
 mod event_text;
 mod frame_line;
 mod joined;
+mod later;
 mod laws;
 mod line_of;
 mod lines;
@@ -19,6 +20,7 @@ mod timeline;
 
 pub use event::Event;
 pub use event_text::push_event;
+pub use later::later_line;
 pub use laws::events_have_one_line;
 pub use lines::read_event;
 pub use nodes::is_bad;

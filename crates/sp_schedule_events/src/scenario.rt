@@ -3,10 +3,11 @@ use sp_base::{Limits, Listed, NodeId};
 use sp_graph::Graph;
 use sp_topology::LmsHeight;
 
-/// What holds for a whole run: the seed of all keys, the height of the signature trees, the bounds of each node, the graph, and the nodes
+/// What holds for a whole run: the format, 1 or 2, the seed of all keys, the height of the signature trees, the bounds of each node, the graph, and the nodes
 /// that follow no rule.
 #[derive(Debug, Drop)]
 pub struct Scenario {
+    pub format: u8,
     pub seed: [u8; 32],
     pub height: LmsHeight,
     pub limits: Limits,

@@ -2,15 +2,14 @@
 use Rattle.std.proofs.Common.{◌≡◌, ◌≤◌, ◌<◌, ◌+◌, ◌^◌, min, ℕ, List, [], ◌∷◌, length, map, Option, Some, None, refl, sym, ap, length-append, arith}
 use Rattle.sp_base.specs.declared.id.EdgeId.{EdgeId}
 use Rattle.sp_base.specs.declared.id.NodeId.{NodeId}
-use Rattle.sp_base.specs.declared.limits.TheConstants.{MAX_EDGES}
+use Rattle.sp_base.proofs.FormatLemmas.{few_edges}
 use Rattle.sp_config.specs.declared.config.Config.{Config}
 use Rattle.sp_config.specs.declared.config.Peer.{Peer}
 use Rattle.sp_service.specs.Fits.{Fits, neighbours}
 use Rattle.sp_service.specs.NodeParts.{peers_of}
 use Rattle.sp_service_turns.specs.declared.peer.Peer as near
 use Rattle.sp_topology.specs.Neighbours.{neighbour, neighbours_from, other_end}
-use Rattle.sp_base.specs.declared.format.TheConstants.{FORMAT_1}
-use Rattle.sp_topology.specs.InFormat.{IsTopologyIn}
+use Rattle.sp_topology.specs.Ranges.{IsTopology}
 use Rattle.sp_topology.specs.declared.topology.Edge.{Edge}
 use Rattle.sp_topology.specs.declared.topology.Topology.{Topology}
 use Rattle.sp_keystate.specs.Starting.{Starts}
@@ -60,15 +59,16 @@ few node place (e ∷ es) =
     let here = one place (other_end node e) in
     omega (arith, rest, here, length-append (neighbour place (other_end node e)) (neighbours_from node (place + 1) es))
 
-few_peers : (c : Config) (t : Topology) → Fits c t → IsTopologyIn FORMAT_1 t → length (peers_of c) < 2 ^ 16
+few_peers : (c : Config) (t : Topology) → Fits c t → IsTopology t → length (peers_of c) < 2 ^ 16
 few_peers c t fits topology =
     let ids : length (map (λ (p : Peer). p.id) c.peers) ≡ length (neighbours c t) = ap length fits.peers.neighbours_are in
-    let edges : length t.edges ≤ MAX_EDGES = topology.graph.edge_count in
+    let edges = topology.graph.edge_count in
+    let most = few_edges t.format in
     let near = few c.node.0 0 t.edges in
     let peers : length (map (λ (p : Peer). p.id) c.peers) ≡ length c.peers = mapped (λ (p : Peer). p.id) c.peers in
     let ports : length (peers_of c) ≡ length c.peers = mapped (λ (p : Peer). record { node = p.id; port = p.port }) c.peers in
     let joined : length (neighbours c t) ≡ length (neighbours_from c.node.0 0 t.edges) = mapped (λ (n : NodeId × EdgeId). n.0) (neighbours_from c.node.0 0 t.edges) in
-    omega (arith, ids, peers, ports, joined, edges, near)
+    omega (arith, ids, peers, ports, joined, edges, most, near)
 
-pub few_read : (c : Config) (t : Topology) (ps : List near.Peer) → Fits c t → IsTopologyIn FORMAT_1 t → ps ≡ peers_of c → length ps < 2 ^ 16
+pub few_read : (c : Config) (t : Topology) (ps : List near.Peer) → Fits c t → IsTopology t → ps ≡ peers_of c → length ps < 2 ^ 16
 few_read c t ps fits topology is = let few = few_peers c t fits topology in rw is few

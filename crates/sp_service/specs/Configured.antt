@@ -2,7 +2,7 @@
 --
 --     refused 0 Toml                    the text is no TOML, or no UTF-8
 --     refused 0 Unknown KEY             also Missing and Range
---     refused 0 Topology KIND           the document's first fault, or Signature, Me, Key, Peer, Withdrawn, Format
+--     refused 0 Topology KIND           the document's first fault, or Signature, Me, Key, Peer, Withdrawn
 use Rattle.std.specs.Prelude.{ℕ, ◌≡◌, ◌≢◌, ◌⊎◌, List, [], ◌++◌, Result, Ok, Err, codes}
 use Rattle.std.specs.Str.{IsUtf8}
 use Rattle.sp_config.specs.Readings.{config_of}
@@ -14,8 +14,7 @@ use Rattle.sp_service.specs.NodeParts.{IsKeyOf}
 use Rattle.sp_service.specs.Fits.{Fits, Misfits}
 use Rattle.sp_service.specs.declared.refused.SetupRefused.{SetupRefused}
 use Rattle.sp_service.specs.declared.refused.SetupRefused.TheVariants as setups
-use Rattle.sp_base.specs.declared.format.TheConstants.{FORMAT_1}
-use Rattle.sp_topology.specs.InFormat.{IsTopologyIn}
+use Rattle.sp_topology.specs.Ranges.{IsTopology}
 use Rattle.sp_topology.specs.declared.topology.Topology.{Topology}
 use Rattle.sp_service.specs.declared.configured.Configured.{Configured}
 use Rattle.sp_service.specs.declared.configured.Configured.TheVariants as configured
@@ -31,7 +30,7 @@ SaysConfig text (Err refused) = (IsUtf8 text × (config_of text ≡ Err refused)
 pub record IsConfigured (text : List ℕ) (c : Config) (t : Topology) : Type 0 where
   pub says : SaysConfig text (Ok c)
   pub fits : Fits c t
-  pub topology : IsTopologyIn FORMAT_1 t
+  pub topology : IsTopology t
 
 -- ---- refusals
 
@@ -43,7 +42,6 @@ misfit_word setups.Me = codes "Me"
 misfit_word setups.Key = codes "Key"
 misfit_word setups.Peer = codes "Peer"
 misfit_word setups.Withdrawn = codes "Withdrawn"
-misfit_word setups.Format = codes "Format"
 misfit_word setups.Memory = []
 
 unfoldable pub misfit_line : SetupRefused → List ℕ

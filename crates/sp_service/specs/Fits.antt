@@ -6,10 +6,8 @@
 --     Key          the node's key in the document isn't that of the seed
 --     Peer         the peers aren't just the neighbours, each once and ascending, or two of them have one port
 --     Withdrawn    an edge is withdrawn
---     Format       the document is of format 2, under which no daemon runs yet
-use Rattle.std.specs.Prelude.{ℕ, ◌≡◌, ◌≢◌, ◌==◌, ◌&&◌, Bool, true, false, not, List, [], ◌∷◌, map, take, drop, Some, None, Ok, Err}
+use Rattle.std.specs.Prelude.{ℕ, ◌≡◌, ◌==◌, ◌&&◌, Bool, true, false, not, List, [], ◌∷◌, map, take, drop, Some, None, Ok, Err}
 use Rattle.std.specs.List.{list_any}
-use Rattle.sp_base.specs.declared.format.TheConstants.{FORMAT_1}
 use Rattle.sp_base.specs.declared.id.NodeId.{NodeId}
 use Rattle.sp_config.specs.declared.config.Config.{Config}
 use Rattle.sp_config.specs.declared.config.Peer.{Peer}
@@ -62,7 +60,6 @@ pub record Fits (c : Config) (t : Topology) : Type 0 where
   pub own : HasOwnKey c t
   pub peers : ArePeers c t
   pub standing : has_withdrawn t.edges ≡ false
-  pub format : t.format ≡ FORMAT_1
 
 -- the first judgement that a configuration with such a document fails
 abbrev pub Fails : Config → Topology → ℕ → SetupRefused → Type 0
@@ -71,7 +68,6 @@ Fails c t size refusals.Me = IsSigned c size × IsStranger c t
 Fails c t size refusals.Key = IsSigned c size × ¬ IsStranger c t × ¬ HasOwnKey c t
 Fails c t size refusals.Peer = IsSigned c size × HasOwnKey c t × ¬ ArePeers c t
 Fails c t size refusals.Withdrawn = IsSigned c size × HasOwnKey c t × ArePeers c t × (has_withdrawn t.edges ≡ true)
-Fails c t size refusals.Format = IsSigned c size × HasOwnKey c t × ArePeers c t × (has_withdrawn t.edges ≡ false) × (t.format ≢ FORMAT_1)
 Fails c t size _ = ⊥
 
 -- why a configuration doesn't fit

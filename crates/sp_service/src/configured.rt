@@ -67,7 +67,6 @@ fn misfit_word(refused: SetupRefused) -> &'static str
         SetupRefused::Key => "Key",
         SetupRefused::Peer => "Peer",
         SetupRefused::Withdrawn => "Withdrawn",
-        SetupRefused::Format => "Format",
         SetupRefused::Memory => "",
     }
 }

@@ -14,8 +14,7 @@ ghost use Rattle.sp_service.specs.NodeParts.{IsKeyOf, peers_of};
 ghost use Rattle.sp_service_turns.specs.Outside.{KeptFile, known};
 ghost use Rattle.sp_service_turns.specs.Served.{opening_of};
 ghost use Rattle.sp_service_turns.specs.Told.{IsTold};
-ghost use Rattle.sp_base.specs.declared.format.TheConstants.{FORMAT_1};
-ghost use Rattle.sp_topology.specs.InFormat.{IsTopologyIn};
+ghost use Rattle.sp_topology.specs.Ranges.{IsTopology};
 
 use crate::configured::{Configured, configure};
 use crate::fitting::Fitted;
@@ -122,7 +121,7 @@ fn start_configured<W: Wire, P: Keeper, K: Sink>(
     sink: &mut K,
 ) -> Result<Daemon<Station>, Served>
     requires fits { Fits config.now fitted.topology }
-    requires topology { IsTopologyIn FORMAT_1 fitted.topology }
+    requires topology { IsTopology fitted.topology }
     requires key { IsKeyOf config.now fitted.topology.height fitted.key }
     ensures begins { (clock : Option (List ℕ)) → IfOk result (BeginsConfigured config.now fitted.topology
         (known (W.told wire.old) clock (K.contents sink.old) (P.disk keeper.old) (P.past keeper.old) (P.faults keeper.old))
@@ -168,7 +167,7 @@ fn start_node<K: Sink>(
     sink: &mut K,
 ) -> Result<Daemon<Station>, Served>
     requires fits { Fits config.now fitted.topology }
-    requires topology { IsTopologyIn FORMAT_1 fitted.topology }
+    requires topology { IsTopology fitted.topology }
     requires key { IsKeyOf config.now fitted.topology.height fitted.key }
     requires opening { IsOpening fitted.topology (opening_of started) }
     requires peers { peers.items ≡ peers_of config.now }

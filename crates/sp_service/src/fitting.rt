@@ -1,17 +1,15 @@
 // The judgements on a configuration, in their order.
 ghost use Rattle.std.specs.Prelude.{◌≡◌, ◌≤◌, ◌↔◌, IfErr, IfOk, IsTrue, Ok as Read, drop, length, take};
 ghost use Rattle.sp_hss.specs.Validity.{IsValid};
-ghost use Rattle.sp_base.specs.declared.format.TheConstants.{FORMAT_1};
 ghost use Rattle.sp_service.specs.Fits.{ArePeers, Fits, IsSigned, Misfits, has_withdrawn};
 ghost use Rattle.sp_service.specs.KeyFaults.{IsKeyFault};
 ghost use Rattle.sp_service.specs.NodeParts.{IsKeyOf};
 ghost use Rattle.sp_topology.specs.Documents.{read_of};
-ghost use Rattle.sp_topology.specs.InFormat.{IsTopologyIn};
 ghost use Rattle.sp_topology.specs.Ranges.{IsTopology};
 
 use crate::SetupRefused;
 use crate::peers::{are_neighbours, have_own_ports};
-use sp_base::{FORMAT_1, Memory};
+use sp_base::Memory;
 use sp_config::Config;
 use sp_hss::SeedKey;
 use sp_sign::{check_topology, param_of};
@@ -26,10 +24,9 @@ pub struct Fitted {
 }
 
 /// What the configuration fits. Else the first judgement that it fails, in the order of `SetupRefused`.
-#[tactic(auto, using(sp_topology::proofs::InFormat::in_format))]
 pub fn judge(alloc: Global, config: &Config) -> Result<Fitted, SetupRefused>
     ensures fits { IfOk result (λ fitted. Fits config.now fitted.topology) }
-    ensures ranges { IfOk result (λ fitted. IsTopologyIn FORMAT_1 fitted.topology) }
+    ensures ranges { IfOk result (λ fitted. IsTopology fitted.topology) }
     ensures key { IfOk result (λ fitted. IsKeyOf config.now fitted.topology.height fitted.key) }
     ensures refused { IfErr result (Misfits config.now) }
 {
@@ -46,9 +43,6 @@ pub fn judge(alloc: Global, config: &Config) -> Result<Fitted, SetupRefused>
     }
     if has_withdrawn(topology.edges.as_slice()) {
         return Err(SetupRefused::Withdrawn);
-    }
-    if topology.format != FORMAT_1 {
-        return Err(SetupRefused::Format);
     }
     Ok(Fitted { topology, key })
 }

@@ -2,8 +2,7 @@
 ghost use Rattle.std.specs.Prelude.{◌≡◌, ◌≤◌, IfOk};
 ghost use Rattle.sp_hss.specs.KeyTree.{total};
 ghost use Rattle.sp_service.specs.NodeParts.{link_keys, peers_of};
-ghost use Rattle.sp_base.specs.declared.format.TheConstants.{FORMAT_1};
-ghost use Rattle.sp_topology.specs.InFormat.{IsTopologyIn};
+ghost use Rattle.sp_topology.specs.Ranges.{IsTopology};
 
 use sp_base::{EdgeId, Memory, NodeId};
 use sp_config::Config;
@@ -35,13 +34,12 @@ pub fn node_signer(
 }
 
 /// Each edge of the node, ascending, with the key that it shares with the peer there.
-#[tactic(auto, using(sp_topology::proofs::InFormat::of_format_1))]
 pub fn link_keys(
     alloc: Global,
     config: &Config,
     topology: &Topology,
 ) -> Result<Vec<(EdgeId, [u8; 32])>, Memory>
-    requires { IsTopologyIn FORMAT_1 topology.now }
+    requires { IsTopology topology.now }
     ensures { IfOk result (λ keys. keys.items ≡ link_keys config.now topology.now) }
 {
     let Ok(neighbours) = topology.neighbours(alloc, config.node) else {

@@ -6,8 +6,7 @@ ghost use Rattle.sp_service.specs.Served.{ports_of};
 ghost use Rattle.sp_service.specs.Fits.{Fits};
 ghost use Rattle.sp_service.specs.NodeParts.{peers_of};
 ghost use Rattle.sp_sign.specs.Heights.{param_of};
-ghost use Rattle.sp_base.specs.declared.format.TheConstants.{FORMAT_1};
-ghost use Rattle.sp_topology.specs.InFormat.{IsTopologyIn};
+ghost use Rattle.sp_topology.specs.Ranges.{IsTopology};
 
 use crate::node_parts::peers_of;
 use sp_base::Memory;
@@ -45,7 +44,7 @@ pub fn neighbours_at(
     _topology: &Topology,
 ) -> Result<Vec<Peer>, Memory>
     requires fits { Fits config.now _topology.now }
-    requires topology { IsTopologyIn FORMAT_1 _topology.now }
+    requires topology { IsTopology _topology.now }
     ensures peers { IfOk result (λ peers. peers.items ≡ peers_of config.now) }
     ensures few { IfOk result (λ peers. length peers.items < 2 ^ 16) }
 {

@@ -19,8 +19,6 @@ pub enum SetupRefused {
     Peer,
     #[error("an edge of the document is withdrawn")]
     Withdrawn,
-    #[error("the document is of format 2")]
-    Format,
     #[error("no memory is left")]
     Memory,
 }

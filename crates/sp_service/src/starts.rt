@@ -3,8 +3,7 @@ ghost use Rattle.std.specs.Prelude.{IfOk};
 ghost use Rattle.sp_service.specs.Starts.{IsOpening, IsStarted};
 ghost use Rattle.sp_service.specs.Fits.{Fits};
 ghost use Rattle.sp_service.specs.NodeParts.{IsKeyOf};
-ghost use Rattle.sp_base.specs.declared.format.TheConstants.{FORMAT_1};
-ghost use Rattle.sp_topology.specs.InFormat.{IsTopologyIn};
+ghost use Rattle.sp_topology.specs.Ranges.{IsTopology};
 
 use crate::fitting::Fitted;
 use crate::node_parts::{link_keys, node_signer};
@@ -24,7 +23,7 @@ pub fn station_at(
     opening: Opening,
 ) -> Result<Station, Memory>
     requires fits { Fits config.now fitted.topology }
-    requires topology { IsTopologyIn FORMAT_1 fitted.topology }
+    requires topology { IsTopology fitted.topology }
     requires key { IsKeyOf config.now fitted.topology.height fitted.key }
     requires opening { IsOpening fitted.topology opening }
     ensures { IfOk result (IsStarted config.now fitted.topology opening) }

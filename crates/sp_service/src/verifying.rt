@@ -7,8 +7,7 @@ ghost use Rattle.sp_service.specs.Starts.{IsOpening};
 ghost use Rattle.sp_service.specs.Verdicts.{IsJudged, IsVerdict, form_line};
 ghost use Rattle.sp_service.specs.Fits.{Fits, neighbours};
 ghost use Rattle.sp_service.specs.NodeParts.{IsKeyOf};
-ghost use Rattle.sp_base.specs.declared.format.TheConstants.{FORMAT_1};
-ghost use Rattle.sp_topology.specs.InFormat.{IsTopologyIn};
+ghost use Rattle.sp_topology.specs.Ranges.{IsTopology};
 
 use crate::configured::{Configured, configure};
 use crate::fitting::Fitted;
@@ -71,7 +70,7 @@ fn verify_text(
     text: &[u8],
 ) -> Result<Judged, Memory>
     requires fits { Fits config.now fitted.topology }
-    requires topology { IsTopologyIn FORMAT_1 fitted.topology }
+    requires topology { IsTopology fitted.topology }
     requires key { IsKeyOf config.now fitted.topology.height fitted.key }
     requires within { before + length text.now ≤ MAX_INPUT_BYTES }
     ensures { IfOk result (λ judged. IsVerdict config.now fitted.topology before text.now judged.verdict judged.line) }
@@ -94,7 +93,7 @@ fn verify_opened(
     reading: &Reading,
 ) -> Result<Judged, Memory>
     requires fits { Fits config.now fitted.topology }
-    requires topology { IsTopologyIn FORMAT_1 fitted.topology }
+    requires topology { IsTopology fitted.topology }
     requires key { IsKeyOf config.now fitted.topology.height fitted.key }
     requires opening { IsOpening fitted.topology opening }
     requires within { before + length (lines_in reading.now.stage) ≤ MAX_INPUT_BYTES }

@@ -11,7 +11,7 @@ use Rattle.sp_client_node.specs.declared.local.LocalNode.{LocalNode}
 use Rattle.sp_msg.specs.declared.body.Ack.{Ack}
 use Rattle.sp_msg.specs.declared.refused.SendRefused.{SendRefused}
 use Rattle.sp_msg.specs.declared.refused.SendRefused.TheVariants as refusals
-use Rattle.sp_node_format.specs.Format.{format}
+use Rattle.sp_node_format.specs.Format.{format_of}
 use Rattle.sp_rules.specs.Arrivals.{after_datagram}
 use Rattle.sp_rules.specs.Link.{Link}
 use Rattle.sp_rules.specs.Masks.{Choice}
@@ -19,10 +19,10 @@ use Rattle.sp_rules.specs.Node.{NodeState, Signer, call_refusal, called, kept_or
 use Rattle.sp_rules.specs.Parts.{Parts, edge_to}
 use Rattle.sp_rules.specs.Polls.{after_poll}
 use Rattle.sp_rules.specs.Prio.{is_node}
-use Rattle.sp_rules.specs.Rel.{due, room}
+use Rattle.sp_rules.specs.Rel.{room}
 use Rattle.sp_rules.specs.Sends.{PrioSend, after_send_prio, after_send_rel, after_set_weight, after_take_prio, after_take_rel, no_paths, no_room, prio_refusal, rel_refusal, send_prio_refusal, signer_refusal, weight_refusal, weight_refusal_at}
 use Rattle.sp_rules.specs.Steps.{Datagram, Input, NodeStep, Output, Poll, SendPrio, SendRel, SetWeight, TakePrio, TakeRel, Tick}
-use Rattle.sp_rules.specs.Ticks.{after_tick, at_time, settled_by}
+use Rattle.sp_rules.specs.Ticks.{after_tick, at_time, due_now, settled_by}
 use Rattle.sp_rules.specs.Weights.{minimum}
 use Rattle.sp_service_turns.specs.Inputs as inputs
 use Rattle.sp_service_turns.specs.declared.indexes.Indexes.{Indexes}
@@ -87,7 +87,7 @@ abbrev next_by : Signer → Indexes
 next_by s = record { index = s.index + 1; bound = s.bound; total = s.total }
 
 goes_settled : (n at : NodeState) (ack : Option Ack) (refusal : Option SendRefused) → at.signer ≡ n.signer → (refusal ≡ None → signer_refusal n.signer ≡ None)
-    → Goes n (settled_by format at ack refusal)
+    → Goes n (settled_by (format_of at.fixed) at ack refusal)
 goes_settled n at None refusal same free = inl (ap indexes_by same)
 goes_settled n at (Some ack) (Some refused) same free = inl (ap indexes_by same)
 goes_settled n at (Some ack) None same free = inr (free_signer n.signer (free refl), ap next_by same)
@@ -95,19 +95,19 @@ goes_settled n at (Some ack) None same free = inr (free_signer n.signer (free re
 is_going : (old new made : NodeState) → new ≡ made → Goes old made → Goes old new
 is_going old new made is goes = subst (Goes old) (sym is) goes
 
-goes : (old : NodeState) (input : Input) (output : Output) (new : NodeState) → NodeStep format old input output new → Goes old new
+goes : (old : NodeState) (input : Input) (output : Output) (new : NodeState) → NodeStep (format_of old.fixed) old input output new → Goes old new
 goes old (Poll to) output new step = is_going old new (after_poll old to) step.1 (goes_called (call_refusal old to) old _ _)
-goes old (Datagram from bytes) output new step = is_going old new (after_datagram format old from bytes) step.1 (goes_called (call_refusal old from) old _ _)
+goes old (Datagram from bytes) output new step = is_going old new (after_datagram (format_of old.fixed) old from bytes) step.1 (goes_called (call_refusal old from) old _ _)
 goes old (Tick now) output new step =
-    is_going old new (after_tick format old now) step.1 (goes_settled old (at_time old now) (due old.parts.rel) (signer_refusal old.signer) refl (λ free. free))
+    is_going old new (after_tick (format_of old.fixed) old now) step.1 (goes_settled old (at_time old now) (due_now old) (signer_refusal old.signer) refl (λ free. free))
 goes old (SendRel dst payload) output new step =
-    is_going old new (after_send_rel format old dst payload) step.1
+    is_going old new (after_send_rel (format_of old.fixed) old dst payload) step.1
     (goes_signed (rel_refusal old dst) old _ (second_free (no_room (room old.parts.rel dst)) (signer_refusal old.signer)))
 goes old (SendPrio message) output new step =
-    is_going old new (after_send_prio format old message step.choice) step.new_is
+    is_going old new (after_send_prio (format_of old.fixed) old message step.choice) step.new_is
     (goes_signed (send_prio_refusal old message step.choice) old _ (prio_free old message step.choice))
 goes old (SetWeight peer weight) output new step =
-    is_going old new (after_set_weight format old peer weight) step.1
+    is_going old new (after_set_weight (format_of old.fixed) old peer weight) step.1
     (goes_signed (weight_refusal old peer weight) old _ (weight_free old (edge_to old.fixed peer) weight))
 goes old (TakeRel src) output new step = is_going old new (after_take_rel old src) step.1 (inl refl)
 goes old TakePrio output new step = is_going old new (after_take_prio old) step.1 (inl refl)

@@ -11,7 +11,7 @@ use Rattle.sp_client.specs.declared.request.Request.{Request}
 use Rattle.sp_client_node.specs.Steps.{AnswersBy, TakesFrom}
 use Rattle.sp_client_node.specs.declared.local.LocalNode.{LocalNode}
 use Rattle.sp_frame.specs.declared.frame.TheConstants.{MAX_FRAME_BYTES}
-use Rattle.sp_node_format.specs.Format.{format}
+use Rattle.sp_node_format.specs.Format.{format_of}
 use Rattle.sp_node_format.specs.PolledFrames.{most_signature}
 use Rattle.sp_rules.specs.Node.{NodeState, call_refusal}
 use Rattle.sp_rules.specs.Polls.{frame_to}
@@ -28,7 +28,7 @@ use Rattle.sp_service_turns.specs.Indexes.{UsesOne}
 
 -- what holds of each step of a node, and where nothing was done, holds of what a client's datagram led to
 module _ (R : NodeState → NodeState → Type 0) (same : (n : NodeState) → R n n)
-    (by_step : (old : NodeState) (input : Input) (output : Output) (new : NodeState) → NodeStep format old input output new → R old new) where
+    (by_step : (old : NodeState) (input : Input) (output : Output) (new : NodeState) → NodeStep (format_of old.fixed) old input output new → R old new) where
   as_before : (old new : LocalNode) → new ≡ old → R old.node.state new.node.state
   as_before old new is = subst (λ (l : LocalNode). R old.node.state l.node.state) (sym is) (same old.node.state)
 
@@ -78,13 +78,13 @@ uses_by_request old port bytes reply new before after done =
 -- ---- frames
 
 -- a node that made a frame was called
-called : (n : NodeState) (v : NodeId) (bytes : List ℕ) (new : NodeState) → NodeStep format n (Poll v) (replied (Frame bytes)) new → call_refusal n v ≡ None
+called : (n : NodeState) (v : NodeId) (bytes : List ℕ) (new : NodeState) → NodeStep (format_of n.fixed) n (Poll v) (replied (Frame bytes)) new → call_refusal n v ≡ None
 called n v bytes new step = go (call_refusal n v) step.0
   where
-    go : (r : Option NodeRefused) → replied (Frame bytes) ≡ refused_call r (replied (Frame (frame_to format n v))) → r ≡ None
+    go : (r : Option NodeRefused) → replied (Frame bytes) ≡ refused_call r (replied (Frame (frame_to (format_of n.fixed) n v))) → r ≡ None
     go None is = refl
     go (Some refused) is = let e : Frame bytes ≡ NotCalled refused = ap (λ (o : Output). o.reply) is in absurd (cc)
 
-pub polled_is_short : (n : NodeState) (v : NodeId) (bytes : List ℕ) (new : NodeState) → IsKept format n → n.fixed.signature_len ≤ most_signature
-    → NodeStep format n (Poll v) (replied (Frame bytes)) new → length bytes ≤ MAX_FRAME_BYTES
+pub polled_is_short : (n : NodeState) (v : NodeId) (bytes : List ℕ) (new : NodeState) → IsKept (format_of n.fixed) n → n.fixed.signature_len ≤ most_signature
+    → NodeStep (format_of n.fixed) n (Poll v) (replied (Frame bytes)) new → length bytes ≤ MAX_FRAME_BYTES
 polled_is_short n v bytes new kept short step = lengths.polled_is_short n v bytes new kept short (called n v bytes new step) step

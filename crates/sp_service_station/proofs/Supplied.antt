@@ -13,10 +13,10 @@ use Rattle.sp_rules.specs.Masks.{Choice, Mask, OnlyPaths}
 use Rattle.sp_rules.specs.Node.{NodeState, Signer, call_refusal, extended}
 use Rattle.sp_rules.specs.Parts.{edge_to}
 use Rattle.sp_rules.specs.Prio.{is_node}
-use Rattle.sp_rules.specs.Rel.{due, room}
+use Rattle.sp_rules.specs.Rel.{room}
 use Rattle.sp_rules.specs.Sends.{PrioSend, no_paths, no_room, prio_refusal, rel_refusal, send_prio_refusal, signer_refusal, weight_refusal, weight_refusal_at}
 use Rattle.sp_rules.specs.Steps as steps
-use Rattle.sp_rules.specs.Ticks.{reply_of, tick_reply_of}
+use Rattle.sp_rules.specs.Ticks.{due_now, reply_of, tick_reply_of}
 use Rattle.sp_rules.specs.Weights.{minimum}
 use Rattle.sp_rules.specs.declared.node.NodeRefused.{NodeRefused}
 use Rattle.sp_rules.specs.declared.node.TickReply.TheVariants as ticks
@@ -117,7 +117,7 @@ supplied : (n : NodeState) → IsFree (signer_refusal n.signer) → IsSupplied n
 supplied n free (steps.Poll to) output new step = fine_output _ output step.0 (fine_call (call_refusal n to) _ (λ b. ((λ is. absurd (cc)), λ is. absurd (cc))))
 supplied n free (steps.Datagram from bytes) output new step =
     fine_output _ output step.0 (fine_call (call_refusal n from) _ (λ b. ((λ is. absurd (cc)), λ is. absurd (cc))))
-supplied n free (steps.Tick now) output new step = fine_output _ output step.0 (fine_tick (due n.parts.rel) (signer_refusal n.signer) free)
+supplied n free (steps.Tick now) output new step = fine_output _ output step.0 (fine_tick (due_now n) (signer_refusal n.signer) free)
 supplied n free (steps.SendRel dst payload) output new step =
     fine_output _ output step.0
     (fine_send (rel_refusal n dst) _ (free_room (room n.parts.rel dst) (signer_refusal n.signer) free) (λ b. ((λ is. absurd (cc)), λ is. absurd (cc))))

@@ -6,16 +6,15 @@ use Rattle.laws_node.proofs.Shapes.{shapes_stay}
 use Rattle.laws_node.specs.Shapes.{Shape}
 use Rattle.sp_msg.specs.declared.body.Ack.{Ack}
 use Rattle.sp_msg.specs.declared.refused.SendRefused.{SendRefused}
-use Rattle.sp_node_format.specs.Format.{format}
+use Rattle.sp_node_format.specs.Format.{format_of}
 use Rattle.sp_rules.specs.Link.{Link}
 use Rattle.sp_rules.specs.Node.{NodeState, called, extended, kept_or, signed_once}
 use Rattle.sp_rules.specs.Parts.{Parts}
 use Rattle.sp_rules.specs.Arrivals.{after_datagram}
 use Rattle.sp_rules.specs.Polls.{after_poll}
-use Rattle.sp_rules.specs.Rel.{due}
 use Rattle.sp_rules.specs.Sends.{after_send_prio, after_send_rel, after_set_weight, after_take_prio, after_take_rel, signer_refusal}
 use Rattle.sp_rules.specs.Steps.{Datagram, Input, NodeStep, Output, Poll, SendPrio, SendRel, SetWeight, TakePrio, TakeRel, Tick}
-use Rattle.sp_rules.specs.Ticks.{after_tick, at_time, settled_by}
+use Rattle.sp_rules.specs.Ticks.{after_tick, at_time, due_now, settled_by}
 use Rattle.sp_service_turns.specs.Indexes.{AreReserved, UsesOne}
 use Rattle.sp_service_station.specs.Stations.{indexes_of, reserved}
 
@@ -31,7 +30,7 @@ near_signed : {X : Type 0} (refusal : Option X) (n : NodeState) (parts : Parts) 
 near_signed None n parts = omega arith
 near_signed (Some refused) n parts = omega arith
 
-near_settled : (n : NodeState) (ack : Option Ack) (refusal : Option SendRefused) → IsNear n (settled_by format n ack refusal)
+near_settled : (n : NodeState) (ack : Option Ack) (refusal : Option SendRefused) → IsNear n (settled_by (format_of n.fixed) n ack refusal)
 near_settled n None refusal = omega arith
 near_settled n (Some ack) (Some refused) = omega arith
 near_settled n (Some ack) None = omega arith
@@ -39,19 +38,19 @@ near_settled n (Some ack) None = omega arith
 is_near : (old new made : NodeState) → new ≡ made → IsNear old made → IsNear old new
 is_near old new made is near = subst (IsNear old) (sym is) near
 
-rises : (old : NodeState) (input : Input) (output : Output) (new : NodeState) → NodeStep format old input output new → IsNear old new
+rises : (old : NodeState) (input : Input) (output : Output) (new : NodeState) → NodeStep (format_of old.fixed) old input output new → IsNear old new
 rises old (Poll to) output new step = is_near old new (after_poll old to) step.1 (near_called _ old _ _)
-rises old (Datagram from bytes) output new step = is_near old new (after_datagram format old from bytes) step.1 (near_called _ old _ _)
-rises old (Tick now) output new step = is_near old new (after_tick format old now) step.1 (near_settled (at_time old now) (due old.parts.rel) (signer_refusal old.signer))
-rises old (SendRel dst payload) output new step = is_near old new (after_send_rel format old dst payload) step.1 (near_signed _ old _)
-rises old (SendPrio message) output new step = is_near old new (after_send_prio format old message step.choice) step.new_is (near_signed _ old _)
-rises old (SetWeight peer weight) output new step = is_near old new (after_set_weight format old peer weight) step.1 (near_signed _ old _)
+rises old (Datagram from bytes) output new step = is_near old new (after_datagram (format_of old.fixed) old from bytes) step.1 (near_called _ old _ _)
+rises old (Tick now) output new step = is_near old new (after_tick (format_of old.fixed) old now) step.1 (near_settled (at_time old now) (due_now old) (signer_refusal old.signer))
+rises old (SendRel dst payload) output new step = is_near old new (after_send_rel (format_of old.fixed) old dst payload) step.1 (near_signed _ old _)
+rises old (SendPrio message) output new step = is_near old new (after_send_prio (format_of old.fixed) old message step.choice) step.new_is (near_signed _ old _)
+rises old (SetWeight peer weight) output new step = is_near old new (after_set_weight (format_of old.fixed) old peer weight) step.1 (near_signed _ old _)
 rises old (TakeRel src) output new step = is_near old new (after_take_rel old src) step.1 (omega arith)
 rises old TakePrio output new step = is_near old new (after_take_prio old) step.1 (omega arith)
 
-pub uses_one : (old : NodeState) (input : Input) (output : Output) (new : NodeState) → NodeStep format old input output new → UsesOne (indexes_of old) (indexes_of new)
+pub uses_one : (old : NodeState) (input : Input) (output : Output) (new : NodeState) → NodeStep (format_of old.fixed) old input output new → UsesOne (indexes_of old) (indexes_of new)
 uses_one old input output new step =
-    let shape = shapes_stay format old input output new step in
+    let shape = shapes_stay (format_of old.fixed) old input output new step in
     record { index = rises old input output new step; bound = ap (λ (s : Shape). s.bound) shape; total = ap (λ (s : Shape). s.total) shape }
 
 pub uses_none : (n : NodeState) → UsesOne (indexes_of n) (indexes_of n)

@@ -4,7 +4,7 @@ use Rattle.std.specs.Prelude.{ℕ, ◌≡◌, ◌&&◌, nat_le, List, [], if◌t
 use Rattle.sp_client.specs.Tables as tables
 use Rattle.sp_client_node.specs.Steps.{AnswersBy}
 use Rattle.sp_client_node.specs.declared.local.LocalNode.{LocalNode}
-use Rattle.sp_node_format.specs.Format.{format}
+use Rattle.sp_node_format.specs.Format.{format_of}
 use Rattle.sp_rules.specs.Node.{NodeState, extended}
 use Rattle.sp_rules.specs.Steps as steps
 use Rattle.sp_service_turns.specs.Inputs.{Datagram, Input, Poll, Request, Reserve, Tick}
@@ -32,7 +32,7 @@ indexes_in s = indexes_of (node_of s)
 
 -- the node answers so: this makes the answer of the output of one step
 abbrev pub Gives : (steps.Output → List ℕ) → NodeState → steps.Input → List ℕ → NodeState → Type 0
-Gives answer_of old input answer new = (output : steps.Output) × steps.NodeStep format old input output new × (answer ≡ answer_of output)
+Gives answer_of old input answer new = (output : steps.Output) × steps.NodeStep (format_of old.fixed) old input output new × (answer ≡ answer_of output)
 
 abbrev pub frame_of : steps.Output → List ℕ
 frame_of output = frame_in output.reply

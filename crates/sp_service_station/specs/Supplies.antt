@@ -1,7 +1,7 @@
 -- That a node is asked to sign only where an index is reserved for it, or its key has none left.
 use Rattle.std.specs.Prelude.{ℕ, ◌≢◌, ◌≤◌, List, Option}
 use Rattle.sp_msg.specs.declared.refused.SendRefused.TheVariants as refusals
-use Rattle.sp_node_format.specs.Format.{format}
+use Rattle.sp_node_format.specs.Format.{format_of}
 use Rattle.sp_rules.specs.Node.{NodeState}
 use Rattle.sp_rules.specs.Steps as steps
 use Rattle.sp_rules.specs.declared.node.TickReply.TheVariants as ticks
@@ -11,7 +11,7 @@ use Rattle.sp_service_turns.specs.declared.peer.Peer.{Peer}
 
 -- no step from here answers a tick or a send that an index isn't reserved
 abbrev pub IsSupplied : NodeState → Type 0
-IsSupplied n = (input : steps.Input) (output : steps.Output) (new : NodeState) → steps.NodeStep format n input output new → (bound : ℕ)
+IsSupplied n = (input : steps.Input) (output : steps.Output) (new : NodeState) → steps.NodeStep (format_of n.fixed) n input output new → (bound : ℕ)
     → (output.reply ≢ steps.Ticked (ticks.TickNotReserved bound)) × (output.reply ≢ steps.Refused (refusals.NotReserved bound))
 
 -- in each turn the node is so where it ticks, and where a client is heard

@@ -1,10 +1,9 @@
 // Checking the signatures of all nodes of a topology: of each node, the half that its signatures share is checked once.
 ghost use Rattle.std.specs.Prelude.{◌≡◌, ◌≢◌, ◌<◌, ◌≤◌, ◌+◌, ◌-◌, ◌^◌, ◌↔◌, min, Some, None, Ok, Err, IfOk, IfSome, IsNone, IsOk, IsTrue, map};
-ghost use Rattle.sp_msg.specs.Bodies.{read_body};
 ghost use Rattle.sp_msg.specs.Views.{as_body, signer_of};
 ghost use Rattle.sp_topology.specs.Keys.{key_of};
 ghost use Rattle.sp_sign.specs.Checker.{IsKeyAt, as_key};
-ghost use Rattle.sp_sign.specs.Checks.{IsForged, IsSigned};
+ghost use Rattle.sp_sign.specs.Checks.{IsForged, IsReadOf, IsSigned};
 
 use crate::SignRefused;
 use sp_base::{Memory, NodeId};
@@ -65,7 +64,7 @@ impl Checker {
         body: &BodyRef<'_>,
         signature: &[u8],
     ) -> Result<(), SignRefused>
-        requires body { read_body bytes.now ≡ Ok (as_body body.now) }
+        requires body { IsReadOf bytes.now (as_body body.now) }
         ensures ok { IsOk result ↔ IsSigned (key_of (signer_of (as_body body.now)).0 self.old.nodes) bytes.now signature.now }
         ensures unknown { (result ≡ Err SignRefused.UnknownSigner) ↔ (key_of (signer_of (as_body body.now)).0 self.old.nodes ≡ None) }
         ensures bad { (result ≡ Err SignRefused.BadSignature) ↔ IsForged (key_of (signer_of (as_body body.now)).0 self.old.nodes) bytes.now signature.now }

@@ -1,11 +1,10 @@
 // Whether a signature counts.
 ghost use Rattle.std.specs.Prelude.{◌≡◌, ◌↔◌, Some, None, Ok, Err, IsOk, IsTrue};
 ghost use Rattle.sp_hss.specs.Validity.{IsValid};
-ghost use Rattle.sp_msg.specs.Bodies.{read_body};
 ghost use Rattle.sp_msg.specs.Views.{as_body, signer_of};
 ghost use Rattle.sp_topology.specs.Keys.{key_of};
 ghost use Rattle.sp_topology.specs.Ranges.{IsTopology};
-ghost use Rattle.sp_sign.specs.Checks.{IsForged, IsSigned};
+ghost use Rattle.sp_sign.specs.Checks.{IsForged, IsReadOf, IsSigned};
 
 use crate::SignRefused;
 use sp_msg::{BodyRef, signer};
@@ -20,7 +19,7 @@ pub fn check(
     signature: &[u8],
 ) -> Result<(), SignRefused>
     requires topology { IsTopology topology.now }
-    requires body { read_body bytes.now ≡ Ok (as_body body.now) }
+    requires body { IsReadOf bytes.now (as_body body.now) }
     ensures ok { IsOk result ↔ IsSigned (key_of (signer_of (as_body body.now)).0 topology.now.nodes) bytes.now signature.now }
     ensures unknown { (result ≡ Err SignRefused.UnknownSigner) ↔ (key_of (signer_of (as_body body.now)).0 topology.now.nodes ≡ None) }
     ensures bad { (result ≡ Err SignRefused.BadSignature) ↔ IsForged (key_of (signer_of (as_body body.now)).0 topology.now.nodes) bytes.now signature.now }

@@ -1,6 +1,5 @@
 pub mod FieldReads
 pub mod GraphLaws
-pub mod InFormat
 pub mod Judged
 pub mod NeighbourLemmas
 pub mod NoMemory

@@ -4,9 +4,8 @@ use Rattle.std.specs.Prelude.{is_some}
 use Rattle.std.proofs.lemmas.List.{length-map, length-replicate, length-set, map-set}
 use Rattle.std.proofs.lemmas.List.Elements.{All-replicate, All-set}
 use Rattle.sp_base.specs.declared.limits.TheConstants.{MAX_SEQ}
-use Rattle.sp_base.specs.declared.format.TheConstants.{FORMAT_1}
 use Rattle.sp_msg.proofs.GoodFields.{good_weight}
-use Rattle.sp_msg.specs.Bodies.{HasGoodFields}
+use Rattle.sp_rules.specs.Changes.{FitsAFormat}
 use Rattle.sp_msg.specs.declared.body.Body.{Body}
 use Rattle.sp_msg.specs.declared.body.Body.TheVariants as bodies
 use Rattle.sp_msg.specs.declared.kept.Kept.{Kept}
@@ -32,18 +31,18 @@ sound_at_start edges rows active weights count enough none idle least = record {
 }
 
 -- a message with good fields says a number that may be
-pub seq_in_range : (body : Body) → HasGoodFields body → seq_said body ≤ MAX_SEQ
+pub seq_in_range : (body : Body) → FitsAFormat body → seq_said body ≤ MAX_SEQ
 seq_in_range (bodies.Prio p) good = omega arith
 seq_in_range (bodies.Rel r) good = omega arith
 seq_in_range (bodies.Ack a) good = omega arith
-seq_in_range (bodies.Weight w) good = (good_weight FORMAT_1 w good).seq.1
+seq_in_range (bodies.Weight w) good = (good_weight good.0 w good.1).seq.1
 seq_in_range (bodies.Krel a) good = omega arith
 seq_in_range (bodies.Kack a) good = omega arith
 seq_in_range (bodies.Epoch a) good = omega arith
 
 -- a message with good fields is put into a row
 pub sound_with : (edges : List Edge) (rows : List (Option Kept)) (active : List Bool) (weights : List ℕ) (edge row weight : ℕ) (kept : Kept)
-    → HasGoodFields kept.body → HasRow edges edge row → weight ≡ effective_by edges (set rows row (Some kept)) edge → IsSound edges rows active weights
+    → FitsAFormat kept.body → HasRow edges edge row → weight ≡ effective_by edges (set rows row (Some kept)) edge → IsSound edges rows active weights
     → IsSound edges (set rows row (Some kept)) (set active row true) (set weights edge weight)
 sound_with edges rows active weights edge row weight kept good has is sound = record {
   each_end_has_a_row = length-set rows row (Some kept) ∙ sound.each_end_has_a_row;

@@ -1,10 +1,9 @@
 // The updates of weights that a node holds. All memory is taken at the start.
 ghost use Rattle.std.specs.Prelude.{◌≡◌, ◌+◌, ◌*◌, ◌<◌, ◌≤◌, IfOk, length, map, option_copied, replicate, None as Nothing, false};
-ghost use Rattle.sp_msg.specs.Bodies.{HasGoodFields};
+ghost use Rattle.sp_rules.specs.Changes.{FitsAFormat};
 ghost use Rattle.sp_rules.specs.Handle.{offer_of};
 ghost use Rattle.sp_rules.specs.Weights.{cycle_at, effective, held, moved, next, next_row, next_seq, offer, start};
-ghost use Rattle.sp_base.specs.declared.format.TheConstants.{FORMAT_1};
-ghost use Rattle.sp_topology.specs.InFormat.{IsTopologyIn};
+ghost use Rattle.sp_topology.specs.Ranges.{IsTopology};
 
 use crate::held::{effective_by, held_in, row_in, row_of, seq_in};
 use sp_base::{Cursor, EdgeId, Memory, NodeId};
@@ -42,7 +41,7 @@ impl Model for Weights {
 impl Weights {
     /// No update is held yet.
     pub fn new(alloc: Global, topology: &Topology) -> Result<Weights, Memory>
-        requires { IsTopologyIn FORMAT_1 topology.now }
+        requires { IsTopology topology.now }
         ensures { IfOk result (λ weights. weights ≡ start topology.now) }
     {
         let edges = Vec::from_slice(alloc, topology.edges.as_slice())?;
@@ -83,7 +82,7 @@ impl Weights {
     /// Holds an update in the place of the one before it.
     pub fn hold(&mut self, kept: Kept)
         requires new { offer_of self.old kept.body ≡ Offer.New }
-        requires range { HasGoodFields kept.body }
+        requires range { FitsAFormat kept.body }
         ensures { self.new ≡ held self.old kept }
     {
         let Body::Weight(update) = &kept.body else {

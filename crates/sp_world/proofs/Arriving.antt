@@ -3,9 +3,9 @@ use Rattle.std.proofs.Common.{◌≡◌, ℕ, true, List, map, Option, None, Som
 use Rattle.std.proofs.lemmas.Option.{same_Some}
 use Rattle.sp_base.specs.declared.id.NodeId.{NodeId}
 use Rattle.sp_forgery.specs.Found.{Answered, answered}
+use Rattle.laws_runs_format.specs.Arts.{arts_of}
 use Rattle.sp_journal.specs.declared.entry.Entry.{Entry}
 use Rattle.sp_journal.specs.declared.entry.Reply.TheVariants as replies
-use Rattle.sp_node_format.specs.Format.{format}
 use Rattle.sp_rules.specs.Node.{NodeState, call_refusal}
 use Rattle.sp_rules.specs.Parts.{Fixed}
 use Rattle.sp_rules.specs.Steps.{Datagram}
@@ -29,44 +29,52 @@ module _ (s : Scenario) (es : List Event) (js : List Entry) (nodes after : List 
   -- what is judged of any state that took it so
   abbrev pub IsJudged : Option What → Type 0
   IsJudged what = (n new : NodeState) (w : World) → n.fixed.me ≡ v → n.fixed.signature_len ≡ len → call_refusal n u ≡ None → w.directions ≡ ds
-      → Answered n u bytes step new → what ≡ forged format (setting_of s) es js w n (Datagram u bytes) (answered n u bytes step)
+      → Answered s.format n u bytes step new
+      → what ≡ forged (arts_of (setting_of s)) (setting_of s) es js w n (Datagram u bytes) (answered s.format n u bytes step)
 
-  same_old : (can : CanHear len nodes v u) → (h : HeardAmong nodes u v bytes step after) → can.call.node ≡ h.old
+  same_old : (can : CanHear s.format len nodes v u) → (h : HeardAmong nodes u v bytes step after) → can.call.node ≡ h.old
   same_old can h = same_Some can.call.node h.old (sym can.call.is_there ∙ h.is_there)
 
+  -- it took it in the format of the scenario
+  took : CanHear s.format len nodes v u → (h : HeardAmong nodes u v bytes step after) → Answered s.format h.old u bytes step h.new
+  took can h =
+      let of_format : h.old.fixed.topology.format ≡ s.format =
+      subst (λ (n : NodeState). n.fixed.topology.format ≡ s.format) (same_old can h) can.of_format in
+      subst (λ (format : ℕ). Answered format h.old u bytes step h.new) of_format h.took
+
   -- what is said of any state that took it so, holds of the one that did
-  pub when_heard : (P : Type 0) → CanHear len nodes v u → HeardAmong nodes u v bytes step after
-      → ((n new : NodeState) → n.fixed.signature_len ≡ len → call_refusal n u ≡ None → Answered n u bytes step new → P) → P
+  pub when_heard : (P : Type 0) → CanHear s.format len nodes v u → HeardAmong nodes u v bytes step after
+      → ((n new : NodeState) → n.fixed.signature_len ≡ len → call_refusal n u ≡ None → Answered s.format n u bytes step new → P) → P
   when_heard P can h says =
       let same = same_old can h in
       says h.old h.new (subst (λ (n : NodeState). n.fixed.signature_len ≡ len) same can.long)
-      (subst (λ (n : NodeState). call_refusal n u ≡ None) same can.call.answers) h.took
+      (subst (λ (n : NodeState). call_refusal n u ≡ None) same can.call.answers) (took can h)
 
-  judged_is : (what : Option What) → (can : CanHear len nodes v u) → (h : HeardAmong nodes u v bytes step after) → IsJudged what
-      → what ≡ forged format (setting_of s) es js (world_of nodes ds) h.old (Datagram u bytes) (taken h.old u bytes step)
+  judged_is : (what : Option What) → (can : CanHear s.format len nodes v u) → (h : HeardAmong nodes u v bytes step after) → IsJudged what
+      → what ≡ forged (arts_of (setting_of s)) (setting_of s) es js (world_of nodes ds) h.old (Datagram u bytes) (answered s.format h.old u bytes step)
   judged_is what can h judged =
       let same = same_old can h in
       judged h.old h.new (world_of nodes ds)
       (subst (λ (n : NodeState). n.fixed.me ≡ v) same can.me)
       (subst (λ (n : NodeState). n.fixed.signature_len ≡ len) same can.long)
       (subst (λ (n : NodeState). call_refusal n u ≡ None) same can.call.answers)
-      refl h.took
+      refl (took can h)
 
-  pub is_heard : (entry : Entry) → CanHear len nodes v u → HeardAmong nodes u v bytes step after → IsJudged None
+  pub is_heard : (entry : Entry) → CanHear s.format len nodes v u → HeardAmong nodes u v bytes step after → IsJudged None
       → ((n : NodeState) (w : NodeId) (bs : List ℕ) → Tells 0 (taken n w bs step) entry)
       → IsHeard s es js (world_of nodes ds) u v bytes entry after
   is_heard entry can h judged tells = record {
     old = h.old;
     new = h.new;
-    output = taken h.old u bytes step;
+    output = answered s.format h.old u bytes step;
     is_there = h.is_there;
-    step = h.took;
-    says = tells h.old u bytes s;
+    step = took can h;
+    says = record { reply = (tells h.old u bytes s).reply; effects = (tells h.old u bytes s).effects };
     unforged = sym (judged_is None can h judged);
     nodes_are = h.nodes_are;
   }
 
-  pub is_found : (what : What) → CanHear len nodes v u → HeardAmong nodes u v bytes step after → IsJudged (Some what)
+  pub is_found : (what : What) → CanHear s.format len nodes v u → HeardAmong nodes u v bytes step after → IsJudged (Some what)
       → IsFound s es js (world_of nodes ds) u v bytes what (without_node after v)
   is_found what can h judged =
       let me : h.old.fixed.me ≡ v = subst (λ (n : NodeState). n.fixed.me ≡ v) (same_old can h) can.me in
@@ -75,10 +83,10 @@ module _ (s : Scenario) (es : List Event) (js : List Entry) (nodes after : List 
       record {
         old = h.old;
         new = h.new;
-        output = taken h.old u bytes step;
+        output = answered s.format h.old u bytes step;
         entry = record { reply = replies.Arrived (link_word step.reply.link) (map item_word step.reply.items); effects = step.effects.list };
         is_there = h.is_there;
-        step = h.took;
+        step = took can h;
         says = record { reply = refl; effects = refl };
         found = sym (judged_is (Some what) can h judged);
         nodes_are = ap (λ (ns : List NodeState). without_node ns v) h.nodes_are ∙ without_is_same nodes v h.new is;

@@ -8,10 +8,9 @@ use Rattle.std.proofs.lemmas.List.Elements.{filter-append}
 use Rattle.std.proofs.lemmas.List.{map_push}
 use Rattle.std.proofs.lemmas.List.FromFn.{map-range_with_len_more}
 use Rattle.sp_adversary.specs.Keys.{whole_signer}
-use Rattle.sp_base.specs.declared.limits.TheConstants.{MAX_EDGES}
+use Rattle.sp_base.proofs.FormatLemmas as formats
+use Rattle.sp_base.specs.declared.limits.TheConstants.{MAX_EDGES_2}
 use Rattle.sp_base.specs.declared.id.NodeId.{NodeId}
-use Rattle.sp_base.specs.declared.format.TheConstants.{FORMAT_1}
-use Rattle.sp_graph.specs.Edges.{IsGraphIn}
 use Rattle.sp_node_state.specs.Boots.{IsBootable, booted_of}
 use Rattle.sp_node_state.specs.States.{signer_in}
 use Rattle.sp_node_state.specs.declared.boot.NodeConfig.{NodeConfig}
@@ -19,7 +18,7 @@ use Rattle.sp_hss.specs.KeyTree.{public_key}
 use Rattle.sp_hss.specs.Signer.{Signer as Signing}
 use Rattle.sp_rules.specs.Node.{NodeState, Signer, booted}
 use Rattle.sp_rules.specs.Parts.{nodes_of}
-use Rattle.sp_runs.specs.Scenarios.{edge_key, node_key, node_seed, numbered, setting_of, topology_of}
+use Rattle.sp_runs.specs.Scenarios.{IsHeader, edge_key, node_key, node_seed, numbered, setting_of, topology_of}
 use Rattle.sp_runs.specs.Settings.{correct_nodes, fixed_of, is_correct, is_one_of, node_at_boot}
 use Rattle.sp_schedule_events.specs.declared.scenario.Scenario.{Scenario}
 use Rattle.sp_sign.specs.Heights.{param_of}
@@ -52,10 +51,10 @@ keys_are h seed u (id ∷ ids) there = elim (cases_Bool (eqb id u.0)) [
   | inr t ↦ rw t (keys_are h seed u ids (rw t at there))
 ]
 
-pub is_bootable : (s : Scenario) (own : NodeSigner) → IsGraphIn FORMAT_1 s.graph → IsOwn s own → IsTrue (is_correct (setting_of s) own.node)
+pub is_bootable : (s : Scenario) (own : NodeSigner) → IsHeader s → IsOwn s own → IsTrue (is_correct (setting_of s) own.node)
     → IsBootable (config_of s own.node) own 1
-is_bootable s own graph mine correct = record {
-  topology = topologies_fit s graph;
+is_bootable s own header mine correct = record {
+  topology = topologies_fit s header;
   node = refl;
   height = ap (λ (o : NodeSigner). o.signer.height) mine;
   is_mine =
@@ -114,12 +113,12 @@ signers_more s n old items own signer before pushed is whole =
     pushed ∙ ap₂ (λ (xs : List NodeSigner) (x : NodeSigner). xs ++ x ∷ []) before one
     ∙ sym (map-range_with_len_more (signer_at s) 1 n (n + 1) (omega arith))
 
-pub few_edges : (s : Scenario) → IsGraphIn FORMAT_1 s.graph → length s.graph.edges ≤ MAX_EDGES
-few_edges s graph = (topologies_fit s graph).graph.edge_count
+pub few_edges : (s : Scenario) → IsHeader s → length s.graph.edges ≤ MAX_EDGES_2
+few_edges s header = omega (arith, header.graph.few, formats.few_edges s.format)
 
-pub may_boot : (s : Scenario) (own : NodeSigner) (config : NodeConfig) → config ≡ config_of s own.node → IsGraphIn FORMAT_1 s.graph → IsOwn s own
+pub may_boot : (s : Scenario) (own : NodeSigner) (config : NodeConfig) → config ≡ config_of s own.node → IsHeader s → IsOwn s own
     → IsTrue (is_correct (setting_of s) own.node) → IsBootable config own 1
-may_boot s own config is graph mine correct = subst (λ (c : NodeConfig). IsBootable c own 1) (sym is) (is_bootable s own graph mine correct)
+may_boot s own config is header mine correct = subst (λ (c : NodeConfig). IsBootable c own 1) (sym is) (is_bootable s own header mine correct)
 
 pub at_boot : (s : Scenario) (own : NodeSigner) (config : NodeConfig) → config ≡ config_of s own.node → IsOwn s own
     → booted_of config own 1 ≡ node_at_boot (setting_of s) own.node

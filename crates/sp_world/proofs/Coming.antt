@@ -3,14 +3,8 @@ use Rattle.std.proofs.Common.{◌≡◌, ℕ, zero, suc, ◌≤◌, List, [], �
 use Rattle.std.specs.Prelude.{IsTrue}
 use Rattle.std.proofs.lemmas.Option.{slice_get-get_or}
 use Rattle.sp_base.specs.declared.id.NodeId.{NodeId}
-use Rattle.sp_frame.specs.declared.frame.TheConstants.{MIN_FRAME_BYTES}
 use Rattle.sp_journal.specs.declared.entry.Entry.{Entry}
-use Rattle.sp_node_format.proofs.PolledFrames.{polled_is_read_back, signatures_are_short}
-use Rattle.sp_node_format.specs.Format.{format}
-use Rattle.sp_node_format.specs.PolledFrames.{most_signature}
 use Rattle.sp_rules.specs.Node.{NodeState}
-use Rattle.sp_rules.specs.Parts.{Fixed}
-use Rattle.sp_rules.specs.Polls.{frame_to}
 use Rattle.sp_rules.specs.Steps.{Datagram}
 use Rattle.sp_runs.specs.Inputs.{acting, flipped}
 use Rattle.sp_runs.specs.Runs.{IsMade, is_hop}
@@ -25,12 +19,13 @@ use Rattle.laws_runs.proofs.Counts.{frames_are_counted}
 use Rattle.laws_runs.proofs.Frames.{frames_are_made}
 use Rattle.laws_runs.proofs.Neighbours.{links_have_their_keys}
 use Rattle.laws_runs_format.proofs.ReadBack.{format_carries}
-use Rattle.laws_runs_format.proofs.Topologies.{topologies_fit}
+use Rattle.laws_runs_format.proofs.FrameLengths.{frames_have_their_length}
+use Rattle.laws_runs_format.specs.Arts.{arts_of}
+use Rattle.sp_world.proofs.Booting.{few_edges}
 use Rattle.sp_world.proofs.Standing.{at_first, fits}
 use Rattle.sp_world.specs.Stands.{CanCraft, IsAtFirst, IsEdgeOf, Stands}
 use Rattle.sp_world_steps.specs.Polls.{world_of}
 use Rattle.sp_world_steps.proofs.Among.{place_of_any}
-use Rattle.sp_node.proofs.Lengths.{opened_is_between}
 
 -- ---- a frame that was made
 
@@ -42,20 +37,13 @@ module _ (s : Scenario) (es : List Event) (js : List Entry) (w : World) (e : Eve
   pub frame_is_there : (u v : NodeId) (number : ℕ) → IsMade es u v number → frame_in w.directions u v number ≡ None → ⊥
   frame_is_there u v zero made none = let some = made.0 in absurd (omega (arith, some))
   frame_is_there u v (suc before) made none =
-      let counted = (frames_are_counted format (setting_of s) es js w st.clean).frames u v in
+      let counted = (frames_are_counted (arts_of (setting_of s)) (setting_of s) es js w st.clean).frames u v in
       let within = made.1 in
       made_is_there (frames_in w.directions u v) (suc before) made.0 (omega (arith, counted, within)) before refl none
 
-  made_is_long : (u v : NodeId) (place : ℕ) (bytes : List ℕ) → slice_get (frames_in w.directions u v) place ≡ Some bytes → MIN_FRAME_BYTES ≤ length bytes
-  made_is_long u v place bytes at =
-      let made = frames_are_made format (setting_of s) es js w (fits s es js w e st) format_carries st.clean u v place bytes at in
-      let short : made.node.fixed.signature_len ≤ most_signature = rw (ap (λ (f : Fixed). f.signature_len) made.fixed) (signatures_are_short s.height) in
-      let reads = (polled_is_read_back made.node v made.kept short made.neighbour).0 in
-      subst (λ (bs : List ℕ). MIN_FRAME_BYTES ≤ length bs) (sym made.frame) (opened_is_between (frame_to format made.node v) reads.opens).0
-
   pub frame_is_long : (u v : NodeId) (number : ℕ) (bytes : List ℕ) → frame_in w.directions u v number ≡ Some bytes → 64 ≤ length bytes
   frame_is_long u v zero bytes at = absurd (cc)
-  frame_is_long u v (suc before) bytes at = let long = made_is_long u v before bytes at in omega (arith, long)
+  frame_is_long u v (suc before) bytes at = let long = (frames_have_their_length s es js w st.header st.clean u v before bytes at).least in omega (arith, long)
 
 -- ---- by the event
 
@@ -94,17 +82,17 @@ flip_comes ds u v number back bit bytes is = go (frame_in ds u v number) is
 pub edge_there : (s : Scenario) (es : List Event) (js : List Entry) (w : World) (e : Event) → Stands s es js w e → (c v : NodeId) → IsTrue (is_hop (setting_of s) c v) → IsEdgeOf s c v
 edge_there s es js w e st c v hop =
     let place = place_of_any (joins c.0 v.0) s.graph.edges hop in
-    record { few = (topologies_fit s st.graph).graph.edge_count; edge = place.0; joined = place.1 }
+    record { few = few_edges s st.header; edge = place.0; joined = place.1 }
 
 pub can_craft : (s : Scenario) (es : List Event) (js : List Entry) (w : World) (e : Event) (st : Stands s es js w e) (c v : NodeId)
     → acting e ≡ v → IsTrue (is_hop (setting_of s) c v) → CanCraft s w.nodes c v
 can_craft s es js w e st c v acts hop =
     let edge = edge_there s es js w e st c v hop in
-    let first = subst (IsAtFirst w.nodes) acts (at_first s es js w e st) in
+    let first = subst (IsAtFirst s.format w.nodes) acts (at_first s es js w e st) in
     record {
       first = first;
       edge = edge;
-      keyed = links_have_their_keys format (setting_of s) es js w (fits s es js w e st) format_carries st.clean c v first.node edge.edge first.is_there edge.joined;
+      keyed = links_have_their_keys (arts_of (setting_of s)) (setting_of s) es js w (fits s es js w e st) (format_carries s.format) st.clean c v first.node edge.edge first.is_there edge.joined;
     }
 
 pub craft_may : (s : Scenario) (es : List Event) (js : List Entry) (nodes : List NodeState) (ds : List Direction) (e : Event) (c v key : NodeId) (object : CraftedObject)

@@ -8,7 +8,6 @@ use Rattle.std.proofs.lemmas.Option.{same_Some}
 use Rattle.std.specs.Prelude.{position}
 use Rattle.std.proofs.lemmas.Bool.Decides.{nat_tests}
 use Rattle.sp_base.proofs.RowLemmas.{first_where-put, first_where-put_other}
-use Rattle.sp_base.specs.declared.format.TheConstants.{FORMAT_1}
 use Rattle.sp_base.specs.declared.id.NodeId.{NodeId}
 use Rattle.sp_adversary.specs.Crafters.{Crafters, Used, is_used, most, used}
 use Rattle.sp_adversary.specs.Crafting.{AreAfter, Crafts, object_of, one_more}
@@ -16,7 +15,7 @@ use Rattle.sp_adversary.specs.declared.crafters.Crafted.TheVariants as answers
 use Rattle.sp_frame.specs.Sections.{Contents}
 use Rattle.sp_frame.specs.Writing.{IsWritable}
 use Rattle.sp_frame.specs.declared.head.Head.{Head}
-use Rattle.sp_msg.specs.Bodies.{HasGoodFields, encoded}
+use Rattle.sp_msg.specs.Bodies.{HasGoodFieldsIn, encoded_in}
 use Rattle.sp_msg.specs.declared.body.Body.{Body}
 use Rattle.sp_msg.specs.declared.kept.Kept.{Kept}
 use Rattle.sp_hss.proofs.Lengths.{length-front_of}
@@ -26,7 +25,8 @@ use Rattle.sp_lms.proofs.Validity as lms
 use Rattle.sp_lms.specs.Parameters.{leaf_count}
 use Rattle.sp_lms.specs.declared.param.LmsParam.{LmsParam}
 use Rattle.sp_node_format.proofs.PolledFrames.{signatures_are_short}
-use Rattle.sp_node_format.specs.Format.{format}
+use Rattle.laws_runs_format.specs.Arts.{arts_of}
+use Rattle.sp_node_format.specs.Format.{format_in}
 use Rattle.sp_ots.specs.declared.param.OtsParam.TheVariants.{W4}
 use Rattle.sp_rules.specs.Node.{NodeState, link_in}
 use Rattle.sp_rules.specs.Steps.{Datagram, Input}
@@ -89,6 +89,7 @@ not_of key (events.CraftStatus c v s d base have) none = refl
 
 pub after_other : (s : Scenario) (es : List Event) (e : Event) (c : Crafters) → IsNoCraft e → AreAfter s es c → AreAfter s (es ++ e ∷ []) c
 after_other s es e c none are = record {
+  format = are.format;
   height = are.height;
   seed = are.seed;
   counted = λ key. are.counted key ∙ ap (λ n. min n (most c)) (sym (crafts_more es key e ∙ rw (not_of key e none) (omega arith)));
@@ -105,7 +106,7 @@ one_id a b same = ap (λ (n : ℕ). id n) same
 -- the key has signed all that it may, and signs no more
 pub after_spent : (s : Scenario) (es : List Event) (c v key : NodeId) (object : CraftedObject) (cs : Crafters) → AreAfter s es cs → used cs key ≡ most cs
     → AreAfter s (es ++ events.Craft c v key object ∷ []) cs
-after_spent s es c v key object cs are full = record { height = are.height; seed = are.seed; counted = counted_more }
+after_spent s es c v key object cs are full = record { format = are.format; height = are.height; seed = are.seed; counted = counted_more }
   where
     counted_more : (k : NodeId) → used cs k ≡ min (crafts (es ++ events.Craft c v key object ∷ []) k) (most cs)
     counted_more k = elim (cases_Bool (eqb key.0 k.0)) [
@@ -123,7 +124,7 @@ after_spent s es c v key object cs are full = record { height = are.height; seed
 -- one more message was signed with the key
 pub after_signed : (s : Scenario) (es : List Event) (c v key : NodeId) (object : CraftedObject) (cs : Crafters) → AreAfter s es cs → used cs key < most cs
     → AreAfter s (es ++ events.Craft c v key object ∷ []) (one_more cs key)
-after_signed s es c v key object cs are room = record { height = are.height; seed = are.seed; counted = counted_more }
+after_signed s es c v key object cs are room = record { format = are.format; height = are.height; seed = are.seed; counted = counted_more }
   where
     row : Used
     row = record { key = key; count = used cs key + 1 }
@@ -164,20 +165,34 @@ spent_comes s es w c v key object cs count are full is =
     record { key = key; is_craft = refl; spent = omega (arith, before, full, whole); total_is = is ∙ whole }
 
 object_is : (s : Scenario) (es : List Event) (key : NodeId) (body : Body) (cs : Crafters) → AreAfter s es cs → used cs key < most cs
-    → object_of cs key body ≡ crafted_object format (setting_of s) es key body
+    → object_of cs key body ≡ crafted_object (arts_of (setting_of s)) (setting_of s) es key body
 object_is s es key body cs are room =
     let before = are.counted key in
     let count : used cs key ≡ crafts es key = omega (arith, before, room) in
-    rw (are.height, are.seed, count) refl
+    let signed_in : ℕ → LmsHeight → List ℕ → ℕ → Kept =
+    λ f h seed n. record { body = body; signature = (format_in f).sign h (node_seed seed key.0) n (encoded_in f body) } in
+    ap (λ (f : ℕ). signed_in f cs.height cs.seed (used cs key)) are.format
+    ∙ ap (λ (h : LmsHeight). signed_in s.format h cs.seed (used cs key)) are.height
+    ∙ ap (λ (seed : List ℕ). signed_in s.format s.height seed (used cs key)) are.seed
+    ∙ ap (λ (n : ℕ). signed_in s.format s.height s.seed n) count
 
 pub object_comes : (s : Scenario) (es : List Event) (w : World) (n : NodeState) (c v key : NodeId) (object : CraftedObject) (cs : Crafters) (bytes : List ℕ)
-    → AreAfter s es cs → used cs key < most cs → bytes ≡ crafted_frame format n c (object_alone (body_of object) (object_of cs key (body_of object)))
-    → input_of format (setting_of s) es w n (events.Craft c v key object) ≡ Some (Datagram c bytes)
+    → AreAfter s es cs → used cs key < most cs → bytes ≡ crafted_frame (arts_of (setting_of s)) n c (object_alone (body_of object) (object_of cs key (body_of object)))
+    → input_of (arts_of (setting_of s)) (setting_of s) es w n (events.Craft c v key object) ≡ Some (Datagram c bytes)
 object_comes s es w n c v key object cs bytes are room is =
     let before = are.counted key in
     let whole = total_is s es cs are in
     let within : nat_lt (crafts es key) (setting_of s).total ≡ true = grind (arith, nat_tests, before, whole, room) in
     rw (within, is, object_is s es key (body_of object) cs are room) refl
+
+-- ---- the format of crafts
+
+-- crafting signers keep the format of the scenario
+pub same_format : (s : Scenario) (es : List Event) (cs : Crafters) → AreAfter s es cs → cs.format ≡ s.format
+same_format s es cs are = are.format
+
+pub good_in : (format other : ℕ) (body : Body) → other ≡ format → HasGoodFieldsIn format body → HasGoodFieldsIn other body
+good_in format other body same good = subst (λ (f : ℕ). HasGoodFieldsIn f body) (sym same) good
 
 -- ---- what is signed can be written
 
@@ -193,9 +208,9 @@ signature_long h seed index message =
       lms.length-signature h W4 (tree_id seed (Lower t)) (tree_seed seed (Lower t)) q message,
     )
 
-pub object_is_writable : (cs : Crafters) (key : NodeId) (body : Body) → HasGoodFields body → IsWritable FORMAT_1 (object_of cs key body)
+pub object_is_writable : (cs : Crafters) (key : NodeId) (body : Body) → HasGoodFieldsIn cs.format body → IsWritable cs.format (object_of cs key body)
 object_is_writable cs key body good =
-    let long = signature_long (param_of cs.height) (node_seed cs.seed key.0) (used cs key) (encoded body) in
+    let long = signature_long (param_of cs.height) (node_seed cs.seed key.0) (used cs key) (encoded_in cs.format body) in
     let short = signatures_are_short cs.height in
     record { fields = good; short = omega (arith, long, short) }
 
@@ -215,43 +230,47 @@ pub spent_is : (s : Scenario) (es : List Event) (c v key : NodeId) (object : Cra
     → Crafts old key (body_of object) (Ok (answers.Spent count)) new → IsSpent (setting_of s) es (events.Craft c v key object) count
 spent_is s es c v key object count old new are done = spent_comes s es (at_start (setting_of s)) c v key object old count are done.0 done.1
 
-pub object_writable : (key : NodeId) (body : Body) (object : Kept) (old new : Crafters) → HasGoodFields body
-    → Crafts old key body (Ok (answers.Signed object)) new → IsWritable FORMAT_1 object
-object_writable key body object old new good done = subst (IsWritable FORMAT_1) (sym done.1) (object_is_writable old key body good)
+pub object_writable : (s : Scenario) (head : Head) (key : NodeId) (body : Body) (object : Kept) (old new : Crafters) → old.format ≡ s.format
+    → head.format ≡ s.format → HasGoodFieldsIn s.format body → Crafts old key body (Ok (answers.Signed object)) new → IsWritable head.format object
+object_writable s head key body object old new of_format said good done =
+    let fields = good_in s.format old.format body of_format good in
+    let written = subst (IsWritable old.format) (sym done.1) (object_is_writable old key body fields) in
+    subst (λ (format : ℕ). IsWritable format object) (of_format ∙ sym said) written
 
 -- ---- the head and the key of a crafted frame
 
-pub head_is : (nodes : List NodeState) (c v : NodeId) (n : NodeState) (counter : ℕ) (head : Head) → IsAtFirst nodes v → node_in nodes v ≡ Some n
-    → counter ≡ (link_in n c).seen.1 → head ≡ record { from = c; to = v; boot = 1; echo = 1; counter = counter_after counter; topology = 1; format = FORMAT_1 }
+pub head_is : (format : ℕ) (nodes : List NodeState) (c v : NodeId) (n : NodeState) (counter : ℕ) (head : Head) → IsAtFirst format nodes v → node_in nodes v ≡ Some n
+    → counter ≡ (link_in n c).seen.1 → head ≡ record { from = c; to = v; boot = 1; echo = 1; counter = counter_after counter; topology = 1; format = format }
     → head ≡ crafted_head n c
-head_is nodes c v n counter head first there seen is =
+head_is format nodes c v n counter head first there seen is =
     let same : first.node ≡ n = same_Some first.node n (sym first.is_there ∙ there) in
     let me : n.fixed.me ≡ v = subst (λ (m : NodeState). m.fixed.me ≡ v) same first.me in
     let boot : n.fixed.boot ≡ 1 = subst (λ (m : NodeState). m.fixed.boot ≡ 1) same first.boot in
     let version : n.fixed.topology.version ≡ 1 = subst (λ (m : NodeState). m.fixed.topology.version ≡ 1) same first.version in
-    rw (is, seen, me, boot, version) refl
+    let of_format : n.fixed.topology.format ≡ format = subst (λ (m : NodeState). m.fixed.topology.format ≡ format) same first.of_format in
+    rw (is, seen, me, boot, version, of_format) refl
 
 -- a frame under the key of the edge is the one that the rules of runs say
 pub frame_is : (s : Scenario) (nodes : List NodeState) (c v : NodeId) (n : NodeState) (head : Head) (key bytes : List ℕ) (contents : Contents)
     → CanCraft s nodes c v → node_in nodes v ≡ Some n → head ≡ crafted_head n c
     → ((edge : ℕ) → position (joins c.0 v.0) s.graph.edges ≡ Some edge → key ≡ edge_key s.seed edge)
-    → bytes ≡ sealed_frame format head key contents → bytes ≡ crafted_frame format n c contents
+    → bytes ≡ sealed_frame (format_in head.format) head key contents → bytes ≡ crafted_frame (arts_of (setting_of s)) n c contents
 frame_is s nodes c v n head key bytes contents can there head_is key_is is =
     let same : can.first.node ≡ n = same_Some can.first.node n (sym can.first.is_there ∙ there) in
     let keyed : (link_in n c).key ≡ edge_key s.seed can.edge.edge = subst (λ (m : NodeState). (link_in m c).key ≡ edge_key s.seed can.edge.edge) same can.keyed in
     let mine : key ≡ (link_in n c).key = key_is can.edge.edge can.edge.joined ∙ sym keyed in
-    is ∙ ap₂ (λ (h : Head) (k : List ℕ). sealed_frame format h k contents) head_is mine
+    is ∙ ap₂ (λ (h : Head) (k : List ℕ). sealed_frame (arts_of (setting_of s)) h k contents) head_is mine
 
 pub signed_comes : (s : Scenario) (es : List Event) (nodes : List NodeState) (ds : List Direction) (c v key : NodeId) (object : CraftedObject) (signed : Kept) (old new : Crafters)
     (head : Head) (tag_key bytes : List ℕ) → CanCraft s nodes c v → AreAfter s es old → Crafts old key (body_of object) (Ok (answers.Signed signed)) new
     → ((n : NodeState) → node_in nodes v ≡ Some n → head ≡ crafted_head n c)
     → ((edge : ℕ) → position (joins c.0 v.0) s.graph.edges ≡ Some edge → tag_key ≡ edge_key s.seed edge)
-    → bytes ≡ sealed_frame format head tag_key (object_alone signed.body signed)
-    → (n : NodeState) → node_in nodes v ≡ Some n → input_of format (setting_of s) es (world_of nodes ds) n (events.Craft c v key object) ≡ Some (Datagram c bytes)
+    → bytes ≡ sealed_frame (format_in head.format) head tag_key (object_alone signed.body signed)
+    → (n : NodeState) → node_in nodes v ≡ Some n → input_of (arts_of (setting_of s)) (setting_of s) es (world_of nodes ds) n (events.Craft c v key object) ≡ Some (Datagram c bytes)
 signed_comes s es nodes ds c v key object signed old new head tag_key bytes can are done heads keys is n there =
     let made = frame_is s nodes c v n head tag_key bytes (object_alone signed.body signed) can there (heads n there) keys is in
     let mine : object_alone signed.body signed ≡ object_alone (body_of object) (object_of old key (body_of object)) = ap (λ (o : Kept). object_alone o.body o) done.1 in
-    object_comes s es (world_of nodes ds) n c v key object old bytes are done.0 (made ∙ ap (crafted_frame format n c) mine)
+    object_comes s es (world_of nodes ds) n c v key object old bytes are done.0 (made ∙ ap (crafted_frame (arts_of (setting_of s)) n c) mine)
 
 -- ---- what is asked is no craft
 

@@ -4,9 +4,11 @@ use Rattle.std.proofs.lemmas.Option.{same_Some}
 use Rattle.sp_base.specs.declared.id.NodeId.{NodeId}
 use Rattle.sp_journal.specs.declared.entry.Entry.{Entry}
 use Rattle.sp_journal.specs.declared.entry.Reply.TheVariants as replies
-use Rattle.sp_node_format.specs.Format.{format}
+use Rattle.laws_runs_format.specs.Arts.{arts_of}
+use Rattle.sp_node_format.specs.Format.{format_of}
 use Rattle.sp_rules.specs.Node.{NodeState}
-use Rattle.sp_rules.specs.Steps.{Datagram, Frame, Input, Output, Poll, Reply, SendPrio, SendRel, SetWeight, TakePrio, TakeRel, Tick, replied}
+use Rattle.sp_rules.specs.Parts.{Fixed}
+use Rattle.sp_rules.specs.Steps.{Datagram, Frame, Input, NodeStep, Output, Poll, Reply, SendPrio, SendRel, SetWeight, TakePrio, TakeRel, Tick, replied}
 use Rattle.sp_runs.specs.Forgery.{forged, has_forged_tag}
 use Rattle.sp_runs.specs.Inputs.{acting}
 use Rattle.sp_runs.specs.Journals.{Says}
@@ -18,10 +20,10 @@ use Rattle.sp_runs.specs.Worlds.{Direction, World, with_node}
 use Rattle.sp_schedule_events.specs.declared.event.Event.{Event}
 use Rattle.sp_schedule_events.specs.declared.event.Event.TheVariants as events
 use Rattle.sp_schedule_events.specs.declared.scenario.Scenario.{Scenario}
-use Rattle.sp_world.proofs.Standing.{asked_reaches}
+use Rattle.sp_world.proofs.Standing.{asked_reaches, fixed_is}
 use Rattle.sp_world.specs.Arrivals.{Arrives}
 use Rattle.sp_world_steps.specs.Polls.{IsPolled}
-use Rattle.sp_world.specs.Stands.{Comes, ComesTo, IsArrival, IsSpent, IsTold, sender}
+use Rattle.sp_world.specs.Stands.{Comes, ComesTo, IsArrival, IsSpent, IsTold, Stands, sender}
 use Rattle.sp_world_steps.specs.Polls.{world_of}
 use Rattle.sp_world.specs.declared.acts.Done.{Done}
 use Rattle.sp_world.specs.declared.acts.Done.TheVariants as dones
@@ -60,13 +62,13 @@ asked_keeps_frames ds (events.Inject u v bytes) input reply is = refl
 asked_keeps_frames ds (events.Craft c v key body) input reply is = refl
 asked_keeps_frames ds (events.CraftStatus c v s d base have) input reply is = refl
 
-no_tag : (x : Setting) (w : World) (n : NodeState) (e : Event) (input : Input) → asked e ≡ Some input → has_forged_tag format x w n input ≡ false
-no_tag x w n (events.Rel s d payload) input is = subst (λ (i : Input). has_forged_tag format x w n i ≡ false) (same_Some (SendRel d payload) input is) refl
-no_tag x w n (events.Prio s d prio expiry paths payload) input is = subst (λ (i : Input). has_forged_tag format x w n i ≡ false) (same_Some (SendPrio (record { dst = d; prio = prio; expiry = expiry; paths = paths; payload = payload })) input is) refl
-no_tag x w n (events.Take d s) input is = subst (λ (i : Input). has_forged_tag format x w n i ≡ false) (same_Some (TakeRel s) input is) refl
-no_tag x w n (events.TakePrio d) input is = subst (λ (i : Input). has_forged_tag format x w n i ≡ false) (same_Some TakePrio input is) refl
-no_tag x w n (events.Tick u now) input is = subst (λ (i : Input). has_forged_tag format x w n i ≡ false) (same_Some (Tick now) input is) refl
-no_tag x w n (events.Weight u v weight) input is = subst (λ (i : Input). has_forged_tag format x w n i ≡ false) (same_Some (SetWeight v weight) input is) refl
+no_tag : (x : Setting) (w : World) (n : NodeState) (e : Event) (input : Input) → asked e ≡ Some input → has_forged_tag (arts_of x) x w n input ≡ false
+no_tag x w n (events.Rel s d payload) input is = subst (λ (i : Input). has_forged_tag (arts_of x) x w n i ≡ false) (same_Some (SendRel d payload) input is) refl
+no_tag x w n (events.Prio s d prio expiry paths payload) input is = subst (λ (i : Input). has_forged_tag (arts_of x) x w n i ≡ false) (same_Some (SendPrio (record { dst = d; prio = prio; expiry = expiry; paths = paths; payload = payload })) input is) refl
+no_tag x w n (events.Take d s) input is = subst (λ (i : Input). has_forged_tag (arts_of x) x w n i ≡ false) (same_Some (TakeRel s) input is) refl
+no_tag x w n (events.TakePrio d) input is = subst (λ (i : Input). has_forged_tag (arts_of x) x w n i ≡ false) (same_Some TakePrio input is) refl
+no_tag x w n (events.Tick u now) input is = subst (λ (i : Input). has_forged_tag (arts_of x) x w n i ≡ false) (same_Some (Tick now) input is) refl
+no_tag x w n (events.Weight u v weight) input is = subst (λ (i : Input). has_forged_tag (arts_of x) x w n i ≡ false) (same_Some (SetWeight v weight) input is) refl
 no_tag x w n (events.Poll u v) input is = absurd (cc)
 no_tag x w n (events.Pass u v number) input is = absurd (cc)
 no_tag x w n (events.Flip u v number back bit) input is = absurd (cc)
@@ -75,12 +77,12 @@ no_tag x w n (events.Craft c v key body) input is = absurd (cc)
 no_tag x w n (events.CraftStatus c v s d base have) input is = absurd (cc)
 
 nothing_forged : (x : Setting) (es : List Event) (js : List Entry) (w : World) (n : NodeState) (input : Input) (output : Output)
-    → has_forged_tag format x w n input ≡ false → output.answered ≡ [] → forged format x es js w n input output ≡ None
+    → has_forged_tag (arts_of x) x w n input ≡ false → output.answered ≡ [] → forged (arts_of x) x es js w n input output ≡ None
 nothing_forged x es js w n input output untagged none = rw (untagged, none) refl
 
 pub asked_is_told : (s : Scenario) (es : List Event) (js : List Entry) (nodes after : List NodeState) (ds : List Direction) (e : Event) (entry : Entry)
-    → AskedAmong nodes e entry after → IsTold (setting_of s) es js (world_of nodes ds) e entry (world_of after ds)
-asked_is_told s es js nodes after ds e entry a =
+    → Stands s es js (world_of nodes ds) e → AskedAmong nodes e entry after → IsTold (setting_of s) es js (world_of nodes ds) e entry (world_of after ds)
+asked_is_told s es js nodes after ds e entry st a =
     let input = a.gave.input in
     let output = a.gave.gave.output in
     record {
@@ -91,7 +93,9 @@ asked_is_told s es js nodes after ds e entry a =
         reaches = asked_reaches (setting_of s) es (world_of nodes ds) a.old e input a.gave.asks;
         output = output;
         after = a.new;
-        step = a.gave.gave.step;
+        step =
+            subst (λ (f : Fixed). NodeStep (format_of f) a.old input output a.new)
+            (fixed_is s es js (world_of nodes ds) e st (acting e) a.old a.is_there) a.gave.gave.step;
         journal = subst (λ (k : ℕ). Says (setting_of s) k output entry) (sym (asked_is_no_poll (world_of nodes ds) e input a.gave.asks)) (a.gave.gave.tells s);
         world =
             ap₂ (λ (ns : List NodeState) (rows : List Direction). world_of ns rows) a.nodes_are
@@ -102,9 +106,10 @@ asked_is_told s es js nodes after ds e entry a =
 
 -- ---- a poll
 
-pub polled_is_told : (s : Scenario) (es : List Event) (js : List Entry) (w new : World) (u v : NodeId) (entry : Entry) → IsPolled w u v entry new
+pub polled_is_told : (s : Scenario) (es : List Event) (js : List Entry) (w new : World) (u v : NodeId) (entry : Entry) → Stands s es js w (events.Poll u v)
+    → IsPolled w u v entry new
     → IsTold (setting_of s) es js w (events.Poll u v) entry new
-polled_is_told s es js w new u v entry p = record {
+polled_is_told s es js w new u v entry st p = record {
   turn = runs.Moves (record {
     node = p.old;
     is_there = p.is_there;
@@ -112,7 +117,9 @@ polled_is_told s es js w new u v entry p = record {
     reaches = refl;
     output = replied (Frame p.bytes);
     after = p.after;
-    step = p.step;
+    step =
+        subst (λ (f : Fixed). NodeStep (format_of f) p.old (Poll v) (replied (Frame p.bytes)) p.after)
+        (fixed_is s es js w (events.Poll u v) st u p.old p.is_there) p.step;
     journal = p.tells s;
     world = p.world_is;
   });
@@ -120,11 +127,11 @@ polled_is_told s es js w new u v entry p = record {
 }
 
 pub poll_comes_to : (s : Scenario) (es : List Event) (js : List Entry) (nodes after : List NodeState) (ds kept : List Direction) (e : Event) (u v : NodeId) (entry : Entry)
-    → IsPolled (world_of nodes ds) u v entry (world_of after kept) → e ≡ events.Poll u v
+    → Stands s es js (world_of nodes ds) e → IsPolled (world_of nodes ds) u v entry (world_of after kept) → e ≡ events.Poll u v
     → IsTold (setting_of s) es js (world_of nodes ds) e entry (world_of after kept)
-poll_comes_to s es js nodes after ds kept e u v entry p is =
+poll_comes_to s es js nodes after ds kept e u v entry st p is =
     subst (λ (f : Event). IsTold (setting_of s) es js (world_of nodes ds) f entry (world_of after kept)) (sym is)
-    (polled_is_told s es js (world_of nodes ds) (world_of after kept) u v entry p)
+    (polled_is_told s es js (world_of nodes ds) (world_of after kept) u v entry (subst (Stands s es js (world_of nodes ds)) is st) p)
 
 -- ---- bytes that come
 

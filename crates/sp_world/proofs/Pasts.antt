@@ -3,14 +3,12 @@ use Rattle.std.proofs.Common.{◌≡◌, ℕ, List, [], ◌∷◌, ◌++◌, Opt
 use Rattle.sp_adversary.specs.Crafters.{Crafters}
 use Rattle.sp_adversary.specs.Crafting.{AreAfter, no_crafts}
 use Rattle.sp_base.specs.declared.limits.TheConstants.{MAX_EVENTS}
-use Rattle.sp_base.specs.declared.format.TheConstants.{FORMAT_1}
-use Rattle.sp_graph.specs.Edges.{IsGraphIn}
 use Rattle.sp_journal.specs.declared.entry.Entry.{Entry}
-use Rattle.sp_node_format.specs.Format.{format}
+use Rattle.laws_runs_format.specs.Arts.{arts_of}
 use Rattle.sp_runs.specs.Inputs.{acting}
 use Rattle.sp_runs.specs.Runs as runs
 use Rattle.sp_runs.specs.Runs.{Clean, InRange, Turn}
-use Rattle.sp_runs.specs.Scenarios.{setting_of}
+use Rattle.sp_runs.specs.Scenarios.{IsHeader, setting_of}
 use Rattle.sp_rules.specs.Node.{NodeState}
 use Rattle.sp_runs.specs.Settings.{correct_nodes, node_at_boot}
 use Rattle.sp_runs.specs.Worlds.{Direction, World, at_start}
@@ -37,8 +35,8 @@ never x is = cc
 pub stands : (s : Scenario) (es : List Event) (js : List Entry) (w : World) (e : Event) (len : ℕ) (c : Crafters) (t : Option WorldRefused)
     → IsKept (record { scenario = s; events = es; journal = js; world = w; stopped = t }) len c → t ≡ None → InRange (setting_of s) es e → length es < MAX_EVENTS → Stands s es js w e
 stands s es js w e len c t kept is range few = record {
-  graph = kept.past.graph;
-  clean = subst (λ (v : World). Clean format (setting_of s) es js v) (sym (subst (λ (u : Option WorldRefused). IsLeft u kept.past.last w) is kept.past.left)) kept.past.clean;
+  header = kept.past.header;
+  clean = subst (λ (v : World). Clean (arts_of (setting_of s)) (setting_of s) es js v) (sym (subst (λ (u : Option WorldRefused). IsLeft u kept.past.last w) is kept.past.left)) kept.past.clean;
   range = range;
   few = few;
 }
@@ -49,7 +47,7 @@ pub kept_on : (s : Scenario) (es es' : List Event) (js js' : List Entry) (w w' :
     → IsKept (going s es' js' w') len c'
 kept_on s es es' js js' w w' e j len c c' t kept st told crafted events_are journal_is = rw (events_are, journal_is) (record {
   past = record {
-    graph = st.graph;
+    header = st.header;
     last = w';
     clean = runs.Turned st.clean st.range told.turn told.unforged;
     left = refl;
@@ -66,7 +64,7 @@ kept_forged s es es' js js' w w' e number what len c c' t kept going gone events
     let same : w ≡ kept.past.last = subst (λ (u : Option WorldRefused). IsLeft u kept.past.last w) going kept.past.left in
     rw (events_are, journal_is) (record {
       past = record {
-        graph = kept.past.graph;
+        header = kept.past.header;
         last = kept.past.last;
         clean = kept.past.clean;
         left = (acting e, gone ∙ ap (λ (v : World). without v (acting e)) same);
@@ -89,16 +87,16 @@ goes_on s es es' js js' w w' e j told events_are journal_is = record {
 }
 
 -- before the first event
-pub kept_at_first : (s : Scenario) (nodes : List NodeState) (ds : List Direction) (len : ℕ) (c : Crafters) → IsGraphIn FORMAT_1 s.graph
+pub kept_at_first : (s : Scenario) (nodes : List NodeState) (ds : List Direction) (len : ℕ) (c : Crafters) → IsHeader s
     → nodes ≡ map (node_at_boot (setting_of s)) (correct_nodes (setting_of s)) → ds ≡ [] → len ≡ (setting_of s).signature_len → c ≡ no_crafts s
     → IsKept (going s [] [] (record { nodes = nodes; directions = ds })) len c
-kept_at_first s nodes ds len c graph booted none long fresh = rw (booted, none, fresh) (record {
+kept_at_first s nodes ds len c header booted none long fresh = rw (booted, none, fresh) (record {
   past = record {
-    graph = graph;
+    header = header;
     last = at_start (setting_of s);
     clean = runs.Starts;
     left = refl;
   };
   long = long;
-  crafters = λ is. record { height = refl; seed = refl; counted = λ key. omega arith };
+  crafters = λ is. record { format = refl; height = refl; seed = refl; counted = λ key. omega arith };
 })

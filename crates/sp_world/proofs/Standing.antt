@@ -5,11 +5,11 @@ use Rattle.std.proofs.lemmas.List.Sums.{count_by-le-length}
 use Rattle.sp_base.specs.declared.id.NodeId.{NodeId}
 use Rattle.sp_journal.specs.declared.entry.Entry.{Entry}
 use Rattle.sp_node_format.proofs.PolledFrames.{signatures_are_short}
-use Rattle.sp_node_format.specs.Format.{format}
+use Rattle.sp_node_format.specs.Format.{format_of}
 use Rattle.sp_node_format.specs.PolledFrames.{most_signature}
 use Rattle.sp_rules.specs.Node.{NodeState}
 use Rattle.sp_rules.specs.Parts.{Fixed}
-use Rattle.sp_rules.specs.Steps.{Input}
+use Rattle.sp_rules.specs.Steps.{Input, NodeStep}
 use Rattle.sp_runs.specs.Inputs.{acting, input_of}
 use Rattle.sp_runs.specs.Runs.{InRange, is_hop, is_poll, polls}
 use Rattle.sp_runs.specs.Scenarios.{setting_of}
@@ -23,6 +23,7 @@ use Rattle.laws_runs.proofs.Neighbours.{hop_back}
 use Rattle.laws_runs.proofs.There.{correct_nodes_are_there}
 use Rattle.laws_runs.proofs.Words.{each_reply_has_words, neighbours_are_answered}
 use Rattle.laws_runs.specs.States.{NodeClaims}
+use Rattle.laws_runs_format.specs.Arts.{arts_of}
 use Rattle.laws_runs_format.proofs.Headers.{headers_fit}
 use Rattle.laws_runs_format.proofs.ReadBack.{format_carries}
 use Rattle.sp_world.specs.Arrivals.{CanHear}
@@ -63,7 +64,7 @@ sender_is_near x es (events.Poll u v) is range = absurd is
 
 -- what is asked is what reaches the node
 pub asked_reaches : (x : Setting) (es : List Event) (w : World) (n : NodeState) (e : Event) (input : Input) → asked e ≡ Some input
-    → input_of format x es w n e ≡ Some input
+    → input_of (arts_of x) x es w n e ≡ Some input
 asked_reaches x es w n (events.Rel s d payload) input is = is
 asked_reaches x es w n (events.Prio s d prio expiry paths payload) input is = is
 asked_reaches x es w n (events.Take d s) input is = is
@@ -81,17 +82,17 @@ module _ (s : Scenario) (es : List Event) (js : List Entry) (w : World) (e : Eve
   abbrev x : Setting
   x = setting_of s
 
-  pub fits : SettingFits format (setting_of s)
-  fits = headers_fit s st.graph
+  pub fits : SettingFits (arts_of (setting_of s)) (setting_of s)
+  fits = headers_fit s st.header
 
   few_calls : length es < 2 ^ 60
   few_calls = let few = st.few in omega (arith, few)
 
   claims : NodeClaims (setting_of s) w
-  claims = correct_nodes_are_there format (setting_of s) es js w fits format_carries st.clean
+  claims = correct_nodes_are_there (arts_of (setting_of s)) (setting_of s) es js w fits (format_carries s.format) st.clean
 
   pub even : length es ≡ length js
-  even = (frames_are_counted format (setting_of s) es js w st.clean).entries
+  even = (frames_are_counted (arts_of (setting_of s)) (setting_of s) es js w st.clean).entries
 
   -- ---- the node that acts
 
@@ -118,8 +119,9 @@ module _ (s : Scenario) (es : List Event) (js : List Entry) (w : World) (e : Eve
       words = λ input is. record {
         setting = setting_of s;
         words = λ output after step.
-            each_reply_has_words format (setting_of s) es js w fits format_carries st.clean few_calls e actor.0 after input output st.range actor.1
-            (asked_reaches (setting_of s) es w actor.0 e input is) step 0;
+            each_reply_has_words (arts_of (setting_of s)) (setting_of s) es js w fits (format_carries s.format) st.clean few_calls e actor.0 after input output st.range actor.1
+            (asked_reaches (setting_of s) es w actor.0 e input is)
+            (subst (λ (f : Fixed). NodeStep (format_of f) actor.0 input output after) (fixed_is (acting e) actor.0 actor.1) step) 0;
       };
     };
   }
@@ -130,25 +132,27 @@ module _ (s : Scenario) (es : List Event) (js : List Entry) (w : World) (e : Eve
   can_call u v n at hop = record {
     node = n;
     is_there = at;
-    answers = neighbours_are_answered format (setting_of s) es js w fits format_carries st.clean few_calls u v n at hop;
+    answers = neighbours_are_answered (arts_of (setting_of s)) (setting_of s) es js w fits (format_carries s.format) st.clean few_calls u v n at hop;
     short = is_short u n at;
   }
 
-  pub can_hear : IsArrival e → CanHear (setting_of s).signature_len w.nodes (acting e) (sender e)
+  pub can_hear : IsArrival e → CanHear s.format (setting_of s).signature_len w.nodes (acting e) (sender e)
   unfolding can_call actor
   can_hear is = record {
     call = can_call (acting e) (sender e) actor.0 actor.1 (subst IsTrue (hop_back (setting_of s) (sender e) (acting e)) (sender_is_near (setting_of s) es e is st.range));
     me = ap (λ (f : Fixed). f.me) (fixed_is (acting e) actor.0 actor.1);
+    of_format = ap (λ (f : Fixed). f.topology.format) (fixed_is (acting e) actor.0 actor.1);
     long = ap (λ (f : Fixed). f.signature_len) (fixed_is (acting e) actor.0 actor.1);
   }
 
-  pub at_first : IsAtFirst w.nodes (acting e)
+  pub at_first : IsAtFirst s.format w.nodes (acting e)
   at_first = record {
     node = actor.0;
     is_there = actor.1;
     me = ap (λ (f : Fixed). f.me) (fixed_is (acting e) actor.0 actor.1);
     boot = ap (λ (f : Fixed). f.boot) (fixed_is (acting e) actor.0 actor.1);
     version = ap (λ (f : Fixed). f.topology.version) (fixed_is (acting e) actor.0 actor.1);
+    of_format = ap (λ (f : Fixed). f.topology.format) (fixed_is (acting e) actor.0 actor.1);
   }
 
 -- ---- a poll
@@ -162,7 +166,7 @@ polls_are_few es u v = count_by-le-length (is_poll u v) es
 pub few_frames : (s : Scenario) (es : List Event) (js : List Entry) (w : World) (e : Event) (u v : NodeId) → Stands s es js w e
     → length (frames_in w.directions u v) + 1 < 2 ^ 32
 few_frames s es js w e u v st =
-    let counted = (frames_are_counted format (setting_of s) es js w st.clean).frames u v in
+    let counted = (frames_are_counted (arts_of (setting_of s)) (setting_of s) es js w st.clean).frames u v in
     let most = polls_are_few es u v in
     let few = st.few in
     omega (arith, counted, most, few)

@@ -1,8 +1,8 @@
 -- A datagram that arrives at one node among all.
 use Rattle.std.specs.Prelude.{ℕ, ◌≡◌, List, None, Some}
 use Rattle.sp_base.specs.declared.id.NodeId.{NodeId}
+use Rattle.laws_runs_format.specs.Arts.{arts_of}
 use Rattle.sp_journal.specs.declared.entry.Entry.{Entry}
-use Rattle.sp_node_format.specs.Format.{format}
 use Rattle.sp_rules.specs.Node.{NodeState}
 use Rattle.sp_rules.specs.Steps.{Datagram, NodeStep, Output}
 use Rattle.sp_runs.specs.Forgery.{forged}
@@ -16,10 +16,11 @@ use Rattle.sp_world.specs.declared.acts.Done.{Done}
 use Rattle.sp_world.specs.declared.acts.Done.TheVariants as dones
 use Rattle.sp_world_steps.specs.Members.{CanCall, without_node}
 
--- v is there, answers u, and its signatures have this length
-pub record CanHear (len : ℕ) (nodes : List NodeState) (v u : NodeId) : Type 0 where
+-- v is there, answers u, and is of this format, with signatures of this length
+pub record CanHear (format len : ℕ) (nodes : List NodeState) (v u : NodeId) : Type 0 where
   pub call : CanCall nodes v u
   pub me : call.node.fixed.me ≡ v
+  pub of_format : call.node.fixed.topology.format ≡ format
   pub long : call.node.fixed.signature_len ≡ len
 
 -- v took it, its entry tells it, and nothing of it is forged
@@ -29,9 +30,9 @@ pub record IsHeard (s : Scenario) (es : List Event) (js : List Entry) (w : World
   pub new : NodeState
   pub output : Output
   pub is_there : node_in w.nodes v ≡ Some old
-  pub step : NodeStep format old (Datagram u bytes) output new
+  pub step : NodeStep (arts_of (setting_of s)) old (Datagram u bytes) output new
   pub says : Says (setting_of s) 0 output entry
-  pub unforged : forged format (setting_of s) es js w old (Datagram u bytes) output ≡ None
+  pub unforged : forged (arts_of (setting_of s)) (setting_of s) es js w old (Datagram u bytes) output ≡ None
   pub nodes_are : after ≡ with_node w.nodes v new
 
 -- v took it, this of it is forged, and v is gone
@@ -42,9 +43,9 @@ pub record IsFound (s : Scenario) (es : List Event) (js : List Entry) (w : World
   pub output : Output
   pub entry : Entry
   pub is_there : node_in w.nodes v ≡ Some old
-  pub step : NodeStep format old (Datagram u bytes) output new
+  pub step : NodeStep (arts_of (setting_of s)) old (Datagram u bytes) output new
   pub says : Says (setting_of s) 0 output entry
-  pub found : forged format (setting_of s) es js w old (Datagram u bytes) output ≡ Some what
+  pub found : forged (arts_of (setting_of s)) (setting_of s) es js w old (Datagram u bytes) output ≡ Some what
   pub nodes_are : after ≡ without_node w.nodes v
 
 abbrev pub Arrives : Scenario → List Event → List Entry → World → (u v : NodeId) → List ℕ → Done → List NodeState → Type 0

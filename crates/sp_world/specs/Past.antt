@@ -1,13 +1,11 @@
 -- What a world keeps, and what an event makes of it.
 use Rattle.std.specs.Prelude.{ℕ, ◌≡◌, ◌⊎◌, ◌+◌, List, [], ◌∷◌, ◌++◌, length, Option, None, Some}
 use Rattle.sp_base.specs.declared.id.NodeId.{NodeId}
-use Rattle.sp_base.specs.declared.format.TheConstants.{FORMAT_1}
-use Rattle.sp_graph.specs.Edges.{IsGraphIn}
+use Rattle.laws_runs_format.specs.Arts.{arts_of}
 use Rattle.sp_journal.specs.declared.entry.Entry.{Entry}
-use Rattle.sp_node_format.specs.Format.{format}
 use Rattle.sp_runs.specs.Inputs.{acting}
 use Rattle.sp_runs.specs.Runs.{Clean, IsForgedAt, Turn, forged_in}
-use Rattle.sp_runs.specs.Scenarios.{setting_of}
+use Rattle.sp_runs.specs.Scenarios.{IsHeader, setting_of}
 use Rattle.sp_runs.specs.Worlds.{World, at_start}
 use Rattle.sp_runs.specs.declared.what.What.{What}
 use Rattle.sp_schedule_events.specs.declared.event.Event.{Event}
@@ -41,9 +39,9 @@ IsLeft (Some (refusals.Forged number what)) last now = (u : NodeId) × (now ≡ 
 -- The events are a run in which nothing is forged, and the entries are its journal. The nodes and frames are those at the end of the run, also
 -- where the world has stopped for want of memory. Where something of the next event is forged, the node that acted in it is gone.
 pub record IsPast (p : Past) : Type 0 where
-  pub graph : IsGraphIn FORMAT_1 p.scenario.graph
+  pub header : IsHeader p.scenario
   pub last : World
-  pub clean : Clean format (setting_of p.scenario) p.events p.journal last
+  pub clean : Clean (arts_of (setting_of p.scenario)) (setting_of p.scenario) p.events p.journal last
   pub left : IsLeft p.stopped last p.world
 
 -- ---- one event
@@ -56,13 +54,14 @@ pub record GoesOn (old : Past) (event : Event) (new : Past) : Type 0 where
   pub events : new.events ≡ old.events ++ event ∷ []
   pub journal : new.journal ≡ old.journal ++ entry ∷ []
   pub going : new.stopped ≡ None
-  pub turn : Turn format (setting_of old.scenario) old.events old.world event entry new.world
-  pub unforged : forged_in format (setting_of old.scenario) old.events old.journal old.world event entry new.world turn ≡ None
+  pub turn : Turn (arts_of (setting_of old.scenario)) (setting_of old.scenario) old.events old.world event entry new.world
+  pub unforged :
+      forged_in (arts_of (setting_of old.scenario)) (setting_of old.scenario) old.events old.journal old.world event entry new.world turn ≡ None
 
 -- This of it is forged, and it has the number after those that were done. The node that acts is gone; the other nodes and all frames stay.
 pub record IsForged (old : Past) (event : Event) (number : ℕ) (what : What) (new : Past) : Type 0 where
   pub counted : number ≡ length old.events + 1
-  pub forged : IsForgedAt format (setting_of old.scenario) old.events old.journal old.world event what
+  pub forged : IsForgedAt (arts_of (setting_of old.scenario)) (setting_of old.scenario) old.events old.journal old.world event what
   pub stopped : new.stopped ≡ Some (refusals.Forged number what)
   pub world : new.world ≡ without old.world (acting event)
 

@@ -1,16 +1,14 @@
 -- A run, and one more event in its range.
 use Rattle.std.specs.Prelude.{ℕ, ◌≡◌, ◌≤◌, ◌<◌, List, None, Some, length, position}
 use Rattle.sp_base.specs.declared.id.NodeId.{NodeId}
-use Rattle.sp_base.specs.declared.limits.TheConstants.{MAX_EDGES, MAX_EVENTS}
-use Rattle.sp_base.specs.declared.format.TheConstants.{FORMAT_1}
-use Rattle.sp_graph.specs.Edges.{IsGraphIn}
+use Rattle.sp_base.specs.declared.limits.TheConstants.{MAX_EDGES_2, MAX_EVENTS}
+use Rattle.laws_runs_format.specs.Arts.{arts_of}
 use Rattle.sp_journal.specs.declared.entry.Entry.{Entry}
-use Rattle.sp_node_format.specs.Format.{format}
 use Rattle.sp_rules.specs.Node.{NodeState, link_in}
 use Rattle.sp_rules.specs.Steps.{Datagram}
 use Rattle.sp_runs.specs.Inputs.{acting, crafts, input_of}
 use Rattle.sp_runs.specs.Runs.{Clean, InRange, IsCraftOf, IsForgedAt, Turn, forged_in}
-use Rattle.sp_runs.specs.Scenarios.{edge_key, setting_of}
+use Rattle.sp_runs.specs.Scenarios.{IsHeader, edge_key, setting_of}
 use Rattle.sp_runs.specs.Settings.{Setting}
 use Rattle.sp_runs.specs.Worlds.{World, node_in}
 use Rattle.sp_schedule_events.specs.declared.event.Event.{Event}
@@ -25,8 +23,8 @@ use Rattle.sp_world.specs.declared.acts.Done.TheVariants as dones
 
 -- nothing is forged in the events so far, they led to this world, and the next one is in its range
 pub record Stands (s : Scenario) (es : List Event) (js : List Entry) (w : World) (event : Event) : Type 0 where
-  pub graph : IsGraphIn FORMAT_1 s.graph
-  pub clean : Clean format (setting_of s) es js w
+  pub header : IsHeader s
+  pub clean : Clean (arts_of (setting_of s)) (setting_of s) es js w
   pub range : InRange (setting_of s) es event
   pub few : length es < MAX_EVENTS
 
@@ -50,23 +48,24 @@ sender (events.Craft c v key body) = c
 sender (events.CraftStatus c v s d base have) = c
 sender e = acting e
 
--- the node is there, in its first life and under the first version of the topology
-pub record IsAtFirst (nodes : List NodeState) (v : NodeId) : Type 0 where
+-- the node is there, in its first life and under the first version of a topology of this format
+pub record IsAtFirst (format : ℕ) (nodes : List NodeState) (v : NodeId) : Type 0 where
   pub node : NodeState
   pub is_there : node_in nodes v ≡ Some node
   pub me : node.fixed.me ≡ v
   pub boot : node.fixed.boot ≡ 1
   pub version : node.fixed.topology.version ≡ 1
+  pub of_format : node.fixed.topology.format ≡ format
 
 -- an edge of the graph joins the two
 pub record IsEdgeOf (s : Scenario) (c v : NodeId) : Type 0 where
-  pub few : length s.graph.edges ≤ MAX_EDGES
+  pub few : length s.graph.edges ≤ MAX_EDGES_2
   pub edge : ℕ
   pub joined : position (joins c.0 v.0) s.graph.edges ≡ Some edge
 
 -- a frame of c for v may be crafted: v tags under the key of their edge
 pub record CanCraft (s : Scenario) (nodes : List NodeState) (c v : NodeId) : Type 0 where
-  pub first : IsAtFirst nodes v
+  pub first : IsAtFirst s.format nodes v
   pub edge : IsEdgeOf s c v
   pub keyed : (link_in first.node c).key ≡ edge_key s.seed edge.edge
 
@@ -80,17 +79,17 @@ pub record IsSpent (x : Setting) (es : List Event) (event : Event) (total : ℕ)
 -- these bytes come to the node that acts, or none, as the signer is spent
 abbrev pub Comes : Setting → List Event → World → Event → Came → Type 0
 Comes x es w event (cames.Datagram bytes) =
-    (n : NodeState) → node_in w.nodes (acting event) ≡ Some n → input_of format x es w n event ≡ Some (Datagram (sender event) bytes)
+    (n : NodeState) → node_in w.nodes (acting event) ≡ Some n → input_of (arts_of x) x es w n event ≡ Some (Datagram (sender event) bytes)
 Comes x es w event (cames.Spent total) = IsSpent x es event total
 
 -- ---- what an event comes to
 
 -- a turn in which nothing is forged
 pub record IsTold (x : Setting) (es : List Event) (js : List Entry) (old : World) (event : Event) (entry : Entry) (new : World) : Type 0 where
-  pub turn : Turn format x es old event entry new
-  pub unforged : forged_in format x es js old event entry new turn ≡ None
+  pub turn : Turn (arts_of x) x es old event entry new
+  pub unforged : forged_in (arts_of x) x es js old event entry new turn ≡ None
 
 -- it is told by its entry, or this of it is forged, and the node that acts is gone
 abbrev pub ComesTo : Setting → List Event → List Entry → World → Event → Done → World → Type 0
 ComesTo x es js old event (dones.Told entry) new = IsTold x es js old event entry new
-ComesTo x es js old event (dones.Forged what told) new = IsForgedAt format x es js old event what × ((told ≡ what) × (new ≡ without old (acting event)))
+ComesTo x es js old event (dones.Forged what told) new = IsForgedAt (arts_of x) x es js old event what × ((told ≡ what) × (new ≡ without old (acting event)))

@@ -49,7 +49,7 @@ pub fn arrive(
     bytes: &[u8],
 ) -> Result<Done, Memory>
     requires even { length known.now.events.now ≡ length known.now.journal.now }
-    requires can { CanHear known.now.signature_len nodes.old.items v u }
+    requires can { CanHear known.now.scenario.now.format known.now.signature_len nodes.old.items v u }
     ensures arrives { IfOk result (λ done. Arrives known.now.scenario.now known.now.events.now known.now.journal.now
         (world_of nodes.old.items directions.now) u v bytes.now done nodes.new.items) }
     ensures as_before { OnErr result (nodes.new.items ≡ nodes.old.items) }

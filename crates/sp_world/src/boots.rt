@@ -1,18 +1,16 @@
 // The correct nodes of a scenario at their start. Each key is made once.
 ghost use Rattle.std.specs.Prelude.{◌≡◌, ◌≤◌, ◌∷◌, ◌++◌, [], IfOk, IsTrue, OnOk, length, map};
 ghost use Rattle.std.specs.List.{range_with_len};
-ghost use Rattle.sp_base.specs.declared.limits.TheConstants.{MAX_EDGES};
-ghost use Rattle.sp_base.specs.declared.format.TheConstants.{FORMAT_1};
-ghost use Rattle.sp_graph.specs.Edges.{IsGraphIn};
+ghost use Rattle.sp_base.specs.declared.limits.TheConstants.{MAX_EDGES_2};
 ghost use Rattle.sp_hss.specs.KeyTree.{signature_len};
-ghost use Rattle.sp_runs.specs.Scenarios.{edge_key, setting_of, topology_of};
+ghost use Rattle.sp_runs.specs.Scenarios.{IsHeader, edge_key, setting_of, topology_of};
 ghost use Rattle.sp_runs.specs.Settings.{correct_nodes, is_correct, node_at_boot};
 ghost use Rattle.sp_sign.specs.Heights.{param_of};
 ghost use Rattle.sp_topology.specs.Neighbours.{neighbours_from};
 ghost use Rattle.sp_world.specs.Boots.{IsOwn, boots_of, config_of, key_in, signer_at};
 
 use sp_adversary::{edge_key, signer_of};
-use sp_base::{EdgeId, FORMAT_1, Listed, Memory, NodeId, push};
+use sp_base::{EdgeId, Listed, Memory, NodeId, push};
 use sp_forgery::is_correct;
 use sp_node::{Node, NodeConfig};
 use sp_schedule_events::Scenario;
@@ -38,7 +36,7 @@ pub fn signature_len(height: LmsHeight) -> usize
 
 /// The correct nodes, in the order of their ids.
 pub fn correct_nodes(alloc: Global, scenario: &Scenario) -> Result<Vec<Member>, Memory>
-    requires { IsGraphIn FORMAT_1 scenario.now.graph }
+    requires { IsHeader scenario.now }
     ensures { IfOk result (λ nodes. nodes.items ≡ map (node_at_boot (setting_of scenario.now)) (correct_nodes (setting_of scenario.now))) }
 {
     let signers = signers_of(alloc, scenario)?;
@@ -49,7 +47,7 @@ pub fn correct_nodes(alloc: Global, scenario: &Scenario) -> Result<Vec<Member>, 
 /// The signers of all nodes, correct or not.
 #[tactic(auto, using(crate::proofs::Booting::signers_more))]
 fn signers_of(alloc: Global, scenario: &Scenario) -> Result<Vec<NodeSigner>, Memory>
-    requires { IsGraphIn FORMAT_1 scenario.now.graph }
+    requires { IsHeader scenario.now }
     ensures { IfOk result (λ signers. signers.items ≡ map (signer_at scenario.now) (range_with_len 1 scenario.now.graph.nodes)) }
 {
     let mut signers = Vec::new(alloc);
@@ -85,7 +83,7 @@ fn booted(
     keys: &[NodeKey],
     signers: Vec<NodeSigner>,
 ) -> Result<Vec<Member>, Memory>
-    requires graph { IsGraphIn FORMAT_1 scenario.now.graph }
+    requires header { IsHeader scenario.now }
     requires keys { keys.now ≡ map key_in (map (signer_at scenario.now) (range_with_len 1 scenario.now.graph.nodes)) }
     requires signers { signers.items ≡ map (signer_at scenario.now) (range_with_len 1 scenario.now.graph.nodes) }
     ensures { IfOk result (λ nodes. nodes.items ≡ map (node_at_boot (setting_of scenario.now)) (correct_nodes (setting_of scenario.now))) }
@@ -106,7 +104,7 @@ fn start(
     signer: NodeSigner,
     nodes: &mut Vec<Member>,
 ) -> Result<(), Memory>
-    requires graph { IsGraphIn FORMAT_1 scenario.now.graph }
+    requires header { IsHeader scenario.now }
     requires keys { keys.now ≡ (topology_of scenario.now).nodes }
     requires own { IsOwn scenario.now signer }
     ensures { OnOk result (nodes.new.items ≡ nodes.old.items ++ boots_of scenario.now (signer ∷ [])) }
@@ -125,7 +123,7 @@ fn member(
     keys: &[NodeKey],
     signer: NodeSigner,
 ) -> Result<Member, Memory>
-    requires graph { IsGraphIn FORMAT_1 scenario.now.graph }
+    requires header { IsHeader scenario.now }
     requires keys { keys.now ≡ (topology_of scenario.now).nodes }
     requires own { IsOwn scenario.now signer }
     requires correct { IsTrue (is_correct (setting_of scenario.now) signer.node) }
@@ -147,7 +145,7 @@ fn config_of(
     keys: &[NodeKey],
     me: NodeId,
 ) -> Result<NodeConfig, Memory>
-    requires graph { IsGraphIn FORMAT_1 scenario.now.graph }
+    requires header { IsHeader scenario.now }
     requires keys { keys.now ≡ (topology_of scenario.now).nodes }
     ensures { IfOk result (λ config. config ≡ config_of scenario.now me) }
 {
@@ -155,7 +153,7 @@ fn config_of(
     Ok(NodeConfig {
         me,
         topology: Topology {
-            format: FORMAT_1,
+            format: scenario.format,
             version: VERSION,
             height: scenario.height,
             nodes: Listed::from_vec(Vec::from_slice(alloc, keys)?),
@@ -173,7 +171,7 @@ fn edge_keys(
     edges: &[Edge],
     node: NodeId,
 ) -> Result<Vec<(EdgeId, [u8; 32])>, Memory>
-    requires { length edges.now ≤ MAX_EDGES }
+    requires { length edges.now ≤ MAX_EDGES_2 }
     ensures { IfOk result (λ keys. keys.items ≡ map (λ n. (n.1, edge_key seed.now n.1.0)) (neighbours_from node.0 0 edges.now)) }
 {
     let mut keys = Vec::new(alloc);

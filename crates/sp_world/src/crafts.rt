@@ -1,10 +1,9 @@
 // The bytes that a compromised neighbour crafts: fresh to the node that acts, and under the right tag.
 ghost use Rattle.sp_topology.specs.Neighbours.{joins};
 ghost use Rattle.std.specs.Prelude.{ℕ, position, ◌≡◌, ◌∷◌, ◌++◌, [], List, IfOk, None as Nothing, OnOk, Some as There};
-ghost use Rattle.sp_base.specs.declared.format.TheConstants.{FORMAT_1};
 ghost use Rattle.sp_adversary.specs.Crafting.{AreAfter, Crafts, HasRoom};
-ghost use Rattle.sp_msg.specs.Bodies.{HasGoodFields};
-ghost use Rattle.sp_node_format.specs.Format.{format};
+ghost use Rattle.sp_msg.specs.Bodies.{HasGoodFieldsIn};
+ghost use Rattle.laws_runs_format.specs.Arts.{arts_of};
 ghost use Rattle.sp_rules.specs.Node.{NodeState};
 ghost use Rattle.sp_runs.specs.Inputs.{crafted_frame, crafted_head, slot_alone};
 ghost use Rattle.sp_runs.specs.Scenarios.{edge_key, setting_of};
@@ -46,13 +45,14 @@ pub fn crafted(
     object: &CraftedObject,
 ) -> Result<Came, Memory>
     requires can { CanCraft scenario.now nodes.now c v }
-    requires fields { HasGoodFields (body_of object.now) }
+    requires format { crafters.old.format ≡ scenario.now.format }
+    requires fields { HasGoodFieldsIn scenario.now.format (body_of object.now) }
     ensures comes { (es : List event.Event) (directions : List worlds.Direction) → AreAfter scenario.now es crafters.old
         → IfOk result (λ came. Comes (setting_of scenario.now) es (world_of nodes.now directions) (events.Craft c v key object.now) came) }
     ensures crafters { (es : List event.Event) → AreAfter scenario.now es crafters.old
         → OnOk result (AreAfter scenario.now (es ++ events.Craft c v key object.now ∷ []) crafters.new) }
 {
-    let head = head_for(nodes, c, v);
+    let head = head_for(scenario, nodes, c, v);
     let tag_key = key_for(scenario, c, v);
     match signed_with(alloc, crafters, key, object)? {
         Crafted::Signed(signed) => Ok(Came::Datagram(object_frame(
@@ -70,9 +70,9 @@ fn signed_with(
     key: NodeId,
     object: &CraftedObject,
 ) -> Result<Crafted, Memory>
-    requires { HasGoodFields (body_of object.now) }
+    requires { HasGoodFieldsIn crafters.old.format (body_of object.now) }
     ensures crafted { Crafts crafters.old key (body_of object.now) result crafters.new }
-    ensures written { HasRoom result }
+    ensures written { HasRoom crafters.old.format result }
 {
     let body = object.body(alloc)?;
     crafters.craft(alloc, key, &body)
@@ -91,25 +91,26 @@ pub fn status(
     have: u64,
 ) -> Result<Bytes, Memory>
     requires can { CanCraft scenario.now nodes.now c v }
-    ensures { IfOk result (λ bytes. (n : NodeState) → node_in nodes.now v ≡ There n → bytes ≡ crafted_frame format n c (slot_alone flow base have Nothing [])) }
+    ensures { IfOk result (λ bytes. (n : NodeState) → node_in nodes.now v ≡ There n → bytes
+        ≡ crafted_frame (arts_of (setting_of scenario.now)) n c (slot_alone flow base have Nothing [])) }
 {
-    let head = head_for(nodes, c, v);
+    let head = head_for(scenario, nodes, c, v);
     let tag_key = key_for(scenario, c, v);
     status_frame(alloc, &head, &tag_key, flow, base, have)
 }
 
 /// The head of the next frame of `c` for `v`.
 #[tactic(auto, using(crate::proofs::Crafting::head_is))]
-fn head_for(nodes: &[Member], c: NodeId, v: NodeId) -> Head
-    requires { IsAtFirst nodes.now v }
+fn head_for(scenario: &Scenario, nodes: &[Member], c: NodeId, v: NodeId) -> Head
+    requires { IsAtFirst scenario.now.format nodes.now v }
     ensures head { (n : NodeState) → node_in nodes.now v ≡ There n → result ≡ crafted_head n c }
-    ensures format { result.format ≡ FORMAT_1 }
+    ensures format { result.format ≡ scenario.now.format }
 {
     let Some(member) = member_of(nodes, v) else {
         unreachable!()
     };
     let (_, counter) = member.node().kept_pair(c);
-    crafted_head(c, v, BOOT, counter, VERSION)
+    crafted_head(c, v, BOOT, counter, VERSION, scenario.format)
 }
 
 /// The key of the edge between the two.

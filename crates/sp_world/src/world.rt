@@ -1,10 +1,8 @@
 // A run of a scenario, as far as it has come.
 ghost use Rattle.std.specs.Prelude.{◌≡◌, ◌<◌, IfErr, IfOk, OnOk, length, option_map, vec_capacity, vec_len};
 ghost use Rattle.sp_base.specs.declared.limits.TheConstants.{MAX_EVENTS};
-ghost use Rattle.sp_base.specs.declared.format.TheConstants.{FORMAT_1};
-ghost use Rattle.sp_graph.specs.Edges.{IsGraphIn};
 ghost use Rattle.sp_runs.specs.Runs.{InRange};
-ghost use Rattle.sp_runs.specs.Scenarios.{setting_of};
+ghost use Rattle.sp_runs.specs.Scenarios.{IsHeader, setting_of};
 ghost use Rattle.sp_runs.specs.Worlds.{frame_in, node_in};
 ghost use Rattle.sp_world.specs.Past.{GoesOn, IsPast, IsRefused, at_first};
 
@@ -63,7 +61,7 @@ impl World {
     /// A scenario before its first event: each correct node has started. Only want of memory refuses.
     #[tactic(auto, using(crate::proofs::Pasts::kept_at_first))]
     pub fn make(alloc: Global, scenario: Scenario) -> Result<World, Memory>
-        requires { IsGraphIn FORMAT_1 scenario.graph }
+        requires { IsHeader scenario }
         ensures { IfOk result (λ world. world ≡ at_first scenario) }
     {
         let nodes = correct_nodes(alloc, &scenario)?;

@@ -8,7 +8,7 @@ use Rattle.std.proofs.lemmas.Option.{same_Some}
 use Rattle.sp_base.proofs.RowLemmas.{find-position, replace_where-position}
 use Rattle.sp_base.specs.declared.id.NodeId.{NodeId}
 use Rattle.sp_journal.specs.declared.entry.Entry.{Entry}
-use Rattle.sp_node_format.specs.Format.{format}
+use Rattle.sp_node_format.specs.Format.{format_of}
 use Rattle.sp_node_format.specs.PolledFrames.{most_signature}
 use Rattle.sp_rules.specs.Node.{NodeState, call_refusal}
 use Rattle.sp_rules.specs.Steps.{Frame, NodeStep, Poll, replied}
@@ -82,7 +82,7 @@ asked_at nodes u place event entry old new acts at is gave = record {
 }
 
 pub polled_at : (nodes : List NodeState) (u v : NodeId) (place : ℕ) (bytes : List ℕ) (old new : NodeState)
-    → position (is_me u) nodes ≡ Some place → old ≡ get_or nodes place old → NodeStep format old (Poll v) (replied (Frame bytes)) new
+    → position (is_me u) nodes ≡ Some place → old ≡ get_or nodes place old → NodeStep (format_of old.fixed) old (Poll v) (replied (Frame bytes)) new
     → PolledAmong nodes u v bytes (set nodes place new)
 polled_at nodes u v place bytes old new at is step = record {
   old = old;

@@ -1,6 +1,6 @@
 -- The objects of a datagram that a node takes: they are few, and each is a message with its fields in their ranges.
 use Rattle.std.proofs.Common.{◌≡◌, ◌+◌, ◌≤◌, ◌<◌, ◌-◌, ℕ, List, [], ◌∷◌, ◌++◌, length, map, length-append, append_assoc, Option, Some, None, Result, Ok, Err, refl, sym, ap, ap₂, ◌∙◌, subst, arith}
-use Rattle.std.specs.Prelude.{All, IfSome}
+use Rattle.std.specs.Prelude.{◌==◌, All, Bool, IfSome, false, true, if◌then◌else◌}
 use Rattle.std.proofs.lemmas.List.{length-map}
 use Rattle.std.proofs.lemmas.List.Elements.{All-append, All-drop, All-map, All-nil, All-cons, All-take, All-weaker}
 use Rattle.laws_node.proofs.Objects.{objects_are_answered}
@@ -8,18 +8,19 @@ use Rattle.laws_node.specs.Objects.{objects_in, objects_of}
 use Rattle.sp_base.specs.Spelling.{AreBytes}
 use Rattle.sp_base.specs.declared.format.TheConstants.{FORMAT_1}
 use Rattle.sp_base.specs.declared.id.NodeId.{NodeId}
+use Rattle.sp_base.specs.declared.limits.TheConstants.{MAX_MESSAGES}
 use Rattle.sp_frame.proofs.SectionLemmas.{read_is_spelled}
 use Rattle.sp_frame.specs.Frames.{sections_part, tagged_part}
 use Rattle.sp_frame.specs.Objects.{IsObject, most}
-use Rattle.sp_frame.specs.Ranges.{IsContents, IsNumbered, IsReport}
+use Rattle.sp_frame.specs.Ranges.{IsContentsIn, IsNumbered, IsReport}
 use Rattle.sp_frame.specs.Reliable.{Report}
-use Rattle.sp_frame.specs.Sections.{Contents, sections_of}
+use Rattle.sp_frame.specs.Sections.{Contents, sections_of_in}
 use Rattle.sp_frame.specs.Views.{as_list}
 use Rattle.sp_frame.specs.declared.kind.Kind.TheVariants as kinds
 use Rattle.sp_frame.specs.declared.refused.SectionRefused.{SectionRefused}
-use Rattle.sp_msg.specs.Bodies.{HasGoodFields}
+use Rattle.sp_msg.specs.Bodies.{HasGoodFieldsIn}
 use Rattle.sp_msg.specs.declared.kept.Kept.{Kept}
-use Rattle.sp_node_format.specs.Format.{format}
+use Rattle.sp_node_format.specs.Format.{format_in, format_of}
 use Rattle.sp_rules.specs.Arrivals.{arrival_at, handled, pieces_in, pieces_where, reply_at, sections_in}
 use Rattle.sp_rules.specs.Node.{NodeState, call_refusal}
 use Rattle.sp_rules.specs.Pieces.{AckPiece, Piece, PrioAckPiece, RelPiece, WeightPiece, pieces_of, prio_piece, slot_pieces}
@@ -65,35 +66,47 @@ of_contents s =
 
 -- ---- they are few, and good
 
-abbrev pub IsGood : Kept → Type 0
-IsGood o = HasGoodFields o.body
+-- a message of the format
+abbrev pub IsGood : (format : ℕ) → Kept → Type 0
+IsGood format o = HasGoodFieldsIn format o.body
 
-pub record AreObjects (os : List Kept) : Type 0 where
+pub record AreObjects (format : ℕ) (os : List Kept) : Type 0 where
   pub few : length os ≤ MOST_OBJECTS
-  pub good : All IsGood os
+  pub good : All (IsGood format) os
 
-none_are : AreObjects []
-none_are = record { few = omega arith; good = All-nil IsGood }
+none_are : (format : ℕ) → AreObjects format []
+none_are format = record { few = omega arith; good = All-nil (IsGood format) }
 
-ack_is : (len : ℕ) (o : Option Kept) → IfSome o (IsObject FORMAT_1 kinds.Ack len) → (length (as_list o) ≤ most FORMAT_1 kinds.Ack) × All IsGood (as_list o)
-ack_is len None is = (omega arith, All-nil IsGood)
-ack_is len (Some o) is = (omega arith, All-cons IsGood o [] is.fields (All-nil IsGood))
+-- no format has more messages in a slot than the first
+few_rels : (format : ℕ) → most format kinds.Rel ≤ MAX_MESSAGES
+few_rels format = go (format == FORMAT_1)
+  where
+    go : (b : Bool) → (if b then MAX_MESSAGES else 2) ≤ MAX_MESSAGES
+    go true = omega arith
+    go false = omega arith
 
-slot_is : (len : ℕ) (slot : Option Report) → IfSome slot (IsReport FORMAT_1 kinds.Ack kinds.Rel len)
-    → (length (slot_objects slot) ≤ most FORMAT_1 kinds.Ack + most FORMAT_1 kinds.Rel) × All IsGood (slot_objects slot)
-slot_is len None is = (omega arith, All-nil IsGood)
-slot_is len (Some r) is =
-    let ack = ack_is len r.ack is.ack in
-    let rels = All-weaker (IsObject FORMAT_1 kinds.Rel len) IsGood (λ o h. h.fields) r.rels is.rels in
-    (omega (arith, ack.0, is.few, length-append (as_list r.ack) r.rels), All-append IsGood (as_list r.ack) r.rels ack.1 rels)
+ack_is : (format len : ℕ) (o : Option Kept) → IfSome o (IsObject format kinds.Ack len) → (length (as_list o) ≤ 1) × All (IsGood format) (as_list o)
+ack_is format len None is = (omega arith, All-nil (IsGood format))
+ack_is format len (Some o) is = (omega arith, All-cons (IsGood format) o [] is.fields (All-nil (IsGood format)))
 
-contents_are : (len : ℕ) (s : Contents) → IsContents len s → AreObjects (objects_in (pieces_of s))
-contents_are len s is =
-    let slot = slot_is len s.slot is.slot in
-    let weights = All-weaker (IsObject FORMAT_1 kinds.Weight len) IsGood (λ o h. h.fields) s.weights is.weights in
-    let prios = All-map IsGood (λ m. m.1) s.prios (All-weaker (IsNumbered FORMAT_1 len) (λ (m : ℕ × Kept). IsGood m.1) (λ m h. h.object.fields) s.prios is.prios) in
+slot_is : (format len : ℕ) (slot : Option Report) → IfSome slot (IsReport format kinds.Ack kinds.Rel len)
+    → (length (slot_objects slot) ≤ 1 + MAX_MESSAGES) × All (IsGood format) (slot_objects slot)
+slot_is format len None is = (omega arith, All-nil (IsGood format))
+slot_is format len (Some r) is =
+    let ack = ack_is format len r.ack is.ack in
+    let rels = All-weaker (IsObject format kinds.Rel len) (IsGood format) (λ o h. h.fields) r.rels is.rels in (
+      omega (arith, ack.0, is.few, few_rels format, length-append (as_list r.ack) r.rels),
+      All-append (IsGood format) (as_list r.ack) r.rels ack.1 rels,
+    )
+
+contents_are : (format len : ℕ) (s : Contents) → IsContentsIn format len s → AreObjects format (objects_in (pieces_of s))
+contents_are format len s is =
+    let P = IsGood format in
+    let slot = slot_is format len s.slot is.slot in
+    let weights = All-weaker (IsObject format kinds.Weight len) P (λ o h. h.fields) s.weights is.weights in
+    let prios = All-map P (λ m. m.1) s.prios (All-weaker (IsNumbered format len) (λ (m : ℕ × Kept). P m.1) (λ m h. h.object.fields) s.prios is.prios) in
     let rest = map (λ (m : ℕ × Kept). m.1) s.prios ++ slot_objects s.slot in
-    subst AreObjects (sym (of_contents s)) (record {
+    subst (AreObjects format) (sym (of_contents s)) (record {
       few = omega (
         arith,
         slot.0,
@@ -103,7 +116,7 @@ contents_are len s is =
         length-append (map (λ (m : ℕ × Kept). m.1) s.prios) (slot_objects s.slot),
         length-map s.prios (λ (m : ℕ × Kept). m.1),
       );
-      good = All-append IsGood s.weights rest weights (All-append IsGood (map (λ (m : ℕ × Kept). m.1) s.prios) (slot_objects s.slot) prios slot.1);
+      good = All-append P s.weights rest weights (All-append P (map (λ (m : ℕ × Kept). m.1) s.prios) (slot_objects s.slot) prios slot.1);
     })
 
 -- ---- of whatever bytes come
@@ -111,29 +124,33 @@ contents_are len s is =
 part_are : (bytes : List ℕ) → AreBytes bytes → AreBytes (sections_part bytes)
 part_are bytes are = All-drop (λ (b : ℕ). b < 256) 33 (tagged_part bytes) (All-take (λ (b : ℕ). b < 256) (length bytes - 32) bytes are)
 
-sections_are : (len : ℕ) (bytes : List ℕ) (r : Result Contents SectionRefused) → AreBytes bytes
-    → sections_of len (sections_part bytes) ≡ r → AreObjects (objects_in (pieces_in r))
-sections_are len bytes (Ok s) are is = contents_are len s (read_is_spelled FORMAT_1 len (sections_part bytes) s (part_are bytes are) is).1
-sections_are len bytes (Err refused) are is = none_are
+sections_are : (format len : ℕ) (bytes : List ℕ) (r : Result Contents SectionRefused) → AreBytes bytes
+    → sections_of_in format len (sections_part bytes) ≡ r → AreObjects format (objects_in (pieces_in r))
+sections_are format len bytes (Ok s) are is =
+    contents_are format len s (read_is_spelled format len (sections_part bytes) s (part_are bytes are) is).1
+sections_are format len bytes (Err refused) are is = none_are format
 
-where_are : (pieces : List Piece) (reply : LinkReply) → AreObjects (objects_in pieces) → AreObjects (objects_in (pieces_where reply pieces))
-where_are pieces replies.Fresh h = h
-where_are pieces replies.TooLong h = none_are
-where_are pieces (replies.Short short) h = none_are
-where_are pieces replies.Magic h = none_are
-where_are pieces replies.Version h = none_are
-where_are pieces replies.NotForMe h = none_are
-where_are pieces replies.BadTag h = none_are
-where_are pieces (replies.Learned boot) h = none_are
-where_are pieces (replies.Stale boot counter) h = none_are
-where_are pieces (replies.OtherTopology theirs) h = none_are
-where_are pieces (replies.Section refused) h = none_are
+where_are : (format : ℕ) (pieces : List Piece) (reply : LinkReply) → AreObjects format (objects_in pieces)
+    → AreObjects format (objects_in (pieces_where reply pieces))
+where_are format pieces replies.Fresh h = h
+where_are format pieces replies.TooLong h = none_are format
+where_are format pieces (replies.Short short) h = none_are format
+where_are format pieces replies.Magic h = none_are format
+where_are format pieces replies.Version h = none_are format
+where_are format pieces replies.NotForMe h = none_are format
+where_are format pieces replies.BadTag h = none_are format
+where_are format pieces (replies.Learned boot) h = none_are format
+where_are format pieces (replies.Stale boot counter) h = none_are format
+where_are format pieces (replies.OtherTopology theirs) h = none_are format
+where_are format pieces (replies.Section refused) h = none_are format
 
-pub handled_are : (n : NodeState) (u : NodeId) (bytes : List ℕ) → AreBytes bytes → AreObjects (map (λ a. a.0) (handled format n u bytes).answered)
-handled_are n u bytes are =
-    let sections = sections_in format n.fixed bytes in
-    subst AreObjects (sym (objects_are_answered format (arrival_at n u) n.parts (pieces_where (reply_at format n u bytes) (pieces_in sections))))
-    (where_are (pieces_in sections) (reply_at format n u bytes) (sections_are n.fixed.signature_len bytes sections are refl))
+pub handled_are : (format : ℕ) (n : NodeState) (u : NodeId) (bytes : List ℕ) → AreBytes bytes
+    → AreObjects format (map (λ a. a.0) (handled (format_in format) n u bytes).answered)
+handled_are format n u bytes are =
+    let arts = format_in format in
+    let sections = sections_in arts n.fixed bytes in
+    subst (AreObjects format) (sym (objects_are_answered arts (arrival_at n u) n.parts (pieces_where (reply_at arts n u bytes) (pieces_in sections))))
+    (where_are format (pieces_in sections) (reply_at arts n u bytes) (sections_are format n.fixed.signature_len bytes sections are refl))
 
 -- ---- as many answers
 
@@ -142,14 +159,14 @@ items_in (Arrived link items) = items
 items_in _ = []
 
 items_are : (n new : NodeState) (u : NodeId) (bytes : List ℕ) (step : Step Taken) → call_refusal n u ≡ None → GaveTaken n u bytes step new
-    → step.reply.items ≡ map (λ a. a.1) (handled format n u bytes).answered
-items_are n new u bytes step called gave = ap (λ (o : Output). items_in o.reply) (gave.0 ∙ ap (λ r. refused_call r (arrived format n u bytes)) called)
+    → step.reply.items ≡ map (λ a. a.1) (handled (format_of n.fixed) n u bytes).answered
+items_are n new u bytes step called gave = ap (λ (o : Output). items_in o.reply) (gave.0 ∙ ap (λ r. refused_call r (arrived (format_of n.fixed) n u bytes)) called)
 
 pub few_items : (n new : NodeState) (u : NodeId) (bytes : List ℕ) (step : Step Taken) → AreBytes bytes → call_refusal n u ≡ None → GaveTaken n u bytes step new
     → length step.reply.items ≤ MOST_OBJECTS
 few_items n new u bytes step are called gave =
-    let answered = (handled format n u bytes).answered in
-    let few = (handled_are n u bytes are).few in
+    let answered = (handled (format_of n.fixed) n u bytes).answered in
+    let few = (handled_are n.fixed.topology.format n u bytes are).few in
     omega (
       arith,
       ap (λ (is : List Item). length is) (items_are n new u bytes step called gave),

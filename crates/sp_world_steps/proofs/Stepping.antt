@@ -7,7 +7,7 @@ use Rattle.sp_msg.specs.declared.effect.Why.TheVariants.{Taken as TakenAway}
 use Rattle.sp_msg.specs.declared.refused.SendRefused.{SendRefused}
 use Rattle.sp_msg.specs.declared.refused.SendRefused.TheVariants as sends
 use Rattle.sp_node.specs.Calls.{Datagrams, Polls, TakesPrio, Ticks}
-use Rattle.sp_node_format.specs.Format.{format}
+use Rattle.sp_node_format.specs.Format.{format_of}
 use Rattle.sp_node_state.specs.Sends.{Sends}
 use Rattle.sp_rules.specs.Node.{NodeState, call_refusal}
 use Rattle.sp_rules.specs.Polls.{frame_to}
@@ -39,7 +39,7 @@ words_by_send input refusal old new (Err (sends.Spent index)) has gave = λ othe
 words_by_send input refusal old new (Err (sends.NotReserved bound)) has gave = λ other. has.words (replied (Refused (sends.NotReserved bound))) new gave
 
 -- a send that is refused, with the word of its refusal
-refused_gave : (input : Input) (old new : NodeState) (refused : SendRefused) (entry : Entry) → NodeStep format old input (replied (Refused refused)) new
+refused_gave : (input : Input) (old new : NodeState) (refused : SendRefused) (entry : Entry) → NodeStep (format_of old.fixed) old input (replied (Refused refused)) new
     → refused_word refused ≡ Some entry.reply → entry.effects ≡ [] → Gave old input entry new
 refused_gave input old new refused entry step word effects = record {
   output = replied (Refused refused);
@@ -62,17 +62,17 @@ gave_by_send input refusal old new (sends.NotReserved bound) entry word effects 
 -- a call that is answered is refused for want of memory alone
 pub memory_by_poll : (old : NodeState) (v : NodeId) (new : NodeState) (refused : NodeRefused) → call_refusal old v ≡ None → Polls old v (Err refused) new → new ≡ old
 memory_by_poll old v new calls.NotNeighbour called gave =
-    let e = ap (λ (o : Output). o.reply) (gave.0 ∙ ap (λ r. refused_call r (replied (Frame (frame_to format old v)))) called) in absurd (cc)
+    let e = ap (λ (o : Output). o.reply) (gave.0 ∙ ap (λ r. refused_call r (replied (Frame (frame_to (format_of old.fixed) old v)))) called) in absurd (cc)
 memory_by_poll old v new calls.Worn called gave =
-    let e = ap (λ (o : Output). o.reply) (gave.0 ∙ ap (λ r. refused_call r (replied (Frame (frame_to format old v)))) called) in absurd (cc)
+    let e = ap (λ (o : Output). o.reply) (gave.0 ∙ ap (λ r. refused_call r (replied (Frame (frame_to (format_of old.fixed) old v)))) called) in absurd (cc)
 memory_by_poll old v new calls.Memory called gave = gave.1
 
 pub memory_by_datagram : (old : NodeState) (u : NodeId) (bytes : List ℕ) (new : NodeState) (refused : NodeRefused) → call_refusal old u ≡ None
     → Datagrams old u bytes (Err refused) new → new ≡ old
 memory_by_datagram old u bytes new calls.NotNeighbour called gave =
-    let e = ap (λ (o : Output). o.reply) (gave.0 ∙ ap (λ r. refused_call r (arrived format old u bytes)) called) in absurd (cc)
+    let e = ap (λ (o : Output). o.reply) (gave.0 ∙ ap (λ r. refused_call r (arrived (format_of old.fixed) old u bytes)) called) in absurd (cc)
 memory_by_datagram old u bytes new calls.Worn called gave =
-    let e = ap (λ (o : Output). o.reply) (gave.0 ∙ ap (λ r. refused_call r (arrived format old u bytes)) called) in absurd (cc)
+    let e = ap (λ (o : Output). o.reply) (gave.0 ∙ ap (λ r. refused_call r (arrived (format_of old.fixed) old u bytes)) called) in absurd (cc)
 memory_by_datagram old u bytes new calls.Memory called gave = gave.1
 
 pub memory_by_tick : (old : NodeState) (now : ℕ) (new : NodeState) (refused : NodeRefused) → Ticks old now (Err refused) new → new ≡ old

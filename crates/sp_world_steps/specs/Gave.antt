@@ -2,7 +2,7 @@
 use Rattle.std.specs.Prelude.{ℕ, ◌≡◌, List, [], None}
 use Rattle.sp_base.specs.declared.id.NodeId.{NodeId}
 use Rattle.sp_journal.specs.declared.entry.Entry.{Entry}
-use Rattle.sp_node_format.specs.Format.{format}
+use Rattle.sp_node_format.specs.Format.{format_of}
 use Rattle.sp_rules.specs.Arrivals.{handled}
 use Rattle.sp_rules.specs.Node.{NodeState}
 use Rattle.sp_rules.specs.Steps.{Arrived, Datagram, Input, NodeStep, Output}
@@ -16,7 +16,7 @@ use Rattle.sp_schedule_events.specs.declared.scenario.Scenario.{Scenario}
 -- whatever the rules answer to this, a journal has its words
 pub record HasWords (n : NodeState) (input : Input) : Type 0 where
   pub setting : Setting
-  pub words : (output : Output) (after : NodeState) → NodeStep format n input output after → reply_word setting 0 output.reply ≡ None → ⊥
+  pub words : (output : Output) (after : NodeState) → NodeStep (format_of n.fixed) n input output after → reply_word setting 0 output.reply ≡ None → ⊥
 
 -- in whichever scenario, the entry is that of this output, whose frame has this number
 abbrev pub Tells : ℕ → Output → Entry → Type 0
@@ -25,15 +25,15 @@ Tells number output entry = (s : Scenario) → Says (setting_of s) number output
 -- a call that no object came with: a step of the node, and its entry
 pub record Gave (old : NodeState) (input : Input) (entry : Entry) (new : NodeState) : Type 0 where
   pub output : Output
-  pub step : NodeStep format old input output new
+  pub step : NodeStep (format_of old.fixed) old input output new
   pub tells : Tells 0 output entry
   pub no_object : output.answered ≡ []
 
 -- the output of an arrival
 abbrev pub taken : NodeState → NodeId → List ℕ → Step Taken → Output
 taken old u bytes step =
-    record { reply = Arrived step.reply.link step.reply.items; effects = step.effects.list; answered = (handled format old u bytes).answered }
+    record { reply = Arrived step.reply.link step.reply.items; effects = step.effects.list; answered = (handled (format_of old.fixed) old u bytes).answered }
 
 -- an arrival: a step of the node
 abbrev pub GaveTaken : NodeState → NodeId → List ℕ → Step Taken → NodeState → Type 0
-GaveTaken old u bytes step new = NodeStep format old (Datagram u bytes) (taken old u bytes step) new
+GaveTaken old u bytes step new = NodeStep (format_of old.fixed) old (Datagram u bytes) (taken old u bytes step) new

@@ -2,7 +2,7 @@
 use Rattle.std.specs.Prelude.{ℕ, ◌≡◌, ◌≤◌, List, [], ◌∷◌, None, Some, if◌then◌else◌}
 use Rattle.sp_base.specs.declared.id.NodeId.{NodeId}
 use Rattle.sp_journal.specs.declared.entry.Entry.{Entry}
-use Rattle.sp_node_format.specs.Format.{format}
+use Rattle.sp_node_format.specs.Format.{format_of}
 use Rattle.sp_node_format.specs.PolledFrames.{most_signature}
 use Rattle.sp_rules.specs.Node.{NodeState, call_refusal}
 use Rattle.sp_rules.specs.Steps.{Frame, NodeStep, Poll, replied}
@@ -49,7 +49,7 @@ pub record PolledAmong (nodes : List NodeState) (u v : NodeId) (bytes : List ℕ
   pub old : NodeState
   pub new : NodeState
   pub is_there : node_in nodes u ≡ Some old
-  pub step : NodeStep format old (Poll v) (replied (Frame bytes)) new
+  pub step : NodeStep (format_of old.fixed) old (Poll v) (replied (Frame bytes)) new
   pub nodes_are : after ≡ with_node nodes u new
 
 -- v took what came from u

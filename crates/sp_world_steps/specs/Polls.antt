@@ -2,7 +2,7 @@
 use Rattle.std.specs.Prelude.{ℕ, ◌≡◌, ◌+◌, List, [], ◌∷◌, ◌++◌, Some, length}
 use Rattle.sp_base.specs.declared.id.NodeId.{NodeId}
 use Rattle.sp_journal.specs.declared.entry.Entry.{Entry}
-use Rattle.sp_node_format.specs.Format.{format}
+use Rattle.sp_node_format.specs.Format.{format_of}
 use Rattle.sp_rules.specs.Node.{NodeState}
 use Rattle.sp_rules.specs.Steps.{Frame, NodeStep, Poll, replied}
 use Rattle.sp_runs.specs.Worlds.{Direction, World, frames_in, node_in, with_frame, with_node}
@@ -27,6 +27,6 @@ pub record IsPolled (w : World) (u v : NodeId) (entry : Entry) (new : World) : T
   pub after : NodeState
   pub bytes : List ℕ
   pub is_there : node_in w.nodes u ≡ Some old
-  pub step : NodeStep format old (Poll v) (replied (Frame bytes)) after
+  pub step : NodeStep (format_of old.fixed) old (Poll v) (replied (Frame bytes)) after
   pub tells : Tells (length (frames_in w.directions u v) + 1) (replied (Frame bytes)) entry
   pub world_is : new ≡ record { nodes = with_node w.nodes u after; directions = with_frame w.directions u v bytes }

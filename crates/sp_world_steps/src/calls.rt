@@ -3,7 +3,7 @@ ghost use Rattle.std.specs.Prelude.{◌≡◌, ◌≢◌, ◌≤◌, Err, IfErr,
 ghost use Rattle.sp_base.specs.declared.limits.TheConstants.{MAX_PAYLOAD_BYTES, MAX_PRIORITY, MAX_WEIGHT};
 ghost use Rattle.sp_msg.specs.declared.refused.SendRefused as sends;
 ghost use Rattle.sp_frame.specs.declared.frame.TheConstants.{MAX_FRAME_BYTES};
-ghost use Rattle.sp_node_format.specs.Format.{format};
+ghost use Rattle.sp_node_format.specs.Format.{format_of};
 ghost use Rattle.sp_node_format.specs.PolledFrames.{most_signature};
 ghost use Rattle.sp_node_state.specs.Sends.{Sends};
 ghost use Rattle.sp_paths.specs.declared.limits.TheConstants.{MAX_PATHS};
@@ -156,7 +156,7 @@ pub fn tick(alloc: Global, node: &mut Node, now: u64) -> Result<Entry, Memory>
 pub fn poll(alloc: Global, node: &mut Node, v: NodeId) -> Result<Bytes, Memory>
     requires answered { call_refusal node.old.state v ≡ Nothing }
     requires short { node.old.state.fixed.signature_len ≤ most_signature }
-    ensures step { IfOk result (λ bytes. NodeStep format node.old.state (Poll v) (replied (Frame bytes)) node.new.state) }
+    ensures step { IfOk result (λ bytes. NodeStep (format_of node.old.state.fixed) node.old.state (Poll v) (replied (Frame bytes)) node.new.state) }
     ensures long { IfOk result (λ bytes. length bytes ≤ MAX_FRAME_BYTES) }
     ensures as_before { OnErr result (node.new.state ≡ node.old.state) }
     ensures fixed { node.new.state.fixed ≡ node.old.state.fixed }

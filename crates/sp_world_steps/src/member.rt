@@ -1,7 +1,7 @@
 // A correct node under its id.
 ghost use Rattle.std.specs.Prelude.{◌≡◌, ◌≤◌, IfOk, None as Nothing, OnErr, length};
 ghost use Rattle.sp_frame.specs.declared.frame.TheConstants.{MAX_FRAME_BYTES};
-ghost use Rattle.sp_node_format.specs.Format.{format};
+ghost use Rattle.sp_node_format.specs.Format.{format_of};
 ghost use Rattle.sp_node_format.specs.PolledFrames.{most_signature};
 ghost use Rattle.sp_rules.specs.Node.{call_refusal};
 ghost use Rattle.sp_rules.specs.Steps.{Frame, NodeStep, Poll, replied};
@@ -72,7 +72,7 @@ impl Member {
         requires answered { call_refusal self.old v ≡ Nothing }
         requires short { self.old.fixed.signature_len ≤ most_signature }
         ensures long { IfOk result (λ bytes. length bytes ≤ MAX_FRAME_BYTES) }
-        ensures step { IfOk result (λ bytes. NodeStep format self.old (Poll v) (replied (Frame bytes)) self.new) }
+        ensures step { IfOk result (λ bytes. NodeStep (format_of self.old.fixed) self.old (Poll v) (replied (Frame bytes)) self.new) }
         ensures as_before { OnErr result (self.new ≡ self.old) }
         ensures fixed { self.new.fixed ≡ self.old.fixed }
     {

@@ -1,10 +1,9 @@
 // The number of an end of an edge that isn't there: no event asks for it.
 ghost use Rattle.std.specs.Prelude.{IfOk};
-ghost use Rattle.sp_base.specs.declared.format.TheConstants.{FORMAT_1};
-ghost use Rattle.sp_topology.specs.InFormat.{IsTopologyIn};
+ghost use Rattle.sp_topology.specs.Ranges.{IsTopology};
 
 use hex::decode;
-use sp_base::{EdgeId, FORMAT_1, NodeId};
+use sp_base::{EdgeId, NodeId};
 use sp_topology::Topology;
 use sp_weights::Weights;
 use std::alloc::Global;
@@ -14,9 +13,8 @@ use std::test::Fail;
 const FOUR_EDGES: &str = "000401020000000a01040000001402030000001e030400000028";
 
 /// A topology of four nodes with these edges.
-#[tactic(auto, using(sp_topology::proofs::InFormat::in_format))]
 fn topology_of(alloc: Global, edges: &str) -> Result<Topology, Fail>
-    ensures { IfOk result (IsTopologyIn FORMAT_1) }
+    ensures { IfOk result IsTopology }
 {
     let mut bytes = decode(alloc, "4d544d5701000000010504")?;
     for id in 1..5 {
@@ -26,9 +24,6 @@ fn topology_of(alloc: Global, edges: &str) -> Result<Topology, Fail>
     }
     bytes.extend_from_slice(&decode(alloc, edges)?)?;
     let (topology, _) = Topology::read(alloc, &bytes)?;
-    if topology.format != FORMAT_1 {
-        return Err("another format")?;
-    }
     Ok(topology)
 }
 

@@ -1,30 +1,66 @@
-use Rattle.std.proofs.Common.{◌+◌, ◌≤◌, ap, sym, subst, arith}
+use Rattle.std.proofs.Common.{◌+◌, ◌≤◌, ◌∙◌, ap, sym, subst, arith}
+use Rattle.std.specs.Prelude.{IfSome}
+use Rattle.sp_frame.specs.Frames.{opened_in}
+use Rattle.sp_frame.specs.OfFormat.{AreOf}
 use Rattle.sp_link.specs.Sealing.{is_right}
+use Rattle.sp_rules.specs.Arrivals.{pieces_in, sections_in}
 use Rattle.sp_rules.specs.Node.{NodeState}
 use Rattle.sp_link.specs.Work.{tags_after}
 use Rattle.sp_rules.specs.declared.node.LinkReply.{LinkReply}
 use Rattle.sp_node.specs.Arrived.{pieces_with}
 use Rattle.sp_node.specs.Life.{reply_tags}
-use Rattle.sp_node.proofs.Passed.{passed_link, passed_pieces, passed_reply, tag_is_counted}
+use Rattle.sp_node.proofs.Passed.{no_pieces, no_reply, passed_link, passed_pieces, passed_reply, same_link, tag_is_counted}
+use Rattle.sp_node_format.specs.Format.{format_of}
 use Rattle.sp_node.proofs.datagram.passed.Goals as goal
+
+-- ---- no frame of the node's format
+
+pub returns-in-Err-clause-reply : goal.returns-in-Err-clause-reply
+returns-in-Err-clause-reply c =
+    let n = c.args.state.now in
+    no_reply n c.args.from c.args.bytes.now c.in-Err.refused c.no_frame.result
+    (ap (λ (m : NodeState). opened_in m.fixed.topology.format c.args.bytes.now) (sym c.state.view_is) ∙ c.in-Err.ensures.opened) c.no_frame.ensures
+
+pub returns-in-Err-clause-link : goal.returns-in-Err-clause-link
+returns-in-Err-clause-link c =
+    let n = c.args.state.now in
+    c.link_at-link.ensures
+    ∙ same_link n c.args.from c.args.bytes.now c.in-Err.refused
+    (ap (λ (m : NodeState). opened_in m.fixed.topology.format c.args.bytes.now) (sym c.state.view_is) ∙ c.in-Err.ensures.opened)
+
+pub returns-in-Err-clause-pieces : goal.returns-in-Err-clause-pieces
+returns-in-Err-clause-pieces c =
+    let n = c.args.state.now in
+    no_pieces n c.args.from c.args.bytes.now c.in-Err.refused (pieces_in (sections_in (format_of n.fixed) n.fixed c.args.bytes.now))
+    (ap (λ (m : NodeState). opened_in m.fixed.topology.format c.args.bytes.now) (sym c.state.view_is) ∙ c.in-Err.ensures.opened)
+
+-- ---- a frame of the node's format
 
 pub returns-clause-reply : goal.returns-clause-reply
 unfolding is_right
 returns-clause-reply c =
-    passed_reply c.args.state.now c.args.from c.args.bytes.now c.in-Ok.frame c.state.inside.fixed c.link_at-link.result c.accept-answer.result c.after_link-reply.result.0
-    c.in-Ok.ensures.opened (ap (λ (n : NodeState). n.fixed) c.state.view_is) c.link_at-link.ensures c.accept-answer.ensures.answer
-    c.after_link-reply.ensures.reply
+    passed_reply c.args.state.now c.args.from c.args.bytes.now c.in-Ok.frame c.state.inside.fixed c.link_at-link.result c.accept-answer.result
+    c.after_link-reply.result.0
+    (ap (λ (m : NodeState). opened_in m.fixed.topology.format c.args.bytes.now) (sym c.state.view_is) ∙ c.in-Ok.ensures.opened)
+    (ap (λ (n : NodeState). n.fixed) c.state.view_is) c.link_at-link.ensures c.accept-answer.ensures.answer c.after_link-reply.ensures.reply
 
 pub returns-clause-link : goal.returns-clause-link
 unfolding is_right
 returns-clause-link c =
     passed_link c.args.state.now c.args.from c.args.bytes.now c.in-Ok.frame c.link_at-link.result c.accept-answer.new.self
-    c.in-Ok.ensures.opened c.link_at-link.ensures c.accept-answer.ensures.link
+    (ap (λ (m : NodeState). opened_in m.fixed.topology.format c.args.bytes.now) (sym c.state.view_is) ∙ c.in-Ok.ensures.opened)
+    c.link_at-link.ensures c.accept-answer.ensures.link
 
 pub returns-clause-pieces : goal.returns-clause-pieces
 returns-clause-pieces c =
-    passed_pieces c.args.state.now c.args.from c.args.bytes.now c.in-Ok.frame c.state.inside.fixed c.after_link-reply.result.0 (pieces_with c.after_link-reply.result.1)
-    c.in-Ok.ensures.opened (ap (λ (n : NodeState). n.fixed) c.state.view_is) (returns-clause-reply c) c.after_link-reply.ensures.pieces
+    passed_pieces c.args.state.now c.args.from c.args.bytes.now c.in-Ok.frame c.state.inside.fixed c.after_link-reply.result.0
+    (pieces_with c.after_link-reply.result.1)
+    (ap (λ (m : NodeState). opened_in m.fixed.topology.format c.args.bytes.now) (sym c.state.view_is) ∙ c.in-Ok.ensures.opened)
+    (ap (λ (n : NodeState). n.fixed) c.state.view_is) (returns-clause-reply c) c.after_link-reply.ensures.pieces
+
+pub returns-clause-formats : goal.returns-clause-formats
+returns-clause-formats c =
+    subst (λ (n : NodeState). IfSome c.after_link-reply.result.1 (AreOf n.fixed.topology.format)) c.state.view_is c.after_link-reply.ensures.formats
 
 pub returns-clause-work : goal.returns-clause-work
 returns-clause-work c =

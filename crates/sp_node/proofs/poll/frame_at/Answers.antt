@@ -1,8 +1,7 @@
 use Rattle.std.proofs.Common.{◌<◌, ◌≤◌, ◌^◌, ◌∙◌, ℕ, List, length, sym, ap, subst}
 use Rattle.std.specs.Prelude.{replicate}
-use Rattle.sp_base.specs.declared.format.TheConstants.{FORMAT_1}
 use Rattle.sp_frame.specs.Frames.{frame_bytes}
-use Rattle.sp_frame.specs.Ranges.{IsContents}
+use Rattle.sp_frame.specs.Ranges.{IsContentsIn}
 use Rattle.sp_frame.specs.declared.head.Head.{Head}
 use Rattle.sp_link.specs.Sealing.{sealed}
 use Rattle.sp_rules.specs.Link.{Link, next_head}
@@ -15,7 +14,8 @@ use Rattle.sp_node.proofs.poll.frame_at.Goals as goal
 pub unsealed-requires : goal.unsealed-requires
 unsealed-requires c = record {
   format = ap (λ (h : Head). h.format) c.head_for-head.ensures;
-  contents = subst (λ (n : NodeState). IsContents n.fixed.signature_len (contents_to n.fixed n.parts c.args.v)) (sym c.state.view_is)
+  contents = subst (λ (n : NodeState). IsContentsIn n.fixed.topology.format n.fixed.signature_len (contents_to n.fixed n.parts c.args.v))
+      (sym c.state.view_is)
       (contents_kept c.args.state.now c.args.v c.requires.kept);
 }
 
@@ -31,6 +31,6 @@ returns c =
     let n = c.args.state.now in
     let key = c.link_at-link.result.key in
     frame_is n c.args.v c.link_at-link.result c.head_for-head.result c.seal.new.frame c.link_at-link.ensures
-    (c.head_for-head.ensures ∙ ap (λ (m : NodeState). next_head c.link_at-link.result m.fixed.topology.version FORMAT_1) c.state.view_is)
+    (c.head_for-head.ensures ∙ ap (λ (m : NodeState). next_head c.link_at-link.result m.fixed.topology.version m.fixed.topology.format) c.state.view_is)
     (c.seal.ensures ∙ ap (sealed key) c.in_ok-frame.ensures
     ∙ ap (λ (m : NodeState). sealed key (frame_bytes c.head_for-head.result (contents_to m.fixed m.parts c.args.v) (replicate 32 0))) c.state.view_is)

@@ -1,4 +1,4 @@
-use Rattle.std.proofs.Common.{[], ◌++◌, ◌∷◌, length, map, refl, sym, subst, ap, ◌∙◌, arith}
+use Rattle.std.proofs.Common.{List, [], ◌++◌, ◌∷◌, length, map, refl, sym, subst, ap, ◌∙◌, arith}
 use Rattle.std.specs.Prelude.{option_map}
 use Rattle.sp_base.specs.declared.limits.TheConstants.{MAX_MESSAGES}
 use Rattle.sp_frame.specs.Views.{as_list, as_numbered, as_object, as_report}
@@ -6,6 +6,7 @@ use Rattle.sp_rules.specs.Handle.{handle}
 use Rattle.sp_rules.specs.Parts.{Parts}
 use Rattle.sp_rules.specs.Pieces.{PrioAckPiece, WeightPiece, prio_piece, slot_pieces}
 use Rattle.sp_rules.specs.Prio.{PrioState, acked}
+use Rattle.sp_rules.specs.declared.lives.Life.{Life}
 use Rattle.sp_node_arrivals.proofs.DoneLemmas.{done_then, one_done}
 use Rattle.sp_node_arrivals.proofs.PrioLemmas.{acked_follows, acked_ids, prios_follow}
 use Rattle.sp_node_arrivals.specs.Done.{IsDone}
@@ -13,7 +14,7 @@ use Rattle.sp_node_arrivals.specs.Slot.{slot_items}
 use Rattle.sp_node_arrivals.specs.Arrival.{as_arrival}
 use Rattle.sp_node_arrivals.specs.Prio.{ArePriosReady}
 use Rattle.sp_node_arrivals.specs.Prio.{HasIds}
-use Rattle.sp_node_format.specs.Format.{format}
+use Rattle.sp_node_format.specs.Format.{format_of}
 use Rattle.sp_node_arrivals.proofs.arriving.admit.Goals as goal
 
 pub admit_from-prios-requires-clause-ready : goal.admit_from-prios-requires-clause-ready
@@ -23,8 +24,11 @@ admit_from-prios-requires-clause-ready c =
     let v = c.args.at.now.from.0 in
     let number = c.args.sections.now.prio_ack in
     let same = ap (λ (p : Parts). p.prio) c.acknowledge.ensures.parts ∙ ap (λ (q : PrioState). acked q v number) c.admit-weight.ensures.prio in
-    subst (λ (q : PrioState). ArePriosReady at q (map as_numbered c.args.sections.now.prios) c.args.ready.prios) (sym same)
-    (prios_follow at s (acked s v number) (map as_numbered c.args.sections.now.prios) c.args.ready.prios (acked_follows s v number) c.requires.ready.messages)
+    let lives = ap (λ (p : Parts). p.lives) c.acknowledge.ensures.parts ∙ c.admit-weight.ensures.lives in
+    subst (λ (ls : List Life). ArePriosReady at ls c.acknowledge.new.parts.prio (map as_numbered c.args.sections.now.prios) c.args.ready.prios) (sym lives)
+    (subst (λ (q : PrioState). ArePriosReady at c.args.parts.now.lives q (map as_numbered c.args.sections.now.prios) c.args.ready.prios) (sym same)
+    (prios_follow at c.args.parts.now.lives s (acked s v number) (map as_numbered c.args.sections.now.prios) c.args.ready.prios
+    (acked_follows s v number) c.requires.ready.messages))
 
 pub admit_from-prios-requires-clause-room : goal.admit_from-prios-requires-clause-room
 admit_from-prios-requires-clause-room c =
@@ -50,6 +54,7 @@ admit-slot-requires-clause-room c =
 pub returns : goal.returns
 returns c =
     let at = as_arrival c.args.at.now in
+    let arts = format_of c.args.at.now.fixed.now in
     let s = c.args.sections.now in
     let first = map WeightPiece (as_list (option_map as_object s.weight)) in
     let ack = PrioAckPiece s.prio_ack ∷ [] in
@@ -60,11 +65,11 @@ returns c =
     let heard = c.acknowledge.new in
     let two = c.admit_from-prios.new in
     let three = c.admit-slot.new in
-    let acked_done : IsDone (handle format at one.parts (PrioAckPiece s.prio_ack)) heard.parts [] one.out heard.out =
+    let acked_done : IsDone (handle arts at one.parts (PrioAckPiece s.prio_ack)) heard.parts [] one.out heard.out =
     record { parts = c.acknowledge.ensures.parts; items = refl; effects = c.acknowledge.ensures.told } in
-    done_then format at p one.parts three.parts first (ack ++ (second ++ third)) (as_list c.admit-weight.result)
+    done_then arts at p one.parts three.parts first (ack ++ (second ++ third)) (as_list c.admit-weight.result)
     (c.admit_from-prios.result ++ slot_items c.admit-slot.result) c.args.out.now one.out three.out c.admit-weight.ensures.done
-    (done_then format at one.parts heard.parts three.parts ack (second ++ third) [] (c.admit_from-prios.result ++ slot_items c.admit-slot.result)
-    one.out heard.out three.out (one_done format at one.parts heard.parts (PrioAckPiece s.prio_ack) [] one.out heard.out acked_done)
-    (done_then format at heard.parts two.parts three.parts second third c.admit_from-prios.result (slot_items c.admit-slot.result)
+    (done_then arts at one.parts heard.parts three.parts ack (second ++ third) [] (c.admit_from-prios.result ++ slot_items c.admit-slot.result)
+    one.out heard.out three.out (one_done arts at one.parts heard.parts (PrioAckPiece s.prio_ack) [] one.out heard.out acked_done)
+    (done_then arts at heard.parts two.parts three.parts second third c.admit_from-prios.result (slot_items c.admit-slot.result)
     heard.out two.out three.out c.admit_from-prios.ensures.done c.admit-slot.ensures))

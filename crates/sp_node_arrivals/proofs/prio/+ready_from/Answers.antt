@@ -1,7 +1,6 @@
 use Rattle.std.proofs.Common.{ℕ, length, length-drop, ap, sym, ◌∙◌, arith}
 use Rattle.std.specs.Option.{option_copied}
 use Rattle.sp_base.proofs.FewLemmas.{at_place, drop_past}
-use Rattle.sp_base.specs.declared.format.TheConstants.{FORMAT_1}
 use Rattle.sp_frame.specs.OfFormat.{IsOf}
 use Rattle.sp_frame.specs.declared.object.ObjectRef.{ObjectRef}
 use Rattle.sp_node_arrivals.specs.Arrival.{as_arrival}
@@ -20,7 +19,7 @@ returns-in_default-clause-many t c =
 
 pub ready_one-requires-clause-format : goal.ready_one-requires-clause-format
 ready_one-requires-clause-format t c =
-    at_place (λ (p : ℕ × ObjectRef). IsOf FORMAT_1 p.1) c.args.prios.now c.args.place c.in-Some.field-0.now c.requires.formats
+    at_place (λ (p : ℕ × ObjectRef). IsOf c.args.at.now.fixed.now.topology.format p.1) c.args.prios.now c.args.place c.in-Some.field-0.now c.requires.formats
     (sym c.get.ensures.value ∙ ap option_copied c.in-Some.is)
 
 pub returns-in_err-first-clause-work : goal.returns-in_err-first-clause-work
@@ -28,7 +27,7 @@ returns-in_err-first-clause-work t c =
     let at = sym c.get.ensures.value ∙ ap option_copied c.in-Some.is in
     omega (
       arith,
-      prios_from (as_arrival c.args.at.now) c.args.parts.now.prio c.args.prios.now c.args.place c.in-Some.field-0.now at,
+      prios_from (as_arrival c.args.at.now) c.args.parts.now.lives c.args.parts.now.prio c.args.prios.now c.args.place c.in-Some.field-0.now at,
       c.ready_one.ensures.work,
     )
 
@@ -37,7 +36,7 @@ returns-in_err-others-clause-work t c =
     let at = sym c.get.ensures.value ∙ ap option_copied c.in-Some.is in
     omega (
       arith,
-      prios_from (as_arrival c.args.at.now) c.args.parts.now.prio c.args.prios.now c.args.place c.in-Some.field-0.now at,
+      prios_from (as_arrival c.args.at.now) c.args.parts.now.lives c.args.parts.now.prio c.args.prios.now c.args.place c.in-Some.field-0.now at,
       c.ready_one.ensures.work,
       c.ready_from.ensures.work,
     )

@@ -5,4 +5,4 @@ use Rattle.sp_node_arrivals.proofs.signed.recall_spelled.Goals as goal
 
 pub returns : goal.returns
 returns c =
-    good_fields c.args.bytes.now (as_body c.args._body.now) (AreBytes-from_places c.args.bytes.now (λ i. (c.type_inv.bytes i).fits)) c.requires
+    good_fields c.args._format c.args.bytes.now (as_body c.args._body.now) (AreBytes-from_places c.args.bytes.now (λ i. (c.type_inv.bytes i).fits)) c.requires

@@ -9,12 +9,11 @@ use Rattle.sp_rules.specs.Parts.{nodes_of}
 use Rattle.sp_rules.specs.Prio.{is_node}
 use Rattle.sp_rules.specs.Weights.{effective}
 use Rattle.sp_topology.specs.Keys.{key_of}
-use Rattle.sp_base.specs.declared.format.TheConstants.{FORMAT_1}
-use Rattle.sp_topology.specs.InFormat.{IsTopologyIn}
+use Rattle.sp_rules.specs.Topologies.{IsRunnable}
 use Rattle.sp_node_state.proofs.priority.mask_for.Goals as goal
 
 pub choose-requires-clause-topology : goal.choose-requires-clause-topology
-choose-requires-clause-topology c = subst (λ (n : NodeState). IsTopologyIn FORMAT_1 n.fixed.topology) (sym c.state.view_is) c.requires.kept.fixed.topology
+choose-requires-clause-topology c = subst (λ (n : NodeState). IsRunnable n.fixed.topology) (sym c.state.view_is) c.requires.kept.fixed.topology
 
 pub choose-requires-clause-edges : goal.choose-requires-clause-edges
 choose-requires-clause-edges c =
@@ -25,7 +24,7 @@ pub choose-requires-clause-small : goal.choose-requires-clause-small
 choose-requires-clause-small c =
     let n = c.args.state.now in
     subst (λ (n : NodeState). (edge : ℕ) → effective n.parts.weights edge ≤ MAX_WEIGHT) (sym c.state.view_is)
-    (effective_small n.fixed.topology (sizes n) n.signer.index n.parts.weights c.requires.kept.fixed.topology (sym c.requires.kept.fixed.edges) c.requires.kept.parts.weights)
+    (effective_small n.fixed.topology (sizes n) n.signer.index n.parts.weights c.requires.kept.fixed.topology.ranges (sym c.requires.kept.fixed.edges) c.requires.kept.parts.weights)
 
 pub choose-requires-clause-from : goal.choose-requires-clause-from
 choose-requires-clause-from c =

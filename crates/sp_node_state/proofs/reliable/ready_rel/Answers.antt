@@ -1,9 +1,9 @@
 use Rattle.std.proofs.Common.{sym, subst}
-use Rattle.sp_msg.specs.Bodies.{HasGoodFields}
+use Rattle.sp_msg.specs.Bodies.{HasGoodFieldsIn}
 use Rattle.sp_node_state.proofs.Sent.{rel_sent}
 use Rattle.sp_node_state.proofs.reliable.ready_rel.Goals as goal
 
 pub blank-requires-clause-fields : goal.blank-requires-clause-fields
 blank-requires-clause-fields c =
-    subst HasGoodFields (sym c.in_ok-body.ensures)
+    subst (HasGoodFieldsIn c.args.state.now.fixed.topology.format) (sym c.in_ok-body.ensures)
     (rel_sent c.args.state.now c.args.dst c.args.payload.now c.requires.short c.requires.free c.requires.kept).fields

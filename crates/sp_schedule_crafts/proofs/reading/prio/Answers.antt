@@ -8,14 +8,14 @@ use Rattle.sp_schedule_crafts.proofs.reading.prio.Goals as goal
 pub returns : goal.returns
 unfolding read_form
 returns c =
-    seven (λ (ws : List (List ℕ)). line_for forms.Prio (codes "prio" ∷ ws) ≡ Ok (crafted.Prio (record {
+    seven (λ (ws : List (List ℕ)). line_for c.args.format forms.Prio (codes "prio" ∷ ws) ≡ Ok (crafted.Prio (record {
       src = c.in_ok-src.src;
       dst = c.in_ok-dst.dst;
       seq = c.in_ok-seq.seq;
       prio = c.in_ok-prio.field-0;
       expiry = c.in_ok-expiry.expiry;
-      mask = c.in_ok-mask.mask;
+      mask = record { low = c.in_ok-high.low; high = c.in_ok-high.high };
       payload = c.in_ok-payload.payload;
     })))
     c.args.fields.now (record { ref_ptr = (0, 0); now = [] }) c.in-len7.len_at_least c.in-len7.len_below
-    (rw (c.in_ok-src.ensures, c.in_ok-dst.ensures, c.in_ok-seq.ensures.read, rw c.from.ensures at c.in_ok-prio.ensures.read, c.in_ok-expiry.ensures.read, c.in_ok-mask.ensures, c.in_ok-payload.ensures.read) refl)
+    (rw (c.in_ok-src.ensures, c.in_ok-dst.ensures, c.in_ok-seq.ensures.read, rw c.from.ensures at c.in_ok-prio.ensures.read, c.in_ok-expiry.ensures.read, c.in_ok-high.ensures, c.in_ok-payload.ensures.read) refl)

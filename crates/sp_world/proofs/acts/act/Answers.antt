@@ -14,13 +14,13 @@ pub returns-in_ok-poll-in-Poll-clause-done : goal.returns-in_ok-poll-in-Poll-cla
 returns-in_ok-poll-in-Poll-clause-done c =
     let known = c.args.known.now in
     poll_comes_to known.scenario.now known.events.now known.journal.now c.args.nodes.now.items c.poll.new.nodes.items c.args.directions.now
-    c.poll.new.self c.args.event.now c.in-Poll.u c.in-Poll.v c.in_ok-poll-in-Poll.field-0 c.in_ok-poll-in-Poll.ensures.polled c.in-Poll.is
+    c.poll.new.self c.args.event.now c.in-Poll.u c.in-Poll.v c.in_ok-poll-in-Poll.field-0 c.requires.stands c.in_ok-poll-in-Poll.ensures.polled c.in-Poll.is
 
 pub returns-in_ok-ask-in_default-clause-done : goal.returns-in_ok-ask-in_default-clause-done
 returns-in_ok-ask-in_default-clause-done c =
     let known = c.args.known.now in
     asked_is_told known.scenario.now known.events.now known.journal.now c.args.nodes.now.items c.ask.new.nodes.items c.args.directions.now
-    c.args.event.now c.in_ok-ask-in_default.field-0 c.in_ok-ask-in_default.ensures.asked
+    c.args.event.now c.in_ok-ask-in_default.field-0 c.requires.stands c.in_ok-ask-in_default.ensures.asked
 
 pub returns-in_ok-ask-in_default-clause-crafters : goal.returns-in_ok-ask-in_default-clause-crafters
 returns-in_ok-ask-in_default-clause-crafters c =

@@ -1,7 +1,10 @@
-use Rattle.std.proofs.Common.{◌≡◌, List, map, ap, ◌∙◌}
+use Rattle.std.proofs.Common.{◌≡◌, List, map, ap, ◌∙◌, arith}
 use Rattle.std.proofs.lemmas.Result.{IfOk-weaker}
+use Rattle.sp_base.proofs.FormatLemmas.{few_edges}
 use Rattle.sp_base.specs.declared.id.EdgeId.{EdgeId}
 use Rattle.sp_base.specs.declared.id.NodeId.{NodeId}
+use Rattle.sp_rules.specs.Lives as lives
+use Rattle.sp_rules.specs.declared.lives.Life.{Life}
 use Rattle.sp_rules.specs.Parts.{as_neighbour, nodes_of}
 use Rattle.sp_rules.specs.Prio as prio
 use Rattle.sp_rules.specs.Prio.{PrioState}
@@ -18,7 +21,7 @@ pub tables_of-requires-clause-few : goal.tables_of-requires-clause-few
 tables_of-requires-clause-few c =
     few_neighbours c.deref-4.result.now c.in-Ok.joined.items c.args.me.0 c.args.topology.now.edges
     (c.deref-4.ensures.value ∙ c.in_ok-neighbours.ensures ∙ ap (map as_neighbour) c.deref.ensures.value)
-    c.in-Ok.ensures.neighbours c.requires.graph.edge_count
+    c.in-Ok.ensures.neighbours (omega (arith, c.requires.graph.edge_count, few_edges c.args.topology.now.format))
 
 pub returns : goal.returns
 returns c =
@@ -41,10 +44,18 @@ returns c =
       weights = weights.start t;
       prio = p;
       rel = rel.start c.args.me c.deref-3.result.now c.deref-5.result.now c.args.limits.buffer;
+      lives = lives.start c.deref-3.result.now;
     }) prios
     ∙ ap (λ (r : RelState). record {
       weights = weights.start t;
       prio = prio.start c.args.me.0 (nodes_of t) (map as_neighbour (neighbours_from c.args.me.0 0 t.edges)) c.args.limits.store;
       rel = r;
-    }) rels)
+      lives = lives.start c.deref-3.result.now;
+    }) rels
+    ∙ ap (λ (ls : List Life). record {
+      weights = weights.start t;
+      prio = prio.start c.args.me.0 (nodes_of t) (map as_neighbour (neighbours_from c.args.me.0 0 t.edges)) c.args.limits.store;
+      rel = rel.start c.args.me (nodes_of t) (map (λ n. n.0) (neighbours_from c.args.me.0 0 t.edges)) c.args.limits.buffer;
+      lives = ls;
+    }) (ap lives.start nodes))
     c.tables_of.ensures

@@ -39,6 +39,14 @@ returns-in-Told-clause-ok c =
     (goes_on s es c.push_in_room.new.items.items js c.push_in_room-in-Told.new.items.items old new c.args.event c.in-Told.entry told
     (rw c.in_ok-make_room.ensures.events at c.push_in_room.ensures.items) (rw c.in_ok-make_room.ensures.journal at c.push_in_room-in-Told.ensures.items))
 
+pub invariant_of-self-in-Forged : goal.invariant_of-self-in-Forged
+invariant_of-self-in-Forged c =
+    let es_is = c.as_slice.ensures.value ∙ c.in_ok-make_room.ensures.events in
+    let js_is = c.as_slice-2.ensures.value ∙ c.in_ok-make_room.ensures.journal in
+    let found = rw (es_is, js_is, c.in-Forged.is) at c.in_ok-done.ensures.done in
+    kept_forged _ c.self.inside.events.items _ c.self.inside.journal.items _ (world_of c.self.inside.nodes.items c.self.inside.directions) (world_of c.act.new.nodes.items c.act.new.directions)
+    c.args.event _ _ _ c.self.inside.crafters _ c.self.inside.stopped c.self.invariant c.in_default.is found.1.1 c.in_ok-make_room.ensures.events c.in_ok-make_room.ensures.journal
+
 pub invariant_of-self-in-Forged-2 : goal.invariant_of-self-in-Forged-2
 invariant_of-self-in-Forged-2 c =
     let es_is = c.as_slice.ensures.value ∙ c.in_ok-make_room.ensures.events in

@@ -1,0 +1,109 @@
+// The boots that a node holds of all nodes, 0 of each that it doesn't know.
+//
+//     a row for each node:   node | the Epoch object of its last start, if one came
+ghost use Rattle.std.specs.Prelude.{◌≡◌, IfOk, length, map, position};
+ghost use Rattle.sp_msg.specs.Views.{as_body};
+ghost use Rattle.sp_rules.specs.Lives.{are_held, boot_of, boot_said, held_boot, is_dated, is_life, no_life, start};
+
+use sp_base::{Flow, Memory, NodeId};
+use sp_msg::{Body, BodyRef, Kept};
+use sp_rules::Life;
+use std::alloc::Global;
+use std::marker::Model;
+
+/// What a node knows of the lives of all nodes. A contract sees the rows of the rules (`sp_rules`).
+#[derive(Debug, Drop)]
+pub struct Lives {
+    rows: Vec<Life>,
+}
+
+impl Model for Lives {
+    ghost use Rattle.std.specs.Prelude.{List};
+    ghost use Rattle.sp_rules.specs.declared.lives.Life.{Life};
+
+    ghost Value = { List Life };
+
+    ghost view = { λ lives. lives.rows.items };
+}
+
+impl Lives {
+    /// Of none of these nodes anything came. Only want of memory refuses.
+    pub fn new(alloc: Global, nodes: &[NodeId]) -> Result<Lives, Memory>
+        ensures { IfOk result (λ lives. lives ≡ start nodes.now) }
+    {
+        let mut rows = Vec::with_capacity(alloc, nodes.len())?;
+        'nodes: for &node in nodes {
+            rows.push(Life { node, object: None })?;
+        }
+        Ok(Lives { rows })
+    }
+
+    /// The boot that is held of a node, 0 where none is.
+    #[tactic(auto, using(sp_base::proofs::RowLemmas::placed))]
+    pub fn held_boot(&self, node: NodeId) -> u64
+        ensures { result ≡ held_boot self.entry.now node }
+    {
+        match life_of(self.rows.as_slice(), node) {
+            Some(place) => boot_of(&self.rows[place].object),
+            None => 0,
+        }
+    }
+
+    /// Whether these are the boots that are held of the ends of a flow.
+    pub fn are_held(&self, flow: Flow, sboot: u64, dboot: u64) -> bool
+        ensures { result ≡ are_held self.entry.now flow sboot dboot }
+    {
+        sboot == self.held_boot(flow.src) && dboot == self.held_boot(flow.dst)
+    }
+
+    /// Whether a message names the boots that are held of its ends, where it names any.
+    pub fn is_dated(&self, body: &BodyRef<'_>) -> bool
+        ensures { result ≡ is_dated self.entry.now (as_body body.now) }
+    {
+        match body {
+            BodyRef::Prio(prio) => prio.sboot == self.held_boot(prio.src),
+            BodyRef::Rel(rel) => self.are_held(flow_of(rel.src, rel.dst), rel.sboot, rel.dboot),
+            BodyRef::Ack(ack) => self.are_held(flow_of(ack.src, ack.dst), ack.sboot, ack.dboot),
+            BodyRef::Krel(krel) => {
+                self.are_held(flow_of(krel.src, krel.dst), krel.sboot, krel.dboot)
+            }
+            BodyRef::Kack(kack) => {
+                self.are_held(flow_of(kack.src, kack.dst), kack.sboot, kack.dboot)
+            }
+            BodyRef::Weight(_) | BodyRef::Epoch(_) => true,
+        }
+    }
+}
+
+fn flow_of(src: NodeId, dst: NodeId) -> Flow
+    ensures { result ≡ record { src = src; dst = dst } }
+{
+    Flow { src, dst }
+}
+
+/// Where the row of a node stands. None exactly where there is none.
+fn life_of(rows: &[Life], node: NodeId) -> Option<usize>
+    ensures { result ≡ position (is_life node) rows.now }
+{
+    rows.iter().position(|life| life.node.0 == node.0)
+}
+
+/// The boot of an object that is held, 0 where none is.
+fn boot_of(object: &Option<Kept>) -> u64
+    ensures { result ≡ boot_of object.now }
+{
+    match object {
+        Some(kept) => boot_said(&kept.body),
+        None => 0,
+    }
+}
+
+/// The boot that a message says.
+fn boot_said(body: &Body) -> u64
+    ensures { result ≡ boot_said body.now }
+{
+    match body {
+        Body::Epoch(epoch) => epoch.boot,
+        _ => 0,
+    }
+}
