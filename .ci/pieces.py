@@ -8,6 +8,7 @@ and each entry before the next line. Each difference is told, and the status is 
 It uses packets of a pipe (O_DIRECT), which Linux alone has: a write that is a packet is one read.
 """
 
+import concurrent.futures
 import os
 import select
 import subprocess
@@ -65,11 +66,22 @@ class Pieces:
             print(f"{name}: {what}")
 
     def schedule(self, name, text, status, is_right, sizes):
+        """The replays of a schedule, each its name, whether it was as wanted, and what it was."""
+        rows = []
         for size in sizes:
             ended, output = replayed(self.program, pieces_of(text, size))
-            self.judge(f"{name} in pieces of {size or 'a line'}", ended == status and is_right(output), f"status {ended}, wanted {status}; wrote {output[:200]!r}")
+            rows.append((f"{name} in pieces of {size or 'a line'}", ended == status and is_right(output), f"status {ended}, wanted {status}; wrote {output[:200]!r}"))
+        return rows
 
-    def files(self):
+    def judge_all(self, cases, at_once):
+        """Judges schedules, so many at once."""
+        with concurrent.futures.ThreadPoolExecutor(at_once) as pool:
+            for rows in pool.map(lambda case: self.schedule(*case), cases):
+                for row in rows:
+                    self.judge(*row)
+
+    @staticmethod
+    def files():
         """The cases of conformance/."""
         for folder, _, names in sorted(os.walk(conformance.FOLDER)):
             for name in sorted(names):
@@ -80,13 +92,14 @@ class Pieces:
                     continue
                 text = conformance.stored(path + ".schedule")
                 sizes = (1, 7, 4_096, None) if len(text) <= MOST else (4_096,)
-                self.schedule(os.path.relpath(path, conformance.ROOT), text, int(conformance.stored(path + ".status")), conformance.right_of(path), sizes)
+                yield os.path.relpath(path, conformance.ROOT), text, int(conformance.stored(path + ".status")), conformance.right_of(path), sizes
 
-    def recipes(self):
+    @staticmethod
+    def recipes():
         """The long ones."""
         for name, words, parts, status, output in conformance.RECIPES:
             if words == [b"replay"]:
-                self.schedule(name, b"".join(part * count for part, count in parts), status, lambda wrote, output=output: wrote == output, (4_096,))
+                yield name, b"".join(part * count for part, count in parts), status, lambda wrote, output=output: wrote == output, (4_096,)
 
     def line_by_line(self):
         """A sender who waits for the answer to each line."""
@@ -118,8 +131,9 @@ def main():
         sys.exit("usage: python3 .ci/pieces.py PATH/TO/spinesd")
     pieces = Pieces(sys.argv[1])
     pieces.line_by_line()
-    pieces.files()
-    pieces.recipes()
+    pieces.judge_all(pieces.files(), os.cpu_count())
+    for case in pieces.recipes():
+        pieces.judge_all([case], 1)
     print(f"{pieces.count - pieces.wrong} replays in pieces as wanted, {pieces.wrong} not")
     sys.exit(1 if pieces.wrong else 0)
 

@@ -1,4 +1,4 @@
-"""Reads every schedule and journal of conformance/schedules: python3 .ci/schedules.py PATH/TO/schedule_check
+"""Reads every schedule and journal of both formats in conformance/: python3 .ci/schedules.py PATH/TO/schedule_check
 
 A good schedule is written back to the byte. Of a bad one the line of its first refusal is told: it is the last line of its journal, which
 another program wrote. A journal that ends with a summary is written back to the byte. Any other is no whole journal: it is refused at its
@@ -11,6 +11,7 @@ import subprocess
 import sys
 
 FOLDER = pathlib.Path(__file__).parents[1] / "conformance" / "schedules"
+FOLDERS = FOLDER, FOLDER.with_name("schedules_format_2")
 # a schedule, a line of it, what stands there in another one, and what is told of the first one's journal under the other
 OTHERS = [
     ("acknowledgement", b"rel 1 3 6869\n", b"take 3 1\n", b"broken 10\n"),  # the message of event 10 was never sent
@@ -31,7 +32,7 @@ def differs(words, file, text, wanted):
 
 def main(program):
     wrong = audits = 0
-    files = sorted(FOLDER.glob("*.schedule"))
+    files = sorted(file for folder in FOLDERS for file in folder.glob("*.schedule"))
     for file in files:
         text = file.read_bytes()
         journal = file.with_suffix(".out")
