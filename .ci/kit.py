@@ -1,8 +1,8 @@
 """Tries each script of the operator's kit: python3 .ci/kit.py PATH/TO/spinesd
 
-What a script must say stands here and in kit_recording.py, kit_house.py, kit_next.py, kit_daemons.py and kit_busy.py, by hand. Keys, a status and a page
-are also made of three daemons that run. What needs chromium, mandoc, shellcheck or systemd-analyze is tried where that is installed, and left out with a word where not. Each difference is
-told, and the status is then 1.
+What a script must say stands here and in kit_recording.py, kit_house.py, kit_next.py, kit_daemons.py, kit_busy.py and
+kit_second.py, by hand. Keys, a status and a page are also made of daemons that run, of each format. What needs chromium, mandoc, shellcheck or
+systemd-analyze is tried where that is installed, and left out with a word where not. Each difference is told, and the status is then 1.
 """
 
 import concurrent.futures
@@ -27,7 +27,8 @@ import kit_daemons  # noqa: E402
 import kit_house  # noqa: E402
 import kit_next  # noqa: E402
 import kit_recording  # noqa: E402
-from overlay import free_ports  # noqa: E402
+import kit_second  # noqa: E402
+from kit_daemons import ports_for  # noqa: E402
 
 LINE = b"graph 1\nnodes 3\nedge 1 2 10\nedge 2 3 10\nend\n"
 SAID = [
@@ -163,41 +164,6 @@ def statuses(kit):
     changed = kit_recording.RECORDING.replace(b"overlay 1 53", b"overlay 1 54")
     told = json.loads(kit.run("spinesd-status", "--json", files[0], "-", given=changed)[1])
     kit.equal("status: answers that aren't those of the rules", told["checked"], {"right": 0, "different": 5})
-
-
-def bodies(kit):
-    """Messages of both formats are read by one table of fields; each cut within a number is none."""
-    sys.path.insert(0, os.path.join(KIT, "lib"))
-    import frames
-    for version, digits, kind, numbers, behind in kit_recording.BODIES:
-        data = bytes.fromhex(digits)
-        got, said, rest = frames.body_of(data, version)
-        sizes = [sizes[version - 1] for _, *sizes in frames.FIELDS[kind]]
-        kit.equal(f"body {digits}", (got, [n for n, size in zip(said.values(), sizes) if size], rest.hex()), (kind, numbers, behind))
-        kit.equal(f"body {digits}, cut", {frames.body_of(data[:count], version) for count in range(len(data) - len(rest))}, {None})
-    kit.equal("a kind that format 1 lacks", frames.body_of(bytes([5]) + bytes(100)), None)
-
-
-def told_rows(name):
-    """The rows of a table of test_formats."""
-    with open(os.path.join(ROOT, "crates", "test_formats", "src", "frames_rows.rt"), encoding="utf-8") as file:
-        table = re.search(rf'pub const {name}: &str = "([^"]*)"', file.read().replace("\\\n", ""))
-    return [row.split("|") for row in table.group(1).split("\n")]
-
-
-def sections(kit):
-    """Sections of format 2 are read as the rows of test_formats say."""
-    sys.path.insert(0, os.path.join(KIT, "lib"))
-    import frames
-    objects = {word: digits + int(zeros) * "00" + "1294" + 4756 * "00" for word, digits, zeros in told_rows("OBJECTS")}
-    for answer, what, words in told_rows("ROWS"):
-        data = bytes.fromhex("53490202" + 29 * "00" + "".join(objects.get(word, word) for word in words.split()) + 32 * "00")
-        try:
-            told = " ".join(["fresh", *(item.kind for item in frames.sections_of(data, 4756).items if item.kind in ("weight", "prio", "ack", "rel"))])
-        except frames.Bad as bad:
-            told = f"section {bad}"
-        kit.equal(f"sections: {what}", told, answer)
-    kit.equal("a frame of another format", frames.fault_of(data), "version")
 
 
 def several_messages(kit):
@@ -375,32 +341,13 @@ def refusals(kit, overlay, words, seeds):
     kit.equal("keys: a refusal makes nothing", (os.path.exists(again), {path: read(path) for path in before}), (False, before))
 
 
-def ports_for(nodes):
-    """A first port after which all ports of an overlay are free."""
-    while True:
-        first = free_ports(1)[0] - 1
-        try:
-            taken = [free_at(first + more + node) for more in (0, 100) for node in range(1, nodes + 1)]
-        except (OSError, OverflowError):
-            continue
-        for each in taken:
-            each.close()
-        return first
-
-
-def free_at(port):
-    held = socket.socket(socket.AF_INET, socket.SOCK_DGRAM)
-    held.bind(("127.0.0.1", port))
-    return held
-
-
 def main():
     if len(sys.argv) != 2:
         sys.exit("usage: python3 .ci/kit.py PATH/TO/spinesd")
     with tempfile.TemporaryDirectory() as folder:
         kit = Kit(os.path.abspath(sys.argv[1]), folder)
-        for look in (explains, endings_of_conformance, statuses, bodies, sections, several_messages, many_folders, cut_recordings,
-                     follows, broken_off, views, keys, kit_next.look, kit_house.look, kit_daemons.daemons, kit_busy.look):
+        for look in (explains, endings_of_conformance, statuses, several_messages, many_folders, cut_recordings, follows, broken_off, views, keys,
+                     kit_next.look, kit_house.look, kit_daemons.daemons, kit_busy.look, kit_second.look):
             look(kit)
     print(f"{kit.looks - kit.wrong} looks at the operator's kit as wanted, {kit.wrong} not")
     sys.exit(1 if kit.wrong else 0)

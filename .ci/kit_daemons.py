@@ -15,6 +15,25 @@ def read(path):
         return file.read()
 
 
+def ports_for(nodes):
+    """A first port after which all ports of an overlay are free."""
+    while True:
+        first = free_ports(1)[0] - 1
+        try:
+            taken = [free_at(first + more + node) for more in (0, 100) for node in range(1, nodes + 1)]
+        except (OSError, OverflowError):
+            continue
+        for each in taken:
+            each.close()
+        return first
+
+
+def free_at(port):
+    held = socket.socket(socket.AF_INET, socket.SOCK_DGRAM)
+    held.bind(("127.0.0.1", port))
+    return held
+
+
 def ask(kit, port, local, request):
     """The reply of a daemon, which is asked until it comes."""
     for _ in range(50):

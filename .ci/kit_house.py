@@ -14,6 +14,7 @@ EXPOSURE = 2.0
 COMPLETED = [
     ("_spinesd", ["spinesd", "v"], ["verify"]), ("_spinesd", ["spinesd", "ask", "--p"], ["--port"]), ("_spinesd", ["spinesd", "daemon", "--turns", ""], []),
     ("_spinesd", ["spinesd", "paths", ""], ["--from", "--to", "--paths"]), ("_spinesd_kit", ["spinesd-status", "--pr"], ["--prometheus"]),
+    ("_spinesd_kit", ["spinesd-keys", "--fo"], ["--format"]),
 ]
 INSTALLED = sorted([
     "bin/spinesd", *("bin/" + name for name in SCRIPTS), *("lib/spinesd/kit/" + name for name in SCRIPTS), "lib/spinesd/kit/endings.md",

@@ -1,13 +1,16 @@
 """Runs overlays of daemons with the built program: python3 .ci/overlay.py PATH/TO/spinesd
 
 It makes keys, a signed topology and configurations in folders of its own, sends messages from one end of a line of three to the other, verifies
-each recording, and does the same of four in a square, where two ways cost the same, and of three that end by themselves. Ports are the system's,
-nothing is left running, and it takes less than ten seconds. Each difference is told, and the status is then 1.
+each recording, and does the same of four in a square, where two ways cost the same, and of three that end by themselves, all this in each format. Two
+daemons of different formats don't hear each other. Ports are the system's, nothing is left running, and it takes less than half a minute. Each
+difference is told, and the status is then 1.
 """
 
+import hashlib
 import os
 import re
 import signal
+import subprocess
 import sys
 import tempfile
 import time
@@ -26,6 +29,7 @@ SQUARE = 4, [(1, 2, 10), (1, 3, 10), (2, 4, 10), (3, 4, 10)]
 # the greatest expiry
 NEVER = 2**64 - 1
 # a line of a recording that has a digest
+VERSION = hashlib.sha256(b"version\n").hexdigest().encode()
 WITH_DIGEST = re.compile(rb"^(?:tick|overlay|client|poll) .*[0-9a-f]{64}$", re.MULTILINE)
 
 
@@ -55,11 +59,11 @@ def verified(judge, name, overlay, node):
     judge.equal(f"{name}: the recording of node {node} with another digest", (status, output), (10, told))
 
 
-def messages_arrive(judge, folder, program):
+def messages_arrive(judge, folder, program, of_format):
     """Messages go from one end to the other in their order. Then the middle is killed, and the last one doesn't arrive."""
     overlay = Overlay(folder, program)
     try:
-        overlay.make(line_of(3), HEIGHT)
+        overlay.make(line_of(3), HEIGHT, of_format)
         for node in overlay.ports:
             overlay.start(node, MANY_TURNS)
         overlay.ask(3, "listen")
@@ -85,11 +89,11 @@ def taken(overlay, node, seconds=5.0):
     return answer
 
 
-def ways_tie(judge, folder, program):
+def ways_tie(judge, folder, program, of_format):
     """A priority message over one of two ways of equal cost arrives, and so does one over both. The recordings have the choice, and `verify` makes it again."""
     overlay = Overlay(folder, program)
     try:
-        overlay.make(SQUARE, HEIGHT)
+        overlay.make(SQUARE, HEIGHT, of_format)
         for node in overlay.ports:
             overlay.start(node, MANY_TURNS)
         overlay.ask(4, "listen")
@@ -104,11 +108,11 @@ def ways_tie(judge, folder, program):
         verified(judge, "daemons of a square", overlay, node)
 
 
-def daemons_end(judge, folder, program):
+def daemons_end(judge, folder, program, of_format):
     """Daemons end by themselves after their turns, and the last line says so."""
     overlay = Overlay(folder, program)
     try:
-        overlay.make(line_of(3), HEIGHT)
+        overlay.make(line_of(3), HEIGHT, of_format)
         children = [overlay.start(node, FEW_TURNS) for node in overlay.ports]
         for node, child in zip(overlay.ports, children):
             judge.equal(f"node {node} ends", child.wait(timeout=5), 0)
@@ -123,14 +127,43 @@ def daemons_end(judge, folder, program):
         verified(judge, "daemons that ended", overlay, node)
 
 
+def in_other_format(overlay, node):
+    """Gives a node the document of the other format, of the same nodes and links, under the administrator's next index."""
+    draft = overlay.read("draft.toml").replace(b"format = 2\n", b"").replace(b"admin_index = 0\n", b"admin_index = 1\n")
+    document = subprocess.run([overlay.program, "topology"], input=draft, stdout=subprocess.PIPE, check=True).stdout.decode().split()[0]
+    text = overlay.read(f"{node}.toml").decode()
+    overlay.write(f"{node}.toml", re.sub(r'(?m)^topology = ".*"$', f'topology = "{document}"', text))
+
+
+def formats_differ(judge, folder, program):
+    """Of two neighbours with one link key and documents of different formats each answers the other's frames `version`, and nothing arrives."""
+    overlay = Overlay(folder, program)
+    try:
+        overlay.make(line_of(2), HEIGHT, 2)
+        in_other_format(overlay, 1)
+        for node in overlay.ports:
+            overlay.start(node, MANY_TURNS)
+        for source, target in ((1, 2), (2, 1)):
+            overlay.ask(target, "listen")
+            judge.equal(f"a message from node {source} is sent", overlay.ask(source, f"send {target} 6869"), "accepted 1")
+            judge.equal("and doesn't arrive under another format", overlay.take(target, source, 1), None)
+    finally:
+        overlay.end_all()
+    for node in overlay.ports:
+        answers = re.findall(rb"^overlay \d+ [0-9a-f]+ ([0-9a-f]{64})$", overlay.recording(node), re.MULTILINE)
+        judge.equal(f"what node {node} answers to frames of another format", {*answers}, {VERSION})
+        verified(judge, "daemons of two formats", overlay, node)
+
+
 def main():
     if len(sys.argv) != 2:
         sys.exit("usage: python3 .ci/overlay.py PATH/TO/spinesd")
     judge = Judge()
     with tempfile.TemporaryDirectory() as folder:
-        messages_arrive(judge, os.path.join(folder, "messages"), sys.argv[1])
-        ways_tie(judge, os.path.join(folder, "square"), sys.argv[1])
-        daemons_end(judge, os.path.join(folder, "ended"), sys.argv[1])
+        for of_format in (1, 2):
+            for look in (messages_arrive, ways_tie, daemons_end):
+                look(judge, os.path.join(folder, f"{look.__name__}_{of_format}"), sys.argv[1], of_format)
+        formats_differ(judge, os.path.join(folder, "formats"), sys.argv[1])
     print(f"{judge.looks - judge.wrong} looks at an overlay of daemons as wanted, {judge.wrong} not")
     sys.exit(1 if judge.wrong else 0)
 

@@ -25,7 +25,7 @@ _spinesd() {
 _spinesd_kit() {
     local now=${COMP_WORDS[COMP_CWORD]} options
     case $1 in
-        *-keys) options="seed make renew add --height --version --port --buffer --store --seeds --ledger --dry-run --program --help" ;;
+        *-keys) options="seed make renew add --format --height --version --port --buffer --store --seeds --ledger --dry-run --program --help" ;;
         *-status) options="--json --prometheus --whole --every --out --help" ;;
         *-explain) options="--command --help" ;;
         *-view) options="--title --idle --most --program --help" ;;

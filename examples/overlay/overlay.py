@@ -52,9 +52,10 @@ def free_ports(count):
     return ports
 
 
-def draft_of(seeds, edges, height):
-    """What an administrator signs: the seeds of all nodes, and the edges."""
-    text = f'version = 1\nheight = {height}\nadmin_seed = "{secrets.token_hex(32)}"\nadmin_index = 0\n'
+def draft_of(seeds, edges, height, of_format):
+    """What an administrator signs: the format, the seeds of all nodes, and the edges."""
+    text = "" if of_format == 1 else f"format = {of_format}\n"
+    text += f'version = 1\nheight = {height}\nadmin_seed = "{secrets.token_hex(32)}"\nadmin_index = 0\n'
     for node, seed in seeds.items():
         text += f'\n[[node]]\nid = {node}\nseed = "{seed}"\n'
     for low, high, weight in edges:
@@ -87,14 +88,14 @@ class Overlay:
 
     # ---- keys and files
 
-    def make(self, graph, height=10):
-        """Seeds, link keys, the signed topology, and for each node a configuration and a key file."""
+    def make(self, graph, height=10, of_format=1):
+        """Of an overlay of this format: seeds, link keys, the signed topology, and for each node a configuration and a key file."""
         os.umask(0o077)
         os.makedirs(self.folder, exist_ok=True)
         nodes, edges = graph
         seeds = {node: secrets.token_hex(32) for node in range(1, nodes + 1)}
         links = {(low, high): secrets.token_hex(32) for low, high, _ in edges}
-        draft = draft_of(seeds, edges, height)
+        draft = draft_of(seeds, edges, height, of_format)
         signed = subprocess.run([self.program, "topology"], input=draft.encode(), stdout=subprocess.PIPE, check=True)
         document, admin = signed.stdout.decode().split()
         free = free_ports(2 * nodes)

@@ -13,7 +13,7 @@ TOTALS = {5: 1_024, 10: 1_048_576}
 SIGNATURES = {5: 4_756, 10: 5_076}
 NODE_BYTES, EDGE_BYTES = 61, 6
 
-Topology = collections.namedtuple("Topology", "version height nodes edges")
+Topology = collections.namedtuple("Topology", "format version height nodes edges")
 Configuration = collections.namedtuple("Configuration", "node port client_port peers topology buffer store", defaults=(16, 64))
 Peer = collections.namedtuple("Peer", "node port key")
 
@@ -28,14 +28,14 @@ def number(data, at, size):
 
 def topology_of(data):
     """The document at the beginning of these bytes; what stands behind it is the administrator's signature."""
-    if data[:5] != b"MTMW\x01" or len(data) < 13:
+    if data[:5] not in (b"MTMW\x01", b"MTMW\x02") or len(data) < 13:
         raise Unreadable("the topology doesn't begin with a document")
     count = data[10]
     nodes = [data[11 + NODE_BYTES * place] for place in range(count)]
     at = 11 + NODE_BYTES * count
     starts = [at + 2 + EDGE_BYTES * place for place in range(number(data, at, 2))]
     edges = [(data[start], data[start + 1], number(data, start + 2, 4)) for start in starts]
-    return Topology(number(data, 5, 4), data[9], nodes, edges)
+    return Topology(data[4], number(data, 5, 4), data[9], nodes, edges)
 
 
 def configuration_of(text):

@@ -5,6 +5,8 @@ A step has the fields of STEP. A frame that a step makes or brings is named by i
 
 import re
 
+import frames
+
 # the node that acts, its kind, the line that says what happens, the lines that say what came of it, the frame that is made or arrives,
 # changes of flows, what is seen at a node, and a word for the time line
 STEP = ("node", "kind", "line", "said", "frame", "flows", "seen", "mark")
@@ -12,7 +14,7 @@ REFUSED = {
     "full", "spent", "expired", "nopaths", "tickspent", "ticknotreserved", "low", "toolong", "short", "magic", "version", "notforme", "badtag",
     "stale", "topology", "section", "badend", "notreserved", "badrequest", "sessionsfull",
 }
-REFUSED_OBJECTS = {"badsig", "badend", "foreign", "low", "ahead", "gap", "full", "inboxfull", "expired"}
+REFUSED_OBJECTS = {"badsig", "badend", "epoch", "foreign", "low", "ahead", "gap", "full", "inboxfull", "expired"}
 OBJECT = re.compile(r"(weight|prio|ack|rel):(\w+|\?)")
 
 
@@ -26,22 +28,20 @@ def is_refused(reply):
     return reply.split(" ")[0] in REFUSED or any(word in REFUSED_OBJECTS for _, word in OBJECT.findall(reply))
 
 
-def of_signed(body):
-    """What a signature does to the tables: a kind, two nodes, and a number."""
-    kind, source, destination, number = body[0], body[1], body[2], int.from_bytes(body[3:11], "big")
-    if kind == 2:
-        return ["rel", source, destination, "sent", number]
-    if kind == 1:
-        return ["prio", source, destination, "sent", number]
-    return ["rel", source, destination, "acknowledged", number] if kind == 3 else None
+def of_signed(body, version):
+    """What a signature of a format does to the tables: a kind, two nodes, and a number."""
+    kind, told, _ = frames.body_of(body, version) or ("", {}, b"")
+    if kind in ("rel", "prio"):
+        return [kind, told["src"], told["dst"], "sent", told["seq"]]
+    return ["rel", told["src"], told["dst"], "acknowledged", told["seq"]] if kind == "ack" else None
 
 
-def of_effects(node, said):
+def of_effects(node, said, version):
     """What the effects of a step do to the tables, what is seen of them at the node, and the greatest of them for the time line."""
     flows, seen = [], []
     for line in said:
         words = line.split(" ")
-        if words[:2] == ["+", "signed"] and (change := of_signed(bytes.fromhex(words[2]))):
+        if words[:2] == ["+", "signed"] and (change := of_signed(bytes.fromhex(words[2]), version)):
             flows.append(change)
             seen.append("acknowledged" if change[3] == "acknowledged" else "sent")
         elif words[:2] == ["+", "delivered"]:

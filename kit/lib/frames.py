@@ -5,7 +5,7 @@ import hashlib
 import hmac
 
 HEAD, TAG, LEAST, MOST = 33, 32, 65, 65_507
-# the kinds of messages by their first byte; format 1 has the first four
+# the kinds of messages by their first byte; format 1 has the first four, and a node handles these alone
 KINDS = {1: "prio", 2: "rel", 3: "ack", 4: "weight", 5: "krel", 6: "kack", 7: "epoch"}
 FIRST_KINDS = 4
 # how many messages of a kind a frame has at most, and of the reliable ones in each format
@@ -30,13 +30,13 @@ FIELDS = {
 
 Head = collections.namedtuple("Head", "sender to boot echo counter topology version")
 # of a weight the source is the origin and the destination the edge's number; of an epoch the source is the origin and the number its boot;
-# rank and expiry are of a priority message, and a mask of one and of a K-path message
-Item = collections.namedtuple("Item", "kind source destination number payload rank expiry mask", defaults=(0, 0, 0))
+# rank and expiry are of a priority message, and a mask of one and of a K-path message; the boots are those of the two ends
+Item = collections.namedtuple("Item", "kind source destination number payload rank expiry mask boots", defaults=(0, 0, 0, (0, 0)))
 Slot = collections.namedtuple("Slot", "source destination base have boots", defaults=((0, 0),))
 Probe = collections.namedtuple("Probe", "number nonce echo proof")
-# the objects in their order, the link number that the neighbour acknowledges, what it reports of a flow and of a K-path flow, its probe,
-# and a signed document of a topology, with which nothing else comes
-Sections = collections.namedtuple("Sections", "items heard slot paths probe document", defaults=(None, None, None))
+# the objects that a node handles, in their order, the link number that the neighbour acknowledges, what it reports of a flow and of a K-path flow,
+# its probe, a signed document of a topology, with which nothing else comes, and the objects that no node handles yet
+Sections = collections.namedtuple("Sections", "items heard slot paths probe document later", defaults=(None, None, None, ()))
 
 
 class Bad(Exception):
@@ -52,7 +52,7 @@ def head_of(frame):
     return Head(frame[3], frame[4], number(frame[5:13]), number(frame[13:21]), number(frame[21:29]), number(frame[29:33]), frame[2])
 
 
-def fault_of(datagram, version=1):
+def fault_of(datagram, version):
     """The word for a datagram that is no frame of this format; None for a frame."""
     if len(datagram) > MOST:
         return "toolong"
@@ -87,7 +87,8 @@ def item_of(kind, said, payload):
     if kind == "epoch":
         return Item(kind, said["origin"], 0, said["boot"], b"")
     mask = said["high"] << 128 | said["mask"] if "mask" in said else 0
-    return Item(kind, said["src"], said["dst"], said["seq"], payload, said.get("prio", 0), said.get("expiry", 0), mask)
+    boots = said["sboot"], said.get("dboot", 0)
+    return Item(kind, said["src"], said["dst"], said["seq"], payload, said.get("prio", 0), said.get("expiry", 0), mask, boots)
 
 
 class Pieces:
@@ -150,9 +151,9 @@ class Pieces:
         slot, told = self.report("ack", "rel", MOST_RELIABLE[min(self.version, 2) - 1])
         if self.version == 1:
             return Sections(items + told, heard, slot)
-        paths, more = self.report("kack", "krel", 1)
+        paths, later = self.report("kack", "krel", 1)
         probe = self.probe()
-        return Sections(items + told + more + self.items("epoch"), heard, slot, paths, probe)
+        return Sections(items + told, heard, slot, paths, probe, later=later + self.items("epoch"))
 
     def document(self):
         """The document, and the zeros in the place of all other sections."""

@@ -5,6 +5,8 @@ import re
 import films
 
 ENTRY = re.compile(r"(\d+) (.+)")
+# how many nodes a schedule has at most, by its first line
+MOST_NODES = {"schedule 1": 16, "schedule 2": 32}
 
 
 class NoJournal(Exception):
@@ -12,18 +14,18 @@ class NoJournal(Exception):
 
 
 def schedule_of(text):
-    """The nodes, those that are compromised, the edges, and the events of a schedule."""
+    """The format, the nodes, those that are compromised, the edges, and the events of a schedule."""
     lines = text.decode("ascii", "replace").split("\n")
-    if lines[:1] != ["schedule 1"] or "begin" not in lines:
-        raise NoJournal("the first file is no schedule: it begins with `schedule 1` and has a line `begin`")
+    if lines[0] not in MOST_NODES or "begin" not in lines:
+        raise NoJournal("the first file is no schedule: it begins with `schedule 1` or `schedule 2` and has a line `begin`")
     begin = lines.index("begin")
     header = [line.split(" ") for line in lines[:begin]]
     numbers = lambda name: [[int(word) for word in words[1:]] for words in header if words[0] == name and "".join(words[1:]).isdecimal()]
     nodes = numbers("nodes")
-    if not nodes or nodes[0][0] > 16:
-        raise NoJournal("the schedule has no line `nodes N`")
+    if not nodes or nodes[0][0] > MOST_NODES[lines[0]]:
+        raise NoJournal(f"the schedule has no line `nodes N` with {MOST_NODES[lines[0]]} nodes at most")
     end = lines.index("end", begin) if "end" in lines[begin:] else len(lines) - 1
-    return list(range(1, nodes[0][0] + 1)), [words[0] for words in numbers("bad")], numbers("edge"), lines[begin + 1:end]
+    return int(lines[0][-1]), list(range(1, nodes[0][0] + 1)), [words[0] for words in numbers("bad")], numbers("edge"), lines[begin + 1:end]
 
 
 def entries_of(text):
@@ -76,14 +78,14 @@ def acting(event):
 
 def film_of(title, schedule, journal):
     """The film of a schedule with its journal."""
-    nodes, bad, edges, events = schedule_of(schedule)
+    version, nodes, bad, edges, events = schedule_of(schedule)
     entries, last = entries_of(journal)
     if len(entries) > len(events):
         raise NoJournal(f"the journal has {len(entries)} entries, and the schedule {len(events)} events: it is another one's")
     words, steps = first_words(events, entries), []
     for event, entry in zip(events, entries):
         node = acting(event)
-        flows, seen = films.of_effects(node, entry[1:])
+        flows, seen = films.of_effects(node, entry[1:], version)
         steps.append([node, event.split(" ")[0], event, entry, frame_of(event, entry, words), flows, seen, films.mark_of(entry, seen)])
     if last.startswith("forged ") and len(events) > len(entries):
         event = events[len(entries)]

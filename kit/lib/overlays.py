@@ -89,10 +89,11 @@ def frame_of(node, line, arrived, said):
     return None
 
 
-def carried_by(line, signature):
+def carried_by(line, topology):
     """The kinds of the messages in a frame that came."""
+    signature = configurations.SIGNATURES[topology.height]
     try:
-        return [] if frames.fault_of(line.data) else [item.kind for item in frames.sections_of(line.data, signature).items]
+        return [] if frames.fault_of(line.data, topology.format) else [item.kind for item in frames.sections_of(line.data, signature).items]
     except frames.Bad:
         return []
 
@@ -101,8 +102,7 @@ def arrivals(daemons):
     """What each frame carried that arrived, by its receiver, and then by its sender and digest."""
     found = {}
     for d in daemons:
-        signature = configurations.SIGNATURES[d.configuration.topology.height]
-        found[d.configuration.node] = {(line.numbers[0], digest_of(line)): carried_by(line, signature) for line in d.lines if line.name == "overlay"}
+        found[d.configuration.node] = {(line.numbers[0], digest_of(line)): carried_by(line, d.configuration.topology) for line in d.lines if line.name == "overlay"}
     return found
 
 
@@ -112,7 +112,7 @@ def step_of(time, watch, line, arrived):
     watch.feed(line)
     node, said = watch.configuration.node, list(watch.told)
     frame = frame_of(node, line, arrived, said)
-    flows, seen = films.of_effects(node, said)
+    flows, seen = films.of_effects(node, said, watch.format)
     flows += flows_of(watch, line, before)
     seen += sorted({change[3] for change in flows} - set(seen))
     shown = f"node {node}, {time / 1000:.3f} s: {told_as(line)}"

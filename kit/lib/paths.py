@@ -1,17 +1,18 @@
 """By which links a message leaves its source that goes over so many disjoint paths of the least cost: all ways that tie, since any may be taken."""
 
 import itertools
+import math
 
 FAR = 1 << 60
-# so many ways are tried; where a source has more, none is left out
+# so many ways are tried; where a source has more, the first of them are taken untried
 MOST_WAYS = 60
 
 
 def leaving(source, target, count, weights):
     """The sets of neighbours over which the paths may leave; `weights` are those of edges, by their two ends."""
     near = sorted(low if high == source else high for low, high in weights if source in (low, high))
-    ways = list(itertools.combinations(near, count))
-    if len(ways) > MOST_WAYS:
+    ways = list(itertools.islice(itertools.combinations(near, count), MOST_WAYS))
+    if math.comb(len(near), count) > MOST_WAYS:
         return ways
     costs = [(cost(source, target, way, weights), way) for way in ways]
     least = min((each for each, _ in costs), default=FAR)

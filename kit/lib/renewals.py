@@ -9,9 +9,11 @@ import tomllib
 
 from scripts import Refused, read
 
-Draft = collections.namedtuple("Draft", "version height index seeds edges")
+Draft = collections.namedtuple("Draft", "format version height index seeds edges")
 Peer = collections.namedtuple("Peer", "node port key")
 ADMINISTRATOR = "administrator"
+# how many nodes and how many edges a format has at most
+MOST = {1: (16, 120), 2: (32, 256)}
 
 
 def table_of(path):
@@ -28,14 +30,28 @@ def draft_in(overlay):
     try:
         seeds = {str(node["id"]): node["seed"] for node in table["node"]}
         edges = [(edge["a"], edge["b"], edge["weight"]) for edge in table["edge"]]
-        return Draft(table["version"], table["height"], table["admin_index"], {**seeds, ADMINISTRATOR: table["admin_seed"]}, edges)
+        return Draft(table.get("format", 1), table["version"], table["height"], table["admin_index"], {**seeds, ADMINISTRATOR: table["admin_seed"]}, edges)
     except (KeyError, TypeError) as fault:
         raise Refused(f"{path} is no draft that spinesd-keys made: {fault}") from fault
 
 
+def fault_of(version, nodes, edges):
+    """Why an overlay of a format can't have so many nodes and these edges, and what to do; None where it can. What else is wrong, `spinesd topology` says."""
+    most_nodes, most_edges = MOST[version]
+    larger = f": make it with --format 2, which has up to {MOST[2][0]} nodes and {MOST[2][1]} links" if version == 1 else ""
+    if not 2 <= nodes <= most_nodes:
+        return f"the overlay would have {nodes} nodes, and one of format {version} has 2 to {most_nodes}{larger if nodes > most_nodes else ''}"
+    if len(edges) > most_edges:
+        return f"the overlay would have {len(edges)} links, and one of format {version} has {most_edges} at most{larger}"
+    if version > 1 and any(weight == 0 for _, _, weight in edges):
+        return "a link of weight 0 is withdrawn, and no daemon takes such a topology yet; leave the link out"
+    return None
+
+
 def draft_text(draft):
     """What the administrator signs."""
-    text = f'version = {draft.version}\nheight = {draft.height}\nadmin_seed = "{draft.seeds[ADMINISTRATOR]}"\nadmin_index = {draft.index}\n'
+    text = "" if draft.format == 1 else f"format = {draft.format}\n"
+    text += f'version = {draft.version}\nheight = {draft.height}\nadmin_seed = "{draft.seeds[ADMINISTRATOR]}"\nadmin_index = {draft.index}\n'
     for owner, seed in draft.seeds.items():
         if owner != ADMINISTRATOR:
             text += f'\n[[node]]\nid = {owner}\nseed = "{seed}"\n'

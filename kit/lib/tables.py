@@ -56,7 +56,8 @@ def as_object(look):
     watch, reading, configuration, clients = look.watch, look.reading, look.watch.configuration, look.watch.clients
     left = turns_left(look)
     return {
-        "node": configuration.node, "boot": watch.boot, "topology_version": configuration.topology.version, "state": state_of(look),
+        "node": configuration.node, "boot": watch.boot, "topology_format": watch.format, "topology_version": configuration.topology.version,
+        "state": state_of(look),
         "turns": watch.turns, "turns_left": left and left[0], "turns_end_in_seconds": left and left[1] and round(left[1]),
         "first_turn_ms": watch.first_tick, "last_turn_ms": watch.now,
         "ended": None if watch.ended is None else {"turns": watch.ended[0], "lost": watch.ended[1]},

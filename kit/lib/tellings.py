@@ -14,6 +14,8 @@ from configurations import TOTALS
 
 # how many numbers below the greatest a window knows one by one; own updates above it are none; how many guesses are kept of what the stores hold
 WINDOW, MOST_OWN, MOST_GUESSES = 1_024, 2 ** 62, 32
+# the boots that a node holds for the two ends of a message
+HELD = (0, 0)
 
 Flow = collections.namedtuple("Flow", "base have inbox", defaults=(0, 0, 0))
 
@@ -27,7 +29,7 @@ class Rules:
 
     def __init__(self, configuration):
         self.me, self.bound, self.now, self.total = configuration.node, configuration.buffer, 0, TOTALS[configuration.topology.height]
-        self.nodes, self.edges = set(configuration.topology.nodes), configuration.topology.edges
+        self.format, self.nodes, self.edges = configuration.topology.format, set(configuration.topology.nodes), configuration.topology.edges
         ends = [edge[:2] for edge in self.edges]
         self.edge_to = {peer.node: ends.index(pair) for peer in configuration.peers
                         if (pair := tuple(sorted((self.me, peer.node)))) in ends}
@@ -83,7 +85,8 @@ class Rules:
 
     def acknowledgement(self, flow):
         """The line that tells the acknowledgement of all that came of a flow."""
-        return f"+ signed 03{flow[0]:02x}{flow[1]:02x}{self.flows[flow].have:016x}\n"
+        boots = "".join(f"{boot:016x}" for boot in HELD) if self.format > 1 else ""
+        return f"+ signed 03{flow[0]:02x}{flow[1]:02x}{boots}{self.flows[flow].have:016x}\n"
 
     def expired(self, guess):
         """A guess without what expired, and the lines that tell it."""
@@ -164,6 +167,8 @@ class Trial:
     def of_prio(self, item):
         if item.source == item.destination or not {item.source, item.destination} <= self.rules.nodes:
             return "badend"
+        if item.boots != HELD:
+            return "epoch"
         if item.expiry < self.rules.now:
             return "expired"
         return "seen" if self.rules.is_seen(item) or (item.source, item.number) in self.marks else "new"
@@ -183,6 +188,8 @@ class Trial:
         flow = self.flow((item.source, item.destination))
         if not self.is_of_slot(item):
             return "badend"
+        if item.boots != HELD:
+            return "epoch"
         if item.number <= flow.base:
             return "old"
         return "ahead" if item.destination == self.rules.me or (item.source == self.rules.me and item.number > flow.have) else "new"
@@ -195,6 +202,8 @@ class Trial:
         flow = self.flow((item.source, item.destination))
         if not self.is_of_slot(item):
             return "badend"
+        if item.boots != HELD:
+            return "epoch"
         if item.number <= flow.have:
             return "old"
         if item.source == self.rules.me:

@@ -12,6 +12,7 @@ import frames
 import tellings
 from clients import Clients
 from configurations import SIGNATURES, TOTALS
+from tellings import HELD
 
 ANSWERS = ("fresh", "learned", "stale", "badtag", "notforme", "malformed", "topology", "section")
 NO_FRAME = ("toolong", "short", "magic", "version")
@@ -42,7 +43,7 @@ class Watch:
 
     def __init__(self, configuration):
         self.configuration = configuration
-        self.signature = SIGNATURES[configuration.topology.height]
+        self.format, self.signature = configuration.topology.format, SIGNATURES[configuration.topology.height]
         self.total = TOTALS[configuration.topology.height]
         self.boot = self.index = self.bound = self.first_tick = self.now = self.ended = None
         self.turns, self.quiet_ticks, self.untold_ticks, self.lines, self.strays = 0, 0, 0, 0, collections.Counter()
@@ -106,7 +107,7 @@ class Watch:
         if neighbour is None:
             return
         before = neighbour.link.seen
-        answer = frames.fault_of(line.data) or neighbour.link.answer(line.data)
+        answer = frames.fault_of(line.data, self.format) or neighbour.link.answer(line.data)
         if answer == "fresh":
             neighbour.fresh(self.now, before, frames.head_of(line.data))
             answer, sections = self.of_fresh(neighbour, line.data)
@@ -128,8 +129,8 @@ class Watch:
             sections = frames.sections_of(frame, self.signature)
         except frames.Bad as bad:
             return f"section {bad}", None
-        if sections.slot:
-            neighbour.reports[sections.slot[:2]] = sections.slot[2:]
+        if sections.slot and sections.slot.boots == HELD:
+            neighbour.reports[sections.slot[:2]] = sections.slot[2:4]
         return "fresh", sections
 
     def compare(self, answer, digest):
