@@ -8,6 +8,7 @@ use Rattle.sp_keystate.specs.Soundness.{Keeps}
 use Rattle.sp_keystate.specs.Starting.{KeepsAll, Starts}
 use Rattle.sp_keystate.specs.declared.key_state.KeyState.{KeyState}
 use Rattle.sp_keystate.specs.declared.starts.Started.{Started}
+use Rattle.sp_keystate.specs.declared.starts.TheConstants.{RESERVED}
 use Rattle.sp_keystate.proofs.Since.{since_none, since_weaker}
 use Rattle.sp_outside.specs.Disk.{Disk, IsImage, still}
 use Rattle.sp_outside.specs.Moments.{AllSince}
@@ -20,7 +21,6 @@ use Rattle.sp_service_turns.specs.Runs.{FileMovesOn, MovesOn, Ran, keys_on, poll
 use Rattle.sp_service_turns.specs.Served.{Begun as Is_begun, EndsTurns, Unbegun, opening_of}
 use Rattle.sp_service_turns.specs.Turns.{Moves, Turn}
 use Rattle.sp_service_turns.specs.declared.indexes.Indexes.{Indexes}
-use Rattle.sp_service_turns.specs.declared.indexes.TheConstants.{RESERVED}
 use Rattle.sp_service_turns.specs.declared.peer.Peer.{Peer}
 use Rattle.sp_service_turns.specs.declared.served.Served.{Served}
 use Rattle.sp_lms.specs.declared.param.LmsParam.TheVariants.{H5}

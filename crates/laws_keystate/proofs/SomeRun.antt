@@ -8,6 +8,7 @@ use Rattle.sp_keystate.specs.States.{first_numbers, numbers_of}
 use Rattle.sp_keystate.specs.declared.key_state.KeyState.{KeyState}
 use Rattle.sp_keystate.specs.declared.slot.Slot.TheVariants.{First}
 use Rattle.sp_keystate.specs.declared.starts.Started.{Started}
+use Rattle.sp_keystate.specs.declared.starts.TheConstants.{RESERVED}
 use Rattle.sp_keystate.proofs.Standing.{formatted_in_use}
 use Rattle.sp_outside.specs.Calls.{Nothing}
 use Rattle.sp_outside.specs.Disk.{Disk, bytes_of, still}
@@ -16,7 +17,6 @@ use Rattle.sp_service_turns.specs.Inputs.{Datagram, Poll, Request, Reserve, Tick
 use Rattle.sp_service_turns.specs.Outside.{KeptFile}
 use Rattle.sp_service_turns.specs.Turns.{Moves, Turn}
 use Rattle.sp_service_turns.specs.declared.indexes.Indexes.{Indexes}
-use Rattle.sp_service_turns.specs.declared.indexes.TheConstants.{RESERVED}
 use Rattle.laws_keystate.specs.Histories.{formatted}
 use Rattle.laws_keystate.specs.RunLaws.{ARunSigns, indexes_of, sign_at_ticks}
 use Rattle.laws_keystate.specs.Runs.{As_it_stands, HasRun, In_turns, Nothing_signed, One_signed, SignsInOrder, SignsInTurn}

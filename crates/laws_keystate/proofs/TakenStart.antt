@@ -12,10 +12,10 @@ use Rattle.sp_keystate.specs.declared.numbers.Numbers.{Numbers}
 use Rattle.sp_keystate.specs.declared.slot.Slot.{Slot}
 use Rattle.sp_keystate.specs.declared.slot.Slot.TheVariants.{First, Second}
 use Rattle.sp_keystate.specs.declared.starts.Started.{Started}
+use Rattle.sp_keystate.specs.declared.starts.TheConstants.{RESERVED}
 use Rattle.sp_outside.specs.Disk.{Disk, bytes_of, still}
 use Rattle.sp_outside.proofs.DiskLemmas.{bytes_of-still}
 use Rattle.sp_service_turns.specs.declared.indexes.Indexes.{Indexes}
-use Rattle.sp_service_turns.specs.declared.indexes.TheConstants.{RESERVED}
 use Rattle.laws_keystate.specs.Starts.{And_then, Begins, Boots, Extends, IsChange, Nothing_more, Reserves, Standing, with_boot, with_bound, written}
 use Rattle.laws_keystate.proofs.RunLemmas.{Fits, Went}
 

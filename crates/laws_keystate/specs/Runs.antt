@@ -6,6 +6,7 @@ use Rattle.sp_keystate.specs.Starting.{KeepsAll, Starts}
 use Rattle.sp_keystate.specs.declared.key_state.KeyState.{KeyState}
 use Rattle.sp_keystate.specs.declared.refused.KeyRefused.{KeyRefused}
 use Rattle.sp_keystate.specs.declared.starts.Started.{Started}
+use Rattle.sp_keystate.specs.declared.starts.TheConstants.{RESERVED}
 use Rattle.sp_outside.specs.Disk.{Disk, IsImage, still}
 use Rattle.sp_service_turns.specs.Indexes.{AreReserved, reserved_by}
 use Rattle.sp_service_turns.specs.Inputs.{Input, Reserve, Steps}
@@ -14,7 +15,6 @@ use Rattle.sp_service_turns.specs.Outside.{KeptFile}
 use Rattle.sp_service_turns.specs.Runs.{FileMovesOn, MovesOn, keys_on, polled_by}
 use Rattle.sp_service_turns.specs.Turns.{Moves, Turn}
 use Rattle.sp_service_turns.specs.declared.indexes.Indexes.{Indexes}
-use Rattle.sp_service_turns.specs.declared.indexes.TheConstants.{RESERVED}
 use Rattle.sp_service_turns.specs.declared.peer.Peer.{Peer}
 
 -- ---- what a node signs

@@ -6,6 +6,9 @@ ghost use Rattle.sp_keystate.specs.Starting.{IsStartAnswer, KeepsAll, NoStart, S
 use crate::{KeyRefused, KeyState, open};
 use sp_outside::Keeper;
 
+/// How many indexes a daemon reserves at a time: at its start, and where few are left.
+pub const RESERVED: u64 = 32;
+
 /// A start: the state of the key file, and the first index that may be used. Those up to, and not with, the state's bound are reserved.
 #[derive(Debug, Drop)]
 pub struct Started {

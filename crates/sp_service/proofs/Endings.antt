@@ -11,6 +11,7 @@ use Rattle.sp_keystate.specs.declared.numbers.Numbers.{Numbers}
 use Rattle.sp_keystate.specs.declared.slot.InUse.{InUse}
 use Rattle.sp_keystate.specs.declared.slot.Slot.{Slot}
 use Rattle.sp_keystate.specs.declared.starts.Started.{Started}
+use Rattle.sp_keystate.specs.declared.starts.TheConstants.{RESERVED}
 use Rattle.sp_outside.proofs.DiskLemmas.{bytes_of-still}
 use Rattle.sp_outside.specs.Calls.{Call}
 use Rattle.sp_outside.specs.Disk.{Disk, bytes_of, still}
@@ -21,7 +22,6 @@ use Rattle.sp_service_turns.specs.Keys.{KeepsKeys}
 use Rattle.sp_service_turns.specs.Outside.{KeptFile, Outside, Text}
 use Rattle.sp_service_turns.specs.Served.{EndsTurns, FailsToOpen, IsOpened, opening_of}
 use Rattle.sp_service_turns.specs.Told.{IsTold}
-use Rattle.sp_service_turns.specs.declared.indexes.TheConstants.{RESERVED}
 use Rattle.sp_service_turns.specs.declared.peer.Peer.{Peer}
 use Rattle.sp_service_turns.specs.declared.served.Served.{Served}
 use Rattle.sp_service_turns.specs.declared.served.Served.TheVariants as served

@@ -15,11 +15,11 @@ use Rattle.sp_topology.specs.declared.topology.Topology.{Topology}
 use Rattle.sp_keystate.specs.Starting.{Starts}
 use Rattle.sp_keystate.specs.States.{StandsFor}
 use Rattle.sp_keystate.specs.declared.starts.Started.{Started}
+use Rattle.sp_keystate.specs.declared.starts.TheConstants.{RESERVED}
 use Rattle.sp_outside.specs.Disk.{Disk}
 use Rattle.sp_service_station.specs.Stations.{Station, indexes_in}
 use Rattle.sp_service_turns.specs.Keys.{HoldsKeys}
 use Rattle.sp_service_turns.specs.Served.{opening_of}
-use Rattle.sp_service_turns.specs.declared.indexes.TheConstants.{RESERVED}
 use Rattle.sp_service.specs.Starts.{IsOpening, IsStarted, total_of}
 
 -- a list keeps its length

@@ -9,6 +9,7 @@ use Rattle.sp_keystate.specs.declared.refused.KeyRefused.{KeyRefused}
 use Rattle.sp_keystate.specs.declared.refused.KeyRefused.TheVariants as keys
 use Rattle.sp_keystate.specs.declared.slot.InUse.{InUse}
 use Rattle.sp_keystate.specs.declared.starts.Started.{Started}
+use Rattle.sp_keystate.specs.declared.starts.TheConstants.{RESERVED}
 use Rattle.sp_outside.specs.Disk.{Disk}
 use Rattle.sp_keystate.specs.declared.key_state.KeyState.{KeyState}
 use Rattle.sp_recording.specs.declared.line.Closing.{Closing}
@@ -21,7 +22,6 @@ use Rattle.sp_service_turns.specs.Runs.{keys_on}
 use Rattle.sp_service_turns.specs.Served.{Begun, EndsTurns, FailsToOpen, No_start, No_wire, Unbegun}
 use Rattle.sp_service_turns.specs.Told.{IsTold}
 use Rattle.sp_service_turns.specs.Turns.{Turn}
-use Rattle.sp_service_turns.specs.declared.indexes.TheConstants.{RESERVED}
 use Rattle.sp_service_turns.specs.declared.peer.Peer.{Peer}
 use Rattle.sp_service_turns.specs.declared.served.Served.{Served}
 use Rattle.sp_service_turns.specs.declared.served.Served.TheVariants as served

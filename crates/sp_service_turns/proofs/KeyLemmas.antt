@@ -13,6 +13,7 @@ use Rattle.sp_keystate.specs.declared.key_state.KeyState.{KeyState}
 use Rattle.sp_keystate.specs.declared.refused.KeyRefused.{KeyRefused}
 use Rattle.sp_keystate.specs.declared.refused.KeyRefused.TheVariants.{KeeperFault, Unformatted, Formatted, Exhausted}
 use Rattle.sp_keystate.specs.declared.numbers.Numbers.{Numbers}
+use Rattle.sp_keystate.specs.declared.starts.TheConstants.{RESERVED}
 use Rattle.sp_outside.specs.Disk.{Disk}
 use Rattle.sp_recording.specs.declared.line.Line.TheVariants as lines
 use Rattle.sp_service_turns.specs.Done.{Gets, Restocked}
@@ -24,7 +25,6 @@ use Rattle.sp_service_turns.specs.Outside.{KeptFile, Text}
 use Rattle.sp_service_turns.specs.declared.ended.Ended.{Ended}
 use Rattle.sp_service_turns.specs.declared.ended.Ended.TheVariants as ended
 use Rattle.sp_service_turns.specs.declared.indexes.Indexes.{Indexes}
-use Rattle.sp_service_turns.specs.declared.indexes.TheConstants.{RESERVED}
 use Rattle.sp_service_turns.proofs.TextLemmas.{gets_itself}
 
 -- ---- indexes

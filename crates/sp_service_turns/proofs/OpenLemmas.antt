@@ -5,12 +5,12 @@ use Rattle.sp_keystate.specs.Starting.{KeepsAll, NoStart, Starts}
 use Rattle.sp_keystate.specs.States.{HasFaultCause, StandsFor}
 use Rattle.sp_keystate.specs.declared.refused.KeyRefused.{KeyRefused}
 use Rattle.sp_keystate.specs.declared.starts.Started.{Started}
+use Rattle.sp_keystate.specs.declared.starts.TheConstants.{RESERVED}
 use Rattle.sp_outside.specs.Calls.{Call, Opened, Tells}
 use Rattle.sp_outside.specs.Disk.{Disk}
 use Rattle.sp_service_turns.specs.Outside.{KeptFile, Outside, Text}
 use Rattle.sp_service_turns.specs.Served.{FailsToOpen, IsOpened, No_start, No_wire, wire_line}
 use Rattle.sp_service_turns.specs.Told.{IsTold}
-use Rattle.sp_service_turns.specs.declared.indexes.TheConstants.{RESERVED}
 use Rattle.sp_service_turns.specs.declared.opened.Ports.{Ports}
 use Rattle.sp_service_turns.specs.declared.served.Served.{Served}
 use Rattle.sp_service_turns.specs.declared.served.Served.TheVariants as served

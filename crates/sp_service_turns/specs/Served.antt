@@ -7,6 +7,7 @@ use Rattle.sp_keystate.specs.States.{HasFaultCause, StandsFor}
 use Rattle.sp_keystate.specs.declared.key_state.KeyState.{KeyState}
 use Rattle.sp_keystate.specs.declared.refused.KeyRefused.{KeyRefused}
 use Rattle.sp_keystate.specs.declared.starts.Started.{Started}
+use Rattle.sp_keystate.specs.declared.starts.TheConstants.{RESERVED}
 use Rattle.sp_outside.specs.Calls.{Opened, Tells}
 use Rattle.sp_recording.specs.declared.line.Opening.{Opening}
 use Rattle.sp_service_turns.specs.Daemons.{EndsAfter, FailsToWrite, first_text}
@@ -14,7 +15,6 @@ use Rattle.sp_service_turns.specs.Inputs.{Steps}
 use Rattle.sp_service_turns.specs.Outside.{IsQuiet, Outside, Text}
 use Rattle.sp_service_turns.specs.Told.{IsTold}
 use Rattle.sp_service_turns.specs.declared.indexes.Indexes.{Indexes}
-use Rattle.sp_service_turns.specs.declared.indexes.TheConstants.{RESERVED}
 use Rattle.sp_service_turns.specs.declared.peer.Peer.{Peer}
 use Rattle.sp_service_turns.specs.declared.opened.Ports.{Ports}
 use Rattle.sp_service_turns.specs.declared.served.Served.{Served}

@@ -2,9 +2,6 @@
 ghost use Rattle.std.specs.Prelude.{◌≡◌};
 ghost use Rattle.sp_service_turns.specs.Indexes.{are_few};
 
-/// How many indexes a turn reserves, where it reserves any.
-pub const RESERVED: u64 = 32;
-
 /// How many reserved indexes a turn begins with at least, while there are so many. A turn signs twice at most: at its tick, and for a client.
 pub const LEAST_LEFT: u64 = 4;
 

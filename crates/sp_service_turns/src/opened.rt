@@ -5,9 +5,8 @@ ghost use Rattle.sp_keystate.specs.Starting.{KeepsAll, StartsSafely};
 ghost use Rattle.sp_service_turns.specs.Outside.{known};
 ghost use Rattle.sp_service_turns.specs.Served.{FailsToOpen, IsOpened, opening_of};
 
-use crate::indexes::RESERVED;
 use crate::served::{Served, tell};
-use sp_keystate::{KeyRefused, Started, line_of, start};
+use sp_keystate::{KeyRefused, RESERVED, Started, line_of, start};
 use sp_outside::{Keeper, Sink, Wire};
 use sp_recording::Opening;
 

@@ -8,10 +8,9 @@ ghost use Rattle.sp_service_turns.specs.Keys.{HoldsKeys, IfKeysEnd, IfKeysEndBy,
 ghost use Rattle.sp_service_turns.specs.Sinks.{SinkFaults};
 
 use crate::ended::Ended;
-use crate::indexes::RESERVED;
 use crate::node::Core;
 use crate::note::note;
-use sp_keystate::KeyState;
+use sp_keystate::{KeyState, RESERVED};
 use sp_outside::{Keeper, Sink};
 use sp_recording::LineRef;
 use std::alloc::Global;

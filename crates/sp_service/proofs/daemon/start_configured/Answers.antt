@@ -1,6 +1,6 @@
 use Rattle.std.proofs.Common.{ℕ, None, subst}
+use Rattle.sp_keystate.specs.declared.starts.TheConstants.{RESERVED}
 use Rattle.sp_keystate.specs.Starting.{Starts}
-use Rattle.sp_service_turns.specs.declared.indexes.TheConstants.{RESERVED}
 use Rattle.sp_service.proofs.Beginnings.{configured_so, map_err, map_ok}
 use Rattle.sp_service.proofs.Endings.{opened_ends, unopened}
 use Rattle.sp_service.proofs.Openings.{is_opening}
