@@ -9,7 +9,7 @@ ghost use Rattle.sp_node_format.specs.Format.{format_in};
 ghost use Rattle.sp_runs.specs.Inputs.{contents_with, counter_after, object_alone, sealed_frame, slot_alone};
 
 use sp_base::{Bytes, Flow, Four, Memory, NodeId};
-use sp_frame::{Head, OutSlot, TAG_BYTES, write};
+use sp_frame::{Head, OutSections, OutSlot, TAG_BYTES, write};
 use sp_msg::{Body, Kept};
 use std::alloc::Global;
 
@@ -76,7 +76,7 @@ pub fn status_frame(
         ack: None,
         rels: Four::new(),
     };
-    let mut frame = with_parts(alloc, head, None, &Four::new(), Some(&slot))?;
+    let mut frame = with_parts(alloc, head, None, Four::new(), Some(slot))?;
     seal(key, &mut frame);
     Ok(frame)
 }
@@ -87,23 +87,17 @@ fn with_object(alloc: Global, head: &Head, object: &Kept) -> Result<Bytes, Memor
     ensures { IfOk result (λ bytes. bytes ≡ frame_bytes head.now (object_alone object.now.body object.now) (replicate 32 0)) }
 {
     match &object.body {
-        Body::Prio(_) => with_parts(alloc, head, None, &Four::new().with((1, object)), None),
-        Body::Weight(_) => with_parts(alloc, head, Some(object), &Four::new(), None),
+        Body::Prio(_) => with_parts(alloc, head, None, Four::new().with((1, object)), None),
+        Body::Weight(_) => with_parts(alloc, head, Some(object), Four::new(), None),
         Body::Ack(ack) => {
-            let flow = Flow {
-                src: ack.src,
-                dst: ack.dst,
-            };
+            let flow = Flow::between(ack.src, ack.dst);
             in_slot(alloc, head, flow, Some(object), Four::new())
         }
         Body::Rel(rel) => {
-            let flow = Flow {
-                src: rel.src,
-                dst: rel.dst,
-            };
+            let flow = Flow::between(rel.src, rel.dst);
             in_slot(alloc, head, flow, None, Four::new().with(object))
         }
-        _ => with_parts(alloc, head, None, &Four::new(), None),
+        _ => with_parts(alloc, head, None, Four::new(), None),
     }
 }
 
@@ -129,24 +123,33 @@ fn in_slot<'a>(
         ack,
         rels,
     };
-    with_parts(alloc, head, None, &Four::new(), Some(&slot))
+    with_parts(alloc, head, None, Four::new(), Some(slot))
 }
 
 /// The bytes of a frame with an update, priority messages and a report, and nothing else.
-fn with_parts(
+fn with_parts<'a>(
     alloc: Global,
     head: &Head,
-    weight: Option<&Kept>,
-    prios: &Four<(u64, &Kept)>,
-    slot: Option<&OutSlot<'_>>,
+    weight: Option<&'a Kept>,
+    prios: Four<(u64, &'a Kept)>,
+    slot: Option<OutSlot<'a>>,
 ) -> Result<Bytes, Memory>
     requires weight { IfSome weight (λ o. IsWritable head.now.format o.now) }
-    requires prios { All (λ p. IsWritable head.now.format p.1.now) prios.now }
-    requires slot { IfSome slot (λ s. IsWritableSlot head.now.format s.now) }
+    requires prios { All (λ p. IsWritable head.now.format p.1.now) prios }
+    requires slot { IfSome slot (IsWritableSlot head.now.format) }
     ensures { IfOk result (λ bytes. bytes ≡ frame_bytes head.now (contents_with (as_list (option_map (λ o. o.now) weight.entry))
-        (map (λ p. (p.0, p.1.now)) prios.now) (option_map (λ s. out_report s.now) slot.entry)) (replicate 32 0)) }
+        (map (λ p. (p.0, p.1.now)) prios.entry) (option_map out_report slot.entry)) (replicate 32 0)) }
 {
-    write(alloc, head, weight, 0, prios, slot, None, None, None)
+    let sections = OutSections {
+        weight,
+        prio_ack: 0,
+        prios,
+        slot,
+        paths: None,
+        probe: None,
+        epoch: None,
+    };
+    write(alloc, head, &sections)
 }
 
 /// Writes the tag of all bytes before it into the last 32 bytes (RFC 2104, section 2).

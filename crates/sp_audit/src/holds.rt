@@ -45,7 +45,14 @@ pub fn event_holds(
     let (past, told) = (&events[..place + 1], &journal[..place + 1]);
     let all = effects_of(alloc, past, told, u)?;
     let from = all.len().saturating_sub(caused.len());
-    each_holds(alloc, scenario, past, told, u, all.as_slice(), from)
+    let acting = Acting {
+        scenario,
+        events: past,
+        journal: told,
+        u,
+        all: all.as_slice(),
+    };
+    each_holds(alloc, &acting, from)
 }
 
 /// Whether one of the effects asks anything of what was told before.
@@ -65,125 +72,109 @@ fn asks(effect: &Effect) -> bool
     }
 }
 
-/// Whether each effect of `u` from this place on holds.
-fn each_holds(
-    alloc: Global,
-    scenario: &Scenario,
-    events: &[Event],
-    journal: &[Entry],
+/// What the effects of an event are judged by: the run up to it, the node that acts, and all effects of that node.
+#[derive(Clone, Copy)]
+struct Acting<'a> {
+    scenario: &'a Scenario,
+    events: &'a [Event],
+    journal: &'a [Entry],
     u: NodeId,
-    all: &[&Effect],
-    from: usize,
-) -> Result<bool, Memory>
-    requires even { length events.now ≡ length journal.now }
-    requires within { from ≤ length all.now }
-    ensures { IfOk result (λ holds. IsTrue holds ↔ EachHolds (setting_of scenario.now) events.now journal.now u (map (λ e. e.now) all.now)
-        (map (λ e. e.now) (take from all.now)) (map (λ e. e.now) (drop from all.now))) }
+    all: &'a [&'a Effect],
+}
+
+/// Whether each effect of `u` from this place on holds.
+fn each_holds(alloc: Global, acting: &Acting<'_>, from: usize) -> Result<bool, Memory>
+    requires even { length acting.now.events.now ≡ length acting.now.journal.now }
+    requires within { from ≤ length acting.now.all.now }
+    ensures { IfOk result (λ holds. IsTrue holds ↔ EachHolds (setting_of acting.now.scenario.now) acting.now.events.now acting.now.journal.now acting.now.u
+        (map (λ e. e.now) acting.now.all.now)
+        (map (λ e. e.now) (take from acting.now.all.now)) (map (λ e. e.now) (drop from acting.now.all.now))) }
 {
-    'effects: for place in from..all.len() {
-        let (before, effect) = (&all[..place], all[place]);
-        if !effect_holds(alloc, scenario, events, journal, u, all, before, effect)? {
+    'effects: for place in from..acting.all.len() {
+        let (before, effect) = (&acting.all[..place], acting.all[place]);
+        if !effect_holds(alloc, acting, before, effect)? {
             return Ok(false);
         }
     }
     Ok(true)
 }
 
-/// Whether an effect of `u` holds, of which these are all effects, and those before it.
+/// Whether an effect of `u` holds after those before it.
 fn effect_holds(
     alloc: Global,
-    scenario: &Scenario,
-    events: &[Event],
-    journal: &[Entry],
-    u: NodeId,
-    all: &[&Effect],
+    acting: &Acting<'_>,
     before: &[&Effect],
     effect: &Effect,
 ) -> Result<bool, Memory>
-    requires { length events.now ≡ length journal.now }
-    ensures { IfOk result (λ holds. IsTrue holds ↔ EffectHolds (setting_of scenario.now) events.now journal.now u (map (λ e. e.now) all.now)
-        (map (λ e. e.now) before.now) effect.now) }
+    requires { length acting.now.events.now ≡ length acting.now.journal.now }
+    ensures { IfOk result (λ holds. IsTrue holds ↔ EffectHolds (setting_of acting.now.scenario.now) acting.now.events.now acting.now.journal.now acting.now.u
+        (map (λ e. e.now) acting.now.all.now) (map (λ e. e.now) before.now) effect.now) }
 {
     match effect {
-        Effect::Delivered { src, .. } => {
-            keeps_order(alloc, scenario, events, journal, all, *src, u)
-        }
-        Effect::DeliveredPrio { src, .. } => comes_once(alloc, scenario, all, *src, u),
-        Effect::Stored { place, .. } => has_room(alloc, scenario, all, *place),
-        Effect::Gone { place, id, why } => {
-            goes_rightly(alloc, scenario, all, before, *place, *id, *why)
-        }
+        Effect::Delivered { src, .. } => keeps_order(alloc, acting, *src),
+        Effect::DeliveredPrio { src, .. } => comes_once(alloc, acting, *src),
+        Effect::Stored { place, .. } => has_room(alloc, acting, *place),
+        Effect::Gone { place, id, why } => goes_rightly(alloc, acting, before, *place, *id, *why),
         _ => Ok(true),
     }
 }
 
 /// Whether what came from `s` to `u` is a prefix of what was sent, where both are correct.
-fn keeps_order(
-    alloc: Global,
-    scenario: &Scenario,
-    events: &[Event],
-    journal: &[Entry],
-    all: &[&Effect],
-    s: NodeId,
-    u: NodeId,
-) -> Result<bool, Memory>
-    requires { length events.now ≡ length journal.now }
-    ensures { IfOk result (λ holds. IsTrue holds ↔ (IsTrue (is_correct (setting_of scenario.now) s) → IsTrue (is_correct (setting_of scenario.now) u)
-        → IsPrefix (flat_map (delivered_by s) (map (λ e. e.now) all.now)) (sent events.now journal.now s u))) }
+fn keeps_order(alloc: Global, acting: &Acting<'_>, s: NodeId) -> Result<bool, Memory>
+    requires { length acting.now.events.now ≡ length acting.now.journal.now }
+    ensures { IfOk result (λ holds. IsTrue holds
+        ↔ (IsTrue (is_correct (setting_of acting.now.scenario.now) s) → IsTrue (is_correct (setting_of acting.now.scenario.now) acting.now.u)
+        → IsPrefix (flat_map (delivered_by s) (map (λ e. e.now) acting.now.all.now)) (sent acting.now.events.now acting.now.journal.now s acting.now.u))) }
 {
-    if !is_correct(scenario, s) || !is_correct(scenario, u) {
+    if !is_correct(acting.scenario, s) || !is_correct(acting.scenario, acting.u) {
         return Ok(true);
     }
-    let delivered = delivered_of(alloc, all, s)?;
-    let sent = sent_of(alloc, events, journal, s, u)?;
+    let delivered = delivered_of(alloc, acting.all, s)?;
+    let sent = sent_of(alloc, acting.events, acting.journal, s, acting.u)?;
     Ok(is_prefix(delivered.as_slice(), sent.as_slice()))
 }
 
 /// Whether no priority message from `s` came twice to `u`, where `u` is correct.
-fn comes_once(
-    alloc: Global,
-    scenario: &Scenario,
-    all: &[&Effect],
-    s: NodeId,
-    u: NodeId,
-) -> Result<bool, Memory>
-    ensures { IfOk result (λ holds. IsTrue holds ↔ (IsTrue (is_correct (setting_of scenario.now) u) → AreOnce (numbers s (map (λ e. e.now) all.now)))) }
+fn comes_once(alloc: Global, acting: &Acting<'_>, s: NodeId) -> Result<bool, Memory>
+    ensures { IfOk result (λ holds. IsTrue holds
+        ↔ (IsTrue (is_correct (setting_of acting.now.scenario.now) acting.now.u) → AreOnce (numbers s (map (λ e. e.now) acting.now.all.now)))) }
 {
-    if !is_correct(scenario, u) {
+    if !is_correct(acting.scenario, acting.u) {
         return Ok(true);
     }
-    let numbers = numbers_of(alloc, all, s)?;
+    let numbers = numbers_of(alloc, acting.all, s)?;
     Ok(are_once(numbers.as_slice()))
 }
 
 /// Whether the place holds no more than its capacity.
-fn has_room(alloc: Global, scenario: &Scenario, all: &[&Effect], place: u8) -> Result<bool, Memory>
-    ensures { IfOk result (λ holds. IsTrue holds ↔ (length (held_in place (map (λ e. e.now) all.now)) ≤ scenario.now.limits.store)) }
+fn has_room(alloc: Global, acting: &Acting<'_>, place: u8) -> Result<bool, Memory>
+    ensures { IfOk result (λ holds. IsTrue holds
+        ↔ (length (held_in place (map (λ e. e.now) acting.now.all.now)) ≤ acting.now.scenario.now.limits.store)) }
 {
-    let held = held_of(alloc, all, place)?;
-    Ok(held.len() <= usize::from(scenario.limits.store))
+    let held = held_of(alloc, acting.all, place)?;
+    Ok(held.len() <= usize::from(acting.scenario.limits.store))
 }
 
 /// And whether an eviction leaves its share.
 fn goes_rightly(
     alloc: Global,
-    scenario: &Scenario,
-    all: &[&Effect],
+    acting: &Acting<'_>,
     before: &[&Effect],
     place: u8,
     id: u64,
     why: Why,
 ) -> Result<bool, Memory>
-    ensures { IfOk result (λ holds. IsTrue holds ↔ ((length (held_in place (map (λ e. e.now) all.now)) ≤ scenario.now.limits.store)
-        × ShareIf scenario.now.limits.store place (held_in place (map (λ e. e.now) before.now)) (effects.Gone place id why))) }
+    ensures { IfOk result (λ holds. IsTrue holds
+        ↔ ((length (held_in place (map (λ e. e.now) acting.now.all.now)) ≤ acting.now.scenario.now.limits.store)
+        × ShareIf acting.now.scenario.now.limits.store place (held_in place (map (λ e. e.now) before.now)) (effects.Gone place id why))) }
 {
-    if !has_room(alloc, scenario, all, place)? {
+    if !has_room(alloc, acting, place)? {
         return Ok(false);
     }
     match why {
         Why::Evicted => {
             let held = held_of(alloc, before, place)?;
-            Ok(is_share(scenario.limits.store, held.as_slice(), id))
+            Ok(is_share(acting.scenario.limits.store, held.as_slice(), id))
         }
         _ => Ok(true),
     }

@@ -2,6 +2,7 @@
 #![tactic(auto)]
 
 mod cursor;
+mod flow;
 mod format;
 mod four;
 mod id;
@@ -13,7 +14,7 @@ mod reader;
 mod room;
 
 pub use cursor::Cursor;
-pub use format::{FORMAT_1, FORMAT_2, max_edges, max_nodes, max_rels};
+pub use format::{FORMAT_1, FORMAT_2, by_format, max_edges, max_nodes, max_rels};
 pub use four::Four;
 pub use id::{EdgeId, Flow, Limits, NodeId};
 pub use limits::{

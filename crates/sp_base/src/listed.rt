@@ -1,9 +1,9 @@
 // Lists as fields of public types: a contract sees the list alone, and not where it lies in memory.
-ghost use Rattle.std.specs.Prelude.{◌≡◌, List, IfOk, length};
+ghost use Rattle.std.specs.Prelude.{◌≡◌, ◌∷◌, ◌++◌, [], List, IfOk, OnErr, OnOk, length};
 ghost use Rattle.std.specs.Borrow.{sem};
 ghost use Rattle.sp_base.specs.Lending.{lends_values};
 
-use crate::Memory;
+use crate::{Memory, push};
 use std::alloc::Global;
 use std::marker::Model;
 
@@ -52,6 +52,16 @@ impl<T> Listed<T> {
         ensures value { result.now ≡ self.old }
     {
         self.items.as_mut_slice()
+    }
+}
+
+impl<T: Drop> Listed<T> {
+    /// Appends a value. Where no memory is left, the values are as before.
+    pub fn push(&mut self, value: T) -> Result<(), Memory>
+        ensures pushed { OnOk result (self.new ≡ self.old ++ value ∷ []) }
+        ensures as_before { OnErr result (self.new ≡ self.old) }
+    {
+        push(&mut self.items, value)
     }
 }
 

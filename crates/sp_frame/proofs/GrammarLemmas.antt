@@ -123,7 +123,8 @@ module _ {X Y : Type 0} {one : List ℕ → Result (X × List ℕ) SectionRefuse
   pub made_fit : (make : X → Y) (parts : Y → X) → ((y : Y) → make (parts y) ≡ y) → ((x : X) → parts (make x) ≡ x) → Fit one spell IsGood
       → Fit (made make one) (λ y. spell (parts y)) (λ y. IsGood (parts y))
   made_fit make parts whole again fit =
-      made_good_fit make parts (λ y. IsGood (parts y)) (λ y fine. whole y) (λ x good. again x) (λ y fine. fine) (λ x good. subst IsGood (sym (again x)) good) fit
+      made_good_fit make parts (λ y. IsGood (parts y)) (λ y fine. whole y) (λ x good. again x) (λ y fine. fine)
+      (λ x good. subst IsGood (sym (again x)) good) fit
 
 -- ---- limited numbers, and counts
 limited_is_back : (n most x : ℕ) (rest : List ℕ) → most < 256 ^ n → x ≤ most → limited n most (big_bytes n x ++ rest) ≡ Ok (x, rest)
@@ -189,7 +190,8 @@ module _ {X : Type 0} {one : List ℕ → Result (X × List ℕ) SectionRefused}
       rw (append_assoc (spell x) (flat_map spell xs) rest)
       (rw (fit.back x (flat_map spell xs ++ rest) (All-head IsGood x xs good)) (rw (times_back fit xs rest (All-tail IsGood x xs good)) refl))
 
-  times_read : Fit one spell IsGood → (n : ℕ) (bytes : List ℕ) (p : List X × List ℕ) → AreBytes bytes → times one n bytes ≡ Ok p → AreRead spell IsGood n bytes p
+  times_read : Fit one spell IsGood → (n : ℕ) (bytes : List ℕ) (p : List X × List ℕ) → AreBytes bytes → times one n bytes ≡ Ok p
+      → AreRead spell IsGood n bytes p
   times_read fit zero bytes p are e =
       let same : ([], bytes) ≡ p = cc in
       let here : AreRead spell IsGood zero bytes ([], bytes) = record { begins = record { is = refl; are_bytes = are }; good = All-nil IsGood; many = refl } in

@@ -1,5 +1,5 @@
 -- How long a message is.
-use Rattle.std.proofs.Common.{◌≡◌, ◌+◌, ◌*◌, ◌<◌, ◌≤◌, ◌==◌, ℕ, Bool, true, false, if◌then◌else◌, List, [], ◌∷◌, ◌++◌, append_assoc, ◌∙◌, ap, sym, subst}
+use Rattle.std.proofs.Common.{◌≡◌, ◌+◌, ◌*◌, ◌<◌, ◌≤◌, ◌==◌, ℕ, Bool, true, false, if◌then◌else◌, List, [], ◌∷◌, ◌++◌, append-nil, ◌∙◌, ap, sym, subst}
 use Rattle.std.proofs.Common.{drop, map, length, length-append, Option, None, Some, refl, arith}
 use Rattle.std.specs.List.{flat_map, slice_get}
 use Rattle.byteorder.specs.Endian.{big_bytes}
@@ -41,18 +41,21 @@ encoded_fits format (bodies.Rel r) good =
     let few : length r.payload ≤ 1024 = (good_rel format r good).payload in
     subst (λ n. n < 65536) (sym (rel_long format r)) (short 13 29 (length r.payload) format (omega arith) (omega arith) few)
 encoded_fits format (bodies.Ack a) good =
-    let e : length (encoded_in format (bodies.Ack a)) ≡ by_format format 11 27 + 0 = ack_long format a ∙ (let same : by_format format 11 27 ≡ by_format format 11 27 + 0 = omega arith in same) in
+    let same : by_format format 11 27 ≡ by_format format 11 27 + 0 = omega arith in
+    let e : length (encoded_in format (bodies.Ack a)) ≡ by_format format 11 27 + 0 = ack_long format a ∙ same in
     subst (λ n. n < 65536) (sym e) (short 11 27 0 format (omega arith) (omega arith) (omega arith))
 encoded_fits format (bodies.Weight w) good = omega arith
 encoded_fits format (bodies.Krel r) good =
     let few : length r.payload ≤ 1024 = good.1.1.1.1.1.1.1.1.0.1 in
     subst (λ n. n < 65536) (sym (krel_long format r)) (short 29 61 (length r.payload) format (omega arith) (omega arith) few)
 encoded_fits format (bodies.Kack a) good =
-    let e : length (encoded_in format (bodies.Kack a)) ≡ by_format format 11 27 + 0 = kack_long format a ∙ (let same : by_format format 11 27 ≡ by_format format 11 27 + 0 = omega arith in same) in
+    let same : by_format format 11 27 ≡ by_format format 11 27 + 0 = omega arith in
+    let e : length (encoded_in format (bodies.Kack a)) ≡ by_format format 11 27 + 0 = kack_long format a ∙ same in
     subst (λ n. n < 65536) (sym e) (short 11 27 0 format (omega arith) (omega arith) (omega arith))
 encoded_fits format (bodies.Epoch e) good =
-    let same : length (encoded_in format (bodies.Epoch e)) ≡ by_format format 2 10 + 0 = epoch_body_long format e ∙ (let same : by_format format 2 10 ≡ by_format format 2 10 + 0 = omega arith in same) in
-    subst (λ n. n < 65536) (sym same) (short 2 10 0 format (omega arith) (omega arith) (omega arith))
+    let same : by_format format 2 10 ≡ by_format format 2 10 + 0 = omega arith in
+    let long : length (encoded_in format (bodies.Epoch e)) ≡ by_format format 2 10 + 0 = epoch_body_long format e ∙ same in
+    subst (λ n. n < 65536) (sym long) (short 2 10 0 format (omega arith) (omega arith) (omega arith))
 
 -- a message with its lengths and its signature
 pub object_long : (format : ℕ) (o : Kept) → length (object_bytes format o) ≡ 2 + length (encoded_in format o.body) + 2 + length o.signature
@@ -65,7 +68,9 @@ weights_long format o = refl
 
 -- a count and what it counts
 pub counted_long : {X : Type 0} (spell : X → List ℕ) (xs : List X) → length (counted_bytes spell xs) ≡ 1 + length (flat_map spell xs)
-counted_long spell xs = length-append (big_bytes 1 (length xs)) (flat_map spell xs) ∙ ap (λ (n : ℕ). n + length (flat_map spell xs)) (length-bytes_high_first 1 (length xs))
+counted_long spell xs =
+    length-append (big_bytes 1 (length xs)) (flat_map spell xs)
+    ∙ ap (λ (n : ℕ). n + length (flat_map spell xs)) (length-bytes_high_first 1 (length xs))
 
 -- one message more, with its link number
 pub numbered_long : (format : ℕ) (p : ℕ × Kept) (ps : List (ℕ × Kept))
@@ -79,11 +84,13 @@ objects_long format o os = length-append (object_bytes format o) (flat_map (obje
 
 -- what is left from a place on: what stands there, and what is left after it
 pub numbered_from : (format : ℕ) {X : Type 0} (xs : List X) (view : X → ℕ × Kept) (i : ℕ) (x : X) → slice_get xs i ≡ Some x
-    → length (flat_map (numbered_bytes format) (map view (drop i xs))) ≡ 8 + length (object_bytes format (view x).1) + length (flat_map (numbered_bytes format) (map view (drop (i + 1) xs)))
+    → length (flat_map (numbered_bytes format) (map view (drop i xs)))
+    ≡ 8 + length (object_bytes format (view x).1) + length (flat_map (numbered_bytes format) (map view (drop (i + 1) xs)))
 numbered_from format xs view i x at = rw (drop_first xs i x at) (numbered_long format (view x) (map view (drop (i + 1) xs)))
 
 pub objects_from : (format : ℕ) {X : Type 0} (xs : List X) (view : X → Kept) (i : ℕ) (x : X) → slice_get xs i ≡ Some x
-    → length (flat_map (object_bytes format) (map view (drop i xs))) ≡ length (object_bytes format (view x)) + length (flat_map (object_bytes format) (map view (drop (i + 1) xs)))
+    → length (flat_map (object_bytes format) (map view (drop i xs)))
+    ≡ length (object_bytes format (view x)) + length (flat_map (object_bytes format) (map view (drop (i + 1) xs)))
 objects_from format xs view i x at = rw (drop_first xs i x at) (objects_long format (view x) (map view (drop (i + 1) xs)))
 
 pub acks_long : (format : ℕ) (o : Option Kept) → length (ack_bytes format o) ≡ length (rels_bytes format (as_list o))
@@ -148,6 +155,12 @@ pub head_long : (h : Head) → length (head_bytes h) ≡ 33
 unfolding head_bytes ends_bytes numbers_bytes
 head_long h = refl
 
+-- ---- one object at most is spelled alike after a count and after a flag
+pub weights_are : (format : ℕ) (o : Option Kept) → weights_bytes format (as_list o) ≡ ack_bytes format o
+unfolding weights_bytes ack_bytes
+weights_are format None = refl
+weights_are format (Some o) = ap (λ b. big_bytes 1 1 ++ b) (append-nil (object_bytes format o))
+
 -- ---- the parts that format 1 lacks are spelled as others are
 pub paths_are : (format : ℕ) (o : Option Report) → (format == FORMAT_1) ≡ false → paths_bytes format o ≡ slot_bytes format o
 unfolding paths_bytes slot_bytes
@@ -164,15 +177,3 @@ epoch_is format o is = ap (λ b. later_bytes (object_bytes format) b o) is
 pub no_epoch_is : (format : ℕ) (o : Option Kept) → (format == FORMAT_1) ≡ true → epoch_bytes format o ≡ []
 unfolding epoch_bytes
 no_epoch_is format o is = ap (λ b. later_bytes (object_bytes format) b o) is
-
--- the parts of a frame, appended one by one
-pub in_a_row : (h a b c d e f g : List ℕ) → h ++ a ++ b ++ c ++ d ++ e ++ f ++ g ≡ h ++ (a ++ b ++ c ++ d ++ e ++ f ++ g)
-in_a_row h a b c d e f g =
-    rw (
-      append_assoc h a b,
-      append_assoc h (a ++ b) c,
-      append_assoc h (a ++ b ++ c) d,
-      append_assoc h (a ++ b ++ c ++ d) e,
-      append_assoc h (a ++ b ++ c ++ d ++ e) f,
-      append_assoc h (a ++ b ++ c ++ d ++ e ++ f) g,
-    ) refl

@@ -1,5 +1,6 @@
 -- An object is read back, and its bytes are those that were read.
-use Rattle.std.proofs.Common.{◌≡◌, ℕ, ◌<◌, ◌==◌, true, inl, inr, List, ◌++◌, length, append_assoc, Result, Ok, Err, if◌then◌else◌, refl, sym, ap, ◌∙◌, subst, arith}
+use Rattle.std.proofs.Common.{◌≡◌, ℕ, ◌<◌, ◌==◌, true, inl, inr, List, ◌++◌, length, append_assoc, Result, Ok, Err, if◌then◌else◌}
+use Rattle.std.proofs.Common.{refl, sym, ap, ◌∙◌, subst, arith}
 use Rattle.std.proofs.lemmas.Bool.{cases_Bool, eqb-true}
 use Rattle.std.proofs.lemmas.Bool.Decides.{nat_tests}
 use Rattle.byteorder.specs.Endian.{big_bytes}
@@ -30,11 +31,14 @@ length_back len rest small = rw ((number_fit 2).back len rest small) (rw (same_n
 
 -- an object by its pieces
 pieces_back : (format : ℕ) (kind : Kind) (len : ℕ) (o : Kept) (rest : List ℕ) → IsObject format kind len o
-    → object format kind len (big_bytes 2 (length (encoded_in format o.body)) ++ (encoded_in format o.body ++ (big_bytes 2 len ++ (o.signature ++ rest)))) ≡ Ok (o, rest)
+    → object format kind len (big_bytes 2 (length (encoded_in format o.body)) ++ (encoded_in format o.body ++ (big_bytes 2 len ++ (o.signature ++ rest))))
+    ≡ Ok (o, rest)
 unfolding object
 pieces_back format kind len o rest good =
-    let signed : piece len (o.signature ++ rest) ≡ Ok (o.signature, rest) = ap (λ n. piece n (o.signature ++ rest)) (sym good.long) ∙ piece_is_back o.signature rest in
-    rw ((number_fit 2).back (length (encoded_in format o.body)) (encoded_in format o.body ++ (big_bytes 2 len ++ (o.signature ++ rest))) (encoded_fits format o.body good.fields))
+    let signed : piece len (o.signature ++ rest) ≡ Ok (o.signature, rest) =
+    ap (λ n. piece n (o.signature ++ rest)) (sym good.long) ∙ piece_is_back o.signature rest in
+    rw ((number_fit 2).back (length (encoded_in format o.body)) (encoded_in format o.body ++ (big_bytes 2 len ++ (o.signature ++ rest)))
+    (encoded_fits format o.body good.fields))
     (rw (piece_is_back (encoded_in format o.body) (big_bytes 2 len ++ (o.signature ++ rest)))
     (rw (whole_is_read format o.body good.fields) (rw good.is (rw (length_back len (o.signature ++ rest) good.fits) (rw signed refl)))))
 
@@ -45,8 +49,11 @@ object_back : (format : ℕ) (kind : Kind) (len : ℕ) (o : Kept) (rest : List �
     → object format kind len (object_bytes format o ++ rest) ≡ Ok (o, rest)
 unfolding object_bytes
 object_back format kind len o rest good =
-    ap (object format kind len) (in_pieces (big_bytes 2 (length (encoded_in format o.body))) (encoded_in format o.body) (big_bytes 2 (length o.signature)) o.signature rest)
-    ∙ ap (λ n. object format kind len (big_bytes 2 (length (encoded_in format o.body)) ++ (encoded_in format o.body ++ (big_bytes 2 n ++ (o.signature ++ rest))))) good.long
+    ap (object format kind len)
+    (in_pieces (big_bytes 2 (length (encoded_in format o.body))) (encoded_in format o.body) (big_bytes 2 (length o.signature)) o.signature rest)
+    ∙ ap
+    (λ n. object format kind len (big_bytes 2 (length (encoded_in format o.body)) ++ (encoded_in format o.body ++ (big_bytes 2 n ++ (o.signature ++ rest)))))
+    good.long
     ∙ pieces_back format kind len o rest good
 
 -- ---- what is read is spelled
@@ -91,7 +98,8 @@ four bytes a one b two c three d rest w x y z = joined bytes (a ++ b ++ c) three
 
 -- an object was read
 record IsRead (format : ℕ) (kind : Kind) (len : ℕ) (bytes : List ℕ) (p : Kept × List ℕ) : Type 0 where
-  begins : Begins bytes (big_bytes 2 (length (encoded_in format p.0.body)) ++ encoded_in format p.0.body ++ big_bytes 2 (length p.0.signature) ++ p.0.signature) p.1
+  begins : Begins bytes
+      (big_bytes 2 (length (encoded_in format p.0.body)) ++ encoded_in format p.0.body ++ big_bytes 2 (length p.0.signature) ++ p.0.signature) p.1
   good : IsObject format kind len p.0
 
 put_together : (format : ℕ) (kind : Kind) (len size : ℕ) (bytes one two three : List ℕ) (piece_read signature : List ℕ × List ℕ) (body : Body)
@@ -105,7 +113,8 @@ put_together format kind len size bytes one two three found signature body first
     subst (λ n. Begins bytes (big_bytes 2 n) one) (sym second.count ∙ ap length message.0) first in
     let len_is : Begins found.1 (big_bytes 2 (length signature.0)) three = subst (λ n. Begins found.1 (big_bytes 2 n) three) (sym fourth.count) third in
     record {
-      begins = four bytes (big_bytes 2 (length (encoded_in format body))) one (encoded_in format body) found.1 (big_bytes 2 (length signature.0)) three signature.0 signature.1
+      begins = four bytes (big_bytes 2 (length (encoded_in format body))) one (encoded_in format body) found.1 (big_bytes 2 (length signature.0)) three
+          signature.0 signature.1
           size_is body_is len_is fourth.begins;
       good = record { fields = message.1; is = is; long = fourth.count; fits = fits };
     }

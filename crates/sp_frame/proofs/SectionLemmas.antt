@@ -97,7 +97,8 @@ report_fit format acks messages len =
     })
     (λ r good. (((((((good.src, good.dst), good.sboot), good.dboot), good.base), good.have), good.ack), (good.few, good.rels)))
     (made_fit report_from report_parts (λ r. refl) (λ parts. refl)
-    (both_fit (both_fit (both_fit (both_fit (both_fit (both_fit (both_fit (number_fit 1) (number_fit 1)) (number_fit (boot_bytes format))) (number_fit (boot_bytes format)))
+    (both_fit (both_fit (both_fit (both_fit (both_fit (both_fit (both_fit (number_fit 1) (number_fit 1)) (number_fit (boot_bytes format)))
+    (number_fit (boot_bytes format)))
     (number_fit 8)) (number_fit 8)) (ack_fit format acks len)) (rels_fit format messages len)))
 
 slot_fit : (format len : ℕ) → Fit (slot format len) (slot_bytes format) (λ x. IfSome x (IsReport format kinds.Ack kinds.Rel len))
@@ -160,7 +161,8 @@ plain_fit format len =
       };
       none = refl;
     })
-    (both_fit (both_fit (both_fit (both_fit (both_fit (both_fit (weights_fit format len) (number_fit 8)) (prios_fit format len)) (slot_fit format len)) (paths_fit format len))
+    (both_fit (both_fit (both_fit (both_fit (both_fit (both_fit (weights_fit format len) (number_fit 8)) (prios_fit format len)) (slot_fit format len))
+    (paths_fit format len))
     (probes_fit format)) (epoch_fit format len))
 
 -- ---- with one
@@ -168,7 +170,8 @@ sized_fit : Fit sized sized_bytes (λ bytes. length bytes < 65536)
 unfolding sized sized_bytes
 sized_fit = record {
   back = λ bytes rest short.
-      rw (append_assoc (big_bytes 2 (length bytes)) bytes rest) (rw ((number_fit 2).back (length bytes) (bytes ++ rest) short) ((piece_fit (length bytes)).back bytes rest refl));
+      rw (append_assoc (big_bytes 2 (length bytes)) bytes rest)
+      (rw ((number_fit 2).back (length bytes) (bytes ++ rest) short) ((piece_fit (length bytes)).back bytes rest refl));
   read = λ bytes p are e.
       let s = then_ok (number 2 bytes) (λ n. piece n.0 n.1) p e in
       let f = (number_fit 2).read bytes s.0 are s.1 in
@@ -193,7 +196,8 @@ unfolding zeros zeros_bytes
 zeros_fit =
     made_good_fit zeros_from zero_parts (λ n. n ≡ 0) (λ n none. sym none) zeros_again
     (λ n none. let few : n ≤ 0 = omega (arith, none) in (((((few, few), few), few), few), few)) (λ x good. refl)
-    (both_fit (both_fit (both_fit (both_fit (both_fit (limited_fit 8 0 (lit< tt)) (limited_fit 1 0 (lit< tt))) (limited_fit 1 0 (lit< tt))) (limited_fit 1 0 (lit< tt)))
+    (both_fit (both_fit (both_fit (both_fit (both_fit (limited_fit 8 0 (lit< tt)) (limited_fit 1 0 (lit< tt))) (limited_fit 1 0 (lit< tt)))
+    (limited_fit 1 0 (lit< tt)))
     (limited_fit 1 0 (lit< tt))) (limited_fit 1 0 (lit< tt)))
 
 -- a document alone, with room in its length
@@ -243,7 +247,8 @@ unfolding sections_at_in sections_bytes_in
 contents_back format len s rest good = go s.document refl good.document
   where
     go : (o : Option (List ℕ)) → s.document ≡ o → IfSome o (Later format (IsDocument s))
-        → (if has_document format (control_bytes format s o ++ rest) then document_at (drop 1 (control_bytes format s o ++ rest)) else plain_at format len (control_bytes format s o ++ rest)) ≡ Ok (s, rest)
+        → (if has_document format (control_bytes format s o ++ rest) then document_at (drop 1 (control_bytes format s o ++ rest))
+        else plain_at format len (control_bytes format s o ++ rest)) ≡ Ok (s, rest)
     go None none is = rw (no_document format s rest good.few_weights) ((plain_fit format len).back s rest (record { good = good; none = none }))
     go (Some document) some is =
         let shown : document_bytes (or_none s.document) ≡ document_bytes document = ap (λ o. document_bytes (or_none o)) some in

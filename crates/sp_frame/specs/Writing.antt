@@ -1,8 +1,11 @@
 -- What a node puts into a frame, as values.
-use Rattle.std.specs.Prelude.{ℕ, ◌<◌, All, IfSome, length, map, option_map}
+use Rattle.std.specs.Prelude.{ℕ, ◌<◌, All, IfSome, None, length, map, option_map}
 use Rattle.sp_msg.specs.Bodies.{HasGoodFieldsIn}
 use Rattle.sp_msg.specs.declared.kept.Kept.{Kept}
 use Rattle.sp_frame.specs.Reliable.{Report}
+use Rattle.sp_frame.specs.Sections.{Contents}
+use Rattle.sp_frame.specs.Views.{as_list}
+use Rattle.sp_frame.specs.declared.writing.OutSections.{OutSections}
 use Rattle.sp_frame.specs.declared.writing.OutSlot.{OutSlot}
 
 -- a message whose fields are in their ranges, with a signature whose length has room in two bytes
@@ -24,3 +27,22 @@ out_report s = record {
 pub record IsWritableSlot (format : ℕ) (s : OutSlot) : Type 0 where
   pub ack : IfSome s.ack (λ o. IsWritable format o.now)
   pub rels : All (λ o. IsWritable format o.now) s.rels
+
+abbrev pub out_contents : OutSections → Contents
+out_contents s = record {
+  document = None;
+  weights = as_list (option_map (λ o. o.now) s.weight);
+  prio_ack = s.prio_ack;
+  prios = map (λ p. (p.0, p.1.now)) s.prios;
+  slot = option_map out_report s.slot;
+  paths = option_map out_report s.paths;
+  probe = s.probe;
+  epoch = option_map (λ o. o.now) s.epoch;
+}
+
+pub record AreWritable (format : ℕ) (s : OutSections) : Type 0 where
+  pub weight : IfSome s.weight (λ o. IsWritable format o.now)
+  pub prios : All (λ p. IsWritable format p.1.now) s.prios
+  pub slot : IfSome s.slot (IsWritableSlot format)
+  pub paths : IfSome s.paths (IsWritableSlot format)
+  pub epoch : IfSome s.epoch (λ o. IsWritable format o.now)

@@ -6,12 +6,13 @@ ghost use Rattle.sp_frame.specs.Objects.{object_bytes};
 ghost use Rattle.sp_frame.specs.Prioritized.{numbered_bytes, prios_bytes};
 ghost use Rattle.sp_frame.specs.Probes.{epoch_bytes, probes_bytes};
 ghost use Rattle.sp_frame.specs.Reliable.{ack_bytes, boot_bytes, paths_bytes, rels_bytes, slot_bytes};
+ghost use Rattle.sp_frame.specs.Sections.{plain_bytes};
 ghost use Rattle.sp_frame.specs.Views.{as_list};
 ghost use Rattle.sp_frame.specs.Weights.{weights_bytes};
-ghost use Rattle.sp_frame.specs.Writing.{IsWritable, IsWritableSlot, out_report};
+ghost use Rattle.sp_frame.specs.Writing.{AreWritable, IsWritable, IsWritableSlot, out_contents, out_report};
 
-use crate::{OutSlot, Probe};
-use sp_base::{FORMAT_1, Four};
+use crate::{OutSections, OutSlot, Probe};
+use sp_base::{FORMAT_1, Four, by_format};
 use sp_msg::{Kept, encoded_len};
 
 /// The bytes of a count or a flag.
@@ -21,17 +22,32 @@ const COUNT_BYTES: usize = 1;
 const LENGTH_BYTES: usize = 2;
 
 /// The bytes of a link number.
-pub const PRIO_ACK_BYTES: usize = 8;
+const PRIO_ACK_BYTES: usize = 8;
 
 /// The bytes of a flow, of the boots of its ends, and of its two numbers.
 fn place_len(format: u8) -> usize
     ensures { result ≡ 18 + 2 * boot_bytes format }
 {
-    if format == FORMAT_1 { 18 } else { 34 }
+    by_format(format, 18, 34)
+}
+
+/// All sections of a frame without a document.
+#[tactic(auto, unfolding(crate::specs::Sections::plain_bytes))]
+pub fn sections_len(format: u8, sections: &OutSections<'_>) -> usize
+    requires { AreWritable format sections.now }
+    ensures exact { result ≡ length (plain_bytes format (out_contents sections.now)) }
+    ensures few { result ≤ 3_000_000 }
+{
+    let first = weight_len(format, sections.weight) + PRIO_ACK_BYTES;
+    let messages = prios_len(format, &sections.prios) + slot_len(format, sections.slot.as_ref());
+    let later = paths_len(format, sections.paths.as_ref())
+        + probe_len(format, sections.probe.as_ref())
+        + epoch_len(format, sections.epoch);
+    first + messages + later
 }
 
 #[tactic(auto, using(crate::proofs::LengthLemmas::weights_long))]
-pub fn weight_len(format: u8, weight: Option<&Kept>) -> usize
+fn weight_len(format: u8, weight: Option<&Kept>) -> usize
     requires { IfSome weight (λ o. IsWritable format o.now) }
     ensures exact { result ≡ length (weights_bytes format (as_list (option_map (λ o. o.now) weight.entry))) }
     ensures few { result ≤ 132_000 }
@@ -40,7 +56,7 @@ pub fn weight_len(format: u8, weight: Option<&Kept>) -> usize
 }
 
 #[tactic(auto, unfolding(crate::specs::Prioritized::prios_bytes), using(crate::proofs::LengthLemmas::counted_long))]
-pub fn prios_len(format: u8, prios: &Four<(u64, &Kept)>) -> usize
+fn prios_len(format: u8, prios: &Four<(u64, &Kept)>) -> usize
     requires { All (λ p. IsWritable format p.1.now) prios.now }
     ensures exact { result ≡ length (prios_bytes format (map (λ p. (p.0, p.1.now)) prios.now)) }
     ensures few { result ≤ 600_000 }
@@ -63,7 +79,7 @@ fn numbered_len(format: u8, prios: &Four<(u64, &Kept)>, place: usize) -> usize
 }
 
 #[tactic(auto, using(crate::proofs::LengthLemmas::no_slot_long, crate::proofs::LengthLemmas::slot_long, crate::proofs::LengthLemmas::acks_long))]
-pub fn slot_len(format: u8, slot: Option<&OutSlot<'_>>) -> usize
+fn slot_len(format: u8, slot: Option<&OutSlot<'_>>) -> usize
     requires { IfSome slot (λ s. IsWritableSlot format s.now) }
     ensures exact { result ≡ length (slot_bytes format (option_map (λ s. out_report s.now) slot.entry)) }
     ensures few { result ≤ 800_000 }
@@ -79,7 +95,7 @@ pub fn slot_len(format: u8, slot: Option<&OutSlot<'_>>) -> usize
 
 /// The paths section, which format 1 lacks.
 #[tactic(auto, using(crate::proofs::LengthLemmas::no_paths_long, crate::proofs::LengthLemmas::paths_long))]
-pub fn paths_len(format: u8, paths: Option<&OutSlot<'_>>) -> usize
+fn paths_len(format: u8, paths: Option<&OutSlot<'_>>) -> usize
     requires { IfSome paths (λ s. IsWritableSlot format s.now) }
     ensures exact { result ≡ length (paths_bytes format (option_map (λ s. out_report s.now) paths.entry)) }
     ensures few { result ≤ 800_000 }
@@ -93,7 +109,7 @@ pub fn paths_len(format: u8, paths: Option<&OutSlot<'_>>) -> usize
 
 /// The probe section, which format 1 lacks.
 #[tactic(auto, using(crate::proofs::LengthLemmas::no_probes_long, crate::proofs::LengthLemmas::none_probed_long, crate::proofs::LengthLemmas::probes_long))]
-pub fn probe_len(format: u8, probe: Option<&Probe>) -> usize
+fn probe_len(format: u8, probe: Option<&Probe>) -> usize
     ensures exact { result ≡ length (probes_bytes format (option_map (λ p. p.now) probe.entry)) }
     ensures few { result ≤ 57 }
 {
@@ -120,7 +136,7 @@ fn proof_len(proof: &[u8; 32]) -> usize
 
 /// The epoch section, which format 1 lacks.
 #[tactic(auto, using(crate::proofs::LengthLemmas::no_epoch_long, crate::proofs::LengthLemmas::epoch_long))]
-pub fn epoch_len(format: u8, said: Option<&Kept>) -> usize
+fn epoch_len(format: u8, said: Option<&Kept>) -> usize
     requires { IfSome said (λ o. IsWritable format o.now) }
     ensures exact { result ≡ length (epoch_bytes format (option_map (λ o. o.now) said.entry)) }
     ensures few { result ≤ 132_000 }

@@ -11,6 +11,7 @@ mod lengths;
 mod object;
 mod probe;
 mod refused;
+mod reports;
 mod sections;
 mod writing;
 
@@ -22,4 +23,4 @@ pub use object::ObjectRef;
 pub use probe::Probe;
 pub use refused::{FrameRefused, SectionRefused};
 pub use sections::{MOST_OBJECTS, Sections, Slot};
-pub use writing::{OutSlot, write, write_document};
+pub use writing::{MAX_DOCUMENT_BYTES, OutSections, OutSlot, write, write_document};

@@ -4,19 +4,20 @@ ghost use Rattle.sp_base.specs.Refusals.{Gives};
 ghost use Rattle.sp_base.specs.declared.limits.TheConstants.{MAX_MESSAGES};
 ghost use Rattle.sp_frame.specs.Grammar.{count, limited, number, times};
 ghost use Rattle.sp_frame.specs.Objects.{most, object};
-ghost use Rattle.sp_frame.specs.OfFormat.{AreOf, IsOf, IsSlotOf};
+ghost use Rattle.sp_frame.specs.OfFormat.{AreOf, IsOf};
 ghost use Rattle.sp_frame.specs.Prioritized.{numbered, prios};
 ghost use Rattle.sp_frame.specs.Probes.{epoch, probe_at, probes};
-ghost use Rattle.sp_frame.specs.Reliable.{ack, boot_bytes, paths, rels, report, slot};
+ghost use Rattle.sp_frame.specs.Reliable.{ack};
 ghost use Rattle.sp_frame.specs.Sections.{document_at, has_document, plain_at, sections_of_in, sized, whole_of, zeros};
-ghost use Rattle.sp_frame.specs.Views.{as_contents, as_list, as_numbered, as_object, as_report};
+ghost use Rattle.sp_frame.specs.Views.{as_contents, as_list, as_numbered, as_object};
 ghost use Rattle.sp_frame.specs.Weights.{weights};
 
 use crate::frame::DOCUMENT;
 use crate::judging::object_at;
 use crate::kind::Kind;
+use crate::reports::{paths_at, slot_at};
 use crate::{ObjectRef, Probe, SectionRefused};
-use sp_base::{FORMAT_1, Flow, Four, MAX_MESSAGES, NodeId, Reader};
+use sp_base::{FORMAT_1, Flow, Four, MAX_MESSAGES, Reader};
 
 /// How many signed objects a frame of format 1 has at most: an update of a weight, its priority messages, and an acknowledgement with reliable messages.
 pub const MOST_OBJECTS: usize = 1 + MAX_MESSAGES + (1 + MAX_MESSAGES);
@@ -214,7 +215,7 @@ fn prios_at<'a>(
     ensures read { Gives (λ m. (map as_numbered m, reader.new)) result (prios format signature_len reader.old) }
     ensures of_format { IfOk result (All (λ p. IsOf format p.1)) }
 {
-    let count = count_at(reader)?;
+    let count = limited_at(reader, most(format, Kind::Prio))?;
     many_numbered(reader, count, format, signature_len)
 }
 
@@ -253,86 +254,9 @@ fn numbered_at<'a>(
     Ok((link_number, message))
 }
 
-#[tactic(auto, unfolding(crate::specs::Reliable::slot))]
-fn slot_at<'a>(
-    reader: &mut Reader<'a>,
-    format: u8,
-    signature_len: usize,
-) -> Result<Option<Slot<'a>>, SectionRefused>
-    ensures read { Gives (λ s. (option_map as_report s, reader.new)) result (slot format signature_len reader.old) }
-    ensures of_format { IfOk result (λ s. IfSome s (IsSlotOf format)) }
-{
-    if !has_one(reader)? {
-        return Ok(None);
-    }
-    let slot = report_at(reader, format, Kind::Ack, Kind::Rel, signature_len)?;
-    Ok(Some(slot))
-}
-
-/// The paths section, which format 1 lacks.
-#[tactic(auto, unfolding(crate::specs::Reliable::paths))]
-fn paths_at<'a>(
-    reader: &mut Reader<'a>,
-    format: u8,
-    signature_len: usize,
-) -> Result<Option<Slot<'a>>, SectionRefused>
-    ensures read { Gives (λ s. (option_map as_report s, reader.new)) result (paths format signature_len reader.old) }
-    ensures of_format { IfOk result (λ s. IfSome s (IsSlotOf format)) }
-{
-    if format == FORMAT_1 {
-        return Ok(None);
-    }
-    if !has_one(reader)? {
-        return Ok(None);
-    }
-    let slot = report_at(reader, format, Kind::Kack, Kind::Krel, signature_len)?;
-    Ok(Some(slot))
-}
-
-/// A report with an acknowledgement of one kind and messages of another.
-#[tactic(auto, unfolding(crate::specs::Reliable::report, crate::specs::Grammar::number))]
-fn report_at<'a>(
-    reader: &mut Reader<'a>,
-    format: u8,
-    acks: Kind,
-    messages: Kind,
-    signature_len: usize,
-) -> Result<Slot<'a>, SectionRefused>
-    ensures read { Gives (λ s. (as_report s, reader.new)) result (report format acks messages signature_len reader.old) }
-    ensures of_format { IfOk result (IsSlotOf format) }
-{
-    let src = NodeId(reader.u8()?);
-    let dst = NodeId(reader.u8()?);
-    let sboot = boot_at(reader, format)?;
-    let dboot = boot_at(reader, format)?;
-    let base = reader.u64()?;
-    let have = reader.u64()?;
-    let ack = ack_at(reader, format, acks, signature_len)?;
-    let rels = rels_at(reader, format, messages, signature_len)?;
-    Ok(Slot {
-        flow: Flow { src, dst },
-        sboot,
-        dboot,
-        base,
-        have,
-        ack,
-        rels,
-    })
-}
-
-/// The boot of an end, which format 1 lacks.
-#[tactic(auto, unfolding(crate::specs::Grammar::number), using(sp_msg::proofs::FieldLemmas::no_bytes))]
-fn boot_at(reader: &mut Reader<'_>, format: u8) -> Result<u64, SectionRefused>
-    ensures { Gives (λ x. (x, reader.new)) result (number (boot_bytes format) reader.old) }
-{
-    if format == FORMAT_1 {
-        return Ok(0);
-    }
-    Ok(reader.u64()?)
-}
-
+/// An object after its flag, or none.
 #[tactic(auto, unfolding(crate::specs::Reliable::ack))]
-fn ack_at<'a>(
+pub(crate) fn flagged_object_at<'a>(
     reader: &mut Reader<'a>,
     format: u8,
     kind: Kind,
@@ -347,22 +271,8 @@ fn ack_at<'a>(
     Ok(Some(object_at(reader, format, kind, signature_len)?))
 }
 
-#[tactic(auto, unfolding(crate::specs::Reliable::rels))]
-fn rels_at<'a>(
-    reader: &mut Reader<'a>,
-    format: u8,
-    kind: Kind,
-    signature_len: usize,
-) -> Result<Four<ObjectRef<'a>>, SectionRefused>
-    ensures read { Gives (λ o. (map as_object o, reader.new)) result (rels format kind signature_len reader.old) }
-    ensures of_format { IfOk result (All (IsOf format)) }
-{
-    let count = limited_at(reader, most(format, kind))?;
-    many_rels(reader, count, format, kind, signature_len)
-}
-
 /// How many objects of a kind a frame has at most.
-fn most(format: u8, kind: Kind) -> u8
+pub(crate) fn most(format: u8, kind: Kind) -> u8
     ensures most { result ≡ most format kind }
     ensures few { result ≤ MAX_MESSAGES }
 {
@@ -376,7 +286,7 @@ fn most(format: u8, kind: Kind) -> u8
 
 /// A count of at most so many.
 #[tactic(auto, unfolding(crate::specs::Grammar::limited, crate::specs::Grammar::number))]
-fn limited_at(reader: &mut Reader<'_>, most: u8) -> Result<u8, SectionRefused>
+pub(crate) fn limited_at(reader: &mut Reader<'_>, most: u8) -> Result<u8, SectionRefused>
     ensures read { Gives (λ n. (n, reader.new)) result (count most reader.old) }
     ensures few { IfOk result (λ n. n ≤ most) }
 {
@@ -385,28 +295,6 @@ fn limited_at(reader: &mut Reader<'_>, most: u8) -> Result<u8, SectionRefused>
         return Err(SectionRefused::Count);
     }
     Ok(count)
-}
-
-/// So many reliable or K-path messages.
-#[tactic(auto, using(crate::proofs::TimesLemmas::read_in_turn))]
-fn many_rels<'a>(
-    reader: &mut Reader<'a>,
-    count: u8,
-    format: u8,
-    kind: Kind,
-    signature_len: usize,
-) -> Result<Four<ObjectRef<'a>>, SectionRefused>
-    requires { count ≤ MAX_MESSAGES }
-    ensures read { Gives (λ o. (map as_object o, reader.new)) result (times (object format kind signature_len) count reader.old) }
-    ensures many { IfOk result (λ o. length o ≡ count) }
-    ensures of_format { IfOk result (All (IsOf format)) }
-{
-    if count == 0 {
-        return Ok(Four::new());
-    }
-    let first = object_at(reader, format, kind, signature_len)?;
-    let others = many_rels(reader, count - 1, format, kind, signature_len)?;
-    Ok(others.led_by(first))
 }
 
 /// The probe section, which format 1 lacks.
@@ -444,7 +332,7 @@ fn probe_at(reader: &mut Reader<'_>) -> Result<Probe, SectionRefused>
 }
 
 /// The epoch section, which format 1 lacks.
-#[tactic(auto, unfolding(crate::specs::Probes::epoch))]
+#[tactic(auto, unfolding(crate::specs::Probes::epoch, crate::specs::Reliable::ack))]
 fn epoch_at<'a>(
     reader: &mut Reader<'a>,
     format: u8,
@@ -456,28 +344,12 @@ fn epoch_at<'a>(
     if format == FORMAT_1 {
         return Ok(None);
     }
-    if !has_one(reader)? {
-        return Ok(None);
-    }
-    Ok(Some(object_at(reader, format, Kind::Epoch, signature_len)?))
-}
-
-/// A count of messages, of at most four.
-#[tactic(auto, unfolding(crate::specs::Grammar::limited, crate::specs::Grammar::number))]
-fn count_at(reader: &mut Reader<'_>) -> Result<u8, SectionRefused>
-    ensures read { Gives (λ n. (n, reader.new)) result (count MAX_MESSAGES reader.old) }
-    ensures few { IfOk result (λ n. n ≤ MAX_MESSAGES) }
-{
-    let count = reader.u8()?;
-    if usize::from(count) > MAX_MESSAGES {
-        return Err(SectionRefused::Count);
-    }
-    Ok(count)
+    flagged_object_at(reader, format, Kind::Epoch, signature_len)
 }
 
 /// A count, or a flag, of at most one: whether it is one.
 #[tactic(auto, unfolding(crate::specs::Grammar::limited, crate::specs::Grammar::number))]
-fn has_one(reader: &mut Reader<'_>) -> Result<bool, SectionRefused>
+pub(crate) fn has_one(reader: &mut Reader<'_>) -> Result<bool, SectionRefused>
     ensures { Gives (λ one. (if one then 1 else 0, reader.new)) result (count 1 reader.old) }
 {
     match reader.u8()? {

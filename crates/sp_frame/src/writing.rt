@@ -1,5 +1,6 @@
 // A frame, written into memory that is taken at once: its whole room first, and then each part into room that is there.
-ghost use Rattle.std.specs.Prelude.{◌≡◌, ◌+◌, ◌≤◌, ◌++◌, All, drop, length, map, IfOk, IfSome, option_map, replicate, vec_capacity, vec_len};
+ghost use Rattle.std.specs.Prelude.{◌≡◌, ◌+◌, ◌≤◌, ◌++◌, All, drop, length, map, IfOk, IfSome, option_map, replicate};
+ghost use Rattle.std.specs.Prelude.{vec_capacity, vec_len};
 ghost use Rattle.std.specs.List.{flat_map};
 ghost use Rattle.byteorder.specs.Endian.{big_bytes};
 ghost use Rattle.sp_frame.specs.Frames.{ends_bytes, frame_bytes, head_bytes, numbers_bytes};
@@ -7,21 +8,26 @@ ghost use Rattle.sp_frame.specs.Objects.{object_bytes};
 ghost use Rattle.sp_frame.specs.Prioritized.{numbered_bytes, prios_bytes};
 ghost use Rattle.sp_frame.specs.Probes.{epoch_bytes, probes_bytes};
 ghost use Rattle.sp_frame.specs.Reliable.{ack_bytes, boot_bytes, paths_bytes, place_bytes, rels_bytes, report_bytes, slot_bytes};
-ghost use Rattle.sp_frame.specs.Sections.{with_document};
+ghost use Rattle.sp_frame.specs.Sections.{document_bytes, plain_bytes, with_document};
 ghost use Rattle.sp_frame.specs.Views.{as_list};
 ghost use Rattle.sp_frame.specs.Weights.{weights_bytes};
-ghost use Rattle.sp_frame.specs.Writing.{IsWritable, IsWritableSlot, out_report};
+ghost use Rattle.sp_frame.specs.declared.writing.TheConstants.{MAX_DOCUMENT_BYTES};
+ghost use Rattle.sp_frame.specs.Writing.{AreWritable, IsWritable, IsWritableSlot, out_contents, out_report};
 
-use crate::frame::{DOCUMENT, HEAD_BYTES, NAME, TAG_BYTES};
-use crate::lengths::{
-    PRIO_ACK_BYTES, epoch_len, paths_len, prios_len, probe_len, slot_len, weight_len,
-};
+use crate::frame::{DOCUMENT, HEAD_BYTES, MAX_FRAME_BYTES, MIN_FRAME_BYTES, NAME, TAG_BYTES};
+use crate::lengths::sections_len;
 use crate::{Head, Probe};
 use sp_base::{
     Bytes, FORMAT_1, Flow, Four, Memory, push_bytes, push_u8, push_u16, push_u32, push_u64,
 };
 use sp_msg::{Kept, encoded_len, push_body};
 use std::alloc::Global;
+
+/// The bytes of the sections beside a document: 128, its length, and the 13 bytes 0 after it.
+const BESIDE_DOCUMENT_BYTES: usize = 16;
+
+/// The longest document of a frame: what a datagram has room for beside a head, a tag and these.
+pub const MAX_DOCUMENT_BYTES: usize = MAX_FRAME_BYTES - MIN_FRAME_BYTES - BESIDE_DOCUMENT_BYTES;
 
 /// A report on a flow, to be written, with an acknowledgement and messages of the flow.
 #[derive(Debug, Drop)]
@@ -36,66 +42,59 @@ pub struct OutSlot<'a> {
     pub rels: Four<&'a Kept>,
 }
 
+/// The sections of a frame without a document, to be written. Format 1 doesn't write the last three.
+#[derive(Debug, Drop)]
+pub struct OutSections<'a> {
+    pub weight: Option<&'a Kept>,
+    pub prio_ack: u64,
+    pub prios: Four<(u64, &'a Kept)>,
+    pub slot: Option<OutSlot<'a>>,
+    pub paths: Option<OutSlot<'a>>,
+    pub probe: Option<Probe>,
+    pub epoch: Option<&'a Kept>,
+}
+
 /// The bytes of a frame in the format of its head, with 32 zero bytes in the place of its tag. Only want of memory refuses.
-#[tactic(auto, unfolding(crate::specs::Frames::frame_bytes, crate::specs::Sections::sections_bytes_in, crate::specs::Sections::plain_bytes))]
-pub fn write(
-    alloc: Global,
-    head: &Head,
-    weight: Option<&Kept>,
-    prio_ack: u64,
-    prios: &Four<(u64, &Kept)>,
-    slot: Option<&OutSlot<'_>>,
-    paths: Option<&OutSlot<'_>>,
-    probe: Option<&Probe>,
-    epoch: Option<&Kept>,
-) -> Result<Bytes, Memory>
-    requires weight { IfSome weight (λ o. IsWritable head.now.format o.now) }
-    requires prios { All (λ p. IsWritable head.now.format p.1.now) prios.now }
-    requires slot { IfSome slot (λ s. IsWritableSlot head.now.format s.now) }
-    requires paths { IfSome paths (λ s. IsWritableSlot head.now.format s.now) }
-    requires epoch { IfSome epoch (λ o. IsWritable head.now.format o.now) }
-    ensures bytes { IfOk result (λ bytes. bytes ≡ frame_bytes head.now (record {
-      document = None;
-      weights = as_list (option_map (λ o. o.now) weight.entry);
-      prio_ack = prio_ack;
-      prios = map (λ p. (p.0, p.1.now)) prios.now;
-      slot = option_map (λ s. out_report s.now) slot.entry;
-      paths = option_map (λ s. out_report s.now) paths.entry;
-      probe = option_map (λ p. p.now) probe.entry;
-      epoch = option_map (λ o. o.now) epoch.entry;
-    }) (replicate 32 0)) }
+#[tactic(auto, unfolding(crate::specs::Frames::frame_bytes, crate::specs::Sections::sections_bytes_in), using(crate::proofs::LengthLemmas::head_long))]
+pub fn write(alloc: Global, head: &Head, sections: &OutSections<'_>) -> Result<Bytes, Memory>
+    requires { AreWritable head.now.format sections.now }
+    ensures bytes { IfOk result (λ bytes. bytes ≡ frame_bytes head.now (out_contents sections.now) (replicate 32 0)) }
 {
-    let format = head.format;
-    let first = weight_len(format, weight) + PRIO_ACK_BYTES + prios_len(format, prios);
-    let later = paths_len(format, paths) + probe_len(format, probe) + epoch_len(format, epoch);
-    let parts = first + slot_len(format, slot) + later;
-    let mut out = Vec::with_capacity(alloc, HEAD_BYTES + parts + TAG_BYTES)?;
+    let len = HEAD_BYTES + sections_len(head.format, sections) + TAG_BYTES;
+    let mut out = Vec::with_capacity(alloc, len)?;
     push_head(&mut out, head);
-    push_weight(&mut out, format, weight);
-    push_u64(&mut out, prio_ack);
-    push_prios(&mut out, format, prios);
-    push_slot(&mut out, format, slot);
-    push_paths(&mut out, format, paths);
-    push_probe(&mut out, format, probe);
-    push_epoch(&mut out, format, epoch);
+    push_sections(&mut out, head.format, sections);
     push_bytes(&mut out, &[0u8; TAG_BYTES]);
     Ok(Bytes::from_vec(out))
 }
 
 /// The bytes of a frame of format 2 with a document alone, with 32 zero bytes in the place of its tag. Only want of memory refuses.
-#[tactic(auto, unfolding(crate::specs::Frames::frame_bytes, crate::specs::Sections::sections_bytes_in, crate::specs::Sections::document_bytes, crate::specs::Sections::sized_bytes, crate::specs::Sections::zeros_bytes), using(crate::proofs::LengthLemmas::head_long))]
+#[tactic(auto, unfolding(crate::specs::Frames::frame_bytes, crate::specs::Sections::sections_bytes_in), using(crate::proofs::LengthLemmas::head_long))]
 pub fn write_document(alloc: Global, head: &Head, document: &[u8]) -> Result<Bytes, Memory>
-    requires { length document.now ≤ 65_426 }
+    requires { length document.now ≤ MAX_DOCUMENT_BYTES }
     ensures bytes { IfOk result (λ bytes. bytes ≡ frame_bytes head.now (with_document document.now) (replicate 32 0)) }
 {
-    let mut out = Vec::with_capacity(alloc, HEAD_BYTES + 16 + document.len() + TAG_BYTES)?;
+    let len = MIN_FRAME_BYTES + BESIDE_DOCUMENT_BYTES + document.len();
+    let mut out = Vec::with_capacity(alloc, len)?;
     push_head(&mut out, head);
     push_u8(&mut out, DOCUMENT);
-    push_u16(&mut out, document.len() as u16);
-    push_bytes(&mut out, document);
-    push_bytes(&mut out, &[0u8; 13]);
+    push_document(&mut out, document);
     push_bytes(&mut out, &[0u8; TAG_BYTES]);
     Ok(Bytes::from_vec(out))
+}
+
+/// A document and what follows it, after the byte that says that there is one.
+#[tactic(auto, unfolding(crate::specs::Sections::document_bytes, crate::specs::Sections::sized_bytes, crate::specs::Sections::zeros_bytes))]
+fn push_document(out: &mut Vec<u8>, document: &[u8])
+    requires short { length document.now ≤ MAX_DOCUMENT_BYTES }
+    requires room { vec_len out.old + 15 + length document.now ≤ vec_capacity out.old }
+    ensures bytes { out.new.items ≡ out.old.items ++ document_bytes document.now }
+    ensures len { vec_len out.new ≡ vec_len out.old + 15 + length document.now }
+    ensures capacity { vec_capacity out.old ≤ vec_capacity out.new }
+{
+    push_u16(out, document.len() as u16);
+    push_bytes(out, document);
+    push_bytes(out, &[0u8; 13]);
 }
 
 #[tactic(auto, unfolding(crate::specs::Frames::head_bytes))]
@@ -135,7 +134,24 @@ fn push_numbers(out: &mut Vec<u8>, head: &Head)
     push_u32(out, head.topology);
 }
 
-#[tactic(auto, unfolding(crate::specs::Weights::weights_bytes))]
+#[tactic(auto, unfolding(crate::specs::Sections::plain_bytes))]
+fn push_sections(out: &mut Vec<u8>, format: u8, sections: &OutSections<'_>)
+    requires fits { AreWritable format sections.now }
+    requires room { vec_len out.old + length (plain_bytes format (out_contents sections.now)) ≤ vec_capacity out.old }
+    ensures bytes { out.new.items ≡ out.old.items ++ plain_bytes format (out_contents sections.now) }
+    ensures len { vec_len out.new ≡ vec_len out.old + length (plain_bytes format (out_contents sections.now)) }
+    ensures capacity { vec_capacity out.old ≤ vec_capacity out.new }
+{
+    push_weight(out, format, sections.weight);
+    push_u64(out, sections.prio_ack);
+    push_prios(out, format, &sections.prios);
+    push_slot(out, format, sections.slot.as_ref());
+    push_paths(out, format, sections.paths.as_ref());
+    push_probe(out, format, sections.probe.as_ref());
+    push_epoch(out, format, sections.epoch);
+}
+
+#[tactic(auto, using(crate::proofs::LengthLemmas::weights_are))]
 fn push_weight(out: &mut Vec<u8>, format: u8, weight: Option<&Kept>)
     requires fits { IfSome weight (λ o. IsWritable format o.now) }
     requires room { vec_len out.old + length (weights_bytes format (as_list (option_map (λ o. o.now) weight))) ≤ vec_capacity out.old }
@@ -143,12 +159,7 @@ fn push_weight(out: &mut Vec<u8>, format: u8, weight: Option<&Kept>)
     ensures len { vec_len out.new ≡ vec_len out.old + length (weights_bytes format (as_list (option_map (λ o. o.now) weight.entry))) }
     ensures capacity { vec_capacity out.old ≤ vec_capacity out.new }
 {
-    let Some(weight) = weight else {
-        push_u8(out, 0);
-        return;
-    };
-    push_u8(out, 1);
-    push_object(out, format, weight);
+    push_flagged(out, format, weight);
 }
 
 #[tactic(auto, unfolding(crate::specs::Prioritized::prios_bytes))]
@@ -242,7 +253,7 @@ fn push_epoch(out: &mut Vec<u8>, format: u8, said: Option<&Kept>)
     ensures capacity { vec_capacity out.old ≤ vec_capacity out.new }
 {
     if format != FORMAT_1 {
-        push_ack(out, format, said);
+        push_flagged(out, format, said);
     }
 }
 
@@ -267,7 +278,7 @@ fn push_report(out: &mut Vec<u8>, format: u8, slot: &OutSlot<'_>)
     ensures capacity { vec_capacity out.old ≤ vec_capacity out.new }
 {
     push_place(out, format, slot);
-    push_ack(out, format, slot.ack);
+    push_flagged(out, format, slot.ack);
     push_rels(out, format, &slot.rels);
 }
 
@@ -286,20 +297,21 @@ fn push_place(out: &mut Vec<u8>, format: u8, slot: &OutSlot<'_>)
     push_u64(out, slot.have);
 }
 
+/// An object after its flag or count, or a flag alone.
 #[tactic(auto, unfolding(crate::specs::Reliable::ack_bytes))]
-fn push_ack(out: &mut Vec<u8>, format: u8, ack: Option<&Kept>)
-    requires fits { IfSome ack (λ o. IsWritable format o.now) }
-    requires room { vec_len out.old + length (ack_bytes format (option_map (λ o. o.now) ack)) ≤ vec_capacity out.old }
-    ensures bytes { out.new.items ≡ out.old.items ++ ack_bytes format (option_map (λ o. o.now) ack.entry) }
-    ensures len { vec_len out.new ≡ vec_len out.old + length (ack_bytes format (option_map (λ o. o.now) ack.entry)) }
+fn push_flagged(out: &mut Vec<u8>, format: u8, object: Option<&Kept>)
+    requires fits { IfSome object (λ o. IsWritable format o.now) }
+    requires room { vec_len out.old + length (ack_bytes format (option_map (λ o. o.now) object)) ≤ vec_capacity out.old }
+    ensures bytes { out.new.items ≡ out.old.items ++ ack_bytes format (option_map (λ o. o.now) object.entry) }
+    ensures len { vec_len out.new ≡ vec_len out.old + length (ack_bytes format (option_map (λ o. o.now) object.entry)) }
     ensures capacity { vec_capacity out.old ≤ vec_capacity out.new }
 {
-    let Some(ack) = ack else {
+    let Some(object) = object else {
         push_u8(out, 0);
         return;
     };
     push_u8(out, 1);
-    push_object(out, format, ack);
+    push_object(out, format, object);
 }
 
 #[tactic(auto, unfolding(crate::specs::Reliable::rels_bytes))]

@@ -129,14 +129,9 @@ fn is_end(words: &[&[u8]]) -> bool
 }
 
 /// The graph with one more edge.
-fn with_edge(graph: Graph, edge: Edge) -> Result<Graph, Memory>
+fn with_edge(mut graph: Graph, edge: Edge) -> Result<Graph, Memory>
     ensures { IfOk result (λ more. more ≡ with_edge graph edge) }
 {
-    let Graph { nodes, edges } = graph;
-    let mut edges = edges.into_vec();
-    edges.push(edge)?;
-    Ok(Graph {
-        nodes,
-        edges: Listed::from_vec(edges),
-    })
+    graph.edges.push(edge)?;
+    Ok(graph)
 }

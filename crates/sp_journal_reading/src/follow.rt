@@ -1,5 +1,5 @@
 // One line of a journal at its stage: where it leads, or what is wrong with it.
-ghost use Rattle.std.specs.Prelude.{◌≡◌, ◌++◌, ◌∷◌, [], IfOk, map};
+ghost use Rattle.std.specs.Prelude.{◌≡◌, IfOk, map};
 ghost use Rattle.sp_lines.specs.Answers.{Reads};
 ghost use Rattle.sp_journal_reading.specs.Reading.{closed, effect_more, entry_more, says};
 
@@ -66,31 +66,22 @@ fn with_effect(
 ) -> Result<Stage, LineRefused>
     ensures { Reads result (effect_more done last effect) }
 {
-    let Some(Entry { reply, effects }) = last else {
+    let Some(mut entry) = last else {
         return Err(LineRefused::Bad(Fault::Form));
     };
-    let effects = one_more(effects, effect)?;
-    Ok(Stage::Entries(done, Some(Entry { reply, effects })))
-}
-
-fn one_more(effects: Listed<Effect>, effect: Effect) -> Result<Listed<Effect>, Memory>
-    ensures { IfOk result (λ more. more ≡ effects ++ effect ∷ []) }
-{
-    let mut effects = effects.into_vec();
-    effects.push(effect)?;
-    Ok(Listed::from_vec(effects))
+    entry.effects.push(effect)?;
+    Ok(Stage::Entries(done, Some(entry)))
 }
 
 /// All entries.
-fn closed(done: Listed<Entry>, last: Option<Entry>) -> Result<Listed<Entry>, Memory>
+fn closed(mut done: Listed<Entry>, last: Option<Entry>) -> Result<Listed<Entry>, Memory>
     ensures { IfOk result (λ journal. journal ≡ closed done last) }
 {
     let Some(last) = last else {
         return Ok(done);
     };
-    let mut entries = done.into_vec();
-    entries.push(last)?;
-    Ok(Listed::from_vec(entries))
+    done.push(last)?;
+    Ok(done)
 }
 
 /// The stage with one more entry.

@@ -16,15 +16,6 @@ pub fn read(alloc: Global, text: &[u8]) -> Result<Listed<Entry>, JournalRefused>
     ensures read { IsRead text.now result }
     ensures good { IfOk result IsJournal }
 {
-    let answer = read_lines(alloc, text);
-    answer
-}
-
-/// The same, line by line.
-fn read_lines(alloc: Global, text: &[u8]) -> Result<Listed<Entry>, JournalRefused>
-    requires { length text.now + 1 < 2 ^ 32 }
-    ensures { IsRead text.now result }
-{
     let mut lines = Lines::new(text);
     let mut stage = Stage::Start;
     let mut count = 0u32;

@@ -62,23 +62,25 @@ impl Lives {
     {
         match body {
             BodyRef::Prio(prio) => prio.sboot == self.held_boot(prio.src),
-            BodyRef::Rel(rel) => self.are_held(flow_of(rel.src, rel.dst), rel.sboot, rel.dboot),
-            BodyRef::Ack(ack) => self.are_held(flow_of(ack.src, ack.dst), ack.sboot, ack.dboot),
+            BodyRef::Rel(rel) => self.are_held(
+                Flow::between(rel.src, rel.dst),
+                rel.sboot,
+                rel.dboot,
+            ),
+            BodyRef::Ack(ack) => self.are_held(
+                Flow::between(ack.src, ack.dst),
+                ack.sboot,
+                ack.dboot,
+            ),
             BodyRef::Krel(krel) => {
-                self.are_held(flow_of(krel.src, krel.dst), krel.sboot, krel.dboot)
+                self.are_held(Flow::between(krel.src, krel.dst), krel.sboot, krel.dboot)
             }
             BodyRef::Kack(kack) => {
-                self.are_held(flow_of(kack.src, kack.dst), kack.sboot, kack.dboot)
+                self.are_held(Flow::between(kack.src, kack.dst), kack.sboot, kack.dboot)
             }
             BodyRef::Weight(_) | BodyRef::Epoch(_) => true,
         }
     }
-}
-
-fn flow_of(src: NodeId, dst: NodeId) -> Flow
-    ensures { result ≡ record { src = src; dst = dst } }
-{
-    Flow { src, dst }
 }
 
 /// Where the row of a node stands. None exactly where there is none.

@@ -9,8 +9,8 @@ ghost use Rattle.sp_msg.specs.declared.body.Body.TheVariants as bodies;
 use crate::body::{ACK, EPOCH, KACK, KREL, PRIO, REL, WEIGHT};
 use crate::{Ack, Body, Epoch, Kack, Krel, Mask, MsgRefused, Prio, Rel, WeightBody};
 use sp_base::{
-    Bytes, FORMAT_1, MAX_PAYLOAD_BYTES, Memory, NodeId, push_bytes, push_u8, push_u16, push_u32,
-    push_u64, push_u128,
+    Bytes, FORMAT_1, MAX_PAYLOAD_BYTES, Memory, NodeId, by_format, push_bytes, push_u8, push_u16,
+    push_u32, push_u64, push_u128,
 };
 use std::alloc::{AllocError, Global};
 
@@ -69,21 +69,14 @@ pub fn encoded_len(body: &Body, format: u8) -> usize
     ensures { result ≡ length (encoded_in format body.now) }
 {
     match body {
-        Body::Prio(prio) => in_format(format, PRIO_LEN, PRIO_LEN_2) + prio.payload.as_slice().len(),
-        Body::Rel(rel) => in_format(format, REL_LEN, REL_LEN_2) + rel.payload.as_slice().len(),
-        Body::Ack(_) => in_format(format, FLOW_LEN, FLOW_LEN_2),
+        Body::Prio(prio) => by_format(format, PRIO_LEN, PRIO_LEN_2) + prio.payload.as_slice().len(),
+        Body::Rel(rel) => by_format(format, REL_LEN, REL_LEN_2) + rel.payload.as_slice().len(),
+        Body::Ack(_) => by_format(format, FLOW_LEN, FLOW_LEN_2),
         Body::Weight(_) => WEIGHT_LEN,
-        Body::Krel(krel) => in_format(format, KREL_LEN, KREL_LEN_2) + krel.payload.as_slice().len(),
-        Body::Kack(_) => in_format(format, FLOW_LEN, FLOW_LEN_2),
-        Body::Epoch(_) => in_format(format, EPOCH_LEN, EPOCH_LEN_2),
+        Body::Krel(krel) => by_format(format, KREL_LEN, KREL_LEN_2) + krel.payload.as_slice().len(),
+        Body::Kack(_) => by_format(format, FLOW_LEN, FLOW_LEN_2),
+        Body::Epoch(_) => by_format(format, EPOCH_LEN, EPOCH_LEN_2),
     }
-}
-
-/// The first in format 1, and else the second.
-fn in_format(format: u8, one: usize, two: usize) -> usize
-    ensures { result ≡ by_format format one two }
-{
-    if format == FORMAT_1 { one } else { two }
 }
 
 /// Appends the bytes of a message. Where `out` has room for them it takes no memory, so it isn't refused; else it

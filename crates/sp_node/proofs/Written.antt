@@ -57,12 +57,11 @@ writable_rels format (o ∷ rels) len all =
     (writable_rels format rels len (All-tail (IsObject format kinds.Rel len) o.now rest all))
 
 -- its acknowledgement and its messages
-pub writable_slot : (format : ℕ) (lent : Option (Bor OutSlot)) (slot : Option OutSlot) (report : Option Report) (len : ℕ) → option_copied lent ≡ slot
-    → option_map out_report slot ≡ report → IfSome report (IsReport format kinds.Ack kinds.Rel len) → IfSome lent (λ s. IsWritableSlot format s.now)
-writable_slot format None slot report len is said good = tt
-writable_slot format (Some b) None report len is said good = absurd (cc)
-writable_slot format (Some b) (Some s) None len is said good = absurd (cc)
-writable_slot format (Some b) (Some s) (Some r) len is said good =
-    let same : out_report b.now ≡ r = cc in
-    let whole : IsReport format kinds.Ack kinds.Rel len (out_report b.now) = subst (IsReport format kinds.Ack kinds.Rel len) (sym same) good in
-    record { ack = writable_ack format b.now.ack len whole.ack; rels = writable_rels format b.now.rels len whole.rels }
+pub writable_slot : (format : ℕ) (slot : Option OutSlot) (report : Option Report) (len : ℕ) → option_map out_report slot ≡ report
+    → IfSome report (IsReport format kinds.Ack kinds.Rel len) → IfSome slot (IsWritableSlot format)
+writable_slot format None report len said good = tt
+writable_slot format (Some s) None len said good = absurd (cc)
+writable_slot format (Some s) (Some r) len said good =
+    let same : out_report s ≡ r = cc in
+    let whole : IsReport format kinds.Ack kinds.Rel len (out_report s) = subst (IsReport format kinds.Ack kinds.Rel len) (sym same) good in
+    record { ack = writable_ack format s.ack len whole.ack; rels = writable_rels format s.rels len whole.rels }

@@ -20,7 +20,7 @@ ghost use Rattle.sp_rules.specs.Rel.{served, slot_for};
 ghost use Rattle.sp_rules.specs.Weights.{moved};
 
 use sp_base::{Bytes, FORMAT_1, Four, Memory, NodeId};
-use sp_frame::{Head, OutSlot, write};
+use sp_frame::{Head, OutSections, OutSlot, write};
 use sp_link::Link;
 use sp_lives::Lives;
 use sp_msg::Kept;
@@ -86,21 +86,16 @@ fn unsealed(
     requires contents { IsContentsIn fixed.now.topology.format fixed.now.signature_len (contents_to fixed.now core.now v) }
     ensures { IfOk result (λ bytes. bytes ≡ frame_bytes head.now (contents_to fixed.now core.now v) (replicate 32 0)) }
 {
-    let weight = core.weights.next(place_of(fixed, v));
-    let heard = core.prio.heard_of(v);
-    let prios = core.prio.messages_for(v);
-    let slot = slot_for(fixed, core, v);
-    match write(
-        alloc,
-        head,
-        weight,
-        heard,
-        &prios,
-        slot.as_ref(),
-        None,
-        None,
-        None,
-    ) {
+    let sections = OutSections {
+        weight: core.weights.next(place_of(fixed, v)),
+        prio_ack: core.prio.heard_of(v),
+        prios: core.prio.messages_for(v),
+        slot: slot_for(fixed, core, v),
+        paths: None,
+        probe: None,
+        epoch: None,
+    };
+    match write(alloc, head, &sections) {
         Ok(bytes) => Ok(bytes),
         Err(_) => Err(Memory),
     }

@@ -93,29 +93,24 @@ fn tables_of(
 fn ids_of(alloc: Global, nodes: &[NodeKey]) -> Result<Vec<NodeId>, Memory>
     ensures { IfOk result (λ ids. ids.items ≡ map (λ n. n.id) nodes.now) }
 {
-    let mut ids = Vec::with_capacity(alloc, nodes.len())?;
-    'nodes: for node in nodes {
-        ids.push(node.id)?;
-    }
-    Ok(ids)
+    Ok(nodes.iter().map(|node| node.id).collect(alloc)?)
 }
 
 fn neighbours_of(alloc: Global, joined: &[(NodeId, EdgeId)]) -> Result<Vec<Neighbour>, Memory>
     ensures { IfOk result (λ neighbours. neighbours.items ≡ map as_neighbour joined.now) }
 {
-    let mut neighbours = Vec::with_capacity(alloc, joined.len())?;
-    'joined: for &(id, edge) in joined {
-        neighbours.push(Neighbour { id, edge })?;
-    }
+    let neighbours = joined
+        .iter()
+        .map(|(id, edge)| Neighbour {
+            id: *id,
+            edge: *edge,
+        })
+        .collect(alloc)?;
     Ok(neighbours)
 }
 
 fn peers_of(alloc: Global, joined: &[(NodeId, EdgeId)]) -> Result<Vec<NodeId>, Memory>
     ensures { IfOk result (λ peers. peers.items ≡ map (λ n. n.0) joined.now) }
 {
-    let mut peers = Vec::with_capacity(alloc, joined.len())?;
-    'joined: for &(id, _) in joined {
-        peers.push(id)?;
-    }
-    Ok(peers)
+    Ok(joined.iter().map(|(id, _)| *id).collect(alloc)?)
 }

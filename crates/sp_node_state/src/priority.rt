@@ -5,7 +5,7 @@ ghost use Rattle.laws_node.specs.Inputs.{PrioSendFits};
 ghost use Rattle.laws_node.specs.Nodes.{IsKept};
 ghost use Rattle.sp_node_format.specs.Format.{format_of};
 ghost use Rattle.sp_routes.specs.Fewer.{SaysFewer};
-ghost use Rattle.sp_msg.specs.Masks.{bits, of_halves};
+ghost use Rattle.sp_msg.specs.Masks.{bits};
 ghost use Rattle.sp_node_state.specs.Sends.{Sends};
 ghost use Rattle.sp_rules.specs.Messages.{as_send};
 ghost use Rattle.sp_node_state.specs.ReadySends.{IsMaskFor, IsReadyPrio};
@@ -111,6 +111,7 @@ fn next_number(state: &State) -> u64
 }
 
 /// The message that takes these edges.
+#[tactic(auto, using(sp_msg::proofs::HalfLemmas::mask_back))]
 fn prio_body(
     state: &State,
     alloc: Global,
@@ -119,20 +120,6 @@ fn prio_body(
 ) -> Result<Body, Memory>
     ensures { IfOk result (λ body. body ≡ prio_body state.entry.now (as_send message.now) (bits mask)) }
 {
-    prio_over(state, alloc, message, mask.high, mask.low)
-}
-
-/// The same, the edges by the halves of their mask.
-#[tactic(auto, using(sp_msg::proofs::HalfLemmas::mask_back))]
-fn prio_over(
-    state: &State,
-    alloc: Global,
-    message: &PrioSend<'_>,
-    high: u128,
-    low: u128,
-) -> Result<Body, Memory>
-    ensures { IfOk result (λ body. body ≡ prio_body state.entry.now (as_send message.now) (of_halves high low)) }
-{
     Ok(Body::Prio(Prio {
         src: state.fixed.me,
         dst: message.dst,
@@ -140,7 +127,7 @@ fn prio_over(
         seq: next_number(state),
         prio: message.prio,
         expiry: message.expiry,
-        mask: Mask { low, high },
+        mask,
         payload: Bytes::copy(alloc, message.payload)?,
     }))
 }

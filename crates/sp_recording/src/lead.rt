@@ -1,5 +1,5 @@
 // One line at its stage: where it leads, or the stage again where the line is bad.
-ghost use Rattle.std.specs.Prelude.{◌≡◌, ◌++◌, ◌∷◌, [], IfOk, map};
+ghost use Rattle.std.specs.Prelude.{◌≡◌, IfOk, map};
 ghost use Rattle.sp_recording.specs.Reading.{IsLead, held_with};
 
 use crate::line_rows::{LineOf, read_line};
@@ -54,7 +54,7 @@ fn after_lines(
     total: u64,
     neighbours: &[NodeId],
     opening: Opening,
-    lines: Listed<Line>,
+    mut lines: Listed<Line>,
     held: u64,
     words: &[&[u8]],
 ) -> Result<Lead, Memory>
@@ -72,7 +72,7 @@ fn after_lines(
     match read_line(&at, words) {
         Ok(line) => {
             let bound = held_with(held, &line);
-            let lines = one_more(lines, line)?;
+            lines.push(line)?;
             Ok(Lead::To(Stage::Lines(opening, lines, bound)))
         }
         Err(LineRefused::Bad(_)) => Ok(Lead::Bad(Stage::Lines(opening, lines, held))),
@@ -88,12 +88,4 @@ fn held_with(held: u64, line: &Line) -> u64
         Line::Reserve { upto } => *upto,
         _ => held,
     }
-}
-
-fn one_more(lines: Listed<Line>, line: Line) -> Result<Listed<Line>, Memory>
-    ensures { IfOk result (λ more. more ≡ lines ++ line ∷ []) }
-{
-    let mut lines = lines.into_vec();
-    lines.push(line)?;
-    Ok(Listed::from_vec(lines))
 }

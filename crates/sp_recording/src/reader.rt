@@ -24,21 +24,6 @@ pub fn read(
     ensures good_stage { IfOk result (λ reading. IsGoodStage total neighbours.now reading.stage) }
     ensures few { IfOk result (λ reading. before + length (lines_in reading.stage) ≤ MAX_INPUT_BYTES) }
 {
-    let reading = read_lines(alloc, total, neighbours, before, text);
-    reading
-}
-
-/// The same, line by line.
-fn read_lines(
-    alloc: Global,
-    total: u64,
-    neighbours: &[NodeId],
-    before: u32,
-    text: &[u8],
-) -> Result<Reading, Memory>
-    requires { before + length text.now ≤ MAX_INPUT_BYTES }
-    ensures { IfOk result (IsReading total neighbours.now before text.now) }
-{
     let mut lines = Lines::new(text);
     let mut stage = Stage::Start;
     let mut count = 0u32;

@@ -109,25 +109,10 @@ pub(crate) fn flow_said(body: &Body) -> Flow
     ensures { result ≡ flow_said body.now }
 {
     match body {
-        Body::Rel(rel) => Flow {
-            src: rel.src,
-            dst: rel.dst,
-        },
-        Body::Ack(ack) => Flow {
-            src: ack.src,
-            dst: ack.dst,
-        },
-        Body::Krel(krel) => Flow {
-            src: krel.src,
-            dst: krel.dst,
-        },
-        Body::Kack(kack) => Flow {
-            src: kack.src,
-            dst: kack.dst,
-        },
-        _ => Flow {
-            src: NodeId(0),
-            dst: NodeId(0),
-        },
+        Body::Rel(rel) => Flow::between(rel.src, rel.dst),
+        Body::Ack(ack) => Flow::between(ack.src, ack.dst),
+        Body::Krel(krel) => Flow::between(krel.src, krel.dst),
+        Body::Kack(kack) => Flow::between(kack.src, kack.dst),
+        _ => Flow::between(NodeId(0), NodeId(0)),
     }
 }

@@ -15,7 +15,7 @@ use crate::scenario_copy::copy_of;
 use crate::{
     Edge, Event, Fault, Graph, Kind, LineRefused, LmsHeight, Parsed, Scenario, Stage, Timeline,
 };
-use sp_base::{Limits, Listed, MAX_EVENTS, Memory, NodeId, push};
+use sp_base::{Limits, Listed, MAX_EVENTS, Memory, NodeId};
 use sp_schedule_events::{later_line, read_event};
 use std::alloc::Global;
 
@@ -232,61 +232,22 @@ fn next_bad(scenario: &Scenario, words: &[&[u8]]) -> Option<NodeId>
 }
 
 /// The scenario with one more edge. Where no memory is left, it comes back as it was.
-fn with_edge(scenario: Scenario, edge: Edge) -> Result<Scenario, Scenario>
+fn with_edge(mut scenario: Scenario, edge: Edge) -> Result<Scenario, Scenario>
     ensures ok { IfOk result (λ more. more ≡ with_edge scenario edge) }
     ensures err { IfErr result (λ back. back ≡ scenario) }
 {
-    let Scenario {
-        format,
-        seed,
-        height,
-        limits,
-        graph: Graph { nodes, edges },
-        bad,
-    } = scenario;
-    let mut edges = edges.into_vec();
-    let pushed = push(&mut edges, edge);
-    let scenario = Scenario {
-        format,
-        seed,
-        height,
-        limits,
-        graph: Graph {
-            nodes,
-            edges: Listed::from_vec(edges),
-        },
-        bad,
-    };
-    match pushed {
+    match scenario.graph.edges.push(edge) {
         Ok(()) => Ok(scenario),
         Err(Memory) => Err(scenario),
     }
 }
 
 /// The scenario with one more compromised node. Where no memory is left, it comes back as it was.
-fn with_bad(scenario: Scenario, id: NodeId) -> Result<Scenario, Scenario>
+fn with_bad(mut scenario: Scenario, id: NodeId) -> Result<Scenario, Scenario>
     ensures ok { IfOk result (λ more. more ≡ with_bad scenario id) }
     ensures err { IfErr result (λ back. back ≡ scenario) }
 {
-    let Scenario {
-        format,
-        seed,
-        height,
-        limits,
-        graph,
-        bad,
-    } = scenario;
-    let mut bad = bad.into_vec();
-    let pushed = push(&mut bad, id);
-    let scenario = Scenario {
-        format,
-        seed,
-        height,
-        limits,
-        graph,
-        bad: Listed::from_vec(bad),
-    };
-    match pushed {
+    match scenario.bad.push(id) {
         Ok(()) => Ok(scenario),
         Err(Memory) => Err(scenario),
     }

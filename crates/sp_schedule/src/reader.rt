@@ -18,15 +18,6 @@ pub fn read(alloc: Global, text: &[u8], is_cut: bool) -> Result<Reading, Memory>
     ensures reading { IfOk result (IsReading text.now is_cut) }
     ensures good_stage { IfOk result (λ reading. IsGoodStage reading.stage) }
 {
-    let reading = read_lines(alloc, text, is_cut);
-    reading
-}
-
-/// The same, line by line.
-fn read_lines(alloc: Global, text: &[u8], is_cut: bool) -> Result<Reading, Memory>
-    requires { length text.now ≤ MAX_INPUT_BYTES }
-    ensures { IfOk result (IsReading text.now is_cut) }
-{
     let mut lines = Lines::new(text);
     let mut stage = Stage::Start;
     let mut count = 0u32;

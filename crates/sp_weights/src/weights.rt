@@ -185,9 +185,5 @@ fn starts(alloc: Global, count: usize) -> Result<Vec<Cursor>, Memory>
 fn minima(alloc: Global, edges: &[Edge]) -> Result<Vec<u32>, Memory>
     ensures { IfOk result (λ weights. weights.items ≡ map (λ e. e.weight) edges.now) }
 {
-    let mut weights = Vec::with_capacity(alloc, edges.len())?;
-    'edges: for edge in edges {
-        weights.push(edge.weight)?;
-    }
-    Ok(weights)
+    Ok(edges.iter().map(|edge| edge.weight).collect(alloc)?)
 }

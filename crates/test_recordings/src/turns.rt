@@ -1,13 +1,13 @@
 // Three turns of a daemon over a wire and a clock in memory, with a node that answers "abc" or nothing. The digests are those of FIPS 180-4's examples.
 use sp_base::{Bytes, Memory, NodeId};
-use sp_keystate::{format as format_keys, start};
+use sp_keystate::{RESERVED, format as format_keys, start};
 use sp_outside::{
     Coming, DATAGRAM_BYTES, MemoryClock, MemoryKeeper, MemorySink, MemoryWire, PlannedSink, Sink,
     WirePlan,
 };
 use sp_recording::read;
 use sp_service_turns::{
-    Core, Daemon, Indexes, Peer, RESERVED, Served, VerifyRefused, opening_of, serve, verify,
+    Core, Daemon, Indexes, Peer, Served, VerifyRefused, opening_of, serve, verify,
 };
 use std::alloc::Global;
 use std::process::Abort;

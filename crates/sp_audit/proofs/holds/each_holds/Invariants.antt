@@ -6,5 +6,5 @@ use Rattle.sp_audit.proofs.holds.each_holds.Given as goal
 
 abbrev pub invariant-effects : goal.invariant-effects
 invariant-effects l =
-    EachHolds (setting_of l.scenario) l.events l.journal l.u (map (λ e. e.now) l.all) (map (λ e. e.now) (take l.from l.all)) (map (λ e. e.now) (drop l.from l.all))
-    ↔ EachHolds (setting_of l.scenario) l.events l.journal l.u (map (λ e. e.now) l.all) (map (λ e. e.now) (take l.place l.all)) (map (λ e. e.now) (drop l.place l.all))
+    EachHolds (setting_of l.acting.scenario.now) l.acting.events.now l.acting.journal.now l.acting.u (map (λ e. e.now) l.acting.all.now) (map (λ e. e.now) (take l.from l.acting.all.now)) (map (λ e. e.now) (drop l.from l.acting.all.now))
+    ↔ EachHolds (setting_of l.acting.scenario.now) l.acting.events.now l.acting.journal.now l.acting.u (map (λ e. e.now) l.acting.all.now) (map (λ e. e.now) (take l.place l.acting.all.now)) (map (λ e. e.now) (drop l.place l.acting.all.now))

@@ -12,4 +12,9 @@ returns-in-None-clause-exact t c =
 pub returns-in-Some-clause-exact : goal.returns-in-Some-clause-exact
 returns-in-Some-clause-exact t c =
     let at = sym c.get.ensures.value ∙ ap option_copied c.in-Some.is in
-    omega (arith, numbered_from c.args.format c.args.prios.now (λ q. (q.0, q.1.now)) c.args.place c.in-Some.field-0.now at, c.object_len.ensures.exact, c.numbered_len.ensures.exact)
+    omega (
+      arith,
+      numbered_from c.args.format c.args.prios.now (λ q. (q.0, q.1.now)) c.args.place c.in-Some.field-0.now at,
+      c.object_len.ensures.exact,
+      c.numbered_len.ensures.exact,
+    )

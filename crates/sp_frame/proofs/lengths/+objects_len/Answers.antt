@@ -12,4 +12,9 @@ returns-in-None-clause-exact t c =
 pub returns-in-Some-clause-exact : goal.returns-in-Some-clause-exact
 returns-in-Some-clause-exact t c =
     let at = sym c.get.ensures.value ∙ ap option_copied c.in-Some.is in
-    omega (arith, objects_from c.args.format c.args.rels.now (λ o. o.now) c.args.place c.in-Some.message.now at, c.object_len.ensures.exact, c.objects_len.ensures.exact)
+    omega (
+      arith,
+      objects_from c.args.format c.args.rels.now (λ o. o.now) c.args.place c.in-Some.message.now at,
+      c.object_len.ensures.exact,
+      c.objects_len.ensures.exact,
+    )

@@ -28,7 +28,13 @@ push_object-requires-clause-fits t c =
 pub push_object-requires-clause-room : goal.push_object-requires-clause-room
 push_object-requires-clause-room t c =
     let at = sym c.get.ensures.value ∙ ap option_copied c.in-Some.is in
-    omega (arith, numbered_from c.args.format c.args.prios.now (λ q. (q.0, q.1.now)) c.args.place c.in-Some.field-0.now at, c.push_u64.ensures.len, c.push_u64.ensures.capacity, c.requires.room)
+    omega (
+      arith,
+      numbered_from c.args.format c.args.prios.now (λ q. (q.0, q.1.now)) c.args.place c.in-Some.field-0.now at,
+      c.push_u64.ensures.len,
+      c.push_u64.ensures.capacity,
+      c.requires.room,
+    )
 
 pub push_numbered-requires : goal.push_numbered-requires
 push_numbered-requires t c =

@@ -1,7 +1,7 @@
 use Rattle.std.proofs.Common.{◌≡◌, ◌+◌, ◌≤◌, length}
 use Rattle.sp_base.specs.declared.limits.TheConstants.{MAX_INPUT_BYTES}
 use Rattle.sp_recording.proofs.ReadingLemmas.{SoFar}
-use Rattle.sp_recording.proofs.reader.read_lines.Given as goal
+use Rattle.sp_recording.proofs.reader.read.Given as goal
 
 abbrev pub invariant-lines : goal.invariant-lines
 invariant-lines l = record {

@@ -3,7 +3,7 @@ use Rattle.sp_base.specs.declared.limits.TheConstants.{MAX_INPUT_BYTES}
 use Rattle.sp_lines.proofs.LeadLemmas.{GoesOn}
 use Rattle.sp_schedule.specs.Lines.{says}
 use Rattle.sp_schedule.specs.declared.stage.Stage.TheVariants as stages
-use Rattle.sp_schedule.proofs.reader.read_lines.Given as goal
+use Rattle.sp_schedule.proofs.reader.read.Given as goal
 
 abbrev pub invariant-lines : goal.invariant-lines
 invariant-lines l = record {

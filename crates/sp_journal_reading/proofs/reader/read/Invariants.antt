@@ -2,7 +2,7 @@ use Rattle.std.proofs.Common.{◌≡◌, ◌+◌, ◌≤◌, length}
 use Rattle.sp_lines.proofs.LeadLemmas.{GoesOn}
 use Rattle.sp_journal_reading.specs.Reading.{says}
 use Rattle.sp_journal_reading.specs.declared.stage.Stage.TheVariants as stages
-use Rattle.sp_journal_reading.proofs.reader.read_lines.Given as goal
+use Rattle.sp_journal_reading.proofs.reader.read.Given as goal
 
 abbrev pub invariant-lines : goal.invariant-lines
 invariant-lines l = record {

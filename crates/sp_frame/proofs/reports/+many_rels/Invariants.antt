@@ -1,4 +1,4 @@
-use Rattle.sp_frame.proofs.sections.+many_rels.Given as goal
+use Rattle.sp_frame.proofs.reports.+many_rels.Given as goal
 
 abbrev pub decreases-many_rels : goal.decreases-many_rels
 decreases-many_rels l = l.count
