@@ -37,6 +37,18 @@ pass 31 32 1
 tick 32 5
 end
 """
+# a journal with as many entries, in which nodes hear that others started
+STARTS = b"""journal 1
+1 accepted 1
+2 frame 1 76 00
+3 fresh epoch:new
++ ended 31 32
+4 frame 1 76 00
+5 fresh rel:epoch epoch:old
++ ended 1 31
+6 ticked
+summary events 6 sent 0 delivered 0 priority 0 frames 2
+"""
 
 
 def graph_of(first, nodes, edges):
@@ -159,6 +171,9 @@ def views(kit):
     kit.equal("format 2: the marks", [step[7] for step in film["steps"]], ["sent", "", "", "", "delivered", "acknowledged"])
     kit.equal("format 2: the flow", [change for step in film["steps"] for change in step[5]],
               [["rel", 31, 32, "sent", 1], ["rel", 31, 32, "delivered", 1], ["rel", 31, 32, "acknowledged", 1]])
+    page = kit.run("spinesd-view", kit.write("starts.schedule", SCHEDULE), kit.write("starts.journal", STARTS))[1]
+    kit.equal("format 2: starts in a journal", [(step[4][4], step[5], step[7]) for step in film_of(page)["steps"][2:5:2]],
+              [(["epoch"], [["rel", 31, 32, "ended", 0]], "ended"), (["rel", "epoch"], [], "ended")])
     status, _, why = kit.run("spinesd-view", kit.write("third.schedule", SCHEDULE.replace(b"schedule 2", b"schedule 3")), kit.write("no.journal", b"journal 1\n"))
     kit.holds("format 2: no page of a third format", status == 1 and "`schedule 1` or `schedule 2`" in why, why)
 

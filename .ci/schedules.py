@@ -2,11 +2,12 @@
 
 A good schedule is written back to the byte. Of a bad one the line of its first refusal is told: it is the last line of its journal, which
 another program wrote. A journal that ends with a summary is written back to the byte. Any other is no whole journal: it is refused at its
-last line. A whole journal is audited with its schedule, and no event of it breaks a promise; then with other schedules, which OTHERS has. A file that
-differs is named, and the status is then 1.
+last line. A whole journal is audited with its schedule, and no event of it breaks a promise; then with other schedules, which OTHERS has. JOURNALS are
+journals of no run. A file that differs is named, and the status is then 1.
 """
 
 import pathlib
+import re
 import subprocess
 import sys
 
@@ -18,6 +19,17 @@ OTHERS = [
     ("acknowledgement", b"rel 1 3 6869\n", b"rel 1 3 6868\n", b"broken 10\n"),  # another one was
     ("acknowledgement", b"rel 1 3 6869\n", b"rel 1 2 6869\n", b"broken 10\n"),  # it was sent to another node
     ("acknowledgement", b"tick 3 5\n", b"", b"unread\n"),  # one entry more than events
+]
+# lines of entries, and what is told of the journal that ends after them; nothing where it is written back
+JOURNALS = [
+    (b"1 fresh rel:new epoch:new\n+ ended 1 3\n+ ended 32 1\n2 fresh epoch:old\n", b""),
+    (b"1 fresh epoch:badend\n2 fresh epoch:badsig\n", b""),
+    (b"1 ticked\n2 fresh epoch:seen\n", b"refused 3 Form\n"),  # no such answer
+    (b"1 ticked\n2 fresh epoch\n", b"refused 3 Form\n"),  # an answer without its object
+    (b"1 ticked\n+ ended 0 1\n", b"refused 3 Form\n"),  # no node has the id 0
+    (b"1 ticked\n+ ended 1 33\n", b"refused 3 Form\n"),  # nor this one
+    (b"1 ticked\n+ ended 1\n", b"refused 3 Form\n"),
+    (b"1 ticked\n+ ended 1 2 3\n", b"refused 3 Form\n"),
 ]
 
 
@@ -48,7 +60,12 @@ def main(program):
         file = FOLDER / f"{name}.schedule"
         text = file.read_bytes().replace(line, other, 1) + file.with_suffix(".out").read_bytes()
         wrong += differs([program, "audit"], file, text, told)
-    print(f"{len(files)} schedules and their journals, {audits} audits and {len(OTHERS)} of other schedules, {wrong} differ")
+    for lines, told in JOURNALS:
+        count = len(re.findall(rb"(?m)^\d", lines))
+        text = b"journal 1\n%bsummary events %d sent 0 delivered 0 priority 0 frames 0\n" % (lines, count)
+        wrong += differs([program, "journal"], pathlib.Path(repr(lines)), text, told or text)
+    others = f"{len(OTHERS)} of other schedules, {len(JOURNALS)} journals of no run"
+    print(f"{len(files)} schedules and their journals, {audits} audits and {others}, {wrong} differ")
     return 1 if wrong else 0
 
 

@@ -15,7 +15,7 @@ REFUSED = {
     "stale", "topology", "section", "badend", "notreserved", "badrequest", "sessionsfull",
 }
 REFUSED_OBJECTS = {"badsig", "badend", "epoch", "foreign", "low", "ahead", "gap", "full", "inboxfull", "expired"}
-OBJECT = re.compile(r"(weight|prio|ack|rel):(\w+|\?)")
+OBJECT = re.compile(r"(weight|prio|ack|rel|epoch):(\w+|\?)")
 
 
 def objects_of(reply):
@@ -49,12 +49,16 @@ def of_effects(node, said, version):
             seen.append("delivered")
         elif words[:2] == ["+", "gone"] and words[4] in ("evicted", "expired"):
             seen.append(words[4])
+        elif words[:2] == ["+", "ended"]:
+            ends = int(words[2]), int(words[3])
+            flows += [["rel", *ends, "ended", 0]] if node in ends else []
+            seen.append("ended")
     return flows, seen
 
 
 def mark_of(said, seen):
     """The word of a step for the time line; an empty one where nothing is to be marked."""
-    for word in ("delivered", "evicted", "expired"):
+    for word in ("delivered", "ended", "evicted", "expired"):
         if word in seen:
             return word
     if said and is_refused(re.sub(r"^\d+ ", "", said[0])):

@@ -1,5 +1,6 @@
 -- What a node signs itself speaks of nodes and edges of its topology, so it is good.
-use Rattle.std.proofs.Common.{◌≡◌, ◌<◌, ◌≤◌, ℕ, zero, suc, ◌^◌, ◌==◌, ◌||◌, not, Bool, true, false, List, [], ◌∷◌, length, map, Option, Some, None, refl, sym, ap, ◌∙◌, subst, arith, cond}
+use Rattle.std.proofs.Common.{◌≡◌, ◌<◌, ◌≤◌, ℕ, zero, suc, ◌^◌, ◌==◌, ◌||◌, Bool, true, false, List, [], ◌∷◌, length, map, Option, Some, None, refl, sym, ap}
+use Rattle.std.proofs.Common.{◌∙◌, subst, arith, cond}
 use Rattle.std.specs.Prelude.{IsTrue}
 use Rattle.std.specs.List.{All, slice_get}
 use Rattle.std.proofs.lemmas.Bool.Decides.{nat_tests}
@@ -10,7 +11,6 @@ use Rattle.sp_base.specs.declared.limits.TheConstants.{MAX_PAYLOAD_BYTES, MAX_WE
 use Rattle.sp_msg.proofs.HalfLemmas.{bits_from}
 use Rattle.sp_msg.specs.declared.body.Ack.{Ack}
 use Rattle.sp_msg.specs.declared.body.Body.TheVariants as bodies
-use Rattle.sp_msg.specs.declared.refused.SendRefused.TheVariants as refusals
 use Rattle.sp_rules.proofs.FlowJudged.{both_nodes, room_is}
 use Rattle.sp_rules.specs.Arts.{Arts}
 use Rattle.sp_rules.specs.Flow.{FlowState, ends}
@@ -19,7 +19,8 @@ use Rattle.sp_rules.specs.Node.{NodeState, Signer}
 use Rattle.sp_rules.specs.Parts.{Fixed, edge_to, nodes_of}
 use Rattle.sp_rules.specs.Prio.{is_node}
 use Rattle.sp_rules.specs.Rel.{RelState, due, own_flow, pairs_of, room}
-use Rattle.sp_rules.specs.Sends.{PrioSend, edge_or, mask_in, no_paths, no_room, prio_body, prio_refusal, rel_body, rel_refusal, send_prio_refusal, signer_refusal, weight_body, weight_refusal, weight_refusal_at}
+use Rattle.sp_rules.specs.Sends.{PrioSend, edge_or, mask_in, no_paths, prio_body, prio_refusal, rel_body, rel_refusal, send_prio_refusal, weight_body}
+use Rattle.sp_rules.specs.Sends.{weight_refusal, weight_refusal_at}
 use Rattle.sp_rules.specs.Ticks.{due_now}
 use Rattle.sp_topology.specs.Keys.{key_of}
 use Rattle.sp_topology.specs.Neighbours.{joins}
@@ -32,7 +33,7 @@ use Rattle.laws_node.specs.Nodes.{NodeHolds}
 use Rattle.laws_node.specs.Sizes.{Sizes}
 use Rattle.laws_node.proofs.Boot.{flows_have}
 use Rattle.laws_node.proofs.Masks.{mask_within}
-use Rattle.laws_node.proofs.Own.{in_own_format, either, if_none, prio_sent_fits, rel_sent_fits, split, there_is_room, weight_sent_fits}
+use Rattle.laws_node.proofs.Own.{in_own_format, either, prio_free, prio_sent_fits, rel_free, rel_sent_fits, there_is_room, weight_sent_fits}
 use Rattle.laws_node.proofs.Reliable.{dated_due, due_now_fits, due_row}
 use Rattle.laws_node.proofs.Tables.{all_get, all_weaker, or_right}
 use Rattle.laws_node.proofs.Updates.{place_within}
@@ -67,7 +68,7 @@ pub rel_about : (k : Sizes) (n : NodeState) (dst : NodeId) (payload : List ℕ) 
     → IsAbout n.fixed.topology (rel_body n dst payload)
 rel_about k n dst payload e h =
     let r = n.parts.rel in
-    let number = there_is_room (room r dst) (either (no_room (room r dst)) (signer_refusal n.signer) e).0 in
+    let number = there_is_room (room r dst) (rel_free n dst e).0 in
     let nodes = both_nodes r (own_flow r dst) r.me dst (room_is r dst number.0 number.1).0 in
     let known : r.nodes ≡ nodes_of n.fixed.topology = h.parts.rel.known ∙ sym h.fixed.nodes in
     let me : r.me ≡ n.fixed.me = h.parts.rel.me ∙ sym h.fixed.me in
@@ -87,8 +88,7 @@ pub prio_about : (k : Sizes) (n : NodeState) (m : PrioSend) (choice : Choice) �
     → IsAbout n.fixed.topology (prio_body n m (mask_in choice))
 prio_about k n m choice me e is h =
     let both = either (prio_refusal n m) (no_paths choice) e in
-    let one = if_none ((m.dst.0 == n.fixed.me.0) || not (is_node n.parts.prio.nodes m.dst.0)) refusals.BadEnd _ both.0 in
-    let to : is_node n.parts.prio.nodes m.dst.0 ≡ true = split (m.dst.0 == n.fixed.me.0) (is_node n.parts.prio.nodes m.dst.0) one.0 in
+    let to = (prio_free n m both.0).0 in
     (me, subst (λ (us : List NodeId). is_node us m.dst.0 ≡ true) (h.parts.prio.known ∙ sym h.fixed.nodes) to, subst (λ (mask : ℕ). mask < 2 ^ length n.fixed.topology.edges) (sym (bits_from (mask_in choice))) (within choice both.1 is))
   where
     within : (c : Choice) → no_paths c ≡ None → IsChoice (graph_of n.fixed.topology n.parts.weights) n.fixed.me m.dst m.paths c

@@ -1,13 +1,14 @@
 -- What of a datagram is handled: pieces in their ranges, and few of them messages.
-use Rattle.std.proofs.Common.{◌≡◌, ◌≤◌, ℕ, ◌+◌, List, [], ◌∷◌, ◌++◌, length, map, Option, Some, None, Result, Ok, Err, refl, subst, true, ◌∙◌, arith}
+use Rattle.std.proofs.Common.{◌≡◌, ◌≤◌, ℕ, ◌+◌, Bool, false, cond, List, [], ◌∷◌, ◌++◌, length, map, Option, Some, None, Result, Ok, Err, refl, ap, subst, true}
+use Rattle.std.proofs.Common.{◌∙◌, arith}
 use Rattle.std.specs.Prelude.{IfSome}
 use Rattle.std.specs.List.{All}
-use Rattle.std.proofs.lemmas.List.Elements.{All-cons, All-head, All-tail}
+use Rattle.std.proofs.lemmas.List.Elements.{All-head, All-tail}
 use Rattle.sp_base.specs.Spelling.{AreBytes}
 use Rattle.sp_base.specs.declared.id.NodeId.{NodeId}
 use Rattle.sp_base.specs.declared.limits.TheConstants.{MAX_MESSAGES}
 use Rattle.sp_frame.specs.Objects.{IsObject, is_of}
-use Rattle.sp_frame.specs.Ranges.{IsContentsIn, IsNumbered, IsReport}
+use Rattle.sp_frame.specs.Ranges.{IsContentsIn, IsDocument, IsNumbered, IsReport, Later}
 use Rattle.sp_frame.specs.Reliable.{Report}
 use Rattle.sp_frame.specs.Sections.{Contents}
 use Rattle.sp_frame.specs.Views.{as_list}
@@ -16,11 +17,11 @@ use Rattle.sp_frame.specs.declared.kind.Kind.TheVariants as kinds
 use Rattle.sp_frame.specs.declared.refused.SectionRefused.{SectionRefused}
 use Rattle.sp_msg.specs.declared.kept.Kept.{Kept}
 use Rattle.sp_msg.specs.Bodies.{HasGoodFieldsIn}
-use Rattle.sp_rules.specs.Arrivals.{pieces_in, pieces_where, reply_at, sections_in}
+use Rattle.sp_rules.specs.Arrivals.{heeded, pieces_in, pieces_where, reply_at, sections_in}
 use Rattle.sp_rules.specs.Arts.{Arts}
 use Rattle.sp_rules.specs.Node.{NodeState, Signer}
 use Rattle.sp_rules.specs.Parts.{Fixed}
-use Rattle.sp_rules.specs.Pieces.{Piece, PrioAckPiece, PrioPiece, ReportPiece, WeightPiece, AckPiece, RelPiece, pieces_of, prio_piece, slot_pieces}
+use Rattle.sp_rules.specs.Pieces.{Piece, PrioAckPiece, PrioPiece, ReportPiece, WeightPiece, AckPiece, RelPiece, EpochPiece, pieces_of, prio_piece, slot_pieces}
 use Rattle.sp_rules.specs.declared.node.LinkReply.{LinkReply}
 use Rattle.sp_rules.specs.declared.node.LinkReply.TheVariants as replies
 use Rattle.laws_node.specs.Inputs.{ArtsFit}
@@ -74,8 +75,15 @@ report_pieces k len same (Some r) is = (
 contents_fit : (k : Sizes) (len : ℕ) → len ≡ k.signature_len → (s : Contents) → IsContentsIn k.format len s → AllFit k (pieces_of s)
 contents_fit k len same s is =
     join_fits k (map WeightPiece s.weights) _
-    (all_pieces k WeightPiece (λ o fits. fits) s.weights (all_weaker (IsObject k.format kinds.Weight len) (InRange k) s.weights (in_range k kinds.Weight len same) is.weights))
-    (tt, join_fits k (map prio_piece s.prios) (slot_pieces s.slot) (prio_pieces k len same s.prios is.prios) (report_pieces k len same s.slot is.slot))
+    (all_pieces k WeightPiece (λ o fits. fits) s.weights (all_weaker (IsObject k.format kinds.Weight len) (InRange k) s.weights (in_range k kinds.Weight len same) is.weights)) (
+      tt,
+      join_fits k (map prio_piece s.prios) (slot_pieces s.slot ++ map EpochPiece (as_list s.epoch)) (prio_pieces k len same s.prios is.prios)
+          (join_fits k (slot_pieces s.slot) (map EpochPiece (as_list s.epoch)) (report_pieces k len same s.slot is.slot) (of_epoch s.epoch is.epoch)),
+    )
+  where
+    of_epoch : (o : Option Kept) → IfSome o (Later k.format (IsObject k.format kinds.Epoch len)) → AllFit k (map EpochPiece (as_list o))
+    of_epoch None is = tt
+    of_epoch (Some o) is = (in_range k kinds.Epoch len same o is.1, tt)
 
 -- how many priority messages are among them
 messages_both : (ps qs : List Piece) → messages (ps ++ qs) ≡ messages ps + messages qs
@@ -102,9 +110,32 @@ few_messages format len s is =
     let weights = no_messages WeightPiece (λ o. refl) s.weights in
     let prios = prio_messages s.prios in
     let slot = slot_messages s.slot in
-    let inner = messages_both (map prio_piece s.prios) (slot_pieces s.slot) in
-    let outer = messages_both (map WeightPiece s.weights) (PrioAckPiece s.prio_ack ∷ (map prio_piece s.prios ++ slot_pieces s.slot)) in
-    omega (arith, weights, prios, slot, inner, outer, is.few_prios)
+    let epochs = no_messages EpochPiece (λ o. refl) (as_list s.epoch) in
+    let last = messages_both (slot_pieces s.slot) (map EpochPiece (as_list s.epoch)) in
+    let inner = messages_both (map prio_piece s.prios) (slot_pieces s.slot ++ map EpochPiece (as_list s.epoch)) in
+    let outer = messages_both (map WeightPiece s.weights)
+    (PrioAckPiece s.prio_ack ∷ (map prio_piece s.prios ++ (slot_pieces s.slot ++ map EpochPiece (as_list s.epoch)))) in
+    omega (arith, weights, prios, slot, epochs, last, inner, outer, is.few_prios)
+
+-- what a node heeds of them
+heeded_in : (format len : ℕ) (epochs : Bool) (s : Contents) → IsContentsIn format len s → IsContentsIn format len (cond epochs s (record s { epoch = None }))
+heeded_in format len true s is = is
+heeded_in format len false s is = record {
+  document = unsaid s.document is.document;
+  few_weights = is.few_weights;
+  weights = is.weights;
+  prio_ack = is.prio_ack;
+  few_prios = is.few_prios;
+  prios = is.prios;
+  slot = is.slot;
+  paths = is.paths;
+  probe = is.probe;
+  epoch = tt;
+}
+  where
+    unsaid : (o : Option (List ℕ)) → IfSome o (Later format (IsDocument s)) → IfSome o (Later format (IsDocument (record s { epoch = None })))
+    unsaid None is = tt
+    unsaid (Some document) is = (is.0, record { short = is.1.short; alone = ap (λ (c : Contents). record c { epoch = None }) is.1.alone })
 
 -- pieces that fit, and few of them messages
 pub record FewFit (k : Sizes) (pieces : List Piece) : Type 0 where
@@ -115,10 +146,11 @@ none_fit : (k : Sizes) → FewFit k []
 none_fit k = record { fit = tt; few = omega arith }
 
 pub sections_fit : (k : Sizes) (arts : Arts) (f : Fixed) (signer : Signer) (bytes : List ℕ) → ArtsFit arts f signer → AreBytes bytes → f.topology.format ≡ k.format
-    → f.signature_len ≡ k.signature_len → (s : Result Contents SectionRefused) → sections_in arts f bytes ≡ s → FewFit k (pieces_in s)
+    → f.signature_len ≡ k.signature_len → (s : Result Contents SectionRefused) → sections_in arts f bytes ≡ s → FewFit k (pieces_in f s)
 sections_fit k arts f signer bytes fits are format same (Ok s) is =
     let contents = subst (λ (n : ℕ). IsContentsIn n f.signature_len s) format (fits.sections bytes s are is) in
-    record { fit = contents_fit k f.signature_len same s contents; few = few_messages k.format f.signature_len s contents }
+    let some = heeded_in k.format f.signature_len f.epochs s contents in
+    record { fit = contents_fit k f.signature_len same (heeded f s) some; few = few_messages k.format f.signature_len (heeded f s) some }
 sections_fit k arts f signer bytes fits are format same (Err e) is = none_fit k
 
 pub where_fits : (k : Sizes) (pieces : List Piece) (reply : LinkReply) → FewFit k pieces → FewFit k (pieces_where reply pieces)
@@ -147,10 +179,11 @@ fit_pieces k (piece ∷ pieces) h = (one piece h.0, fit_pieces k pieces h.1)
     one (ReportPiece flow sboot dboot base have) h = tt
     one (AckPiece flow o) h = h.0.fields
     one (RelPiece flow o) h = h.0.fields
+    one (EpochPiece o) h = h.fields
 
 -- in a step, too
 pub step_fields : (k : Sizes) (arts : Arts) (n : NodeState) (v : NodeId) (bytes : List ℕ) → ArtsFit arts n.fixed n.signer → AreBytes bytes → NodeHolds k n
-    → AllKeep (λ o. HasGoodFieldsIn k.format o.body) (pieces_where (reply_at arts n v bytes) (pieces_in (sections_in arts n.fixed bytes)))
+    → AllKeep (λ o. HasGoodFieldsIn k.format o.body) (pieces_where (reply_at arts n v bytes) (pieces_in n.fixed (sections_in arts n.fixed bytes)))
 step_fields k arts n v bytes fits are h =
-    fit_pieces k _ (where_fits k (pieces_in (sections_in arts n.fixed bytes)) (reply_at arts n v bytes)
+    fit_pieces k _ (where_fits k (pieces_in n.fixed (sections_in arts n.fixed bytes)) (reply_at arts n v bytes)
     (sections_fit k arts n.fixed n.signer bytes fits are h.fixed.format h.fixed.signature_len (sections_in arts n.fixed bytes) refl)).fit

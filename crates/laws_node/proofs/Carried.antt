@@ -15,7 +15,7 @@ use Rattle.sp_rules.specs.Flow.{FlowState, ends}
 use Rattle.sp_rules.specs.Handle.{Arrival, handle, handle_all}
 use Rattle.sp_rules.specs.Node.{NodeState}
 use Rattle.sp_rules.specs.Parts.{Parts, place_of}
-use Rattle.sp_rules.specs.Pieces.{Piece, WeightPiece, PrioAckPiece, PrioPiece, ReportPiece, AckPiece, RelPiece, pieces_of, prio_piece, slot_pieces}
+use Rattle.sp_rules.specs.Pieces.{Piece, WeightPiece, PrioAckPiece, PrioPiece, ReportPiece, AckPiece, RelPiece, EpochPiece, pieces_of, prio_piece, slot_pieces}
 use Rattle.sp_rules.specs.Polls.{as_message, contents_to, dated}
 use Rattle.sp_rules.specs.Prio.{is_peer, no_peer, peer_in}
 use Rattle.sp_rules.specs.PrioPeer as rows
@@ -33,6 +33,7 @@ use Rattle.laws_node.specs.Asked.{NewKeep}
 use Rattle.laws_node.proofs.AskedLemmas.{new_both}
 use Rattle.laws_node.proofs.Flight.{Flies, flight_holds}
 use Rattle.laws_node.proofs.Frames.{get_holds}
+use Rattle.laws_node.proofs.HeldBoots.{next_is_held}
 use Rattle.laws_node.proofs.Priority.{no_peer_holds, row_carried_holds}
 use Rattle.laws_node.proofs.Reliable.{read}
 use Rattle.laws_node.proofs.Tables.{all_drop_first, all_first, cond_either}
@@ -47,6 +48,7 @@ PieceKeeps P (PrioPiece number o) = P o
 PieceKeeps P (ReportPiece flow sboot dboot base have) = Unit {0}
 PieceKeeps P (AckPiece flow o) = P o
 PieceKeeps P (RelPiece flow o) = P o
+PieceKeeps P (EpochPiece o) = P o
 
 abbrev pub AllKeep : (Kept → Type 0) → List Piece → Type 0
 AllKeep P [] = Unit {0}
@@ -67,6 +69,7 @@ all_less P Q less (piece ∷ pieces) h = (one piece h.0, all_less P Q less piece
     one (ReportPiece flow sboot dboot base have) h = tt
     one (AckPiece flow o) h = less o h
     one (RelPiece flow o) h = less o h
+    one (EpochPiece o) h = less o h
 
 -- what is answered is an object of the pieces
 piece_new : (P : Kept → Type 0) (arts : Arts) (at : Arrival) (p : Parts) (piece : Piece) → PieceKeeps P piece → NewKeep P (handle arts at p piece).answered
@@ -76,6 +79,7 @@ piece_new P arts at p (PrioPiece number o) h = (λ new. h, tt)
 piece_new P arts at p (ReportPiece flow sboot dboot base have) h = tt
 piece_new P arts at p (AckPiece flow o) h = (λ new. h, tt)
 piece_new P arts at p (RelPiece flow o) h = (λ new. h, tt)
+piece_new P arts at p (EpochPiece o) h = (λ new. h, tt)
 
 pub pieces_new : (P : Kept → Type 0) (arts : Arts) (at : Arrival) (p : Parts) (pieces : List Piece) → AllKeep P pieces
     → NewKeep P (handle_all arts at p pieces).answered
@@ -177,11 +181,15 @@ module _ (k : Sizes) where
   contents_kept n v h =
       let s = contents_to n.fixed n.parts v in
       let q = peer_in n.parts.prio v.0 in
-      all_both k.keeps (map WeightPiece s.weights) (PrioAckPiece s.prio_ack ∷ (map prio_piece s.prios ++ slot_pieces s.slot))
+      all_both k.keeps (map WeightPiece s.weights) (PrioAckPiece s.prio_ack ∷
+      (map prio_piece s.prios ++ (slot_pieces s.slot ++ map EpochPiece (as_list s.epoch))))
       (maybe WeightPiece (λ o fits. fits.holds) (next n.parts.weights (place_of n.fixed v)) (weight_kept n.signer.index (place_of n.fixed v) n.parts.weights h.parts.weights)) (
         tt,
-        all_both k.keeps (map prio_piece s.prios) (slot_pieces s.slot)
+        all_both k.keeps (map prio_piece s.prios) (slot_pieces s.slot ++ map EpochPiece (as_list s.epoch))
             (messages_kept (numbers_after n.calls) _ q (all_first (PrioPeerHolds k (numbers_after n.calls) _) (is_peer v.0) no_peer n.parts.prio.peers
             h.parts.prio.peers (no_peer_holds k (numbers_after n.calls) _)))
-            (dated_kept n.fixed.topology.format n.parts.lives (slot_for n.parts.rel v) (slot_kept n.signer.index n.parts.rel v h.parts.rel)),
+            (all_both k.keeps (slot_pieces s.slot) (map EpochPiece (as_list s.epoch))
+            (dated_kept n.fixed.topology.format n.parts.lives (slot_for n.parts.rel v) (slot_kept n.signer.index n.parts.rel v h.parts.rel))
+            (maybe EpochPiece (λ o fits. fits.holds) s.epoch
+            (next_is_held k (Fits k) n.parts.lives n.parts.origins (place_of n.fixed v) (λ u o is. is.fits) h.parts.lives))),
       )

@@ -1,25 +1,29 @@
 -- What a poll writes is in the ranges of a frame.
-use Rattle.std.proofs.Common.{◌≡◌, ◌<◌, ◌≤◌, ℕ, ◌+◌, ◌-◌, ◌^◌, nat_lt, max, true, List, [], ◌∷◌, length, map, drop, Option, Some, None, refl, sym, subst, ◌∙◌, arith}
+use Rattle.std.proofs.Common.{◌≡◌, ◌<◌, ◌≤◌, ℕ, ◌+◌, ◌-◌, ◌^◌, ◌==◌, nat_lt, max, Bool, true, false, cond, List, [], length, map, drop, Option, Some, None}
+use Rattle.std.proofs.Common.{refl, sym, subst, ◌∙◌, arith}
 use Rattle.std.specs.Prelude.{IfSome, IsTrue}
 use Rattle.std.specs.List.{All, slice_get}
 use Rattle.std.specs.Option.{option_and_then, option_map}
 use Rattle.std.proofs.lemmas.List.{length-map, length-take}
-use Rattle.std.proofs.lemmas.List.Elements.{All-cons, All-head, All-nil, All-tail, All-take}
+use Rattle.std.proofs.lemmas.List.Elements.{All-cons, All-nil, All-take}
 use Rattle.sp_base.proofs.FormatLemmas.{few_nodes}
 use Rattle.sp_base.specs.Formats.{max_nodes, max_rels}
+use Rattle.sp_base.specs.declared.format.TheConstants.{FORMAT_1}
 use Rattle.sp_base.specs.declared.id.Flow.{Flow}
 use Rattle.sp_base.specs.declared.id.NodeId.{NodeId}
 use Rattle.sp_base.specs.declared.limits.TheConstants.{MAX_MESSAGES}
 use Rattle.sp_frame.specs.Objects.{IsObject, is_of}
-use Rattle.sp_frame.specs.Ranges.{IsContentsIn, IsNumbered, IsReport}
+use Rattle.sp_frame.specs.Ranges.{IsContentsIn, IsNumbered, IsReport, Later}
 use Rattle.sp_frame.specs.Reliable.{Report}
 use Rattle.sp_frame.specs.Views.{as_list}
 use Rattle.sp_frame.specs.declared.kind.Kind.{Kind}
 use Rattle.sp_frame.specs.declared.kind.Kind.TheVariants as kinds
+use Rattle.sp_msg.specs.Bodies.{HasGoodFieldsIn}
 use Rattle.sp_msg.specs.declared.body.Body.{Body}
 use Rattle.sp_msg.specs.declared.body.Body.TheVariants as bodies
 use Rattle.sp_msg.specs.declared.kept.Kept.{Kept}
 use Rattle.sp_rules.specs.Flow.{FlowState, ends}
+use Rattle.sp_rules.specs.Lives as lives
 use Rattle.sp_rules.specs.Parts.{is_signed, place_of}
 use Rattle.sp_rules.specs.Node.{NodeState}
 use Rattle.sp_rules.specs.Polls.{as_message, contents_to, dated}
@@ -31,13 +35,13 @@ use Rattle.sp_rules.specs.Weights.{WeightState, held_in, next, next_row}
 use Rattle.sp_rules.specs.declared.lives.Life.{Life}
 use Rattle.sp_rules.specs.declared.store.Entry.{Entry}
 use Rattle.laws_node.specs.Flows.{AckKept, FlowHolds, IsAckOf, IsRel, RelHolds}
-use Rattle.laws_node.specs.HeldBoots.{LifeHolds}
+use Rattle.laws_node.specs.HeldBoots.{IsEpochOf, LifeHolds}
 use Rattle.laws_node.specs.Laws.{FramesFit}
 use Rattle.laws_node.specs.Nodes.{NodeHolds, sizes_of}
 use Rattle.laws_node.specs.Sizes.{Fits, Sizes, numbers_after}
 use Rattle.laws_node.specs.Stores.{IsPrio, PrioPeerHolds}
 use Rattle.laws_node.specs.Updates.{IsUpdate, UpdateHolds, WeightsHold}
-use Rattle.laws_node.proofs.HeldBoots.{boot_fits}
+use Rattle.laws_node.proofs.HeldBoots.{boot_fits, next_is_held}
 use Rattle.laws_node.proofs.Flight.{Flies, flight_few, flight_holds}
 use Rattle.laws_node.proofs.Priority.{all_map, no_peer_holds, row_carried_holds}
 use Rattle.laws_node.proofs.Reliable.{read}
@@ -219,6 +223,40 @@ slot_fits k index len r lives v same short h held = go (next_place r v)
     go None = tt
     go (Some place) = at (slice_get r.flows place) (get_holds (FlowHolds k index) r.flows place h.flows)
 
+-- ---- the Epoch object
+
+is_epoch : (v : NodeId) (body : Body) → IsEpochOf v body → is_of kinds.Epoch body ≡ true
+is_epoch v (bodies.Epoch e) is = refl
+is_epoch v (bodies.Prio b) is = absurd is
+is_epoch v (bodies.Rel b) is = absurd is
+is_epoch v (bodies.Ack b) is = absurd is
+is_epoch v (bodies.Weight b) is = absurd is
+is_epoch v (bodies.Krel b) is = absurd is
+is_epoch v (bodies.Kack b) is = absurd is
+
+-- format 1 has none
+not_first : (format : ℕ) (v : NodeId) (body : Body) → IsEpochOf v body → HasGoodFieldsIn format body → (format == FORMAT_1) ≡ false
+not_first format v (bodies.Epoch e) is good = go (format == FORMAT_1) good.0
+  where
+    go : (t : Bool) → cond t false true ≡ true → t ≡ false
+    go true e = absurd (cc)
+    go false e = refl
+not_first format v (bodies.Prio b) is good = absurd is
+not_first format v (bodies.Rel b) is good = absurd is
+not_first format v (bodies.Ack b) is good = absurd is
+not_first format v (bodies.Weight b) is good = absurd is
+not_first format v (bodies.Krel b) is good = absurd is
+not_first format v (bodies.Kack b) is good = absurd is
+
+epoch_fits : (k : Sizes) (len : ℕ) (known : List Life) (origins : List (Option ℕ)) (v : ℕ) → k.signature_len ≡ len → len < 65536
+    → All (LifeHolds k) known → IfSome (lives.next known origins v) (Later k.format (IsObject k.format kinds.Epoch len))
+epoch_fits k len known origins v same short held =
+    next_is_held k (Later k.format (IsObject k.format kinds.Epoch len)) known origins v
+    (λ u o is. (
+      not_first k.format u o.body is.kind is.fits.fields,
+      object_of k kinds.Epoch len o same short (is_epoch u o.body is.kind) is.fits,
+    )) held
+
 -- ---- the frame
 
 pub contents_fit : (k : Sizes) (n : NodeState) (v : NodeId) → NodeHolds k n
@@ -245,7 +283,7 @@ contents_fit k n v h =
       slot = slot;
       paths = tt;
       probe = tt;
-      epoch = tt;
+      epoch = epoch_fits k len n.parts.lives n.parts.origins (place_of n.fixed v) same h.fixed.short h.parts.lives;
     })
 
 pub frames_fit : FramesFit

@@ -9,18 +9,20 @@ use Rattle.sp_msg.specs.Bodies.{HasGoodFieldsIn}
 use Rattle.sp_msg.specs.declared.body.Body.{Body}
 use Rattle.sp_msg.specs.declared.body.Body.TheVariants as bodies
 use Rattle.sp_msg.specs.declared.kept.Kept.{Kept}
-use Rattle.sp_rules.specs.Answers.{ack_answer, is_new, prio_answer, rel_answer, weight_answer}
+use Rattle.sp_rules.specs.Answers.{ack_answer, epoch_answer, is_new, prio_answer, rel_answer, weight_answer}
 use Rattle.sp_rules.specs.Arts.{Arts}
-use Rattle.sp_rules.specs.Handle.{Arrival, handle, handle_all, heard_where, offer_to}
-use Rattle.sp_rules.specs.Lives.{are_held, is_dated}
+use Rattle.sp_rules.specs.Handle.{Arrival, handle, handle_all, heard_where, met, offer_to}
+use Rattle.sp_rules.specs.Lives.{are_held, is_dated, judge_epoch, origin_said}
 use Rattle.sp_rules.specs.Parts.{Parts, is_signed}
-use Rattle.sp_rules.specs.Pieces.{Piece, WeightPiece, PrioAckPiece, PrioPiece, ReportPiece, AckPiece, RelPiece}
+use Rattle.sp_rules.specs.Pieces.{Piece, WeightPiece, PrioAckPiece, PrioPiece, ReportPiece, AckPiece, RelPiece, EpochPiece}
 use Rattle.sp_rules.specs.Prio.{PrioState, admit_prio, heard, judge_prio}
 use Rattle.sp_rules.specs.Rel.{admit_ack, admit_rel, judge_ack_of, judge_rel_of, reported}
 use Rattle.sp_rules.specs.Weights.{held}
 use Rattle.sp_rules.specs.declared.answers.Item.TheVariants as items
 use Rattle.sp_rules.specs.declared.answers.PrioAnswer.{PrioAnswer}
 use Rattle.sp_rules.specs.declared.answers.PrioAnswer.TheVariants as prios
+use Rattle.sp_rules.specs.declared.lives.EpochJudged.{EpochJudged}
+use Rattle.sp_rules.specs.declared.lives.EpochJudged.TheVariants as starts
 use Rattle.sp_rules.specs.declared.prio.PrioJudged.{PrioJudged}
 use Rattle.sp_rules.specs.declared.prio.PrioJudged.TheVariants as judged
 use Rattle.sp_rules.specs.declared.rel.AckJudged.{AckJudged}
@@ -34,8 +36,10 @@ use Rattle.laws_node.specs.Sizes.{Fits, Sizes}
 use Rattle.laws_node.specs.Stores.{IsPrio, PrioHolds}
 use Rattle.laws_node.specs.Asked.{NewKeep}
 use Rattle.laws_node.proofs.AskedLemmas.{new_both, new_left, new_right}
+use Rattle.laws_node.proofs.HeldBoots.{held_epoch_holds, new_epoch}
 use Rattle.laws_node.proofs.Priority.{acked_holds, admit_holds, heard_holds, prio_more}
 use Rattle.laws_node.proofs.Reliable.{admit_ack_holds, admit_rel_holds, reported_holds}
+use Rattle.laws_node.proofs.Restarts.{renewed_holds, restarted_holds}
 use Rattle.laws_node.proofs.Tables.{cond_either, cond_where}
 use Rattle.laws_node.proofs.Updates.{held_holds, new_update}
 
@@ -53,6 +57,7 @@ PieceFits k (PrioPiece number o) = (number < 2 ^ 64) × InRange k o
 PieceFits k (ReportPiece flow sboot dboot base have) = Unit {0}
 PieceFits k (AckPiece flow o) = InRange k o × (is_of kinds.Ack o.body ≡ true)
 PieceFits k (RelPiece flow o) = InRange k o × (is_of kinds.Rel o.body ≡ true)
+PieceFits k (EpochPiece o) = InRange k o
 
 abbrev pub AllFit : Sizes → List Piece → Type 0
 AllFit k [] = Unit {0}
@@ -117,6 +122,12 @@ new_rel right false rels.Full e = absurd (cc)
 new_rel right true rels.InboxFull e = absurd (cc)
 new_rel right false rels.InboxFull e = absurd (cc)
 
+pub new_start : (right : Bool) (j : EpochJudged) → is_new (items.Epoch (epoch_answer right j)) ≡ true → (right ≡ true) × (j ≡ starts.New)
+new_start true starts.New e = (refl, refl)
+new_start false starts.New e = absurd (cc)
+new_start right starts.BadEnd e = absurd (cc)
+new_start right starts.Old e = absurd (cc)
+
 pub is_prio : (p : PrioState) (body : Body) (now : ℕ) → judge_prio p body now ≡ judged.New → IsPrio body
 is_prio p (bodies.Prio b) now e = tt
 is_prio p (bodies.Rel b) now e = absurd (cc)
@@ -135,6 +146,7 @@ module _ (k : Sizes) (arts : Arts) (at : Arrival) (me : at.fixed.me ≡ k.me) (n
     prio = prio_more k numbers numbers ids more index index p.prio (omega arith) up (omega arith) h.prio;
     rel = h.rel;
     lives = h.lives;
+    origins = h.origins;
   }
 
   weight_holds : (ids index : ℕ) (p : Parts) (o : Kept) → (is_new (items.Weight (weight_answer (is_signed arts at.fixed o) (offer_to at.fixed.me p.weights o.body))) ≡ true → k.keeps o) → InRange k o → PartsHold k numbers ids index p
@@ -146,7 +158,13 @@ module _ (k : Sizes) (arts : Arts) (at : Arrival) (me : at.fixed.me ≡ k.me) (n
       let both = new_weight (is_signed arts at.fixed o) (offer_to at.fixed.me p.weights o.body) new in
       let offered : offer_to k.me p.weights o.body ≡ offers.New = ap (λ (u : NodeId). offer_to u p.weights o.body) (sym me) ∙ both.1 in
       let update = new_update k index p.weights o offered (fits_where k o (keeps new) range) h.weights in
-      record { weights = held_holds k index index update.row p.weights o (omega arith) update.holds h.weights; prio = h.prio; rel = h.rel; lives = h.lives })
+      record {
+        weights = held_holds k index index update.row p.weights o (omega arith) update.holds h.weights;
+        prio = h.prio;
+        rel = h.rel;
+        lives = h.lives;
+        origins = h.origins;
+      })
       (λ old. h)
 
   ack_holds : (ids index : ℕ) (p : Parts) (flow : Flow) (o : Kept) → (is_new (items.Ack (ack_answer (is_signed arts at.fixed o) (is_dated p.lives o.body) (judge_ack_of p.rel flow o.body))) ≡ true → k.keeps o) → InRange k o
@@ -156,7 +174,13 @@ module _ (k : Sizes) (arts : Arts) (at : Arrival) (me : at.fixed.me ≡ k.me) (n
       (record p { rel = admit_ack p.rel o }) p
       (λ new.
       let both = new_ack (is_signed arts at.fixed o) (is_dated p.lives o.body) (judge_ack_of p.rel flow o.body) new in
-      record { weights = h.weights; prio = h.prio; rel = admit_ack_holds k index p.rel flow o both.1 (fits_where k o (keeps new) range) is h.rel; lives = h.lives })
+      record {
+        weights = h.weights;
+        prio = h.prio;
+        rel = admit_ack_holds k index p.rel flow o both.1 (fits_where k o (keeps new) range) is h.rel;
+        lives = h.lives;
+        origins = h.origins;
+      })
       (λ old. h)
 
   rel_holds : (ids index : ℕ) (p : Parts) (flow : Flow) (o : Kept) → (is_new (items.Rel (rel_answer (is_signed arts at.fixed o) (is_dated p.lives o.body) (judge_rel_of p.rel flow o.body))) ≡ true → k.keeps o) → InRange k o
@@ -166,12 +190,18 @@ module _ (k : Sizes) (arts : Arts) (at : Arrival) (me : at.fixed.me ≡ k.me) (n
       (record p { rel = admit_rel p.rel o }) p
       (λ new.
       let both = new_rel (is_signed arts at.fixed o) (is_dated p.lives o.body) (judge_rel_of p.rel flow o.body) new in
-      record { weights = h.weights; prio = h.prio; rel = admit_rel_holds k index p.rel flow o both.1 (fits_where k o (keeps new) range) is h.rel; lives = h.lives })
+      record {
+        weights = h.weights;
+        prio = h.prio;
+        rel = admit_rel_holds k index p.rel flow o both.1 (fits_where k o (keeps new) range) is h.rel;
+        lives = h.lives;
+        origins = h.origins;
+      })
       (λ old. h)
 
   with_prio : (ids index : ℕ) (p : Parts) (q : PrioState) → PrioHolds k numbers ids index q → PartsHold k numbers ids index p
       → PartsHold k numbers ids index (record p { prio = q })
-  with_prio ids index p q new h = record { weights = h.weights; prio = new; rel = h.rel; lives = h.lives }
+  with_prio ids index p q new h = record { weights = h.weights; prio = new; rel = h.rel; lives = h.lives; origins = h.origins }
 
   heard_where_holds : (ids index : ℕ) (answer : PrioAnswer) (number : ℕ) (p : Parts) → number < 2 ^ 64 → PartsHold k numbers ids index p
       → PartsHold k numbers ids index (heard_where answer at.from number p)
@@ -199,8 +229,26 @@ module _ (k : Sizes) (arts : Arts) (at : Arrival) (me : at.fixed.me ≡ k.me) (n
         prio = admit_holds k numbers ids index p.prio o at.from (is_prio p.prio o.body at.now both.1) (fits_where k o (keeps new) range) h.prio;
         rel = h.rel;
         lives = h.lives;
+        origins = h.origins;
       })
       (λ old. parts_more ids (ids + 1) index p (omega arith) h))
+
+  epoch_holds : (ids index : ℕ) (p : Parts) (o : Kept)
+      → (is_new (items.Epoch (epoch_answer (is_signed arts at.fixed o) (judge_epoch at.fixed.me p.lives o.body))) ≡ true → k.keeps o) → InRange k o
+      → PartsHold k numbers ids index p → PartsHold k numbers ids index (handle arts at p (EpochPiece o)).parts
+  epoch_holds ids index p o keeps range h =
+      cond_where (PartsHold k numbers ids index) (is_new (items.Epoch (epoch_answer (is_signed arts at.fixed o) (judge_epoch at.fixed.me p.lives o.body))))
+      (met p o) p
+      (λ new.
+      let both = new_start (is_signed arts at.fixed o) (judge_epoch at.fixed.me p.lives o.body) new in
+      record {
+        weights = h.weights;
+        prio = renewed_holds k numbers ids index p.prio (origin_said o.body).0 h.prio;
+        rel = restarted_holds k index p.rel (origin_said o.body) h.rel;
+        lives = held_epoch_holds k p.lives o (new_epoch at.fixed.me p.lives o.body both.1) (fits_where k o (keeps new) range) h.lives;
+        origins = h.origins;
+      })
+      (λ old. h)
 
   pub handle_holds : (ids index : ℕ) (p : Parts) (piece : Piece) → NewKeep k.keeps (handle arts at p piece).answered → PieceFits k piece → PartsHold k numbers ids index p
       → PartsHold k numbers (ids + messages_in piece) index (handle arts at p piece).parts
@@ -211,16 +259,19 @@ module _ (k : Sizes) (arts : Arts) (at : Arrival) (me : at.fixed.me ≡ k.me) (n
     prio = prio_more k numbers numbers ids (ids + 0) index index _ (omega arith) (omega arith) (omega arith) (acked_holds k numbers ids index p.prio at.from.0 number h.prio);
     rel = h.rel;
     lives = h.lives;
+    origins = h.origins;
   }
   handle_holds ids index p (PrioPiece number o) new fits h = prio_holds ids index p number o fits.0 new.0 fits.1 h
   handle_holds ids index p (ReportPiece flow sboot dboot base have) new fits h =
       parts_more ids (ids + 0) index (handle arts at p (ReportPiece flow sboot dboot base have)).parts (omega arith)
       (cond_either (PartsHold k numbers ids index) (are_held p.lives flow sboot dboot) (record p { rel = reported p.rel at.from flow base have }) p
-      (record { weights = h.weights; prio = h.prio; rel = reported_holds k index p.rel at.from flow base have h.rel; lives = h.lives }) h)
+      (record { weights = h.weights; prio = h.prio; rel = reported_holds k index p.rel at.from flow base have h.rel; lives = h.lives; origins = h.origins }) h)
   handle_holds ids index p (AckPiece flow o) new fits h =
       parts_more ids (ids + 0) index (handle arts at p (AckPiece flow o)).parts (omega arith) (ack_holds ids index p flow o new.0 fits.0 fits.1 h)
   handle_holds ids index p (RelPiece flow o) new fits h =
       parts_more ids (ids + 0) index (handle arts at p (RelPiece flow o)).parts (omega arith) (rel_holds ids index p flow o new.0 fits.0 fits.1 h)
+  handle_holds ids index p (EpochPiece o) new fits h =
+      parts_more ids (ids + 0) index (handle arts at p (EpochPiece o)).parts (omega arith) (epoch_holds ids index p o new.0 fits h)
 
   pub all_hold : (ids index : ℕ) (p : Parts) (pieces : List Piece) → NewKeep k.keeps (handle_all arts at p pieces).answered → AllFit k pieces → PartsHold k numbers ids index p
       → PartsHold k numbers (ids + messages pieces) index (handle_all arts at p pieces).parts
@@ -244,6 +295,7 @@ piece_is_signed arts at p (PrioPiece number o) = (λ new. (new_prio (is_signed a
 piece_is_signed arts at p (ReportPiece flow sboot dboot base have) = tt
 piece_is_signed arts at p (AckPiece flow o) = (λ new. (new_ack (is_signed arts at.fixed o) (is_dated p.lives o.body) (judge_ack_of p.rel flow o.body) new).0, tt)
 piece_is_signed arts at p (RelPiece flow o) = (λ new. (new_rel (is_signed arts at.fixed o) (is_dated p.lives o.body) (judge_rel_of p.rel flow o.body) new).0, tt)
+piece_is_signed arts at p (EpochPiece o) = (λ new. (new_start (is_signed arts at.fixed o) (judge_epoch at.fixed.me p.lives o.body) new).0, tt)
 
 pub new_is_signed : (arts : Arts) (at : Arrival) (p : Parts) (pieces : List Piece) → NewKeep (λ o. IsTrue (is_signed arts at.fixed o)) (handle_all arts at p pieces).answered
 new_is_signed arts at p [] = tt

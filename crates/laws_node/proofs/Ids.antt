@@ -8,23 +8,22 @@ use Rattle.sp_base.specs.declared.limits.TheConstants.{MAX_MESSAGES}
 use Rattle.sp_msg.specs.declared.body.Ack.{Ack}
 use Rattle.sp_msg.specs.declared.kept.Kept.{Kept}
 use Rattle.sp_msg.specs.declared.refused.SendRefused.{SendRefused}
-use Rattle.sp_rules.specs.Answers.{is_new, prio_answer}
-use Rattle.sp_rules.specs.Arrivals.{arrival_at, handled, link_after, pieces_in, pieces_where, reply_at, sections_in}
+use Rattle.sp_rules.specs.Answers.{epoch_answer, is_new, prio_answer}
+use Rattle.sp_rules.specs.Arrivals.{arrival_at, greeted, handled, has_risen, link_after, parts_met, pieces_in, pieces_where, reply_at, sections_in}
 use Rattle.sp_rules.specs.Arts.{Arts}
 use Rattle.sp_rules.specs.Choices.{less_first}
-use Rattle.sp_rules.specs.Handle.{Arrival, handle, handle_all, heard_where}
-use Rattle.sp_rules.specs.Node.{NodeState, call_refusal, called, kept_or, signed_once, with_link}
+use Rattle.sp_rules.specs.Handle.{Arrival, handle, handle_all, heard_where, met}
+use Rattle.sp_rules.specs.Node.{NodeState, call_refusal, called, kept_or, link_in, signed_once, with_link}
 use Rattle.sp_rules.specs.Parts.{Parts, is_signed}
-use Rattle.sp_rules.specs.Pieces.{Piece, WeightPiece, PrioAckPiece, PrioPiece, ReportPiece, AckPiece, RelPiece}
+use Rattle.sp_rules.specs.Pieces.{Piece, WeightPiece, PrioAckPiece, PrioPiece, ReportPiece, AckPiece, RelPiece, EpochPiece}
 use Rattle.sp_rules.specs.Prio as prio
 use Rattle.sp_rules.specs.Prio.{PrioState}
 use Rattle.sp_rules.specs.PrioPeer as rows
 use Rattle.sp_rules.specs.PrioPeer.{PrioPeer}
-use Rattle.sp_rules.specs.Rel as rel
 use Rattle.sp_rules.specs.Sends.{own_prio, rel_refusal, send_prio_refusal, signer_refusal, weight_refusal}
 use Rattle.sp_rules.specs.Steps.{Input, NodeStep, Output, Poll, Datagram, Tick, SendRel, SendPrio, SetWeight, TakeRel, TakePrio}
 use Rattle.sp_rules.specs.Store.{Store, arriving, evicted, has_id, is_expired, less_expired, next_besides, put, removed, without}
-use Rattle.sp_rules.specs.Lives.{are_held, is_dated}
+use Rattle.sp_rules.specs.Lives.{are_held, is_dated, judge_epoch}
 use Rattle.sp_rules.specs.Ticks.{due_now, at_time, settled_by, time_after}
 use Rattle.sp_rules.specs.declared.answers.Item.TheVariants as items
 use Rattle.sp_rules.specs.declared.answers.PrioAnswer.{PrioAnswer}
@@ -162,6 +161,14 @@ module _ (given : ℕ → ℕ) where
   piece arts at p (ReportPiece flow sboot dboot base have) h = unless_new (are_held p.lives flow sboot dboot) _ p refl h
   piece arts at p (AckPiece flow o) h = unless_new _ _ p refl h
   piece arts at p (RelPiece flow o) h = unless_new _ _ p refl h
+  piece arts at p (EpochPiece o) h =
+      which (is_new (items.Epoch (epoch_answer (is_signed arts at.fixed o) (judge_epoch at.fixed.me p.lives o.body)))) (met p o) p
+      (record { inbox = h.inbox; peers = h.peers }) h
+
+  greeted_rises : (epochs risen : Bool) (v : NodeId) (p : Parts) → Rise p → Rise (greeted epochs risen v p)
+  greeted_rises true true v p h = one_peer p.prio v.0 rows.unheard (λ q k. k) h
+  greeted_rises true false v p h = h
+  greeted_rises false risen v p h = h
 
   pieces : (arts : Arts) (at : Arrival) (p : Parts) (xs : List Piece) → Rise p → Rise (handle_all arts at p xs).parts
   pieces arts at p [] h = h
@@ -184,8 +191,10 @@ module _ (given : ℕ → ℕ) where
   step_rises : (arts : Arts) (n : NodeState) (input : Input) (output : Output) (new : NodeState) → NodeStep arts n input output new → Whole n → Whole new
   step_rises arts n (Poll v) output new s h = subst Whole (sym s.1) (or_kept (call_refusal n v) n _ h (one_peer n.parts.prio v.0 rows.carried carried_keeps h))
   step_rises arts n (Datagram v bytes) output new s h =
-      let xs = pieces_where (reply_at arts n v bytes) (pieces_in (sections_in arts n.fixed bytes)) in
-      subst Whole (sym s.1) (or_kept (call_refusal n v) n (called n (with_link n v (link_after arts n v bytes)) (handled arts n v bytes).parts) h (pieces arts (arrival_at n v) n.parts xs h))
+      let xs = pieces_where (reply_at arts n v bytes) (pieces_in n.fixed (sections_in arts n.fixed bytes)) in
+      subst Whole (sym s.1) (or_kept (call_refusal n v) n (called n (with_link n v (link_after arts n v bytes)) (handled arts n v bytes).parts) h
+      (pieces arts (arrival_at n v) (parts_met arts n v bytes) xs
+      (greeted_rises n.fixed.epochs (has_risen (link_in n v) (link_after arts n v bytes)) v n.parts h)))
   step_rises arts n (Tick now) output new s h =
       let time = time_after n now in
       subst Whole (sym s.1) (settled_keeps arts (at_time n now) (due_now n) (signer_refusal n.signer)

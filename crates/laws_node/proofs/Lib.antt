@@ -2,8 +2,10 @@ pub mod About
 pub mod Arrived
 pub mod AskedLemmas
 pub mod Boot
+pub mod Calls
 pub mod Carried
 pub mod Determined
+pub mod Epochs
 pub mod Flows
 pub mod Flight
 pub mod Frames
@@ -20,13 +22,18 @@ pub mod Objects
 pub mod Own
 pub mod Priority
 pub mod Reliable
+pub mod Restarts
+pub mod RowShapes
 pub mod Shapes
+pub mod SilentEffects
 pub mod Spellings
+pub mod Starts
 pub mod Steps
 pub mod TableReads
 pub mod Tables
 pub mod Updates
 pub mod Weaker
+pub mod WindowPlaces
 pub mod Worked
 -- ---- laws of its parts
 pub mod FreshLemmas

@@ -18,7 +18,7 @@ use Rattle.sp_rules.proofs.ArrivalLemmas.{link_stays, link_with, of_frame, of_fr
 use Rattle.sp_rules.specs.Arrivals.{handled, link_after, link_says, not_read, reply_at, sections_in}
 use Rattle.sp_rules.specs.Arts.{Arts, is_right}
 use Rattle.sp_rules.specs.Link.{Link, advanced, after_answer, is_above, new_link, pair_of}
-use Rattle.sp_rules.specs.Node.{NodeState, booted, call_refusal, called, is_link, is_neighbour, kept_or, link_in, link_of, with_link}
+use Rattle.sp_rules.specs.Node.{NodeState, announced, booted, call_refusal, called, is_link, is_neighbour, kept_or, link_in, link_of, with_link}
 use Rattle.sp_rules.specs.Parts.{Fixed, neighbours_of}
 use Rattle.sp_rules.specs.Polls.{polled}
 use Rattle.sp_rules.specs.Sends.{rel_refusal, send_prio_refusal, signer_refusal, weight_refusal}
@@ -215,10 +215,24 @@ fresh_boot : (f : Fixed) (v : NodeId) (ns : List ((NodeId × EdgeId) × List ℕ
 fresh_boot f v [] = refl
 fresh_boot f v (n ∷ ns) = elim (cases_Bool (is_link v (link_of f n))) [ inl t ↦ rw t refl | inr t ↦ rw t (fresh_boot f v ns) ]
 
+abbrev KeepsGreatest : Arts → NodeId → List (Input × Output) → NodeState → Type 0
+KeepsGreatest arts v steps last =
+    ((link_in last v).seen ≡ greatest (0, 0) (pairs_of_life arts v steps)) × ((link_in last v).seen.0 ≡ (link_in last v).peer_boot)
+
 pub pairs_of_lives : PairsOfLives
-pairs_of_lives arts f signer keys buffer store steps last v life =
-    let n = booted f signer keys buffer store in
-    let links = zip (neighbours_of f) keys in
-    let seen : (link_in n v).seen ≡ (0, 0) = fresh_link f v links in
-    let goes = life_goes arts v n steps last life (ap (λ (p : ℕ × ℕ). p.0) seen ∙ sym (fresh_boot f v links)) in
-    (goes.most ∙ ap (λ (p : ℕ × ℕ). greatest p (pairs_of_life arts v steps)) seen, goes.known)
+pairs_of_lives arts f signer keys buffer store steps last v life = begins f.epochs life
+  where
+    n : NodeState
+    n = booted f signer keys buffer store
+
+    links : List ((NodeId × EdgeId) × List ℕ)
+    links = zip (neighbours_of f) keys
+
+    from : (m : NodeState) → (link_in m v).seen ≡ (0, 0) → (link_in m v).peer_boot ≡ 0 → Life arts m steps last → KeepsGreatest arts v steps last
+    from m seen boot life =
+        let goes = life_goes arts v m steps last life (ap (λ (p : ℕ × ℕ). p.0) seen ∙ sym boot) in
+        (goes.most ∙ ap (λ (p : ℕ × ℕ). greatest p (pairs_of_life arts v steps)) seen, goes.known)
+
+    begins : (epochs : Bool) → Life arts (cond epochs (announced arts n) n) steps last → KeepsGreatest arts v steps last
+    begins true life = from (announced arts n) (fresh_link f v links) (fresh_boot f v links) life
+    begins false life = from n (fresh_link f v links) (fresh_boot f v links) life

@@ -1,7 +1,8 @@
 -- What each step tells of weights, and a life of all of them.
-use Rattle.std.proofs.Common.{◌≡◌, ℕ, ◌+◌, ◌*◌, ◌==◌, ◌&&◌, max, Bool, true, false, cond, List, [], ◌∷◌, ◌++◌, length, map, Option, Some, None, refl, sym, ap, subst, ◌∙◌, inl, inr, nat_lt}
+use Rattle.std.proofs.Common.{◌≡◌, ℕ, ◌+◌, ◌*◌, ◌==◌, ◌&&◌, max, Bool, true, false, cond, List, [], ◌∷◌, ◌++◌, length, Option, Some, None, refl, sym, ap, subst}
+use Rattle.std.proofs.Common.{◌∙◌, inl, inr, nat_lt}
 use Rattle.std.specs.Option.{option_and_then}
-use Rattle.std.specs.List.{flat_map, slice_get}
+use Rattle.std.specs.List.{slice_get}
 use Rattle.std.proofs.lemmas.Bool.{cases_Bool}
 use Rattle.std.proofs.lemmas.List.{length-replicate}
 use Rattle.sp_base.specs.declared.id.NodeId.{NodeId}
@@ -10,44 +11,40 @@ use Rattle.sp_msg.specs.declared.body.Body.{Body}
 use Rattle.sp_msg.specs.declared.body.Body.TheVariants as bodies
 use Rattle.sp_msg.specs.declared.body.WeightBody.{WeightBody}
 use Rattle.sp_msg.specs.declared.effect.Effect.{Effect}
-use Rattle.sp_msg.specs.declared.effect.Effect.TheVariants as effects
-use Rattle.sp_msg.specs.declared.effect.Why.{Why}
 use Rattle.sp_msg.specs.declared.effect.Why.TheVariants as whys
 use Rattle.sp_msg.specs.declared.kept.Kept.{Kept}
 use Rattle.sp_msg.specs.declared.refused.SendRefused.{SendRefused}
-use Rattle.sp_rules.specs.Answers.{ack_answer, is_new, prio_answer, rel_answer, weight_answer}
-use Rattle.sp_rules.specs.Arrivals.{arrival_at, handled, link_after, pieces_in, pieces_where, reply_at, sections_in}
+use Rattle.sp_rules.specs.Answers.{ack_answer, epoch_answer, is_new, prio_answer, rel_answer, weight_answer}
+use Rattle.sp_rules.specs.Arrivals.{arrival_at, greeted, handled, has_risen, link_after, parts_met, pieces_in, pieces_where, reply_at, sections_in}
 use Rattle.sp_rules.specs.Arts.{Arts}
 use Rattle.sp_rules.specs.Flow.{flow_said}
-use Rattle.sp_rules.specs.Handle.{Arrival, handle, handle_all, heard_where, offer_of, offer_to, reported_where, weight_effects}
+use Rattle.sp_rules.specs.Handle.{Arrival, handle, handle_all, heard_where, met, offer_of, offer_to, reported_where, weight_effects}
 use Rattle.sp_rules.specs.Link.{advanced}
-use Rattle.sp_rules.specs.Node.{NodeState, booted, call_refusal, called, kept_or, link_in, signed_now, signed_once, with_link}
+use Rattle.sp_rules.specs.Node.{NodeState, announced, booted, call_refusal, called, kept_or, link_in, signed_now, signed_once, with_link}
 use Rattle.sp_rules.specs.Parts.{Parts, edge_to, is_signed}
-use Rattle.sp_rules.specs.Pieces.{Piece, WeightPiece, PrioAckPiece, PrioPiece, ReportPiece, AckPiece, RelPiece}
+use Rattle.sp_rules.specs.Pieces.{Piece, WeightPiece, PrioAckPiece, PrioPiece, ReportPiece, AckPiece, RelPiece, EpochPiece}
 use Rattle.sp_rules.specs.Polls.{frame_to, polled}
 use Rattle.sp_rules.specs.Prio as prio
-use Rattle.sp_rules.specs.Prio.{PrioState, admit_prio, judge_prio, prio_effects}
+use Rattle.sp_rules.specs.Prio.{admit_prio, judge_prio, prio_effects}
 use Rattle.sp_rules.specs.PrioPeer as rows
-use Rattle.sp_rules.specs.PrioPeer.{PrioPeer}
-use Rattle.sp_rules.specs.Rel.{admit_ack, admit_rel, delivery, is_to, judge_ack_of, judge_rel_of, pushed_in, rel_effects, reported}
+use Rattle.sp_rules.specs.Rel.{admit_ack, admit_rel, is_to, judge_ack_of, judge_rel_of, pushed_in, rel_effects, reported, restart_effects}
 use Rattle.sp_rules.specs.Sends.{after_take_prio, after_take_rel, edge_or, mask_in, own_prio, prio_body, prio_sent, rel_body, rel_number, rel_refusal, rel_sent, send_prio_refusal, signed_effect, signer_refusal, weight_body, weight_number, weight_refusal, weight_refusal_at, weight_sent}
 use Rattle.sp_rules.specs.Steps.{Input, NodeStep, Output, Poll, Datagram, Tick, SendRel, SendPrio, SetWeight, TakeRel, TakePrio, Frame, accepted, arrived, refused_call, refused_send, replied}
-use Rattle.sp_rules.specs.Store.{Store, entry_in, evicted, expired_entries, oldest, removed}
-use Rattle.sp_rules.specs.Lives.{are_held, is_dated}
+use Rattle.sp_rules.specs.Store.{oldest}
+use Rattle.sp_rules.specs.Lives.{are_held, is_dated, judge_epoch, origin_said}
 use Rattle.sp_rules.specs.Ticks.{ack_effects, at_time, due_now, settled_by, time_after}
 use Rattle.sp_rules.specs.Weights.{WeightState, held, held_in, minimum, minimum_of, offer, row_for, row_in, row_of, start, weight_of}
 use Rattle.sp_rules.specs.declared.answers.Item.TheVariants as items
 use Rattle.sp_rules.specs.declared.answers.PrioAnswer.{PrioAnswer}
 use Rattle.sp_rules.specs.declared.answers.PrioAnswer.TheVariants as prios
 use Rattle.sp_rules.specs.declared.node.NodeRefused.{NodeRefused}
-use Rattle.sp_rules.specs.declared.store.Entry.{Entry}
 use Rattle.sp_rules.specs.declared.weights.Offer.TheVariants as offers
 use Rattle.sp_rules.specs.declared.weights.TheConstants.{MAX_OWN_HEARD}
 use Rattle.sp_topology.specs.Ranges.{ids_of}
 use Rattle.sp_topology.specs.declared.topology.Edge.{Edge}
 use Rattle.laws_node.specs.HeldUpdates.{last_weight}
 use Rattle.laws_node.specs.LifeLaws.{WeightsOfLives}
-use Rattle.laws_node.specs.Lives.{Life, effects_of_life, last_told, weight_told}
+use Rattle.laws_node.specs.Lives.{Life, effects_of_life, last_told}
 use Rattle.laws_node.specs.Shapes.{Shape}
 use Rattle.laws_node.proofs.GreatestWeights.{high_row, low_row}
 use Rattle.laws_node.proofs.Handles.{new_weight}
@@ -55,85 +52,8 @@ use Rattle.laws_node.proofs.LastWeights.{At, HasRows, IsUpdateAt, held_said, len
 use Rattle.laws_node.proofs.Shapes.{shapes_stay}
 use Rattle.laws_node.proofs.UpdateRows.{ends_differ, nothing_held}
 use Rattle.laws_node.proofs.Updates.{own_row}
-
--- ---- effects without an update
-
--- no weight is told by these
-abbrev pub Silent : List Effect → Type 0
-Silent es = (edge end w : ℕ) → last_told edge end w es ≡ w
-
-pub last_both : (edge end : ℕ) (xs ys : List Effect) (w : ℕ) → last_told edge end w (xs ++ ys) ≡ last_told edge end (last_told edge end w xs) ys
-last_both edge end [] ys w = refl
-last_both edge end (e ∷ xs) ys w = last_both edge end xs ys (weight_told edge end w e)
-
-silent_both : (xs ys : List Effect) → Silent xs → Silent ys → Silent (xs ++ ys)
-silent_both xs ys h k = λ edge end w. last_both edge end xs ys w ∙ ap (λ (v : ℕ). last_told edge end v ys) (h edge end w) ∙ k edge end w
-
-silent_either : (t : Bool) (es : List Effect) → Silent es → Silent (cond t es [])
-silent_either true es h = h
-silent_either false es h = λ edge end w. refl
-
-silent_flat : {X : Type 0} (f : X → List Effect) → ((x : X) → Silent (f x)) → (xs : List X) → Silent (flat_map f xs)
-silent_flat f each [] = λ edge end w. refl
-silent_flat f each (x ∷ xs) = silent_both (f x) (flat_map f xs) (each x) (silent_flat f each xs)
-
-silent_gone : (place : ℕ) (why : Why) (e : Option Entry) → Silent (rows.gone place why e)
-silent_gone place why None = λ edge end w. refl
-silent_gone place why (Some e) = λ edge end w. refl
-
-silent_left : (place : ℕ) (s : Store) (pairs : List (ℕ × ℕ)) → Silent (rows.left_effects place s pairs)
-silent_left place s [] = λ edge end w. refl
-silent_left place s (pair ∷ pairs) =
-    silent_both (rows.gone place whys.Acked (entry_in s pair.1)) (rows.left_effects place (removed s pair.1) pairs)
-    (silent_gone place whys.Acked (entry_in s pair.1)) (silent_left place (removed s pair.1) pairs)
-
-silent_stored : (place id : ℕ) (body : Body) → Silent (rows.stored place id body)
-silent_stored place id (bodies.Prio p) = λ edge end w. refl
-silent_stored place id (bodies.Rel r) = λ edge end w. refl
-silent_stored place id (bodies.Ack a) = λ edge end w. refl
-silent_stored place id (bodies.Weight u) = λ edge end w. refl
-silent_stored place id (bodies.Krel u) = λ edge end w. refl
-silent_stored place id (bodies.Kack u) = λ edge end w. refl
-silent_stored place id (bodies.Epoch u) = λ edge end w. refl
-
-silent_put : (place : ℕ) (s : Store) (o : Kept) → Silent (rows.put_effects place s o)
-silent_put place s o =
-    silent_both (rows.stored place (s.last + 1) o.body) (rows.gone place whys.Evicted (evicted s o)) (silent_stored place (s.last + 1) o.body)
-    (silent_gone place whys.Evicted (evicted s o))
-
-silent_delivered : (body : Body) → Silent (prio.delivered body)
-silent_delivered (bodies.Prio p) = λ edge end w. refl
-silent_delivered (bodies.Rel r) = λ edge end w. refl
-silent_delivered (bodies.Ack a) = λ edge end w. refl
-silent_delivered (bodies.Weight u) = λ edge end w. refl
-silent_delivered (bodies.Krel u) = λ edge end w. refl
-silent_delivered (bodies.Kack u) = λ edge end w. refl
-silent_delivered (bodies.Epoch u) = λ edge end w. refl
-
-silent_prio : (p : PrioState) (o : Kept) (came : Option NodeId) → Silent (prio_effects p o came)
-silent_prio p o came = elim (cases_Bool (prio.is_here p o.body)) [
-  | inl t ↦
-      let all = silent_both (prio.delivered o.body) (rows.put_effects 0 p.inbox o) (silent_delivered o.body) (silent_put 0 p.inbox o) in
-      rw t all
-  | inr t ↦
-      let all = silent_flat (rows.given_effects o came)
-      (λ q. silent_either (rows.goes_to o.body came q) (rows.put_effects q.peer q.store o) (silent_put q.peer q.store o)) p.peers in
-      rw t all
-]
-
-silent_expiring : (place : ℕ) (es : List Entry) → Silent (map (λ e. effects.Gone place e.id whys.Expired) es)
-silent_expiring place [] = λ edge end w. refl
-silent_expiring place (e ∷ es) = λ edge end w. silent_expiring place es edge end w
-
-silent_expired : (p : PrioState) (now : ℕ) → Silent (prio.expired_effects p now)
-silent_expired p now =
-    silent_both (rows.expired_effects 0 p.inbox now) (flat_map (λ (q : PrioPeer). rows.expired_effects q.peer q.store now) p.peers)
-    (silent_expiring 0 (expired_entries p.inbox now))
-    (silent_flat (λ (q : PrioPeer). rows.expired_effects q.peer q.store now) (λ q. silent_expiring q.peer (expired_entries q.store now)) p.peers)
-
-silent_rel : (t : Bool) (body : Body) → Silent (cond t (delivery body ∷ []) [])
-silent_rel true body = λ edge end w. refl
-silent_rel false body = λ edge end w. refl
+use Rattle.laws_node.proofs.SilentEffects.{Silent, last_both, silent_both, silent_either, silent_expired, silent_gone, silent_left, silent_prio, silent_rel}
+use Rattle.laws_node.proofs.SilentEffects.{silent_restart}
 
 -- ---- what is told of a change of the weights
 
@@ -253,6 +173,16 @@ one_turns arts at p (RelPiece flow o) h =
     let t = is_new (items.Rel (rel_answer (is_signed arts at.fixed o) (is_dated p.lives o.body) (judge_rel_of p.rel flow o.body))) in
     still p (cond t (record p { rel = admit_rel p.rel o }) p).weights (cond t (rel_effects p.rel o) [])
     (silent_either t (rel_effects p.rel o) (silent_rel (is_to p.rel (flow_said o.body)) o.body)) (either t (record p { rel = admit_rel p.rel o }) p refl) h
+one_turns arts at p (EpochPiece o) h =
+    let t = is_new (items.Epoch (epoch_answer (is_signed arts at.fixed o) (judge_epoch at.fixed.me p.lives o.body))) in
+    still p (cond t (met p o) p).weights (cond t (restart_effects p.rel (origin_said o.body)) [])
+    (silent_either t (restart_effects p.rel (origin_said o.body)) (silent_restart p.rel (origin_said o.body))) (either t (met p o) p refl) h
+
+-- another life of a neighbour changes no weight
+greeted_weights : (epochs risen : Bool) (v : NodeId) (p : Parts) → (greeted epochs risen v p).weights ≡ p.weights
+greeted_weights true true v p = refl
+greeted_weights true false v p = refl
+greeted_weights false risen v p = refl
 
 all_turns : (arts : Arts) (at : Arrival) (p : Parts) (pieces : List Piece) → HasRows p.weights
     → Turns p.weights (handle_all arts at p pieces).effects (handle_all arts at p pieces).parts.weights
@@ -312,8 +242,12 @@ step_turns arts n (Datagram v bytes) output new s same h = go (call_refusal n v)
 
     go : (r : Option NodeRefused) → output.effects ≡ (refused_call r (arrived arts n v bytes)).effects → new ≡ kept_or r n done → Done n output new
     go None e f =
+        let same = greeted_weights n.fixed.epochs (has_risen (link_in n v) (link_after arts n v bytes)) v n.parts in
         by n output new done (handled arts n v bytes).effects e f
-        (all_turns arts (arrival_at n v) n.parts (pieces_where (reply_at arts n v bytes) (pieces_in (sections_in arts n.fixed bytes))) h)
+        (subst (λ (w : WeightState). Turns w (handled arts n v bytes).effects done.parts.weights) same
+        (all_turns arts (arrival_at n v) (parts_met arts n v bytes)
+        (pieces_where (reply_at arts n v bytes) (pieces_in n.fixed (sections_in arts n.fixed bytes)))
+        (subst HasRows (sym same) h)))
     go (Some refused) e f = by n output new n [] e f (plain n [] nothing h)
 step_turns arts n (Tick now) output new s same h =
     by n output new (settled_by arts (at_time n now) (due_now n) (signer_refusal n.signer))
@@ -398,7 +332,7 @@ weights_of_lives arts f signer keys buffer store steps last good life edge e the
     let first = start t in
     let s = last.parts.weights in
     let told = effects_of_life steps in
-    let turns = life_turns arts (booted f signer keys buffer store) steps last life refl (record { rows = length-replicate (2 * length t.edges) None }) in
+    let turns = begins f.epochs life in
     let here : slice_get s.edges edge ≡ Some e = ap (λ (es : List Edge). slice_get es edge) turns.edges ∙ there in
     let below = ends_differ t.format (ids_of t.nodes) (0, 0) t.edges edge e good.graph.are_edges there in
     let low : row_said s (2 * edge) ≡ last_told edge e.low.0 0 told =
@@ -410,3 +344,10 @@ weights_of_lives arts f signer keys buffer store steps last good life edge e the
     let least : minimum s edge ≡ e.weight = ap minimum_of here in
     ap (λ (m : ℕ). max m (max (row_said s (2 * edge)) (row_said s (2 * edge + 1)))) least
     ∙ ap (λ (m : ℕ). max e.weight (max m (row_said s (2 * edge + 1)))) low ∙ ap (λ (m : ℕ). max e.weight (max (last_told edge e.low.0 0 told) m)) high
+  where
+    n : NodeState
+    n = booted f signer keys buffer store
+
+    begins : (epochs : Bool) → Life arts (cond epochs (announced arts n) n) steps last → Turns n.parts.weights (effects_of_life steps) last.parts.weights
+    begins true life = life_turns arts (announced arts n) steps last life refl (record { rows = length-replicate (2 * length f.topology.edges) None })
+    begins false life = life_turns arts n steps last life refl (record { rows = length-replicate (2 * length f.topology.edges) None })

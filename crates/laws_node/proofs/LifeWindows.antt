@@ -1,13 +1,12 @@
 -- What each step marks of a source, and a life of all of them.
-use Rattle.std.proofs.Common.{Bool, true, false, ◌≡◌, ℕ, zero, suc, ◌+◌, ◌==◌, true, false, cond, List, [], ◌∷◌, ◌++◌, length, replicate, Option, Some, None, refl, sym, ap, subst, ◌∙◌, inl, inr, arith}
-use Rattle.std.specs.Prelude.{fold, slice_index_or}
+use Rattle.std.proofs.Common.{Bool, true, false, ◌≡◌, ℕ, zero, suc, ◌+◌, ◌==◌, true, false, cond, List, [], ◌∷◌, ◌++◌, length, replicate, Option, Some, None}
+use Rattle.std.proofs.Common.{refl, sym, ap, subst, ◌∙◌, inl, inr}
+use Rattle.std.specs.Prelude.{fold}
 use Rattle.std.specs.List.{flat_map}
 use Rattle.std.proofs.lemmas.Bool.{cases_Bool, eqb-true, eq-eqb}
-use Rattle.std.proofs.lemmas.List.{append-nil, get_or-set_other, get_or-set_same, length-replicate, length-set}
+use Rattle.std.proofs.lemmas.List.{append-nil, length-replicate}
 use Rattle.std.proofs.lemmas.List.Concat.{flat_map-append}
 use Rattle.std.proofs.lemmas.List.Sums.{fold-append}
-use Rattle.sp_base.proofs.RowLemmas.{first_where-no_position}
-use Rattle.sp_base.specs.Rows.{first_where}
 use Rattle.sp_base.specs.declared.id.Flow.{Flow}
 use Rattle.sp_base.specs.declared.id.NodeId.{NodeId}
 use Rattle.sp_msg.specs.declared.body.Ack.{Ack}
@@ -15,25 +14,24 @@ use Rattle.sp_msg.specs.declared.body.Body.{Body}
 use Rattle.sp_msg.specs.declared.body.Body.TheVariants as bodies
 use Rattle.sp_msg.specs.declared.kept.Kept.{Kept}
 use Rattle.sp_msg.specs.declared.refused.SendRefused.{SendRefused}
-use Rattle.sp_rules.specs.Answers.{ack_answer, is_new, prio_answer, rel_answer, weight_answer}
-use Rattle.sp_rules.specs.Arrivals.{arrival_at, handled, link_after, pieces_in, pieces_where, reply_at, sections_in}
+use Rattle.sp_rules.specs.Answers.{ack_answer, epoch_answer, is_new, prio_answer, rel_answer, weight_answer}
+use Rattle.sp_rules.specs.Arrivals.{arrival_at, greeted, handled, has_risen, link_after, parts_met, pieces_in, pieces_where, reply_at, sections_in}
 use Rattle.sp_rules.specs.Arts.{Arts}
-use Rattle.sp_rules.specs.Handle.{Arrival, handle, handle_all, heard_where, offer_to, reported_where}
-use Rattle.sp_rules.specs.Lives.{are_held, is_dated}
+use Rattle.sp_rules.specs.Handle.{Arrival, handle, handle_all, heard_where, met, offer_to, reported_where}
+use Rattle.sp_rules.specs.Lives.{are_held, is_dated, judge_epoch, origin_said}
 use Rattle.sp_rules.specs.Link.{advanced}
-use Rattle.sp_rules.specs.Node.{NodeState, booted, call_refusal, called, kept_or, link_in, signed_now, signed_once, with_link}
+use Rattle.sp_rules.specs.Node.{NodeState, announced, booted, call_refusal, called, kept_or, link_in, signed_now, signed_once, with_link}
 use Rattle.sp_rules.specs.Parts.{Parts, is_signed, nodes_of}
-use Rattle.sp_rules.specs.Pieces.{Piece, WeightPiece, PrioAckPiece, PrioPiece, ReportPiece, AckPiece, RelPiece}
+use Rattle.sp_rules.specs.Pieces.{Piece, WeightPiece, PrioAckPiece, PrioPiece, ReportPiece, AckPiece, RelPiece, EpochPiece}
 use Rattle.sp_rules.specs.Polls.{frame_to, polled}
 use Rattle.sp_rules.specs.Prio as prio
-use Rattle.sp_rules.specs.Prio.{PrioState, admit_prio, is_here, is_node, judge_prio, marked, place_of, spread, window_at, window_in, windows_with}
+use Rattle.sp_rules.specs.Prio.{PrioState, admit_prio, is_here, is_node, judge_prio, marked, place_of, spread, window_at, window_in, windows_less, windows_with}
 use Rattle.sp_rules.specs.Rel.{RelState, admit_ack, admit_rel, judge_ack_of, judge_rel_of, pushed_in}
 use Rattle.sp_rules.specs.Sends.{own_prio, prio_sent, rel_body, rel_number, rel_refusal, rel_sent, send_prio_refusal, signer_refusal, weight_body, weight_number, weight_refusal, weight_sent}
 use Rattle.sp_rules.specs.Steps.{Input, NodeStep, Output, Poll, Datagram, Tick, SendRel, SendPrio, SetWeight, TakeRel, TakePrio, Frame, accepted, arrived, refused_call, refused_send, replied}
 use Rattle.sp_rules.specs.Store.{put, said}
 use Rattle.sp_rules.specs.Ticks.{at_time, due_now, settled_by}
 use Rattle.sp_rules.specs.Weights.{WeightState, held}
-use Rattle.sp_rules.specs.Window.{with_mark}
 use Rattle.sp_rules.specs.declared.answers.Item.{Item}
 use Rattle.sp_rules.specs.declared.answers.Item.TheVariants as items
 use Rattle.sp_rules.specs.declared.answers.PrioAnswer.{PrioAnswer}
@@ -43,65 +41,14 @@ use Rattle.sp_rules.specs.declared.prio.PrioJudged.TheVariants as judged
 use Rattle.sp_rules.specs.declared.rel.AckJudged.TheVariants as acks
 use Rattle.sp_rules.specs.declared.rel.RelJudged.TheVariants as rels
 use Rattle.sp_rules.specs.declared.weights.Offer.TheVariants as offers
+use Rattle.laws_node.specs.HeldBoots.{IsEpochOf}
 use Rattle.laws_node.specs.LifeLaws.{WindowsOfLives}
-use Rattle.laws_node.specs.Lives.{Life, mark_told, marks_of_life, marks_told, number_of}
+use Rattle.laws_node.specs.Lives.{Life, mark_on, mark_told, marks_of_life, marks_told, number_of}
 use Rattle.laws_node.specs.Shapes.{Shape}
-use Rattle.laws_node.proofs.Handles.{new_ack, new_prio, new_rel, new_weight}
+use Rattle.laws_node.proofs.Handles.{new_ack, new_prio, new_rel, new_start, new_weight}
+use Rattle.laws_node.proofs.HeldBoots.{new_epoch}
 use Rattle.laws_node.proofs.Shapes.{shapes_stay}
-use Rattle.laws_node.proofs.Updates.{find_place, place_within}
-
--- ---- windows by their places
-
--- two nodes in one place are one
-one_place : (nodes : List NodeId) (a b i : ℕ) → place_of nodes a ≡ Some i → place_of nodes b ≡ Some i → a ≡ b
-one_place nodes a b i p q =
-    let one = find_place (λ (n : NodeId). n.0 == a) nodes i p in
-    let two = find_place (λ (n : NodeId). n.0 == b) nodes i q in
-    let same : Some one.0 ≡ Some two.0 = sym one.1 ∙ two.1 in
-    let is : one.0 ≡ two.0 = cc in
-    sym (eqb-true one.0.0 a one.2) ∙ ap (λ (n : NodeId). n.0) is ∙ eqb-true two.0.0 b two.2
-
--- a node has a place
-found_passes : (nodes : List NodeId) (id : ℕ) (d : NodeId) → is_node nodes id ≡ true → (first_where (λ n. n.0 == id) d nodes).0 ≡ id
-found_passes [] id d h = absurd (cc)
-found_passes (n ∷ nodes) id d h = elim (cases_Bool (n.0 == id)) [
-  | inl t ↦ rw t (eqb-true n.0 id t)
-  | inr t ↦ rw t (found_passes nodes id d (rw t at h))
-]
-
-has_place : (nodes : List NodeId) (id : ℕ) → is_node nodes id ≡ true → (i : ℕ) × (place_of nodes id ≡ Some i)
-has_place nodes id h = go (place_of nodes id) refl
-  where
-    go : (o : Option ℕ) → place_of nodes id ≡ o → (i : ℕ) × (place_of nodes id ≡ Some i)
-    go (Some i) e = (i, e)
-    go None e =
-        let d : NodeId = record { 0 = id + 1 } in
-        let here : id + 1 ≡ id = sym (ap (λ (n : NodeId). n.0) (first_where-no_position (λ n. n.0 == id) d nodes e)) ∙ found_passes nodes id d h in
-        absurd (omega (arith, here))
-
-mark_here : (ws : List (List ℕ)) (nodes : List NodeId) (src q : ℕ) → length ws ≡ length nodes → is_node nodes src ≡ true
-    → window_at (windows_with ws (place_of nodes src) q) (place_of nodes src) ≡ with_mark (window_at ws (place_of nodes src)) q
-mark_here ws nodes src q long there =
-    let at = has_place nodes src there in
-    let within = place_within (λ (n : NodeId). n.0 == src) nodes at.0 at.1 in
-    let new = with_mark (slice_index_or ws at.0 []) q in
-    rw at.1 (get_or-set_same ws at.0 new [] (omega (arith, within, long)))
-
-mark_there : (ws : List (List ℕ)) (nodes : List NodeId) (id src q : ℕ) → (id ≡ src → ⊥)
-    → window_at (windows_with ws (place_of nodes id) q) (place_of nodes src) ≡ window_at ws (place_of nodes src)
-mark_there ws nodes id src q other = go (place_of nodes id) refl (place_of nodes src) refl
-  where
-    go : (a : Option ℕ) → place_of nodes id ≡ a → (b : Option ℕ) → place_of nodes src ≡ b → window_at (windows_with ws a q) b ≡ window_at ws b
-    go None is b at = refl
-    go (Some i) is None at = refl
-    go (Some i) is (Some k) at = elim (cases_Bool (k == i)) [
-      | inl t ↦ let same : k ≡ i = eqb-true k i t in absurd (other (one_place nodes id src i is (at ∙ ap Some same)))
-      | inr t ↦ get_or-set_other ws i k (with_mark (slice_index_or ws i []) q) [] (λ same. absurd (let wrong : true ≡ false = sym (eq-eqb k i same) ∙ t in cc))
-    ]
-
-long_with : (ws : List (List ℕ)) (place : Option ℕ) (q : ℕ) → length (windows_with ws place q) ≡ length ws
-long_with ws None q = refl
-long_with ws (Some place) q = length-set ws place (with_mark (slice_index_or ws place []) q)
+use Rattle.laws_node.proofs.WindowPlaces.{less_here, less_there, long_less, long_with, mark_here, mark_there}
 
 -- ---- what was marked of a source
 
@@ -109,10 +56,10 @@ long_with ws (Some place) q = length-set ws place (with_mark (slice_index_or ws 
 record HasWindows (s : PrioState) : Type 0 where
   long : length s.windows ≡ length s.nodes
 
-record Marks (src : ℕ) (old : PrioState) (qs : List ℕ) (new : PrioState) : Type 0 where
+record Marks (src : ℕ) (old : PrioState) (qs : List (Option ℕ)) (new : PrioState) : Type 0 where
   nodes : new.nodes ≡ old.nodes
   long : length new.windows ≡ length old.windows
-  window : window_in new src ≡ fold with_mark (window_in old src) qs
+  window : window_in new src ≡ fold mark_on (window_in old src) qs
 
 module _ (src : ℕ) where
   none : (old new : PrioState) → new.nodes ≡ old.nodes → new.windows ≡ old.windows → Marks src old [] new
@@ -122,14 +69,14 @@ module _ (src : ℕ) where
     window = ap (λ (ws : List (List ℕ)). window_at ws (place_of new.nodes src)) windows ∙ ap (λ (ns : List NodeId). window_at old.windows (place_of ns src)) nodes;
   }
 
-  on : (old mid new : PrioState) (xs ys : List ℕ) → Marks src old xs mid → Marks src mid ys new → Marks src old (xs ++ ys) new
+  on : (old mid new : PrioState) (xs ys : List (Option ℕ)) → Marks src old xs mid → Marks src mid ys new → Marks src old (xs ++ ys) new
   on old mid new xs ys one two = record {
     nodes = two.nodes ∙ one.nodes;
     long = two.long ∙ one.long;
-    window = two.window ∙ ap (λ (w : List ℕ). fold with_mark w ys) one.window ∙ sym (fold-append with_mark (window_in old src) xs ys);
+    window = two.window ∙ ap (λ (w : List ℕ). fold mark_on w ys) one.window ∙ sym (fold-append mark_on (window_in old src) xs ys);
   }
 
-  windows_on : (old new : PrioState) (qs : List ℕ) → Marks src old qs new → HasWindows old → HasWindows new
+  windows_on : (old new : PrioState) (qs : List (Option ℕ)) → Marks src old qs new → HasWindows old → HasWindows new
   windows_on old new qs m h = record { long = m.long ∙ h.long ∙ ap (λ (ns : List NodeId). length ns) (sym m.nodes) }
 
   -- ---- a message comes
@@ -138,7 +85,7 @@ module _ (src : ℕ) where
   spread_marks s o came = elim (cases_Bool (is_here s o.body)) [ inl t ↦ rw t (none s (record s { inbox = put s.inbox o }) refl refl) | inr t ↦ rw t (none s _ refl refl) ]
 
   marked_marks : (s : PrioState) (body : Body) (came : Option NodeId) → HasWindows s → is_node s.nodes src ≡ true
-      → Marks src s (cond (said (λ p. p.src.0) body == src) (said (λ p. p.seq) body ∷ []) []) (marked s body came)
+      → Marks src s (cond (said (λ p. p.src.0) body == src) (Some (said (λ p. p.seq) body) ∷ []) []) (marked s body came)
   marked_marks s body came h there =
       let id = said (λ p. p.src.0) body in
       let q = said (λ p. p.seq) body in
@@ -155,14 +102,14 @@ module _ (src : ℕ) where
       ]
 
   admitted : (s : PrioState) (o : Kept) (came : Option NodeId) → HasWindows s → is_node s.nodes src ≡ true
-      → Marks src s (cond (said (λ p. p.src.0) o.body == src) (said (λ p. p.seq) o.body ∷ []) []) (admit_prio s o came)
+      → Marks src s (cond (said (λ p. p.src.0) o.body == src) (Some (said (λ p. p.seq) o.body) ∷ []) []) (admit_prio s o came)
   admitted s o came h there =
-      let qs = cond (said (λ p. p.src.0) o.body == src) (said (λ p. p.seq) o.body ∷ []) [] in
-      subst (λ (xs : List ℕ). Marks src s xs (admit_prio s o came)) (append-nil qs)
+      let qs = cond (said (λ p. p.src.0) o.body == src) (Some (said (λ p. p.seq) o.body) ∷ []) [] in
+      subst (λ (xs : List (Option ℕ)). Marks src s xs (admit_prio s o came)) (append-nil qs)
       (on s (marked s o.body came) (admit_prio s o came) qs [] (marked_marks s o.body came h there) (spread_marks (marked s o.body came) o came))
 
   number_is : (s : PrioState) (body : Body) (now : ℕ) → judge_prio s body now ≡ judged.New
-      → cond (said (λ p. p.src.0) body == src) (said (λ p. p.seq) body ∷ []) [] ≡ number_of src body
+      → cond (said (λ p. p.src.0) body == src) (Some (said (λ p. p.seq) body) ∷ []) [] ≡ number_of src body
   number_is s (bodies.Prio p) now new = refl
   number_is s (bodies.Rel r) now new = absurd (cc)
   number_is s (bodies.Ack a) now new = absurd (cc)
@@ -179,7 +126,7 @@ module _ (src : ℕ) where
   ack_number r flow (bodies.Weight u) new = refl
   ack_number r flow (bodies.Krel u) new = refl
   ack_number r flow (bodies.Kack u) new = refl
-  ack_number r flow (bodies.Epoch u) new = refl
+  ack_number r flow (bodies.Epoch u) new = absurd (cc)
 
   rel_number_of : (r : RelState) (flow : Flow) (body : Body) → judge_rel_of r flow body ≡ rels.New → number_of src body ≡ []
   rel_number_of r flow (bodies.Ack a) new = refl
@@ -188,7 +135,7 @@ module _ (src : ℕ) where
   rel_number_of r flow (bodies.Weight u) new = refl
   rel_number_of r flow (bodies.Krel u) new = refl
   rel_number_of r flow (bodies.Kack u) new = refl
-  rel_number_of r flow (bodies.Epoch u) new = refl
+  rel_number_of r flow (bodies.Epoch u) new = absurd (cc)
 
   weight_number_of : (me : NodeId) (w : WeightState) (body : Body) → offer_to me w body ≡ offers.New → number_of src body ≡ []
   weight_number_of me w (bodies.Ack a) new = refl
@@ -197,12 +144,36 @@ module _ (src : ℕ) where
   weight_number_of me w (bodies.Weight u) new = refl
   weight_number_of me w (bodies.Krel u) new = refl
   weight_number_of me w (bodies.Kack u) new = refl
-  weight_number_of me w (bodies.Epoch u) new = refl
+  weight_number_of me w (bodies.Epoch u) new = absurd (cc)
 
   -- ---- a datagram
 
-  abbrev told : List (Kept × Item) → List ℕ
+  abbrev told : List (Kept × Item) → List (Option ℕ)
   told answered = flat_map (mark_told src) answered
+
+  -- another life of a source began
+  renewed_marks : (s : PrioState) (id : ℕ) → HasWindows s → is_node s.nodes src ≡ true → Marks src s (cond (id == src) (None ∷ []) []) (prio.renewed s id)
+  renewed_marks s id h there =
+      let long = long_less s.windows (place_of s.nodes id) in
+      elim (cases_Bool (id == src)) [
+        | inl t ↦
+            let same : id ≡ src = eqb-true id src t in
+            let here = ap (λ (x : ℕ). window_at (windows_less s.windows (place_of s.nodes x)) (place_of s.nodes src)) same
+            ∙ less_here s.windows s.nodes src h.long there in
+            rw t (record { nodes = refl; long = long; window = here })
+        | inr t ↦
+            let other : id ≡ src → ⊥ = λ same. absurd (let wrong : true ≡ false = sym (eq-eqb id src same) ∙ t in cc) in
+            rw t (record { nodes = refl; long = long; window = less_there s.windows s.nodes id src other })
+      ]
+
+  began : (body : Body) → IsEpochOf (origin_said body) body → cond ((origin_said body).0 == src) (None ∷ []) [] ≡ number_of src body
+  began (bodies.Epoch e) is = refl
+  began (bodies.Prio p) is = absurd is
+  began (bodies.Rel p) is = absurd is
+  began (bodies.Ack p) is = absurd is
+  began (bodies.Weight p) is = absurd is
+  began (bodies.Krel p) is = absurd is
+  began (bodies.Kack p) is = absurd is
 
   one_told : (o : Kept) (item : Item) → told ((o, item) ∷ []) ≡ cond (is_new item) (number_of src o.body) []
   one_told o item = append-nil (mark_told src (o, item))
@@ -212,11 +183,11 @@ module _ (src : ℕ) where
   unmarked p o item new old one two number = elim (cases_Bool (is_new item)) [
     | inl t ↦
         let qs : told ((o, item) ∷ []) ≡ [] = one_told o item ∙ rw t (number t) in
-        subst (λ (xs : List ℕ). Marks src p.prio xs (cond (is_new item) new old).prio) (sym qs)
+        subst (λ (xs : List (Option ℕ)). Marks src p.prio xs (cond (is_new item) new old).prio) (sym qs)
         (rw t (subst (λ (s : PrioState). Marks src p.prio [] s) (sym one) (none p.prio p.prio refl refl)))
     | inr t ↦
         let qs : told ((o, item) ∷ []) ≡ [] = one_told o item ∙ rw t refl in
-        subst (λ (xs : List ℕ). Marks src p.prio xs (cond (is_new item) new old).prio) (sym qs)
+        subst (λ (xs : List (Option ℕ)). Marks src p.prio xs (cond (is_new item) new old).prio) (sym qs)
         (rw t (subst (λ (s : PrioState). Marks src p.prio [] s) (sym two) (none p.prio p.prio refl refl)))
   ]
 
@@ -246,14 +217,14 @@ module _ (src : ℕ) where
       elim (cases_Bool t) [
         | inl is ↦
             let judge = (new_prio right (is_dated p.lives o.body) (judge_prio p.prio o.body at.now) is).1 in
-            let same : cond (said (λ p. p.src.0) o.body == src) (said (λ p. p.seq) o.body ∷ []) [] ≡ qs =
+            let same : cond (said (λ p. p.src.0) o.body == src) (Some (said (λ p. p.seq) o.body) ∷ []) [] ≡ qs =
             number_is p.prio o.body at.now judge ∙ sym (one_told o (items.Prio answer) ∙ rw is refl) in
-            subst (λ (xs : List ℕ). Marks src p.prio xs (cond t new p).prio) same (rw is (admitted p.prio o (Some at.from) h there))
+            subst (λ (xs : List (Option ℕ)). Marks src p.prio xs (cond t new p).prio) same (rw is (admitted p.prio o (Some at.from) h there))
         | inr is ↦
             let same : [] ≡ qs = sym (one_told o (items.Prio answer) ∙ rw is refl) in
-            subst (λ (xs : List ℕ). Marks src p.prio xs (cond t new p).prio) same (rw is (none p.prio p.prio refl refl))
+            subst (λ (xs : List (Option ℕ)). Marks src p.prio xs (cond t new p).prio) same (rw is (none p.prio p.prio refl refl))
       ] in
-      subst (λ (xs : List ℕ). Marks src p.prio xs (heard_where answer at.from number (cond t new p)).prio) (append-nil qs)
+      subst (λ (xs : List (Option ℕ)). Marks src p.prio xs (heard_where answer at.from number (cond t new p)).prio) (append-nil qs)
       (on p.prio (cond t new p).prio (heard_where answer at.from number (cond t new p)).prio qs [] first (heard answer at.from number (cond t new p)))
   one_piece arts at p (ReportPiece flow sboot dboot base have) h there = by (are_held p.lives flow sboot dboot)
     where
@@ -268,6 +239,25 @@ module _ (src : ℕ) where
       let right = is_signed arts at.fixed o in
       unmarked p o (items.Rel (rel_answer right (is_dated p.lives o.body) (judge_rel_of p.rel flow o.body))) (record p { rel = admit_rel p.rel o }) p refl refl
       (λ new. rel_number_of p.rel flow o.body (new_rel right (is_dated p.lives o.body) (judge_rel_of p.rel flow o.body) new).1)
+  one_piece arts at p (EpochPiece o) h there =
+      let right = is_signed arts at.fixed o in
+      let judge = judge_epoch at.fixed.me p.lives o.body in
+      let item = items.Epoch (epoch_answer right judge) in
+      elim (cases_Bool (is_new item)) [
+        | inl t ↦
+            let start = new_epoch at.fixed.me p.lives o.body (new_start right judge t).1 in
+            let qs : cond ((origin_said o.body).0 == src) (None ∷ []) [] ≡ told ((o, item) ∷ []) = began o.body start ∙ sym (one_told o item ∙ rw t refl) in
+            subst (λ (xs : List (Option ℕ)). Marks src p.prio xs (cond (is_new item) (met p o) p).prio) qs
+            (rw t (renewed_marks p.prio (origin_said o.body).0 h there))
+        | inr t ↦
+            let qs : [] ≡ told ((o, item) ∷ []) = sym (one_told o item ∙ rw t refl) in
+            subst (λ (xs : List (Option ℕ)). Marks src p.prio xs (cond (is_new item) (met p o) p).prio) qs (rw t (none p.prio p.prio refl refl))
+      ]
+
+  greeted_marks : (epochs risen : Bool) (v : NodeId) (p : Parts) → Marks src p.prio [] (greeted epochs risen v p).prio
+  greeted_marks true true v p = none p.prio (prio.unheard p.prio v.0) refl refl
+  greeted_marks true false v p = none p.prio p.prio refl refl
+  greeted_marks false risen v p = none p.prio p.prio refl refl
 
   all_pieces : (arts : Arts) (at : Arrival) (p : Parts) (pieces : List Piece) → HasWindows p.prio → is_node p.prio.nodes src ≡ true
       → Marks src p.prio (told (handle_all arts at p pieces).answered) (handle_all arts at p pieces).parts.prio
@@ -278,7 +268,7 @@ module _ (src : ℕ) where
       let one = one_piece arts at p piece h there in
       let rest = all_pieces arts at first.parts pieces (windows_on p.prio first.parts.prio (told first.answered) one h)
       (ap (λ (ns : List NodeId). is_node ns src) one.nodes ∙ there) in
-      subst (λ (xs : List ℕ). Marks src p.prio xs others.parts.prio) (sym (flat_map-append (mark_told src) first.answered others.answered))
+      subst (λ (xs : List (Option ℕ)). Marks src p.prio xs others.parts.prio) (sym (flat_map-append (mark_told src) first.answered others.answered))
       (on p.prio first.parts.prio others.parts.prio (told first.answered) (told others.answered) one rest)
 
   -- ---- each step
@@ -313,10 +303,18 @@ module _ (src : ℕ) where
       done : NodeState
       done = called n (with_link n v (link_after arts n v bytes)) (handled arts n v bytes).parts
 
+      met_at : Parts
+      met_at = parts_met arts n v bytes
+
+      greeting : Marks src n.parts.prio [] met_at.prio
+      greeting = greeted_marks n.fixed.epochs (has_risen (link_in n v) (link_after arts n v bytes)) v n.parts
+
       go : (r : Option NodeRefused) → Done n (Datagram v bytes) (refused_call r (arrived arts n v bytes)) (kept_or r n done)
       go None =
-          subst (λ (xs : List ℕ). Marks src n.parts.prio xs done.parts.prio) (sym (append-nil (told (handled arts n v bytes).answered)))
-          (all_pieces arts (arrival_at n v) n.parts (pieces_where (reply_at arts n v bytes) (pieces_in (sections_in arts n.fixed bytes))) h there)
+          subst (λ (xs : List (Option ℕ)). Marks src n.parts.prio xs done.parts.prio) (sym (append-nil (told (handled arts n v bytes).answered)))
+          (on n.parts.prio met_at.prio done.parts.prio [] (told (handled arts n v bytes).answered) greeting
+          (all_pieces arts (arrival_at n v) met_at (pieces_where (reply_at arts n v bytes) (pieces_in n.fixed (sections_in arts n.fixed bytes)))
+          (windows_on n.parts.prio met_at.prio [] greeting h) (ap (λ (ns : List NodeId). is_node ns src) greeting.nodes ∙ there)))
       go (Some refused) = none n.parts.prio n.parts.prio refl refl
   step_marks arts n (Tick now) output new s h there = by n (Tick now) output _ new _ s.0 s.1 (go (due_now n) (signer_refusal n.signer))
     where
@@ -374,7 +372,16 @@ empty_window (suc count) (Some (suc place)) = empty_window count (Some place)
 
 pub windows_of_lives : WindowsOfLives
 windows_of_lives arts f signer keys buffer store steps last src life there =
-    let n = booted f signer keys buffer store in
-    let count = length (nodes_of f.topology) in
-    let marks = life_marks src arts n steps last life (record { long = length-replicate count [] }) there in
-    marks.window ∙ ap (λ (w : List ℕ). fold with_mark w (marks_of_life f.me.0 src steps)) (empty_window count (place_of (nodes_of f.topology) src))
+    let marks = begins f.epochs life in
+    marks.window ∙ ap (λ (w : List ℕ). fold mark_on w (marks_of_life f.me.0 src steps)) (empty_window count (place_of (nodes_of f.topology) src))
+  where
+    n : NodeState
+    n = booted f signer keys buffer store
+
+    count : ℕ
+    count = length (nodes_of f.topology)
+
+    begins : (epochs : Bool) → Life arts (cond epochs (announced arts n) n) steps last
+        → Marks src n.parts.prio (marks_of_life f.me.0 src steps) last.parts.prio
+    begins true life = life_marks src arts (announced arts n) steps last life (record { long = length-replicate count [] }) there
+    begins false life = life_marks src arts n steps last life (record { long = length-replicate count [] }) there

@@ -4,7 +4,7 @@ use Rattle.sp_msg.specs.declared.kept.Kept.{Kept}
 use Rattle.sp_rules.specs.Arts.{Arts}
 use Rattle.sp_rules.specs.Handle.{Arrival, handle, handle_all}
 use Rattle.sp_rules.specs.Parts.{Parts}
-use Rattle.sp_rules.specs.Pieces.{Piece, WeightPiece, PrioAckPiece, PrioPiece, ReportPiece, AckPiece, RelPiece}
+use Rattle.sp_rules.specs.Pieces.{Piece, WeightPiece, PrioAckPiece, PrioPiece, ReportPiece, AckPiece, RelPiece, EpochPiece}
 use Rattle.sp_rules.specs.declared.answers.Item.{Item}
 use Rattle.laws_node.specs.Objects.{ObjectsAreAnswered, objects_of}
 
@@ -22,6 +22,7 @@ one arts at p (PrioPiece number o) = refl
 one arts at p (ReportPiece flow sboot dboot base have) = refl
 one arts at p (AckPiece flow o) = refl
 one arts at p (RelPiece flow o) = refl
+one arts at p (EpochPiece o) = refl
 
 pub objects_are_answered : ObjectsAreAnswered
 objects_are_answered arts at p [] = refl

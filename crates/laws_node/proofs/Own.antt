@@ -1,5 +1,6 @@
 -- What a node signs itself is in its ranges, and is valid.
-use Rattle.std.proofs.Common.{◌≡◌, ◌<◌, ◌≤◌, ℕ, ◌+◌, ◌^◌, ◌==◌, ◌||◌, not, nat_lt, Bool, true, false, List, length, Option, Some, None, Result, Ok, Err, refl, sym, ap, ◌∙◌, subst, arith, cond}
+use Rattle.std.proofs.Common.{◌≡◌, ◌<◌, ◌≤◌, ℕ, ◌+◌, ◌==◌, ◌||◌, not, nat_lt, Bool, true, false, List, length, Option, Some, None, Result, Ok, Err, refl, sym}
+use Rattle.std.proofs.Common.{ap, ◌∙◌, subst, arith, cond}
 use Rattle.std.specs.Prelude.{IsTrue}
 use Rattle.std.proofs.lemmas.Bool.Decides.{nat_tests}
 use Rattle.sp_base.specs.Cursor.{or_else}
@@ -23,7 +24,8 @@ use Rattle.sp_rules.specs.Node.{NodeState, Signer, signed_now}
 use Rattle.sp_rules.specs.Parts.{edge_to, is_signed, is_signed_by}
 use Rattle.sp_rules.specs.Prio.{is_node}
 use Rattle.sp_rules.specs.Rel.{IsNextOwn, flow_in, own_flow, room}
-use Rattle.sp_rules.specs.Sends.{PrioSend, edge_or, mask_in, no_paths, no_room, prio_body, prio_of, prio_refusal, rel_body, rel_number, rel_of, rel_refusal, send_prio_refusal, signer_refusal, weight_body, weight_refusal, weight_refusal_at}
+use Rattle.sp_rules.specs.Sends.{PrioSend, edge_or, is_unmet, mask_in, no_life, no_paths, no_room, prio_body, prio_of, prio_refusal, rel_body, rel_of}
+use Rattle.sp_rules.specs.Sends.{rel_refusal, send_prio_refusal, signer_refusal, weight_body, weight_refusal, weight_refusal_at}
 use Rattle.sp_rules.specs.Weights.{minimum, next_seq, row_for, row_in}
 use Rattle.sp_rules.specs.declared.rel.RelRefused.{RelRefused}
 use Rattle.sp_rules.specs.declared.rel.RelRefused.TheVariants as rels
@@ -90,6 +92,13 @@ there_is_room (Err rels.BadEnd) e = absurd (cc)
 there_is_room (Err (rels.Full base have)) e = absurd (cc)
 there_is_room (Err rels.Memory) e = absurd (cc)
 
+-- the destination is known, there is room, and the signer goes on
+pub rel_free : (n : NodeState) (dst : NodeId) → rel_refusal n dst ≡ None
+    → (no_room (room n.parts.rel dst) ≡ None) × (signer_refusal n.signer ≡ None)
+rel_free n dst e =
+    either (no_room (room n.parts.rel dst)) (signer_refusal n.signer)
+    (either (no_life (is_unmet n dst)) (or_else (no_room (room n.parts.rel dst)) (signer_refusal n.signer)) e).1
+
 pub record RelSent (k : Sizes) (n : NodeState) (dst : NodeId) (payload : List ℕ) : Type 0 where
   pub free : signer_refusal n.signer ≡ None
   pub next : IsNextOwn n.parts.rel (rel_body n dst payload)
@@ -99,7 +108,7 @@ pub rel_sent_fits : (k : Sizes) (n : NodeState) (dst : NodeId) (payload : List �
     → NodeHolds k n → RelSent k n dst payload
 rel_sent_fits k n dst payload short e h =
     let r = n.parts.rel in
-    let both = either (no_room (room r dst)) (signer_refusal n.signer) e in
+    let both = rel_free n dst e in
     let number = there_is_room (room r dst) both.0 in
     let facts = room_is r dst number.0 number.1 in
     let nodes = both_nodes r (own_flow r dst) r.me dst facts.0 in
@@ -137,6 +146,20 @@ split true b e = absurd (cc)
 split false true e = refl
 split false false e = absurd (cc)
 
+left_false : (a b : Bool) → (a || b) ≡ false → a ≡ false
+left_false false b e = refl
+left_false true b e = absurd (cc)
+
+-- the destination is a node, the message isn't expired, and the signer goes on
+pub prio_free : (n : NodeState) (m : PrioSend) → prio_refusal n m ≡ None
+    → (is_node n.parts.prio.nodes m.dst.0 ≡ true) × (signer_refusal n.signer ≡ None)
+prio_free n m e =
+    let away = m.dst.0 == n.fixed.me.0 in
+    let there = is_node n.parts.prio.nodes m.dst.0 in
+    let one = if_none (away || not there || is_unmet n m.dst) refusals.BadEnd _ e in
+    let two = if_none (nat_lt m.expiry n.now) (refusals.Expired n.now) (signer_refusal n.signer) one.1 in
+    (split away there (left_false (away || not there) (is_unmet n m.dst) one.0), two.1)
+
 mask_fits : (k : Sizes) (n : NodeState) (m : PrioSend) (choice : Choice) → no_paths choice ≡ None → NodeHolds k n
     → IsChoice (graph_of n.fixed.topology n.parts.weights) n.fixed.me m.dst m.paths choice → GoodMask k.format (mask_from (mask_in choice))
 mask_fits k n m (Mask mask) e h is =
@@ -148,13 +171,11 @@ pub prio_sent_fits : (k : Sizes) (n : NodeState) (m : PrioSend) (choice : Choice
     → IsChoice (graph_of n.fixed.topology n.parts.weights) n.fixed.me m.dst m.paths choice → NodeHolds k n → PrioSent k n m choice
 prio_sent_fits k n m choice fits e is h =
     let both = either (prio_refusal n m) (no_paths choice) e in
-    let one = if_none ((m.dst.0 == n.fixed.me.0) || not (is_node n.parts.prio.nodes m.dst.0)) refusals.BadEnd _ both.0 in
-    let two = if_none (nat_lt m.expiry n.now) (refusals.Expired n.now) (signer_refusal n.signer) one.1 in
-    let node = split (m.dst.0 == n.fixed.me.0) (is_node n.parts.prio.nodes m.dst.0) one.0 in
-    let to = in_range k.format n.parts.prio.nodes m.dst h.parts.prio.nodes node in
+    let can = prio_free n m both.0 in
+    let to = in_range k.format n.parts.prio.nodes m.dst h.parts.prio.nodes can.0 in
     let mask = mask_fits k n m choice both.1 h is in
     record {
-      free = two.1;
+      free = can.1;
       fields = prio_is_good k.format (prio_of n m (mask_in choice)) (record {
         src = h.fixed.is_node;
         dst = to;

@@ -2,9 +2,7 @@
 use Rattle.std.proofs.Common.{◌≡◌, ◌<◌, ◌≤◌, ℕ, ◌+◌, ◌^◌, ◌==◌, not, Bool, true, false, List, [], ◌∷◌, ◌++◌, length, Option, Some, None, refl, sym, ap, ◌∙◌, subst, arith, cond}
 use Rattle.std.specs.Prelude.{IsTrue}
 use Rattle.std.proofs.lemmas.Bool.Decides.{nat_tests}
-use Rattle.sp_base.specs.Spelling.{AreBytes}
 use Rattle.sp_base.specs.declared.id.NodeId.{NodeId}
-use Rattle.sp_base.proofs.FormatLemmas.{few_nodes}
 use Rattle.sp_msg.specs.declared.body.Ack.{Ack}
 use Rattle.sp_msg.specs.declared.body.Body.TheVariants as bodies
 use Rattle.sp_msg.specs.declared.kept.Kept.{Kept}
@@ -14,13 +12,11 @@ use Rattle.sp_msg.specs.declared.refused.SendRefused.{SendRefused}
 use Rattle.sp_msg.specs.Bodies.{HasGoodFieldsIn, payload_of}
 use Rattle.sp_msg.specs.Views.{signer_of}
 use Rattle.sp_msg.specs.declared.body.Body.{Body}
-use Rattle.sp_rules.specs.Arrivals.{arrival_at, handled, link_after, pieces_in, pieces_where, reply_at, sections_in}
+use Rattle.sp_rules.specs.Arrivals.{arrival_at, parts_met, pieces_in, pieces_where, reply_at, sections_in}
 use Rattle.sp_rules.specs.Arts.{Arts}
-use Rattle.sp_rules.specs.Link.{advanced}
 use Rattle.sp_rules.specs.Masks.{Choice, IsChoice, graph_of}
-use Rattle.sp_rules.specs.Node.{NodeState, Signer, call_refusal, called, is_neighbour, kept_or, link_in, signed_now, signed_once, with_link}
-use Rattle.sp_rules.specs.Parts.{Fixed, Parts, is_signed, nodes_of, place_of}
-use Rattle.sp_rules.specs.Polls.{polled}
+use Rattle.sp_rules.specs.Node.{NodeState, Signer, call_refusal, is_neighbour, kept_or, signed_now, signed_once}
+use Rattle.sp_rules.specs.Parts.{Fixed, is_signed, nodes_of}
 use Rattle.sp_rules.specs.Handle.{weight_effects}
 use Rattle.sp_rules.specs.Prio.{admit_prio, expired_effects, prio_effects}
 use Rattle.sp_rules.specs.Lives.{held_boot}
@@ -32,25 +28,24 @@ use Rattle.sp_rules.specs.Weights.{held}
 use Rattle.sp_rules.specs.declared.node.NodeRefused.{NodeRefused}
 use Rattle.sp_rules.specs.declared.node.NodeRefused.TheVariants as refusals
 use Rattle.sp_rules.specs.declared.node.TheConstants.{MAX_CALLS}
-use Rattle.sp_base.specs.declared.limits.TheConstants.{MAX_MESSAGES, MAX_PAYLOAD_BYTES, MAX_WEIGHT}
+use Rattle.sp_base.specs.declared.limits.TheConstants.{MAX_PAYLOAD_BYTES, MAX_WEIGHT}
 use Rattle.laws_node.specs.About.{IsAbout}
 use Rattle.laws_node.specs.Inputs.{ArtsFit, InputFits, PrioSendFits}
 use Rattle.laws_node.specs.Laws.{EachStepKeeps, ExtendKeeps}
-use Rattle.laws_node.specs.Nodes.{NodeHolds, PartsHold, SignerHolds, sizes_of}
+use Rattle.laws_node.specs.Nodes.{NodeHolds, SignerHolds, sizes_of}
 use Rattle.laws_node.specs.Shapes.{Shape}
 use Rattle.laws_node.specs.Sizes.{Sizes, ids_after, numbers_after}
 use Rattle.laws_node.specs.Stores.{PrioHolds}
 use Rattle.laws_node.specs.Asked.{NewKeep, OwnKeep, WhatIsNewIsKept, payload_in}
 use Rattle.laws_node.proofs.About.{due_now_about, me_is_there, prio_about, rel_about, weight_about}
-use Rattle.laws_node.proofs.Arrived.{sections_fit, where_fits}
 use Rattle.laws_node.proofs.AskedLemmas.{none_new}
-use Rattle.laws_node.proofs.Handles.{all_hold, new_is_signed}
-use Rattle.laws_node.proofs.Links.{advanced_holds, link_after_holds, with_link_holds}
+use Rattle.laws_node.proofs.Handles.{new_is_signed}
 use Rattle.laws_node.proofs.Own.{in_own_format, either, free, left, own_fits, own_is_signed, prio_sent_fits, rel_sent_fits, weight_sent_fits}
-use Rattle.laws_node.proofs.Priority.{carried_holds, expired_holds, prio_more, sent_holds, taken_holds}
-use Rattle.laws_node.proofs.Reliable.{dated_due, due_now_fits, pushed_in_holds, rel_more, served_holds, settled_holds, took_holds}
+use Rattle.laws_node.proofs.Priority.{expired_holds, prio_more, sent_holds, taken_holds}
+use Rattle.laws_node.proofs.Reliable.{dated_due, due_now_fits, pushed_in_holds, rel_more, settled_holds, took_holds}
 use Rattle.laws_node.proofs.Shapes.{shapes_stay}
-use Rattle.laws_node.proofs.Updates.{held_holds, moved_holds, weights_more}
+use Rattle.laws_node.proofs.Updates.{held_holds, weights_more}
+use Rattle.laws_node.proofs.Calls.{datagram_keeps, poll_keeps}
 
 -- ---- the sizes of a node are those of the one before
 
@@ -86,69 +81,17 @@ not_worn n v e most =
     let two = if_none (n.calls == MAX_CALLS) refusals.Worn None one.1 in
     grind (arith, nat_tests, two.0, most)
 
--- ---- a poll
-
-small_me : (k : Sizes) (n : NodeState) → NodeHolds k n → n.fixed.me.0 < 256
-small_me k n h = omega (arith, h.fixed.is_node, few_nodes k.format)
-
--- the parts, where more may have been given
-parts_more : (k : Sizes) (numbers more ids further index : ℕ) (p : Parts) → numbers ≤ more → ids ≤ further → PartsHold k numbers ids index p
-    → PartsHold k more further index p
-parts_more k numbers more ids further index p one two h = record {
-  weights = h.weights;
-  prio = prio_more k numbers more ids further index index p.prio one two (omega arith) h.prio;
-  rel = h.rel;
-  lives = h.lives;
-}
-
-poll_keeps : (k : Sizes) (n : NodeState) (v : NodeId) → n.calls + 1 ≤ MAX_CALLS → NodeHolds k n
-    → NodeHolds k (called n (with_link n v (advanced (link_in n v))) (polled n.fixed n.parts v))
-poll_keeps k n v most h = record {
-  fixed = h.fixed;
-  now = h.now;
-  calls = most;
-  links = with_link_holds n n.calls v (advanced (link_in n v)) (small_me k n h) h.links (advanced_holds n.calls (link_in n v));
-  signer = h.signer;
-  parts = parts_more k (numbers_after n.calls + MAX_MESSAGES) (numbers_after (n.calls + 1)) (ids_after n.calls n.signer.index)
-      (ids_after (n.calls + 1) n.signer.index) n.signer.index (polled n.fixed n.parts v) (omega arith) (omega arith) (record {
-        weights = moved_holds k n.signer.index n.parts.weights (place_of n.fixed v) h.parts.weights;
-        prio = carried_holds k (numbers_after n.calls) (ids_after n.calls n.signer.index) n.signer.index n.parts.prio v.0 h.parts.prio;
-        rel = served_holds k n.signer.index n.parts.rel v h.parts.rel;
-        lives = h.parts.lives;
-      });
-}
-
--- ---- a datagram
-
-datagram_keeps : (k : Sizes) (arts : Arts) (n : NodeState) (v : NodeId) (bytes : List ℕ) → ArtsFit arts n.fixed n.signer → AreBytes bytes
-    → NewKeep k.keeps (handled arts n v bytes).answered → n.calls + 1 ≤ MAX_CALLS → NodeHolds k n
-    → NodeHolds k (called n (with_link n v (link_after arts n v bytes)) (handled arts n v bytes).parts)
-datagram_keeps k arts n v bytes fits are new most h =
-    let pieces = where_fits k (pieces_in (sections_in arts n.fixed bytes)) (reply_at arts n v bytes)
-    (sections_fit k arts n.fixed n.signer bytes fits are h.fixed.format h.fixed.signature_len (sections_in arts n.fixed bytes) refl) in
-    let done = all_hold k arts (arrival_at n v) h.fixed.me (numbers_after n.calls) (ids_after n.calls n.signer.index) n.signer.index n.parts
-    (pieces_where (reply_at arts n v bytes) (pieces_in (sections_in arts n.fixed bytes))) new pieces.fit h.parts in
-    record {
-      fixed = h.fixed;
-      now = h.now;
-      calls = most;
-      links = with_link_holds n n.calls v (link_after arts n v bytes) (small_me k n h) h.links (link_after_holds arts n n.calls v bytes fits.heads are);
-      signer = h.signer;
-      parts = parts_more k (numbers_after n.calls) (numbers_after (n.calls + 1)) _ (ids_after (n.calls + 1) n.signer.index) n.signer.index
-          (handled arts n v bytes).parts (omega arith) (omega (arith, pieces.few)) done;
-    }
-
 -- ---- a signature was made
 
 -- what is asked of the message that is signed next
-abbrev Owns : Sizes → Arts → NodeState → Body → Type 0
+abbrev pub Owns : Sizes → Arts → NodeState → Body → Type 0
 Owns k arts n body = signer_of body ≡ n.fixed.me → HasGoodFieldsIn n.fixed.topology.format body → IsAbout n.fixed.topology body → n.signer.index < n.signer.total → k.keeps (signed_now arts n body)
 
-signed_once_holds : (s : Signer) → s.index < s.bound → SignerHolds s → SignerHolds (record s { index = s.index + 1 })
+pub signed_once_holds : (s : Signer) → s.index < s.bound → SignerHolds s → SignerHolds (record s { index = s.index + 1 })
 signed_once_holds s below h = record { index = omega (arith, below); bound = h.bound; total = h.total }
 
 -- the priority part, where another one has what was signed
-signed_beside : (k : Sizes) (n : NodeState) → PrioHolds k (numbers_after n.calls) (ids_after n.calls n.signer.index) n.signer.index n.parts.prio
+pub signed_beside : (k : Sizes) (n : NodeState) → PrioHolds k (numbers_after n.calls) (ids_after n.calls n.signer.index) n.signer.index n.parts.prio
     → PrioHolds k (numbers_after n.calls) (ids_after n.calls (n.signer.index + 1)) (n.signer.index + 1) n.parts.prio
 signed_beside k n h =
     prio_more k (numbers_after n.calls) (numbers_after n.calls) (ids_after n.calls n.signer.index) (ids_after n.calls (n.signer.index + 1))
@@ -172,6 +115,7 @@ rel_sent_keeps k arts n dst payload fits short own_keeps e h =
         prio = signed_beside k n h.parts.prio;
         rel = pushed_in_holds k n.signer.index n.parts.rel (signed_now arts n (rel_body n dst payload)) sent.next own tt h.parts.rel;
         lives = h.parts.lives;
+        origins = h.parts.origins;
       };
     }
 
@@ -197,6 +141,7 @@ prio_sent_keeps k arts n m choice fits sizes own_keeps e is h =
             h.parts.prio);
         rel = rel_more k n.signer.index (n.signer.index + 1) n.parts.rel (omega arith) h.parts.rel;
         lives = h.parts.lives;
+        origins = h.parts.origins;
       };
     }
 
@@ -219,6 +164,7 @@ weight_sent_keeps k arts n v weight fits least most own_keeps e h =
         prio = signed_beside k n h.parts.prio;
         rel = rel_more k n.signer.index (n.signer.index + 1) n.parts.rel (omega arith) h.parts.rel;
         lives = h.parts.lives;
+        origins = h.parts.origins;
       };
     }
 
@@ -236,6 +182,7 @@ at_time_holds k n now small h = record {
     prio = expired_holds k (numbers_after n.calls) (ids_after n.calls n.signer.index) n.signer.index n.parts.prio (time_after n now) h.parts.prio;
     rel = h.parts.rel;
     lives = h.parts.lives;
+    origins = h.parts.origins;
   };
 }
 
@@ -261,6 +208,7 @@ settled_keeps k arts n ack fits own_keeps is e h =
             (settled_holds k n.signer.index n.parts.rel d.raw (held_boot n.parts.lives d.raw.src) (held_boot n.parts.lives d.raw.dst)
             (signed_now arts n (bodies.Ack ack)) d.is_due (ap bodies.Ack d.is) own h.parts.rel);
         lives = h.parts.lives;
+        origins = h.parts.origins;
       };
     }
 
@@ -337,7 +285,13 @@ step_holds k arts n (TakeRel src) output new fits input news own s h =
       calls = h.calls;
       links = h.links;
       signer = h.signer;
-      parts = record { weights = h.parts.weights; prio = h.parts.prio; rel = took_holds k n.signer.index n.parts.rel src h.parts.rel; lives = h.parts.lives };
+      parts = record {
+        weights = h.parts.weights;
+        prio = h.parts.prio;
+        rel = took_holds k n.signer.index n.parts.rel src h.parts.rel;
+        lives = h.parts.lives;
+        origins = h.parts.origins;
+      };
     })
 step_holds k arts n TakePrio output new fits input news own s h =
     subst (NodeHolds k) (sym s.1) (record {
@@ -351,6 +305,7 @@ step_holds k arts n TakePrio output new fits input news own s h =
         prio = taken_holds k (numbers_after n.calls) (ids_after n.calls n.signer.index) n.signer.index n.parts.prio h.parts.prio;
         rel = h.parts.rel;
         lives = h.parts.lives;
+        origins = h.parts.origins;
       };
     })
 
@@ -375,7 +330,8 @@ step_new arts n (Poll v) output new s = none_new _ output.answered (ap (λ (o : 
 step_new arts n (Datagram v bytes) output new s =
     subst (λ (o : Output). NewKeep (λ x. IsTrue (is_signed arts n.fixed x)) o.answered) (sym s.0)
     (called_new (λ x. IsTrue (is_signed arts n.fixed x)) (arrived arts n v bytes) (call_refusal n v)
-    (new_is_signed arts (arrival_at n v) n.parts (pieces_where (reply_at arts n v bytes) (pieces_in (sections_in arts n.fixed bytes)))))
+    (new_is_signed arts (arrival_at n v) (parts_met arts n v bytes)
+    (pieces_where (reply_at arts n v bytes) (pieces_in n.fixed (sections_in arts n.fixed bytes)))))
 step_new arts n (Tick now) output new s = none_new _ output.answered (ap (λ (o : Output). o.answered) s.0)
 step_new arts n (SendRel dst payload) output new s = none_new _ output.answered (ap (λ (o : Output). o.answered) s.0 ∙ none_sent _ (rel_refusal n dst) refl)
 step_new arts n (SendPrio m) output new s = none_new _ output.answered (ap (λ (o : Output). o.answered) s.output_is ∙ none_sent _ (send_prio_refusal n m s.choice) refl)

@@ -107,5 +107,6 @@ module _ (k : Sizes) (Q : Kept → Type 0) (less : (o : Kept) → k.keeps o → 
         once = h.parts.rel.once;
       };
       lives = all_weaker (LifeHolds k) (LifeHolds (asking Q k)) n.parts.lives life_weaker h.parts.lives;
+      origins = h.parts.origins;
     };
   }

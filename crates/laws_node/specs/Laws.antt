@@ -1,9 +1,10 @@
 -- What each step of a node keeps.
-use Rattle.std.specs.Prelude.{ℕ, ◌≤◌, List}
+use Rattle.std.specs.Prelude.{ℕ, ◌≡◌, ◌<◌, ◌≤◌, true, List}
+use Rattle.sp_base.specs.declared.format.TheConstants.{FORMAT_2}
 use Rattle.sp_base.specs.declared.id.NodeId.{NodeId}
 use Rattle.sp_frame.specs.Ranges.{IsContentsIn}
 use Rattle.sp_rules.specs.Arts.{Arts}
-use Rattle.sp_rules.specs.Node.{NodeState, Signer, booted, extended}
+use Rattle.sp_rules.specs.Node.{NodeState, Signer, booted, extended, started}
 use Rattle.sp_rules.specs.Parts.{Fixed}
 use Rattle.sp_rules.specs.Polls.{contents_to}
 use Rattle.sp_rules.specs.Steps.{Input, NodeStep, Output}
@@ -19,6 +20,12 @@ EachStepKeeps = (arts : Arts) (old : NodeState) (input : Input) (output : Output
 abbrev pub BootKeeps : Type 0
 BootKeeps = (arts : Arts) (f : Fixed) (signer : Signer) (keys : List (List ℕ)) (buffer store : ℕ) → Boots f signer
     → IsKept arts (booted f signer keys buffer store)
+
+-- the start of a life that signs its boot, where nodes run with epochs: with an index that is reserved, in the format that has such messages
+abbrev pub StartKeeps : Type 0
+StartKeeps = (arts : Arts) (f : Fixed) (signer : Signer) (keys : List (List ℕ)) (buffer store : ℕ) → Boots f signer → ArtsFit arts f signer
+    → (f.epochs ≡ true → (signer.index < signer.bound) × (f.topology.format ≡ FORMAT_2))
+    → IsKept arts (started arts f signer keys buffer store)
 
 -- more indexes are reserved
 abbrev pub ExtendKeeps : Type 0

@@ -2,6 +2,7 @@ pub mod About
 pub mod Acknowledgement
 pub mod Asked
 pub mod Determined
+pub mod Epochs
 pub mod Flows
 pub mod Ids
 pub mod Inputs

@@ -1,5 +1,5 @@
 -- The life of a node from its start on: its steps, each with what came and what was answered, and what they say of its links, weights and windows.
-use Rattle.std.specs.Prelude.{ℕ, ◌≡◌, ◌==◌, ◌&&◌, List, [], ◌∷◌, ◌++◌, if◌then◌else◌}
+use Rattle.std.specs.Prelude.{ℕ, ◌≡◌, ◌==◌, ◌&&◌, List, [], ◌∷◌, ◌++◌, Option, None, Some, if◌then◌else◌}
 use Rattle.std.specs.List.{flat_map}
 use Rattle.sp_base.specs.declared.id.NodeId.{NodeId}
 use Rattle.sp_msg.specs.declared.body.Body.{Body}
@@ -12,6 +12,7 @@ use Rattle.sp_rules.specs.Arts.{Arts}
 use Rattle.sp_rules.specs.Link.{pair_of}
 use Rattle.sp_rules.specs.Node.{NodeState}
 use Rattle.sp_rules.specs.Steps.{Input, NodeStep, Output, Reply, Datagram, SendPrio, Accepted, Arrived}
+use Rattle.sp_rules.specs.Window.{with_mark}
 use Rattle.sp_rules.specs.declared.answers.Item.{Item}
 use Rattle.sp_rules.specs.declared.node.LinkReply.{LinkReply}
 use Rattle.sp_rules.specs.declared.node.LinkReply.TheVariants as replies
@@ -60,25 +61,31 @@ last_told edge end weight (e ∷ es) = last_told edge end (weight_told edge end 
 
 -- ---- what is said of windows
 
--- the number of a priority message of this source
-abbrev pub number_of : ℕ → Body → List ℕ
-number_of src (bodies.Prio p) = if p.src.0 == src then p.seq ∷ [] else []
+-- the number of a priority message of this source, or None where another life of it began
+abbrev pub number_of : ℕ → Body → List (Option ℕ)
+number_of src (bodies.Prio p) = if p.src.0 == src then Some p.seq ∷ [] else []
+number_of src (bodies.Epoch e) = if e.origin.0 == src then None ∷ [] else []
 number_of src _ = []
 
+-- a window after a number was marked; empty where another life began
+abbrev pub mark_on : List ℕ → Option ℕ → List ℕ
+mark_on window (Some number) = with_mark window number
+mark_on window None = []
+
 -- it is marked where the message was answered as new
-abbrev pub mark_told : ℕ → Kept × Item → List ℕ
+abbrev pub mark_told : ℕ → Kept × Item → List (Option ℕ)
 mark_told src answered = if is_new answered.1 then number_of src answered.0.body else []
 
 -- and where a message of this node itself was accepted
-abbrev pub own_mark : (me src : ℕ) → Input → Reply → List ℕ
-own_mark me src (SendPrio m) (Accepted number) = if me == src then number ∷ [] else []
+abbrev pub own_mark : (me src : ℕ) → Input → Reply → List (Option ℕ)
+own_mark me src (SendPrio m) (Accepted number) = if me == src then Some number ∷ [] else []
 own_mark me src _ _ = []
 
--- the numbers of a source that were marked in a step of this node
-abbrev pub marks_told : (me src : ℕ) → Input → Output → List ℕ
+-- the numbers of a source that were marked in a step of this node, and its lives that began
+abbrev pub marks_told : (me src : ℕ) → Input → Output → List (Option ℕ)
 marks_told me src input output = flat_map (mark_told src) output.answered ++ own_mark me src input output.reply
 
 -- those of a life
-abbrev pub marks_of_life : (me src : ℕ) → List (Input × Output) → List ℕ
+abbrev pub marks_of_life : (me src : ℕ) → List (Input × Output) → List (Option ℕ)
 marks_of_life me src [] = []
 marks_of_life me src (step ∷ steps) = marks_told me src step.0 step.1 ++ marks_of_life me src steps

@@ -1,5 +1,5 @@
 -- What a node keeps after any steps: within its bounds, each thing in its place, in its ranges, and counted.
-use Rattle.std.specs.Prelude.{ℕ, ◌≡◌, ◌<◌, ◌≤◌, ◌^◌, Bool, IsTrue}
+use Rattle.std.specs.Prelude.{ℕ, ◌≡◌, ◌<◌, ◌≤◌, ◌^◌, Bool, IsTrue, length}
 use Rattle.std.specs.List.{All}
 use Rattle.sp_msg.specs.declared.kept.Kept.{Kept}
 use Rattle.sp_rules.specs.Arts.{Arts}
@@ -43,6 +43,8 @@ pub record PartsHold (k : Sizes) (numbers ids index : ℕ) (p : Parts) : Type 0 
   pub prio : PrioHolds k numbers ids index p.prio
   pub rel : RelHolds k index p.rel
   pub lives : All (LifeHolds k) p.lives
+  -- for each node the place in its cycle of Epoch objects
+  pub origins : length p.origins ≡ length k.nodes
 
 pub record NodeHolds (k : Sizes) (n : NodeState) : Type 0 where
   pub fixed : FixedHolds k n.fixed

@@ -4,7 +4,7 @@ use Rattle.sp_msg.specs.declared.kept.Kept.{Kept}
 use Rattle.sp_rules.specs.Arts.{Arts}
 use Rattle.sp_rules.specs.Handle.{Arrival, handle_all}
 use Rattle.sp_rules.specs.Parts.{Parts}
-use Rattle.sp_rules.specs.Pieces.{Piece, WeightPiece, PrioAckPiece, PrioPiece, ReportPiece, AckPiece, RelPiece}
+use Rattle.sp_rules.specs.Pieces.{Piece, WeightPiece, PrioAckPiece, PrioPiece, ReportPiece, AckPiece, RelPiece, EpochPiece}
 
 -- the object of a piece, where it has one
 abbrev pub objects_of : Piece → List Kept
@@ -14,6 +14,7 @@ objects_of (PrioPiece number o) = o ∷ []
 objects_of (ReportPiece flow sboot dboot base have) = []
 objects_of (AckPiece flow o) = o ∷ []
 objects_of (RelPiece flow o) = o ∷ []
+objects_of (EpochPiece o) = o ∷ []
 
 -- the objects of pieces, in their order
 abbrev pub objects_in : List Piece → List Kept

@@ -5,7 +5,7 @@ use Rattle.sp_base.specs.declared.id.NodeId.{NodeId}
 use Rattle.sp_rules.specs.Arts.{Arts}
 use Rattle.sp_rules.specs.Flow.{ends}
 use Rattle.sp_rules.specs.Link.{Link}
-use Rattle.sp_rules.specs.Node.{NodeState, Signer, booted}
+use Rattle.sp_rules.specs.Node.{NodeState, Signer, booted, started}
 use Rattle.sp_rules.specs.Parts.{Fixed, neighbours_of, nodes_of}
 use Rattle.sp_rules.specs.Prio.{PrioState}
 use Rattle.sp_rules.specs.PrioPeer.{PrioPeer}
@@ -86,6 +86,7 @@ pub record Shape : Type 0 where
   pub prio : PrioShape
   pub rel : RelShape
   pub lives : List NodeId
+  pub origins : ℕ
 
 -- a node without what changes of it
 abbrev pub shape_of : NodeState → Shape
@@ -99,6 +100,7 @@ shape_of n = record {
   prio = prio_shape n.parts.prio;
   rel = rel_shape n.parts.rel;
   lives = map (λ l. l.node) n.parts.lives;
+  origins = length n.parts.origins;
 }
 
 -- ---- the laws
@@ -107,8 +109,8 @@ abbrev pub ShapesStay : Type 0
 ShapesStay = (arts : Arts) (old : NodeState) (input : Input) (output : Output) (new : NodeState) → NodeStep arts old input output new
     → shape_of new ≡ shape_of old
 
--- rows for the ordered pairs of two nodes and for the neighbours, each with a view of each pair, a window and a life for each node, and the bounds that
--- were given
+-- rows for the ordered pairs of two nodes and for the neighbours, each with a view of each pair, a window, a life and a cycle for each node, and the
+-- bounds that were given
 abbrev pub shape_at_start : Fixed → Signer → List (List ℕ) → (buffer store : ℕ) → Shape
 shape_at_start f signer keys buffer store =
     let nodes = nodes_of f.topology in
@@ -135,9 +137,16 @@ shape_at_start f signer keys buffer store =
         peers = map (λ n. record { peer = n.0; views = pairs_of nodes }) ns;
       };
       lives = nodes;
+      origins = length f.topology.nodes;
     }
 
 abbrev pub ShapesBegin : Type 0
 ShapesBegin =
     (f : Fixed) (signer : Signer) (keys : List (List ℕ)) (buffer store : ℕ)
     → shape_of (booted f signer keys buffer store) ≡ shape_at_start f signer keys buffer store
+
+-- also where the node signed its boot
+abbrev pub ShapesStart : Type 0
+ShapesStart =
+    (arts : Arts) (f : Fixed) (signer : Signer) (keys : List (List ℕ)) (buffer store : ℕ)
+    → shape_of (started arts f signer keys buffer store) ≡ shape_at_start f signer keys buffer store

@@ -2,7 +2,7 @@
 --
 -- The arts are toys: a frame is one number for each field of its head and its slot, its tag is 32 times the number of its link's key, and the
 -- signature of a node is its id. So all of it can be computed.
-use Rattle.std.specs.Prelude.{ℕ, ◌==◌, true, List, [], ◌∷◌, ◌++◌, replicate, Option, None, Some, Ok, nat_eq, slice_index, if◌then◌else◌}
+use Rattle.std.specs.Prelude.{ℕ, ◌==◌, true, false, List, [], ◌∷◌, ◌++◌, replicate, Option, None, Some, Ok, nat_eq, slice_index, if◌then◌else◌}
 use Rattle.std.specs.Cmp.Lexicographic.{pointwise}
 use Rattle.sp_base.specs.declared.id.NodeId.{NodeId}
 use Rattle.sp_frame.specs.Frames.{opened}
@@ -121,7 +121,8 @@ row = record { format = 1; version = 1; height = Five; nodes = key_of 1 ∷ key_
 
 abbrev pub start : ℕ → List (List ℕ) → NodeState
 start me keys =
-    booted (record { me = node me; boot = 1; topology = row; signature_len = 1 }) (record { seed = me ∷ []; index = 0; bound = 1024; total = 1024 }) keys 2 4
+    booted (record { me = node me; boot = 1; topology = row; signature_len = 1; epochs = false })
+    (record { seed = me ∷ []; index = 0; bound = 1024; total = 1024 }) keys 2 4
 
 -- the three, and the frame that was polled last
 pub record Three : Type 0 where

@@ -10,7 +10,7 @@ mod step_laws;
 mod weight_laws;
 
 ghost use Rattle.laws_node.specs.Acknowledgement.{AcknowledgementIsWorked};
-ghost use Rattle.laws_node.specs.Laws.{BootKeeps, EachStepKeeps, ExtendKeeps, FramesFit};
+ghost use Rattle.laws_node.specs.Laws.{BootKeeps, EachStepKeeps, ExtendKeeps, FramesFit, StartKeeps};
 
 pub use life_laws::{
     a_node_keeps_the_greatest_pair_of_each_neighbour, a_window_holds_what_a_life_marked,
@@ -23,7 +23,7 @@ pub use priority_laws::{
     what_is_marked_is_seen, what_is_seen_stays_seen,
 };
 pub use step_laws::{
-    each_entry_of_a_place_has_an_id_of_its_own,
+    an_epoch_object_that_is_new_begins_another_life, each_entry_of_a_place_has_an_id_of_its_own,
     no_step_changes_who_a_node_is_nor_its_bounds_nor_its_rows, tables_without_rows_forget,
     the_objects_of_a_frame_are_answered_in_their_order,
     what_a_step_tells_determines_what_it_leaves, what_is_kept_was_answered_as_new_or_signed_here,
@@ -33,12 +33,14 @@ pub use weight_laws::{
     an_effective_weight_is_the_greatest_of_the_last_ones,
 };
 
-/// A law: at the start of its life and after each step, a node holds at most as many messages of each flow and entries of each store as its
-/// own bounds say, each in its place and its ranges, with its signer's valid signature; at most four priority messages are in flight to each
-/// neighbour, under numbers that were given; link numbers are at most four for each call, and ids four for each call and one for each
-/// signature made; and each frame that it makes is in the ranges of its grammar. That the bounds stay as they were given is a law of its own.
+/// A law: at the start of its life, with epochs or without, and after each step, a node holds at most as many messages of each flow and
+/// entries of each store as its own bounds say, and of each node the Epoch object of one life at most, each in its place and its ranges, with
+/// its signer's valid signature; at most four priority messages are in flight to each neighbour, under numbers that were given; link numbers
+/// are at most four for each call, and ids four for each call and one for each signature made; and each frame that it makes is in the ranges
+/// of its grammar. That the bounds stay as they were given is a law of its own.
 pub fn each_step_keeps_what_a_node_keeps()
     ensures boot { BootKeeps }
+    ensures start { StartKeeps }
     ensures step { EachStepKeeps }
     ensures extend { ExtendKeeps }
     ensures frames { FramesFit }

@@ -13,8 +13,8 @@ pub fn an_effective_weight_is_what_a_life_tells()
     ensures { WeightsOfLives }
 {}
 
-/// A law: what a node holds as seen of a source is the window of all its numbers that were marked in its life: those of the messages that
-/// were answered as new, and of its own that were accepted.
+/// A law: what a node holds as seen of a source is the window of all its numbers that were marked since it heard last of another life of
+/// that source: those of the messages that were answered as new, and of its own that were accepted.
 pub fn a_window_holds_what_a_life_marked()
     ensures { WindowsOfLives }
 {}

@@ -1,15 +1,17 @@
 // The laws of each step of a node beside what it keeps: what never changes, which ids are given, what comes to be kept, what is answered.
 ghost use Rattle.laws_node.specs.Asked.{WhatIsNewIsKept};
 ghost use Rattle.laws_node.specs.Determined.{StepsAreDetermined};
+ghost use Rattle.laws_node.specs.Epochs.{BootsNeverFall, EpochTaken, OwnBootStays};
 ghost use Rattle.laws_node.specs.Ids.{IdsStayOwn};
 ghost use Rattle.laws_node.specs.Objects.{ObjectsAreAnswered};
-ghost use Rattle.laws_node.specs.Shapes.{ShapesBegin, ShapesStay};
+ghost use Rattle.laws_node.specs.Shapes.{ShapesBegin, ShapesStart, ShapesStay};
 ghost use Rattle.laws_node.specs.WithoutRows.{RowsAreNeeded};
 
-/// A law: no step changes who a node is, its bounds, its keys, and what it has rows for. At the start of its life these are rows for all
-/// ordered pairs of nodes and all neighbours, and the bounds that it was given.
+/// A law: no step changes who a node is, its bounds, its keys, and what it has rows for. At the start of its life, with epochs or without,
+/// these are rows for all ordered pairs of nodes and all neighbours, and the bounds that it was given.
 pub fn no_step_changes_who_a_node_is_nor_its_bounds_nor_its_rows()
     ensures begin { ShapesBegin }
+    ensures start { ShapesStart }
     ensures stay { ShapesStay }
 {}
 
@@ -24,7 +26,16 @@ pub fn what_is_kept_was_answered_as_new_or_signed_here()
     ensures { WhatIsNewIsKept }
 {}
 
-/// A law: the objects that the answers to a datagram speak of are those of the frame, in their order.
+/// A law: an Epoch object that is answered as new says a boot above the one that was held of its origin. Then it is held, no number of
+/// its origin was seen, the flows of its origin are as before their first message, and other flows and held boots stay. No held boot ever
+/// falls, and the own one stays.
+pub fn an_epoch_object_that_is_new_begins_another_life()
+    ensures taken { EpochTaken }
+    ensures rise { BootsNeverFall }
+    ensures own { OwnBootStays }
+{}
+
+/// A law: the objects that the answers to a datagram speak of are those of the pieces that it brings, in their order.
 pub fn the_objects_of_a_frame_are_answered_in_their_order()
     ensures { ObjectsAreAnswered }
 {}

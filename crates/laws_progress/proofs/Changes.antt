@@ -21,7 +21,9 @@ use Rattle.sp_journal.specs.declared.entry.Entry.{Entry}
 use Rattle.sp_schedule_events.specs.declared.event.Event.{Event}
 use Rattle.laws_runs.specs.Premises.{Carries}
 use Rattle.laws_runs.proofs.Goods.{unforged_tag}
+use Rattle.laws_runs.proofs.NoStarts.{without}
 use Rattle.laws_runs.proofs.Signed.{signs}
+use Rattle.laws_runs.specs.Signs.{Good}
 use Rattle.laws_runs.proofs.Tables.{find_other, same_node}
 use Rattle.laws_progress.proofs.States.{Follows, Follow, State, flow_seen, seen_at, sight}
 use Rattle.laws_progress.proofs.Rises.{FlowLater, same_later, step_later}
@@ -102,7 +104,8 @@ pub flow_later : (arts : Arts) (x : Setting) (all : List Event) (flow : Flow) �
 flow_later arts x all flow fits reads w y e follows u = elim (change arts x all fits reads w y e follows u) [
   | inl q ↦ subst (λ o. FlowLater (flow_seen arts x all flow w u) (seen_at (no_flow flow) (λ n. flow_in n.parts.rel.flows flow) o)) (sym q.same) (same_later _)
   | inr a ↦
-      let later = step_later arts a.node a.input a.output a.after a.step flow in
+      let plain = without x (Good arts x w.events w.journal) u a.node ((signs arts x w.events w.journal w.world fits reads w.run).nodes u a.node a.there) in
+      let later = step_later arts a.node a.input a.output a.after a.step plain flow in
       subst (λ o. FlowLater (flow_seen arts x all flow w u) (seen_at (no_flow flow) (λ n. flow_in n.parts.rel.flows flow) o)) (sym a.left)
       (subst (λ o. FlowLater (seen_at (no_flow flow) (λ n. flow_in n.parts.rel.flows flow) o) (flow_in a.after.parts.rel.flows flow)) (sym a.there) later)
 ]

@@ -1,5 +1,5 @@
 -- The view of a neighbour stays where nothing comes from it.
-use Rattle.std.proofs.Common.{◌≡◌, ℕ, true, List, [], ◌∷◌, Option, Some, None, refl, sym, ap, subst, ◌∙◌, inl, inr}
+use Rattle.std.proofs.Common.{◌≡◌, ℕ, true, false, List, [], ◌∷◌, Option, Some, None, refl, sym, ap, subst, ◌∙◌, inl, inr}
 use Rattle.sp_base.specs.declared.id.Flow.{Flow}
 use Rattle.sp_base.specs.declared.id.NodeId.{NodeId}
 use Rattle.sp_msg.specs.declared.body.Ack.{Ack}
@@ -8,12 +8,12 @@ use Rattle.sp_msg.specs.declared.kept.Kept.{Kept}
 use Rattle.sp_msg.specs.declared.refused.SendRefused.{SendRefused}
 use Rattle.sp_rules.specs.Answers.{ack_answer, is_new, prio_answer, rel_answer, weight_answer}
 use Rattle.sp_rules.specs.Arts.{Arts}
-use Rattle.sp_rules.specs.Arrivals.{arrival_at, pieces_in, pieces_where, reply_at, sections_in}
+use Rattle.sp_rules.specs.Arrivals.{arrival_at, parts_met}
 use Rattle.sp_rules.specs.Handle.{Arrival, handle, handle_all, offer_to, prio_handled}
 use Rattle.sp_rules.specs.Lives.{are_held, is_dated}
 use Rattle.sp_rules.specs.Node.{NodeState, call_refusal, kept_or, signed_now}
 use Rattle.sp_rules.specs.Parts.{Parts, is_signed}
-use Rattle.sp_rules.specs.Pieces.{Piece, AckPiece, PrioAckPiece, PrioPiece, RelPiece, ReportPiece, WeightPiece}
+use Rattle.sp_rules.specs.Pieces.{Piece, AckPiece, PrioAckPiece, PrioPiece, RelPiece, ReportPiece, WeightPiece, EpochPiece}
 use Rattle.sp_rules.specs.Rel.{RelState, admit_ack, admit_rel, due_place, flow_in, judge_ack_of, judge_rel_of, next_place, peer_in, reported, served, served_at, settled, settled_at, told, with_peer}
 use Rattle.sp_rules.specs.Sends.{rel_refusal, send_prio_refusal, signer_refusal, weight_refusal}
 use Rattle.sp_rules.specs.Steps.{Input, NodeStep, Output, Poll, Datagram, Tick, SendRel, SendPrio, SetWeight, TakeRel, TakePrio}
@@ -28,6 +28,7 @@ use Rattle.sp_base.specs.Rows.{replace_where}
 use Rattle.sp_rules.specs.Rel.{RelPeer, View, view_in, is_peer, new_peer}
 use Rattle.std.specs.List.{list_any}
 use Rattle.std.proofs.lemmas.Bool.{cases_eq, eqb-true, eq-eqb, ne_eqb}
+use Rattle.laws_runs.proofs.NoStarts.{NoStart, NoStarts, met_as_it_was, no_starts_at, pieces_at}
 use Rattle.laws_runs.proofs.FlowFacts.{first_replaced, other_replaced}
 use Rattle.laws_runs.proofs.Tables.{same_node}
 use Rattle.laws_progress.proofs.Keys.{peer_is}
@@ -77,10 +78,10 @@ settled_view u flow w0 r o h = go (due_place r)
 
 -- ---- pieces and steps
 
-piece_view : (u : NodeId) (flow : Flow) (w0 : View) (arts : Arts) (at : Arrival) (p : Parts) (piece : Piece) → (at.from ≡ u → ⊥) → ViewIs u flow w0 p.rel → ViewIs u flow w0 (handle arts at p piece).parts.rel
-piece_view u flow w0 arts at p (WeightPiece o) away h = cond_either (λ (q : Parts). ViewIs u flow w0 q.rel) (is_new (items.Weight (weight_answer (is_signed arts at.fixed o) (offer_to at.fixed.me p.weights o.body)))) (record p { weights = held p.weights o }) p h h
-piece_view u flow w0 arts at p (PrioAckPiece number) away h = h
-piece_view u flow w0 arts at p (PrioPiece number o) away h = go (prio_answer (is_signed arts at.fixed o) (is_dated p.lives o.body) (judge_prio p.prio o.body at.now))
+piece_view : (u : NodeId) (flow : Flow) (w0 : View) (arts : Arts) (at : Arrival) (p : Parts) (piece : Piece) → NoStart piece → (at.from ≡ u → ⊥) → ViewIs u flow w0 p.rel → ViewIs u flow w0 (handle arts at p piece).parts.rel
+piece_view u flow w0 arts at p (WeightPiece o) none away h = cond_either (λ (q : Parts). ViewIs u flow w0 q.rel) (is_new (items.Weight (weight_answer (is_signed arts at.fixed o) (offer_to at.fixed.me p.weights o.body)))) (record p { weights = held p.weights o }) p h h
+piece_view u flow w0 arts at p (PrioAckPiece number) none away h = h
+piece_view u flow w0 arts at p (PrioPiece number o) none away h = go (prio_answer (is_signed arts at.fixed o) (is_dated p.lives o.body) (judge_prio p.prio o.body at.now))
   where
     go : (answer : PrioAnswer) → ViewIs u flow w0 (prio_handled at.from answer number o p).parts.rel
     go prios.New = h
@@ -89,15 +90,17 @@ piece_view u flow w0 arts at p (PrioPiece number o) away h = go (prio_answer (is
     go prios.Expired = h
     go prios.BadSig = h
     go prios.Epoch = h
-piece_view u flow w0 arts at p (ReportPiece fl sboot dboot base have) away h =
+piece_view u flow w0 arts at p (ReportPiece fl sboot dboot base have) none away h =
     cond_either (λ (q : Parts). ViewIs u flow w0 q.rel) (are_held p.lives fl sboot dboot) (record p { rel = reported p.rel at.from fl base have }) p
     (reported_view u flow w0 p.rel at.from fl base have away h) h
-piece_view u flow w0 arts at p (AckPiece fl o) away h = cond_either (λ (q : Parts). ViewIs u flow w0 q.rel) (is_new (items.Ack (ack_answer (is_signed arts at.fixed o) (is_dated p.lives o.body) (judge_ack_of p.rel fl o.body)))) (record p { rel = admit_ack p.rel o }) p h h
-piece_view u flow w0 arts at p (RelPiece fl o) away h = cond_either (λ (q : Parts). ViewIs u flow w0 q.rel) (is_new (items.Rel (rel_answer (is_signed arts at.fixed o) (is_dated p.lives o.body) (judge_rel_of p.rel fl o.body)))) (record p { rel = admit_rel p.rel o }) p h h
+piece_view u flow w0 arts at p (AckPiece fl o) none away h = cond_either (λ (q : Parts). ViewIs u flow w0 q.rel) (is_new (items.Ack (ack_answer (is_signed arts at.fixed o) (is_dated p.lives o.body) (judge_ack_of p.rel fl o.body)))) (record p { rel = admit_ack p.rel o }) p h h
+piece_view u flow w0 arts at p (RelPiece fl o) none away h = cond_either (λ (q : Parts). ViewIs u flow w0 q.rel) (is_new (items.Rel (rel_answer (is_signed arts at.fixed o) (is_dated p.lives o.body) (judge_rel_of p.rel fl o.body)))) (record p { rel = admit_rel p.rel o }) p h h
+piece_view u flow w0 arts at p (EpochPiece o) none away h = absurd none
 
-pub pieces_view : (u : NodeId) (flow : Flow) (w0 : View) (arts : Arts) (at : Arrival) (p : Parts) (pieces : List Piece) → (at.from ≡ u → ⊥) → ViewIs u flow w0 p.rel → ViewIs u flow w0 (handle_all arts at p pieces).parts.rel
-pieces_view u flow w0 arts at p [] away h = h
-pieces_view u flow w0 arts at p (piece ∷ pieces) away h = pieces_view u flow w0 arts at (handle arts at p piece).parts pieces away (piece_view u flow w0 arts at p piece away h)
+pub pieces_view : (u : NodeId) (flow : Flow) (w0 : View) (arts : Arts) (at : Arrival) (p : Parts) (pieces : List Piece) → NoStarts pieces → (at.from ≡ u → ⊥) → ViewIs u flow w0 p.rel → ViewIs u flow w0 (handle_all arts at p pieces).parts.rel
+pieces_view u flow w0 arts at p [] none away h = h
+pieces_view u flow w0 arts at p (piece ∷ pieces) none away h =
+    pieces_view u flow w0 arts at (handle arts at p piece).parts pieces none.1 away (piece_view u flow w0 arts at p piece none.0 away h)
 
 -- ---- steps
 
@@ -105,19 +108,21 @@ kept_view : {X : Type 0} (u : NodeId) (flow : Flow) (w0 : View) (r : Option X) (
 kept_view u flow w0 None n m old new = new
 kept_view u flow w0 (Some x) n m old new = old
 
-pub step_view : (u : NodeId) (flow : Flow) (w0 : View) (arts : Arts) (n : NodeState) (input : Input) (output : Output) (new : NodeState) → NodeStep arts n input output new → list_any (is_peer u) n.parts.rel.peers ≡ true → NoHear u input → ViewIs u flow w0 n.parts.rel → ViewIs u flow w0 new.parts.rel
-step_view u flow w0 arts n (Poll v) output new s there quiet h = subst (λ (m : NodeState). ViewIs u flow w0 m.parts.rel) (sym s.1) (kept_view u flow w0 (call_refusal n v) n _ h (served_view u flow w0 n.parts.rel v there h))
-step_view u flow w0 arts n (Datagram v bytes) output new s there quiet h =
+pub step_view : (u : NodeId) (flow : Flow) (w0 : View) (arts : Arts) (n : NodeState) (input : Input) (output : Output) (new : NodeState) → NodeStep arts n input output new → n.fixed.epochs ≡ false
+    → list_any (is_peer u) n.parts.rel.peers ≡ true → NoHear u input → ViewIs u flow w0 n.parts.rel → ViewIs u flow w0 new.parts.rel
+step_view u flow w0 arts n (Poll v) output new s plain there quiet h = subst (λ (m : NodeState). ViewIs u flow w0 m.parts.rel) (sym s.1) (kept_view u flow w0 (call_refusal n v) n _ h (served_view u flow w0 n.parts.rel v there h))
+step_view u flow w0 arts n (Datagram v bytes) output new s plain there quiet h =
     subst (λ (m : NodeState). ViewIs u flow w0 m.parts.rel) (sym s.1) (kept_view u flow w0 (call_refusal n v) n _ h
-    (pieces_view u flow w0 arts (arrival_at n v) n.parts (pieces_where (reply_at arts n v bytes) (pieces_in (sections_in arts n.fixed bytes))) quiet h))
-step_view u flow w0 arts n (Tick now) output new s there quiet h = subst (λ (m : NodeState). ViewIs u flow w0 m.parts.rel) (sym s.1) (go (due_now n) refl (signer_refusal n.signer))
+    (pieces_view u flow w0 arts (arrival_at n v) (parts_met arts n v bytes) (pieces_at arts n v bytes) (no_starts_at arts n v bytes plain) quiet
+    (subst (λ (p : Parts). ViewIs u flow w0 p.rel) (sym (met_as_it_was arts n v bytes plain)) h)))
+step_view u flow w0 arts n (Tick now) output new s plain there quiet h = subst (λ (m : NodeState). ViewIs u flow w0 m.parts.rel) (sym s.1) (go (due_now n) refl (signer_refusal n.signer))
   where
     go : (o : Option Ack) → due_now n ≡ o → (r : Option SendRefused) → ViewIs u flow w0 (settled_by arts (at_time n now) o r).parts.rel
     go None e r = h
     go (Some ack) e (Some refusal) = h
     go (Some ack) e None = settled_view u flow w0 n.parts.rel (signed_now arts (at_time n now) (bodies.Ack ack)) h
-step_view u flow w0 arts n (SendRel dst payload) output new s there quiet h = subst (λ (m : NodeState). ViewIs u flow w0 m.parts.rel) (sym s.1) (kept_view u flow w0 (rel_refusal n dst) n _ h h)
-step_view u flow w0 arts n (SendPrio m) output new s there quiet h = subst (λ (m : NodeState). ViewIs u flow w0 m.parts.rel) (sym s.new_is) (kept_view u flow w0 (send_prio_refusal n m s.choice) n _ h h)
-step_view u flow w0 arts n (SetWeight v weight) output new s there quiet h = subst (λ (m : NodeState). ViewIs u flow w0 m.parts.rel) (sym s.1) (kept_view u flow w0 (weight_refusal n v weight) n _ h h)
-step_view u flow w0 arts n (TakeRel src) output new s there quiet h = subst (λ (m : NodeState). ViewIs u flow w0 m.parts.rel) (sym s.1) h
-step_view u flow w0 arts n TakePrio output new s there quiet h = subst (λ (m : NodeState). ViewIs u flow w0 m.parts.rel) (sym s.1) h
+step_view u flow w0 arts n (SendRel dst payload) output new s plain there quiet h = subst (λ (m : NodeState). ViewIs u flow w0 m.parts.rel) (sym s.1) (kept_view u flow w0 (rel_refusal n dst) n _ h h)
+step_view u flow w0 arts n (SendPrio m) output new s plain there quiet h = subst (λ (m : NodeState). ViewIs u flow w0 m.parts.rel) (sym s.new_is) (kept_view u flow w0 (send_prio_refusal n m s.choice) n _ h h)
+step_view u flow w0 arts n (SetWeight v weight) output new s plain there quiet h = subst (λ (m : NodeState). ViewIs u flow w0 m.parts.rel) (sym s.1) (kept_view u flow w0 (weight_refusal n v weight) n _ h h)
+step_view u flow w0 arts n (TakeRel src) output new s plain there quiet h = subst (λ (m : NodeState). ViewIs u flow w0 m.parts.rel) (sym s.1) h
+step_view u flow w0 arts n TakePrio output new s plain there quiet h = subst (λ (m : NodeState). ViewIs u flow w0 m.parts.rel) (sym s.1) h

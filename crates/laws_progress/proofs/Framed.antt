@@ -69,7 +69,7 @@ frame_at arts x es js w fits reads run u v hop n at =
       topology = ap (λ (g : Head). g.topology) read ∙ ap (λ (f : Fixed). f.topology.version) is.fixed;
       echo = ap (λ (g : Head). g.echo) read;
       sections = reads.carries.back x.signature_len h s l.key format few goods;
-      opens = reads.opens h s l.key range format (record { document = refl; paths = refl; probe = refl; epoch = refl }) few goods;
+      opens = reads.opens h s l.key range format (record { document = refl; paths = refl; probe = refl }) few goods;
       right = subst (λ k. is_right arts k (frame_to arts n v) ≡ true) (keys_are arts x es js w fits reads.carries run u v hop n at) (reads.tags_are_right h s l.key);
     }
 

@@ -10,12 +10,12 @@ use Rattle.sp_frame.specs.Views.{as_list}
 use Rattle.sp_frame.specs.declared.head.Head.{Head}
 use Rattle.sp_msg.specs.declared.kept.Kept.{Kept}
 use Rattle.sp_rules.specs.Arts.{Arts}
-use Rattle.sp_rules.specs.Arrivals.{arrival_at, handled, link_after, pieces_in, pieces_where, reply_at, sections_in}
+use Rattle.sp_rules.specs.Arrivals.{arrival_at, handled, heeded, link_after, parts_met, pieces_in, pieces_where, reply_at, sections_in}
 use Rattle.sp_rules.specs.Handle.{handle_all}
 use Rattle.sp_rules.specs.Link.{Link, after_answer, is_above, kept}
 use Rattle.sp_rules.specs.Node.{NodeState, link_in}
 use Rattle.sp_rules.specs.Parts.{Fixed, Parts}
-use Rattle.sp_rules.specs.Pieces.{AckPiece, Piece, PrioAckPiece, RelPiece, WeightPiece, pieces_of, prio_piece, slot_pieces}
+use Rattle.sp_rules.specs.Pieces.{AckPiece, EpochPiece, Piece, PrioAckPiece, RelPiece, WeightPiece, pieces_of, prio_piece, slot_pieces}
 use Rattle.sp_rules.specs.Polls.{contents_to, dated}
 use Rattle.sp_rules.specs.Rel.{RelState, next_flow, slot_for, slot_of}
 use Rattle.sp_rules.specs.Steps.{Input, NodeStep, Poll, Datagram, Tick, SendRel, SendPrio, SetWeight, TakeRel, TakePrio}
@@ -24,7 +24,9 @@ use Rattle.sp_rules.specs.declared.lives.Life.{Life}
 use Rattle.laws_node.specs.Flows.{RelHolds}
 use Rattle.laws_node.specs.Sizes.{Sizes}
 use Rattle.laws_node.proofs.Carried.{AllKeep}
+use Rattle.laws_runs.proofs.NoStarts.{heeded_epoch, heeded_slot, met_as_it_was, pieces_at, without}
 use Rattle.laws_runs.proofs.Signed.{signs}
+use Rattle.laws_runs.specs.Signs.{Good}
 use Rattle.laws_runs.proofs.Tables.{same_node}
 use Rattle.sp_runs.specs.Forgery.{has_forged_tag}
 use Rattle.sp_runs.specs.Runs.{next_frame}
@@ -85,10 +87,15 @@ pub keep_right : (P : Kept → Type 0) (xs ys : List Piece) → AllKeep P (xs ++
 keep_right P [] ys h = h
 keep_right P (x ∷ xs) ys h = keep_right P xs ys h.1
 
+keep_left : (P : Kept → Type 0) (xs ys : List Piece) → AllKeep P (xs ++ ys) → AllKeep P xs
+keep_left P [] ys h = tt
+keep_left P (x ∷ xs) ys h = (h.0, keep_left P xs ys h.1)
+
 pub slot_keeps : (P : Kept → Type 0) (s : Contents) → AllKeep P (pieces_of s) → AllKeep P (slot_pieces s.slot)
 slot_keeps P s h =
-    let rest = keep_right P (map WeightPiece s.weights) (PrioAckPiece s.prio_ack ∷ (map prio_piece s.prios ++ slot_pieces s.slot)) h in
-    keep_right P (map prio_piece s.prios) (slot_pieces s.slot) rest.1
+    let last = map EpochPiece (as_list s.epoch) in
+    let rest = keep_right P (map WeightPiece s.weights) (PrioAckPiece s.prio_ack ∷ (map prio_piece s.prios ++ (slot_pieces s.slot ++ last))) h in
+    keep_left P (slot_pieces s.slot) last (keep_right P (map prio_piece s.prios) (slot_pieces s.slot ++ last) rest.1)
 
 pub ack_keeps : (P : Kept → Type 0) (flow : Flow) (a : Option Kept) (ys : List Piece) → AllKeep P (map (AckPiece flow) (as_list a) ++ ys) → (o : Kept) → a ≡ Some o → P o
 ack_keeps P flow None ys h o e = absurd (let f : None ≡ Some o = e in cc)
@@ -151,10 +158,12 @@ hearing arts x all flow fits reads w y e u v hop a =
     let rows = rows_are arts x w.events w.journal w.world fits reads.carries w.run v n a.there in
     let link_row = link_there x v u n rows back.joined in
     let peer_row = peer_there x v u n rows back.joined in
+    let is = (signs arts x w.events w.journal w.world fits reads.carries w.run).nodes v n a.there in
+    let plain = without x (Good arts x w.events w.journal) v n is in
     elim (hears_or u a.input) [
       | inl quiet ↦ inl (record {
         seen = quiet_seen arts n a.after a.input u quiet (link_step arts x n a.input a.output a.after u (next_frame w.world e) a.entry.reply link_row a.step a.journal.reply);
-        view = step_view u flow (view_of n.parts.rel u flow) arts n a.input a.output a.after a.step peer_row quiet refl;
+        view = step_view u flow (view_of n.parts.rel u flow) arts n a.input a.output a.after a.step plain peer_row quiet refl;
       })
       | inr came ↦
           let bytes = came.0 in
@@ -165,10 +174,12 @@ hearing arts x all flow fits reads w y e u v hop a =
           let s = seen_is arts x w.events w.journal w.world fits reads w.run u v hop n a.there in
           let low = low_boot arts x w.events w.journal w.world fits reads.carries reads.heads w.run v u back n a.there in
           let none : ((ps : List Piece) → pieces_where (reply_at arts n u bytes) ps ≡ []) → view_of a.after.parts.rel u flow ≡ view_of n.parts.rel u flow =
-          λ no. ap (λ (p : Parts). view_of p.rel u flow) (parts ∙ ap (λ ps. (handle_all arts (arrival_at n u) n.parts ps).parts) (no (pieces_in (sections_in arts n.fixed bytes)))) in
+          λ no. ap (λ (p : Parts). view_of p.rel u flow) (parts
+          ∙ ap (λ ps. (handle_all arts (arrival_at n u) (parts_met arts n u bytes) ps).parts) (no (pieces_in n.fixed (sections_in arts n.fixed bytes)))
+          ∙ met_as_it_was arts n u bytes plain) in
           elim (arrives arts x w.events w.journal w.world fits reads w.run u v hop n a.there bytes (subst (λ i. has_forged_tag arts x w.world n i ≡ false) came.1 a.unforged)) [
             | inl untold ↦ inl (record { seen = ap (λ (l : Link). l.seen.1) (link ∙ untold.link); view = none untold.pieces })
-            | inr it ↦ of_frame n a.after bytes it.0 it.1 link parts s low none ((signs arts x w.events w.journal w.world fits reads.carries w.run).nodes v n a.there).fixed it.1.came
+            | inr it ↦ of_frame n a.after bytes it.0 it.1 link parts s low none is.fixed it.1.came
           ]
     ]
   where
@@ -186,8 +197,10 @@ hearing arts x all flow fits reads w y e u v hop a =
     of_frame n m bytes k b link parts s low none fixed (Taken on above left reply) =
         let contents = contents_to b.from.node.fixed b.from.node.parts v in
         let sections : sections_in arts n.fixed bytes ≡ Ok contents = ap (λ (g : Fixed). sections_in arts g bytes) fixed ∙ b.framed.sections in
-        let pieces : pieces_where (reply_at arts n u bytes) (pieces_in (sections_in arts n.fixed bytes)) ≡ pieces_of contents =
-        ap (λ z. pieces_where z (pieces_in (sections_in arts n.fixed bytes))) reply ∙ ap pieces_in sections in
+        let plain : n.fixed.epochs ≡ false = ap (λ (f : Fixed). f.epochs) fixed in
+        let heard = heeded n.fixed contents in
+        let pieces : pieces_at arts n u bytes ≡ pieces_of heard =
+        ap (λ z. pieces_where z (pieces_in n.fixed (sections_in arts n.fixed bytes))) reply ∙ ap (pieces_in n.fixed) sections in
         let counter = b.framed.head.counter in
         inr (
           k,
@@ -198,6 +211,9 @@ hearing arts x all flow fits reads w y e u v hop a =
             framed = b.framed;
             above = above_seen k (link_in n u) above s;
             seen = ap (λ (l : Link). l.seen.1) (link ∙ left) ∙ counter;
-            rel = ap (λ (p : Parts). p.rel) (parts ∙ ap (λ ps. (handle_all arts (arrival_at n u) n.parts ps).parts) pieces) ∙ frame_rel arts (arrival_at n u) n.parts contents;
+            rel = ap (λ (p : Parts). p.rel) (parts ∙ ap (λ ps. (handle_all arts (arrival_at n u) (parts_met arts n u bytes) ps).parts) pieces
+                ∙ ap (λ (p : Parts). (handle_all arts (arrival_at n u) p (pieces_of heard)).parts) (met_as_it_was arts n u bytes plain))
+                ∙ frame_rel arts (arrival_at n u) n.parts heard (heeded_epoch n.fixed contents plain)
+                ∙ ap (after_slot arts n.fixed n.parts.lives n.parts.rel u) (heeded_slot n.fixed contents);
           },
         )

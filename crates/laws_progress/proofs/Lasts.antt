@@ -10,12 +10,12 @@ use Rattle.sp_msg.specs.declared.kept.Kept.{Kept}
 use Rattle.sp_msg.specs.declared.refused.SendRefused.{SendRefused}
 use Rattle.sp_rules.specs.Answers.{ack_answer, is_new, prio_answer, rel_answer, weight_answer}
 use Rattle.sp_rules.specs.Arts.{Arts}
-use Rattle.sp_rules.specs.Arrivals.{arrival_at, pieces_in, pieces_where, reply_at, sections_in}
+use Rattle.sp_rules.specs.Arrivals.{arrival_at, handled, parts_met}
 use Rattle.sp_rules.specs.Handle.{Arrival, handle, handle_all, offer_to, prio_handled}
 use Rattle.sp_rules.specs.Lives.{are_held, is_dated}
 use Rattle.sp_rules.specs.Node.{NodeState, call_refusal, kept_or, signed_now}
 use Rattle.sp_rules.specs.Parts.{Parts, is_signed}
-use Rattle.sp_rules.specs.Pieces.{Piece, AckPiece, PrioAckPiece, PrioPiece, RelPiece, ReportPiece, WeightPiece}
+use Rattle.sp_rules.specs.Pieces.{Piece, AckPiece, PrioAckPiece, PrioPiece, RelPiece, ReportPiece, WeightPiece, EpochPiece}
 use Rattle.sp_rules.specs.Prio.{judge_prio}
 use Rattle.sp_rules.specs.Rel.{RelPeer, RelState, admit_ack, admit_rel, due_place, flow_in, is_peer, judge_ack_of, judge_rel_of, next_place, peer_in, put_peer, reported, served, served_at, settled, settled_at, told, with_peer}
 use Rattle.sp_rules.specs.Sends.{rel_refusal, send_prio_refusal, signer_refusal, weight_refusal}
@@ -26,6 +26,9 @@ use Rattle.sp_rules.specs.declared.answers.Item.TheVariants as items
 use Rattle.sp_rules.specs.declared.answers.PrioAnswer.{PrioAnswer}
 use Rattle.sp_rules.specs.declared.answers.PrioAnswer.TheVariants as prios
 use Rattle.laws_node.proofs.Tables.{cond_either}
+use Rattle.laws_runs.proofs.NoStarts.{NoStart, NoStarts, met_as_it_was, no_starts_at, pieces_at, without}
+use Rattle.laws_runs.proofs.Signed.{signs}
+use Rattle.laws_runs.specs.Signs.{Good}
 use Rattle.laws_runs.proofs.Tables.{same_node}
 use Rattle.laws_runs.specs.Premises.{Carries}
 use Rattle.sp_runs.specs.Inputs.{acting, crafted_frame, crafted_object, crafts, flipped, input_of, object_alone}
@@ -78,10 +81,10 @@ settled_last v0 r o = go (due_place r)
 abbrev PartsSame : NodeId → Parts → Parts → Type 0
 PartsSame v0 p q = SameLast v0 p.rel q.rel
 
-piece_last : (v0 : NodeId) (arts : Arts) (at : Arrival) (p : Parts) (piece : Piece) → PartsSame v0 p (handle arts at p piece).parts
-piece_last v0 arts at p (WeightPiece o) = cond_either (PartsSame v0 p) (is_new (items.Weight (weight_answer (is_signed arts at.fixed o) (offer_to at.fixed.me p.weights o.body)))) (record p { weights = held p.weights o }) p refl refl
-piece_last v0 arts at p (PrioAckPiece number) = refl
-piece_last v0 arts at p (PrioPiece number o) = go (prio_answer (is_signed arts at.fixed o) (is_dated p.lives o.body) (judge_prio p.prio o.body at.now))
+piece_last : (v0 : NodeId) (arts : Arts) (at : Arrival) (p : Parts) (piece : Piece) → NoStart piece → PartsSame v0 p (handle arts at p piece).parts
+piece_last v0 arts at p (WeightPiece o) none = cond_either (PartsSame v0 p) (is_new (items.Weight (weight_answer (is_signed arts at.fixed o) (offer_to at.fixed.me p.weights o.body)))) (record p { weights = held p.weights o }) p refl refl
+piece_last v0 arts at p (PrioAckPiece number) none = refl
+piece_last v0 arts at p (PrioPiece number o) none = go (prio_answer (is_signed arts at.fixed o) (is_dated p.lives o.body) (judge_prio p.prio o.body at.now))
   where
     go : (answer : PrioAnswer) → PartsSame v0 p (prio_handled at.from answer number o p).parts
     go prios.New = refl
@@ -90,15 +93,18 @@ piece_last v0 arts at p (PrioPiece number o) = go (prio_answer (is_signed arts a
     go prios.Expired = refl
     go prios.BadSig = refl
     go prios.Epoch = refl
-piece_last v0 arts at p (ReportPiece flow sboot dboot base have) =
+piece_last v0 arts at p (ReportPiece flow sboot dboot base have) none =
     cond_either (PartsSame v0 p) (are_held p.lives flow sboot dboot) (record p { rel = reported p.rel at.from flow base have }) p
     (reported_last v0 p.rel at.from flow base have) refl
-piece_last v0 arts at p (AckPiece flow o) = cond_either (PartsSame v0 p) (is_new (items.Ack (ack_answer (is_signed arts at.fixed o) (is_dated p.lives o.body) (judge_ack_of p.rel flow o.body)))) (record p { rel = admit_ack p.rel o }) p refl refl
-piece_last v0 arts at p (RelPiece flow o) = cond_either (PartsSame v0 p) (is_new (items.Rel (rel_answer (is_signed arts at.fixed o) (is_dated p.lives o.body) (judge_rel_of p.rel flow o.body)))) (record p { rel = admit_rel p.rel o }) p refl refl
+piece_last v0 arts at p (AckPiece flow o) none = cond_either (PartsSame v0 p) (is_new (items.Ack (ack_answer (is_signed arts at.fixed o) (is_dated p.lives o.body) (judge_ack_of p.rel flow o.body)))) (record p { rel = admit_ack p.rel o }) p refl refl
+piece_last v0 arts at p (RelPiece flow o) none = cond_either (PartsSame v0 p) (is_new (items.Rel (rel_answer (is_signed arts at.fixed o) (is_dated p.lives o.body) (judge_rel_of p.rel flow o.body)))) (record p { rel = admit_rel p.rel o }) p refl refl
+piece_last v0 arts at p (EpochPiece o) none = absurd none
 
-pieces_last : (v0 : NodeId) (arts : Arts) (at : Arrival) (p : Parts) (pieces : List Piece) → PartsSame v0 p (handle_all arts at p pieces).parts
-pieces_last v0 arts at p [] = refl
-pieces_last v0 arts at p (piece ∷ pieces) = pieces_last v0 arts at (handle arts at p piece).parts pieces ∙ piece_last v0 arts at p piece
+pieces_last : (v0 : NodeId) (arts : Arts) (at : Arrival) (p : Parts) (pieces : List Piece) → NoStarts pieces
+    → PartsSame v0 p (handle_all arts at p pieces).parts
+pieces_last v0 arts at p [] none = refl
+pieces_last v0 arts at p (piece ∷ pieces) none =
+    pieces_last v0 arts at (handle arts at p piece).parts pieces none.1 ∙ piece_last v0 arts at p piece none.0
 
 -- ---- steps
 
@@ -132,22 +138,25 @@ served_away v0 v r away = go (next_place r v)
     go None = refl
     go (Some place) = other_last v0 v (record (peer_in r.peers v) { last = Some place }) r.peers away (peer_is r v)
 
-step_last : (v0 : NodeId) (arts : Arts) (n : NodeState) (input : Input) (output : Output) (new : NodeState) → NoPoll v0 input → NodeStep arts n input output new → NodeSame v0 n new
-step_last v0 arts n (Poll v) output new quiet s = subst (NodeSame v0 n) (sym s.1) (kept_last v0 (call_refusal n v) n _ (served_away v0 v n.parts.rel quiet))
-step_last v0 arts n (Datagram v bytes) output new quiet s =
+step_last : (v0 : NodeId) (arts : Arts) (n : NodeState) (input : Input) (output : Output) (new : NodeState) → NoPoll v0 input → NodeStep arts n input output new → n.fixed.epochs ≡ false
+    → NodeSame v0 n new
+step_last v0 arts n (Poll v) output new quiet s plain =
+    subst (NodeSame v0 n) (sym s.1) (kept_last v0 (call_refusal n v) n _ (served_away v0 v n.parts.rel quiet))
+step_last v0 arts n (Datagram v bytes) output new quiet s plain =
     subst (NodeSame v0 n) (sym s.1) (kept_last v0 (call_refusal n v) n _
-    (pieces_last v0 arts (arrival_at n v) n.parts (pieces_where (reply_at arts n v bytes) (pieces_in (sections_in arts n.fixed bytes)))))
-step_last v0 arts n (Tick now) output new quiet s = subst (NodeSame v0 n) (sym s.1) (go (due_now n) (signer_refusal n.signer))
+    (subst (λ (p : Parts). PartsSame v0 p (handled arts n v bytes).parts) (met_as_it_was arts n v bytes plain)
+    (pieces_last v0 arts (arrival_at n v) (parts_met arts n v bytes) (pieces_at arts n v bytes) (no_starts_at arts n v bytes plain))))
+step_last v0 arts n (Tick now) output new quiet s plain = subst (NodeSame v0 n) (sym s.1) (go (due_now n) (signer_refusal n.signer))
   where
     go : (o : Option Ack) (r : Option SendRefused) → NodeSame v0 n (settled_by arts (at_time n now) o r)
     go None r = refl
     go (Some ack) (Some refusal) = refl
     go (Some ack) None = settled_last v0 n.parts.rel (signed_now arts n (bodies.Ack ack))
-step_last v0 arts n (SendRel dst payload) output new quiet s = subst (NodeSame v0 n) (sym s.1) (kept_last v0 (rel_refusal n dst) n _ refl)
-step_last v0 arts n (SendPrio m) output new quiet s = subst (NodeSame v0 n) (sym s.new_is) (kept_last v0 (send_prio_refusal n m s.choice) n _ refl)
-step_last v0 arts n (SetWeight v weight) output new quiet s = subst (NodeSame v0 n) (sym s.1) (kept_last v0 (weight_refusal n v weight) n _ refl)
-step_last v0 arts n (TakeRel src) output new quiet s = subst (NodeSame v0 n) (sym s.1) refl
-step_last v0 arts n TakePrio output new quiet s = subst (NodeSame v0 n) (sym s.1) refl
+step_last v0 arts n (SendRel dst payload) output new quiet s plain = subst (NodeSame v0 n) (sym s.1) (kept_last v0 (rel_refusal n dst) n _ refl)
+step_last v0 arts n (SendPrio m) output new quiet s plain = subst (NodeSame v0 n) (sym s.new_is) (kept_last v0 (send_prio_refusal n m s.choice) n _ refl)
+step_last v0 arts n (SetWeight v weight) output new quiet s plain = subst (NodeSame v0 n) (sym s.1) (kept_last v0 (weight_refusal n v weight) n _ refl)
+step_last v0 arts n (TakeRel src) output new quiet s plain = subst (NodeSame v0 n) (sym s.1) refl
+step_last v0 arts n TakePrio output new quiet s plain = subst (NodeSame v0 n) (sym s.1) refl
 
 -- ---- in runs
 
@@ -187,5 +196,6 @@ serves_none arts x all flow fits reads w y e u v follows off = elim (change arts
       let quiet = no_poll arts x w.events w.world a.node e a.input u v a.acts off a.reaches in
       ap (seen_at None (λ n. (peer_in n.parts.rel.peers v).last)) a.left
       ∙ step_last v arts a.node a.input a.output a.after quiet a.step
+      (without x (Good arts x w.events w.journal) u a.node ((signs arts x w.events w.journal w.world fits reads w.run).nodes u a.node a.there))
       ∙ sym (ap (seen_at None (λ n. (peer_in n.parts.rel.peers v).last)) a.there)
 ]

@@ -13,13 +13,13 @@ use Rattle.sp_msg.specs.declared.refused.SendRefused.{SendRefused}
 use Rattle.sp_rules.proofs.FlowJudged.{found_ends, same_ends}
 use Rattle.sp_rules.specs.Answers.{ack_answer, is_new, prio_answer, rel_answer, weight_answer}
 use Rattle.sp_rules.specs.Arts.{Arts}
-use Rattle.sp_rules.specs.Arrivals.{arrival_at, pieces_in, pieces_where, reply_at, sections_in}
+use Rattle.sp_rules.specs.Arrivals.{arrival_at, handled, parts_met}
 use Rattle.sp_rules.specs.Flow.{FlowState, acknowledged_by, after_take, concluded, ends, flow_said, is_flow, pushed, received}
 use Rattle.sp_rules.specs.Handle.{Arrival, handle, handle_all, offer_to, prio_handled}
 use Rattle.sp_rules.specs.Lives.{are_held, is_dated}
 use Rattle.sp_rules.specs.Node.{NodeState, call_refusal, kept_or, signed_now}
 use Rattle.sp_rules.specs.Parts.{Parts, is_signed}
-use Rattle.sp_rules.specs.Pieces.{Piece, AckPiece, PrioAckPiece, PrioPiece, RelPiece, ReportPiece, WeightPiece}
+use Rattle.sp_rules.specs.Pieces.{Piece, AckPiece, PrioAckPiece, PrioPiece, RelPiece, ReportPiece, WeightPiece, EpochPiece}
 use Rattle.sp_rules.specs.Rel.{RelState, admit_ack, admit_rel, judge_ack_of, judge_rel_of, pushed_in, due_place, flow_in, flow_to_me, is_to, next_place, put_flow, reported, served, served_at, settled, settled_at, told, took, with_flow, with_peer, peer_in}
 use Rattle.sp_rules.specs.Sends.{rel_body, rel_refusal, send_prio_refusal, signer_refusal, weight_refusal}
 use Rattle.sp_rules.specs.Steps.{Input, NodeStep, Output, Poll, Datagram, Tick, SendRel, SendPrio, SetWeight, TakeRel, TakePrio}
@@ -30,6 +30,7 @@ use Rattle.sp_rules.specs.declared.answers.Item.TheVariants as items
 use Rattle.sp_rules.specs.declared.answers.PrioAnswer.{PrioAnswer}
 use Rattle.sp_rules.specs.declared.answers.PrioAnswer.TheVariants as prios
 use Rattle.laws_node.proofs.Tables.{cond_either}
+use Rattle.laws_runs.proofs.NoStarts.{NoStart, NoStarts, met_as_it_was, no_starts_at, pieces_at}
 
 pub record FlowLater (f g : FlowState) : Type 0 where
   pub base : f.at.base ≤ g.at.base
@@ -144,10 +145,10 @@ sent_later r o = let flow = flow_said o.body in let f = flow_in r.flows flow in 
 abbrev PartsLater : Parts → Parts → Type 0
 PartsLater p q = RelLater p.rel q.rel
 
-piece_later : (arts : Arts) (at : Arrival) (p : Parts) (piece : Piece) → PartsLater p (handle arts at p piece).parts
-piece_later arts at p (WeightPiece o) = cond_either (PartsLater p) (is_new (items.Weight (weight_answer (is_signed arts at.fixed o) (offer_to at.fixed.me p.weights o.body)))) (record p { weights = held p.weights o }) p (rel_same p.rel) (rel_same p.rel)
-piece_later arts at p (PrioAckPiece number) = rel_same p.rel
-piece_later arts at p (PrioPiece number o) = go (prio_answer (is_signed arts at.fixed o) (is_dated p.lives o.body) (judge_prio p.prio o.body at.now))
+piece_later : (arts : Arts) (at : Arrival) (p : Parts) (piece : Piece) → NoStart piece → PartsLater p (handle arts at p piece).parts
+piece_later arts at p (WeightPiece o) none = cond_either (PartsLater p) (is_new (items.Weight (weight_answer (is_signed arts at.fixed o) (offer_to at.fixed.me p.weights o.body)))) (record p { weights = held p.weights o }) p (rel_same p.rel) (rel_same p.rel)
+piece_later arts at p (PrioAckPiece number) none = rel_same p.rel
+piece_later arts at p (PrioPiece number o) none = go (prio_answer (is_signed arts at.fixed o) (is_dated p.lives o.body) (judge_prio p.prio o.body at.now))
   where
     go : (answer : PrioAnswer) → PartsLater p (prio_handled at.from answer number o p).parts
     go prios.New = rel_same p.rel
@@ -156,17 +157,18 @@ piece_later arts at p (PrioPiece number o) = go (prio_answer (is_signed arts at.
     go prios.Expired = rel_same p.rel
     go prios.BadSig = rel_same p.rel
     go prios.Epoch = rel_same p.rel
-piece_later arts at p (ReportPiece flow sboot dboot base have) =
+piece_later arts at p (ReportPiece flow sboot dboot base have) none =
     cond_either (PartsLater p) (are_held p.lives flow sboot dboot) (record p { rel = reported p.rel at.from flow base have }) p
     (reported_later p.rel at.from flow base have) (rel_same p.rel)
-piece_later arts at p (AckPiece flow o) = cond_either (PartsLater p) (is_new (items.Ack (ack_answer (is_signed arts at.fixed o) (is_dated p.lives o.body) (judge_ack_of p.rel flow o.body)))) (record p { rel = admit_ack p.rel o }) p (admit_ack_later p.rel o) (rel_same p.rel)
-piece_later arts at p (RelPiece flow o) = cond_either (PartsLater p) (is_new (items.Rel (rel_answer (is_signed arts at.fixed o) (is_dated p.lives o.body) (judge_rel_of p.rel flow o.body)))) (record p { rel = admit_rel p.rel o }) p (admit_rel_later p.rel o) (rel_same p.rel)
+piece_later arts at p (AckPiece flow o) none = cond_either (PartsLater p) (is_new (items.Ack (ack_answer (is_signed arts at.fixed o) (is_dated p.lives o.body) (judge_ack_of p.rel flow o.body)))) (record p { rel = admit_ack p.rel o }) p (admit_ack_later p.rel o) (rel_same p.rel)
+piece_later arts at p (RelPiece flow o) none = cond_either (PartsLater p) (is_new (items.Rel (rel_answer (is_signed arts at.fixed o) (is_dated p.lives o.body) (judge_rel_of p.rel flow o.body)))) (record p { rel = admit_rel p.rel o }) p (admit_rel_later p.rel o) (rel_same p.rel)
+piece_later arts at p (EpochPiece o) none = absurd none
 
-pieces_later : (arts : Arts) (at : Arrival) (p : Parts) (pieces : List Piece) → PartsLater p (handle_all arts at p pieces).parts
-pieces_later arts at p [] = rel_same p.rel
-pieces_later arts at p (piece ∷ pieces) =
+pieces_later : (arts : Arts) (at : Arrival) (p : Parts) (pieces : List Piece) → NoStarts pieces → PartsLater p (handle_all arts at p pieces).parts
+pieces_later arts at p [] none = rel_same p.rel
+pieces_later arts at p (piece ∷ pieces) none =
     rel_then p.rel (handle arts at p piece).parts.rel (handle_all arts at (handle arts at p piece).parts pieces).parts.rel
-    (piece_later arts at p piece) (pieces_later arts at (handle arts at p piece).parts pieces)
+    (piece_later arts at p piece none.0) (pieces_later arts at (handle arts at p piece).parts pieces none.1)
 
 -- ---- steps
 
@@ -177,19 +179,21 @@ kept_later : {X : Type 0} (r : Option X) (n m : NodeState) → NodeLater n m →
 kept_later None n m later = later
 kept_later (Some x) n m later = rel_same n.parts.rel
 
-pub step_later : (arts : Arts) (n : NodeState) (input : Input) (output : Output) (new : NodeState) → NodeStep arts n input output new → NodeLater n new
-step_later arts n (Poll v) output new s = subst (NodeLater n) (sym s.1) (kept_later (call_refusal n v) n _ (served_later n.parts.rel v))
-step_later arts n (Datagram v bytes) output new s =
+pub step_later : (arts : Arts) (n : NodeState) (input : Input) (output : Output) (new : NodeState) → NodeStep arts n input output new → n.fixed.epochs ≡ false
+    → NodeLater n new
+step_later arts n (Poll v) output new s plain = subst (NodeLater n) (sym s.1) (kept_later (call_refusal n v) n _ (served_later n.parts.rel v))
+step_later arts n (Datagram v bytes) output new s plain =
     subst (NodeLater n) (sym s.1) (kept_later (call_refusal n v) n _
-    (pieces_later arts (arrival_at n v) n.parts (pieces_where (reply_at arts n v bytes) (pieces_in (sections_in arts n.fixed bytes)))))
-step_later arts n (Tick now) output new s = subst (NodeLater n) (sym s.1) (go (due_now n) (signer_refusal n.signer))
+    (subst (λ (p : Parts). PartsLater p (handled arts n v bytes).parts) (met_as_it_was arts n v bytes plain)
+    (pieces_later arts (arrival_at n v) (parts_met arts n v bytes) (pieces_at arts n v bytes) (no_starts_at arts n v bytes plain))))
+step_later arts n (Tick now) output new s plain = subst (NodeLater n) (sym s.1) (go (due_now n) (signer_refusal n.signer))
   where
     go : (o : Option Ack) (r : Option SendRefused) → NodeLater n (settled_by arts (at_time n now) o r)
     go None r = rel_same n.parts.rel
     go (Some ack) (Some refusal) = rel_same n.parts.rel
     go (Some ack) None = settled_later n.parts.rel (signed_now arts n (bodies.Ack ack))
-step_later arts n (SendRel dst payload) output new s = subst (NodeLater n) (sym s.1) (kept_later (rel_refusal n dst) n _ (sent_later n.parts.rel (signed_now arts n (rel_body n dst payload))))
-step_later arts n (SendPrio m) output new s = subst (NodeLater n) (sym s.new_is) (kept_later (send_prio_refusal n m s.choice) n _ (rel_same n.parts.rel))
-step_later arts n (SetWeight v weight) output new s = subst (NodeLater n) (sym s.1) (kept_later (weight_refusal n v weight) n _ (rel_same n.parts.rel))
-step_later arts n (TakeRel src) output new s = subst (NodeLater n) (sym s.1) (took_later n.parts.rel src)
-step_later arts n TakePrio output new s = subst (NodeLater n) (sym s.1) (rel_same n.parts.rel)
+step_later arts n (SendRel dst payload) output new s plain = subst (NodeLater n) (sym s.1) (kept_later (rel_refusal n dst) n _ (sent_later n.parts.rel (signed_now arts n (rel_body n dst payload))))
+step_later arts n (SendPrio m) output new s plain = subst (NodeLater n) (sym s.new_is) (kept_later (send_prio_refusal n m s.choice) n _ (rel_same n.parts.rel))
+step_later arts n (SetWeight v weight) output new s plain = subst (NodeLater n) (sym s.1) (kept_later (weight_refusal n v weight) n _ (rel_same n.parts.rel))
+step_later arts n (TakeRel src) output new s plain = subst (NodeLater n) (sym s.1) (took_later n.parts.rel src)
+step_later arts n TakePrio output new s plain = subst (NodeLater n) (sym s.1) (rel_same n.parts.rel)

@@ -17,6 +17,7 @@ use Rattle.sp_runs.specs.Worlds.{node_in}
 use Rattle.sp_schedule_events.specs.declared.event.Event.{Event}
 use Rattle.laws_runs.specs.Premises.{Carries}
 use Rattle.laws_runs.specs.Signs.{Good, sizes_at}
+use Rattle.laws_runs.proofs.NoStarts.{without}
 use Rattle.laws_runs.proofs.Signed.{signs}
 use Rattle.laws_progress.proofs.States.{Follows, State, flow_seen, seen_at, sight}
 use Rattle.laws_progress.proofs.Service.{IsWithin, is_on}
@@ -149,5 +150,6 @@ actives_rise arts x all flow fits reads w y e u follows place on = elim (change 
   | inr a ↦
       let before = subst (λ o. is_on (seen_at [] (λ n. map (λ f. f.active) n.parts.rel.flows) o) place ≡ true) a.there on in
       subst (λ o. is_on (seen_at [] (λ n. map (λ f. f.active) n.parts.rel.flows) o) place ≡ true) (sym a.left)
-      (rows_within arts x all fits reads w y u a.node a.after a.there a.left (step_later arts a.node a.input a.output a.after a.step) place before)
+      (rows_within arts x all fits reads w y u a.node a.after a.there a.left (step_later arts a.node a.input a.output a.after a.step
+      (without x (Good arts x w.events w.journal) u a.node ((signs arts x w.events w.journal w.world fits reads w.run).nodes u a.node a.there))) place before)
 ]

@@ -2,7 +2,7 @@
 use Rattle.std.proofs.Common.{◌≡◌, ◌≤◌, ◌<◌, ℕ, Bool, true, false, cond, List, [], ◌∷◌, length, drop, map, Option, Some, None, refl, sym, subst, ◌∙◌, arith}
 use Rattle.std.specs.Prelude.{All, not, nat_le}
 use Rattle.std.specs.Option.{option_and_then, option_map}
-use Rattle.std.proofs.lemmas.List.Elements.{All-nil, All-cons}
+use Rattle.std.proofs.lemmas.List.Elements.{All-cons, All-head, All-nil, All-tail}
 use Rattle.std.proofs.lemmas.Bool.{leb-false}
 use Rattle.std.proofs.lemmas.List.{length-append}
 use Rattle.sp_base.specs.declared.id.Flow.{Flow}
@@ -14,16 +14,16 @@ use Rattle.sp_msg.specs.declared.body.Body.TheVariants as bodies
 use Rattle.sp_msg.specs.declared.kept.Kept.{Kept}
 use Rattle.sp_msg.specs.declared.refused.SendRefused.{SendRefused}
 use Rattle.sp_rules.proofs.FlowJudged.{new_ack, same_flow}
-use Rattle.sp_rules.specs.Answers.{ack_answer, is_new, prio_answer, rel_answer, weight_answer}
+use Rattle.sp_rules.specs.Answers.{ack_answer, epoch_answer, is_new, prio_answer, rel_answer, weight_answer}
 use Rattle.sp_rules.specs.Arts.{Arts}
-use Rattle.sp_rules.specs.Arrivals.{arrival_at, pieces_in, pieces_where, reply_at, sections_in}
-use Rattle.sp_rules.specs.Flow.{FlowState, acknowledged_by, after_take, concluded, flow_said, is_flow, no_flow, number_said, pushed, received}
-use Rattle.sp_rules.specs.Handle.{Arrival, handle, handle_all, offer_to, prio_handled}
-use Rattle.sp_rules.specs.Lives.{are_held, is_dated}
-use Rattle.sp_rules.specs.Node.{NodeState, call_refusal, kept_or, signed_now}
+use Rattle.sp_rules.specs.Arrivals.{arrival_at, greeted, has_risen, link_after, parts_met, pieces_in, pieces_where, reply_at, sections_in}
+use Rattle.sp_rules.specs.Flow.{FlowState, acknowledged_by, after_take, concluded, ends, flow_said, is_flow, no_flow, number_said, pushed, received}
+use Rattle.sp_rules.specs.Handle.{Arrival, handle, handle_all, met, offer_to, prio_handled}
+use Rattle.sp_rules.specs.Lives.{are_held, is_dated, judge_epoch, origin_said}
+use Rattle.sp_rules.specs.Node.{NodeState, call_refusal, kept_or, link_in, signed_now}
 use Rattle.sp_rules.specs.Parts.{Parts, is_signed}
-use Rattle.sp_rules.specs.Pieces.{Piece, AckPiece, PrioAckPiece, PrioPiece, RelPiece, ReportPiece, WeightPiece}
-use Rattle.sp_rules.specs.Rel.{RelState, admit_ack, admit_rel, ack_of, are_ends, due_place, flow_at, flow_in, flow_to_me, is_to, judge_ack, judge_ack_of, judge_rel_of, next_place, peer_in, plain_ack, pushed_in, reported, served, served_at, settled, settled_at, told, took, with_flow, with_peer}
+use Rattle.sp_rules.specs.Pieces.{Piece, AckPiece, PrioAckPiece, PrioPiece, RelPiece, ReportPiece, WeightPiece, EpochPiece}
+use Rattle.sp_rules.specs.Rel.{RelState, admit_ack, admit_rel, ack_of, are_ends, due_place, flow_at, flow_in, flow_less, flow_to_me, is_end, is_to, judge_ack, judge_ack_of, judge_rel_of, next_place, peer_in, plain_ack, pushed_in, reported, served, served_at, settled, settled_at, told, took, with_flow, with_peer}
 use Rattle.sp_rules.specs.Sends.{rel_body, rel_refusal, send_prio_refusal, signer_refusal, weight_refusal}
 use Rattle.sp_rules.specs.Steps.{Input, NodeStep, Output, Poll, Datagram, Tick, SendRel, SendPrio, SetWeight, TakeRel, TakePrio}
 use Rattle.sp_rules.specs.Ticks.{at_time, due_now, settled_by}
@@ -135,6 +135,20 @@ took_ack r src h = let flow = flow_to_me r src in let f = flow_in r.flows flow i
 sent_ack : (r : RelState) (o : Kept) → RelAck r → RelAck (pushed_in r o)
 sent_ack r o h = let flow = flow_said o.body in let f = flow_in r.flows flow in with_ack r flow (pushed f o) h (same_ack f (pushed f o) refl refl (omega arith) (λ i. omega (arith, i)) (flow_ack r flow h))
 
+-- a flow that begins anew
+less_ack : (v : NodeId) (f : FlowState) → FlowAck f → FlowAck (flow_less v f)
+less_ack v f h = cond_either FlowAck (is_end v (ends f)) (no_flow (ends f)) f (none_ack (ends f)) h
+
+less_all_ack : (v : NodeId) (fs : List FlowState) → All FlowAck fs → All FlowAck (map (flow_less v) fs)
+less_all_ack v [] h = h
+less_all_ack v (f ∷ fs) h =
+    All-cons FlowAck (flow_less v f) (map (flow_less v) fs) (less_ack v f (All-head FlowAck f fs h)) (less_all_ack v fs (All-tail FlowAck f fs h))
+
+greeted_ack : (epochs risen : Bool) (v : NodeId) (p : Parts) → RelAck p.rel → RelAck (greeted epochs risen v p).rel
+greeted_ack true true v p h = h
+greeted_ack true false v p h = h
+greeted_ack false risen v p h = h
+
 -- ---- pieces
 
 piece_ack : (arts : Arts) (at : Arrival) (p : Parts) (piece : Piece) → RelAck p.rel → RelAck (handle arts at p piece).parts.rel
@@ -160,6 +174,9 @@ piece_ack arts at p (AckPiece flow o) h =
     with_ack p.rel said (acknowledged_by f o) h (acked_ack f o (above_new p.rel flow o.body (judged.new_ack (is_signed arts at.fixed o) (is_dated p.lives o.body) (judge_ack_of p.rel flow o.body) new).1) (flow_ack p.rel said h)))
     (λ old. h)
 piece_ack arts at p (RelPiece flow o) h = cond_either (λ (q : Parts). RelAck q.rel) (is_new (items.Rel (rel_answer (is_signed arts at.fixed o) (is_dated p.lives o.body) (judge_rel_of p.rel flow o.body)))) (record p { rel = admit_rel p.rel o }) p (admit_rel_ack p.rel o h) h
+piece_ack arts at p (EpochPiece o) h =
+    cond_either (λ (q : Parts). RelAck q.rel) (is_new (items.Epoch (epoch_answer (is_signed arts at.fixed o) (judge_epoch at.fixed.me p.lives o.body))))
+    (met p o) p (less_all_ack (origin_said o.body) p.rel.flows h) h
 
 pub pieces_ack : (arts : Arts) (at : Arrival) (p : Parts) (pieces : List Piece) → RelAck p.rel → RelAck (handle_all arts at p pieces).parts.rel
 pieces_ack arts at p [] h = h
@@ -180,7 +197,8 @@ pub step_ack : (arts : Arts) (n : NodeState) (input : Input) (output : Output) (
 step_ack arts n (Poll v) output new s h = subst (λ (m : NodeState). RelAck m.parts.rel) (sym s.1) (kept_ack (call_refusal n v) n _ h (served_ack n.parts.rel v h))
 step_ack arts n (Datagram v bytes) output new s h =
     subst (λ (m : NodeState). RelAck m.parts.rel) (sym s.1) (kept_ack (call_refusal n v) n _ h
-    (pieces_ack arts (arrival_at n v) n.parts (pieces_where (reply_at arts n v bytes) (pieces_in (sections_in arts n.fixed bytes))) h))
+    (pieces_ack arts (arrival_at n v) (parts_met arts n v bytes) (pieces_where (reply_at arts n v bytes) (pieces_in n.fixed (sections_in arts n.fixed bytes)))
+    (greeted_ack n.fixed.epochs (has_risen (link_in n v) (link_after arts n v bytes)) v n.parts h)))
 step_ack arts n (Tick now) output new s h = subst (λ (m : NodeState). RelAck m.parts.rel) (sym s.1) (go (due_now n) refl (signer_refusal n.signer))
   where
     go : (o : Option Ack) → due_now n ≡ o → (r : Option SendRefused) → RelAck (settled_by arts (at_time n now) o r).parts.rel

@@ -20,7 +20,7 @@ use Rattle.sp_msg.specs.declared.body.Body.TheVariants as bodies
 use Rattle.sp_msg.specs.declared.kept.Kept.{Kept}
 use Rattle.sp_rules.specs.Answers.{is_new}
 use Rattle.sp_rules.proofs.ArrivalLemmas.{of_frame}
-use Rattle.sp_rules.specs.Arrivals.{arrival_at, pieces_in, pieces_where, reply_at, sections_in}
+use Rattle.sp_rules.specs.Arrivals.{arrival_at, parts_met, pieces_in, pieces_where, reply_at, sections_in}
 use Rattle.sp_rules.specs.Arts.{Arts}
 use Rattle.sp_rules.specs.Link.{Link}
 use Rattle.sp_rules.specs.Node.{call_refusal, link_in}
@@ -49,6 +49,7 @@ use Rattle.sp_schedule_events.specs.declared.event.Event.TheVariants as events
 use Rattle.sp_runs.specs.declared.what.What.TheVariants as whats
 use Rattle.laws_runs.specs.Crafts.{NoFrameIsForged, OwnCraftsForgeNothing}
 use Rattle.laws_runs.specs.Premises.{Carries, HasGoodMessages}
+use Rattle.laws_runs.proofs.NoStarts.{in_keep, pieces_at}
 use Rattle.laws_runs.proofs.Goods.{all_of, where_keep}
 use Rattle.laws_runs.proofs.Lists.{both}
 use Rattle.laws_runs.proofs.Passes.{called_good, neither}
@@ -90,11 +91,12 @@ arrived_unforged arts x es js w new e j m c contents carries fixed bad range goo
     let back : sections_in arts n.fixed bytes ≡ Ok contents =
     ap (λ (f : Fixed). arts.sections f.signature_len bytes) fixed
     ∙ carries.back x.signature_len (crafted_head n c) contents (link_in n c).key (ap (λ (f : Fixed). f.topology.format) fixed) range good in
-    let pieces : AllKeep P (pieces_in (sections_in arts n.fixed bytes)) = subst (λ r. AllKeep P (pieces_in r)) (sym back) only in
+    let pieces : AllKeep P (pieces_in n.fixed (sections_in arts n.fixed bytes)) =
+    subst (λ r. AllKeep P (pieces_in n.fixed r)) (sym back) (in_keep P n.fixed contents only) in
     let news : NewKeep P m.output.answered =
     subst (λ (o : Output). NewKeep P o.answered) (sym moves.0) (called_good P (arrived arts n c bytes) (call_refusal n c)
-    (pieces_new P arts (arrival_at n c) n.parts (pieces_where (reply_at arts n c bytes) (pieces_in (sections_in arts n.fixed bytes)))
-    (where_keep P (reply_at arts n c bytes) (pieces_in (sections_in arts n.fixed bytes)) pieces))) in
+    (pieces_new P arts (arrival_at n c) (parts_met arts n c bytes) (pieces_at arts n c bytes)
+    (where_keep P (reply_at arts n c bytes) (pieces_in n.fixed (sections_in arts n.fixed bytes)) pieces))) in
     let tag : has_forged_tag arts x w n m.input ≡ false = ap (has_forged_tag arts x w n) is ∙ never_first (is_correct x c) (is_tagged (reply_at arts n c bytes)) (is_among bytes (frames_in w.directions c n.fixed.me)) bad in
     neither _ _ tag (none_forged arts x es js m.output.answered news)
   where
@@ -125,11 +127,11 @@ no_frame_is_forged arts x es js w new u v bytes j none (Moves m) =
     let is : m.input ≡ steps.Datagram u bytes = one_input _ m.input m.reaches in
     let moves : NodeStep arts n (steps.Datagram u bytes) m.output m.after = subst (λ i. NodeStep arts n i m.output m.after) is m.step in
     let reply : reply_at arts n u bytes ≡ of_frame arts n.fixed (link_in n u) bytes (Err none.0) = ap (of_frame arts n.fixed (link_in n u) bytes) none.1 in
-    let read = pieces_in (sections_in arts n.fixed bytes) in
+    let read = pieces_in n.fixed (sections_in arts n.fixed bytes) in
     let pieces : AllKeep P (pieces_where (reply_at arts n u bytes) read) = subst (λ r. AllKeep P (pieces_where r read)) (sym reply) (no_pieces P arts n.fixed (link_in n u) bytes none.0 read) in
     let news : NewKeep P m.output.answered =
     subst (λ (o : Output). NewKeep P o.answered) (sym moves.0) (called_good P (arrived arts n u bytes) (call_refusal n u)
-    (pieces_new P arts (arrival_at n u) n.parts (pieces_where (reply_at arts n u bytes) read) pieces)) in
+    (pieces_new P arts (arrival_at n u) (parts_met arts n u bytes) (pieces_where (reply_at arts n u bytes) read) pieces)) in
     let tag : has_forged_tag arts x w n m.input ≡ false =
     ap (has_forged_tag arts x w n) is ∙ never_second (is_correct x u) (is_tagged (reply_at arts n u bytes)) (is_among bytes (frames_in w.directions u n.fixed.me)) (ap is_tagged reply ∙ untagged arts n.fixed (link_in n u) bytes none.0) in
     neither _ _ tag (none_forged arts x es js m.output.answered news)

@@ -1,5 +1,5 @@
 -- What each piece of a frame keeps of a flow between its ends.
-use Rattle.std.proofs.Common.{◌≡◌, ◌≤◌, ℕ, ◌+◌, Bool, true, false, cond, List, [], ◌∷◌, ◌++◌, length, map, Option, Some, None, refl, sym, ap, subst, ◌∙◌, inl, inr, arith, append_assoc, nat_lt}
+use Rattle.std.proofs.Common.{◌≡◌, ◌≤◌, ℕ, ◌+◌, Bool, true, false, cond, List, [], ◌∷◌, ◌++◌, length, Some, refl, sym, ap, subst, ◌∙◌, inl, inr, arith, append_assoc, nat_lt}
 use Rattle.std.specs.Prelude.{◌&&◌, ◌==◌}
 use Rattle.std.specs.List.{flat_map}
 use Rattle.std.proofs.lemmas.Bool.{cases_Bool, eq-eqb, eqb-true, ne_eqb}
@@ -9,17 +9,12 @@ use Rattle.std.proofs.lemmas.List.Concat.{flat_map-append}
 use Rattle.sp_base.specs.Lists.{IsPrefix}
 use Rattle.sp_base.specs.declared.id.Flow.{Flow}
 use Rattle.sp_base.specs.declared.id.NodeId.{NodeId}
-use Rattle.sp_frame.specs.Objects.{is_of}
-use Rattle.sp_frame.specs.declared.kind.Kind.TheVariants as kinds
 use Rattle.sp_msg.specs.Bodies.{payload_of}
 use Rattle.sp_msg.specs.declared.body.Ack.{Ack}
 use Rattle.sp_msg.specs.declared.body.Body.{Body}
 use Rattle.sp_msg.specs.declared.body.Body.TheVariants as bodies
 use Rattle.sp_msg.specs.declared.body.Rel.{Rel}
 use Rattle.sp_msg.specs.declared.effect.Effect.{Effect}
-use Rattle.sp_msg.specs.declared.effect.Effect.TheVariants as effects
-use Rattle.sp_msg.specs.declared.effect.Why.{Why}
-use Rattle.sp_msg.specs.declared.effect.Why.TheVariants.{Acked, Evicted, Expired}
 use Rattle.sp_msg.specs.declared.kept.Kept.{Kept}
 use Rattle.sp_rules.proofs.FlowJudged.{found_ends, new_ack, new_rel, same_flow}
 use Rattle.sp_rules.specs.Answers.{ack_answer, is_new, prio_answer, rel_answer, weight_answer}
@@ -28,114 +23,27 @@ use Rattle.sp_rules.specs.Flow.{FlowState, acknowledged_by, flow_said, number_sa
 use Rattle.sp_rules.specs.Handle.{Arrival, handle, handle_all, heard_where, offer_to, weight_effects}
 use Rattle.sp_rules.specs.Lives.{are_held, is_dated}
 use Rattle.sp_rules.specs.Parts.{Parts, is_signed}
-use Rattle.sp_rules.specs.Pieces.{Piece, WeightPiece, PrioAckPiece, PrioPiece, ReportPiece, AckPiece, RelPiece}
-use Rattle.sp_rules.specs.Prio as prio
-use Rattle.sp_rules.specs.Prio.{PrioState, admit_prio, acked_effects, judge_prio, prio_effects, expired_effects}
-use Rattle.sp_rules.specs.PrioPeer as rows
-use Rattle.sp_rules.specs.PrioPeer.{PrioPeer}
+use Rattle.sp_rules.specs.Pieces.{Piece, WeightPiece, PrioAckPiece, PrioPiece, ReportPiece, AckPiece, RelPiece, EpochPiece}
+use Rattle.sp_rules.specs.Prio.{admit_prio, judge_prio, prio_effects}
 use Rattle.sp_rules.specs.Rel.{RelState, admit_ack, admit_rel, delivery, flow_in, is_from, is_to, judge_ack_of, judge_rel_of, rel_effects, reported, with_flow, with_peer, told as told_peer, peer_in}
-use Rattle.sp_rules.specs.Store.{Store, entry_in, expired_entries, removed}
-use Rattle.sp_rules.specs.Weights.{WeightState, held}
+use Rattle.sp_rules.specs.Weights.{held}
 use Rattle.sp_rules.specs.declared.answers.Item.{Item}
 use Rattle.sp_rules.specs.declared.answers.Item.TheVariants as items
 use Rattle.sp_rules.specs.declared.answers.PrioAnswer.{PrioAnswer}
 use Rattle.sp_rules.specs.declared.answers.PrioAnswer.TheVariants as prios
 use Rattle.sp_rules.specs.declared.rel.AckJudged.TheVariants as acks
 use Rattle.sp_rules.specs.declared.rel.RelJudged.TheVariants as rels
-use Rattle.sp_rules.specs.declared.store.Entry.{Entry}
-use Rattle.sp_rules.specs.declared.weights.Offer.TheVariants as offers
 use Rattle.laws_node.specs.Asked.{NewKeep}
-use Rattle.laws_node.specs.Sizes.{Sizes}
-use Rattle.laws_node.specs.Stores.{IsPrio}
-use Rattle.laws_node.proofs.AskedLemmas.{new_both, new_left, new_right}
+use Rattle.laws_node.proofs.AskedLemmas.{new_left, new_right}
 use Rattle.laws_node.proofs.Handles as judged
-use Rattle.laws_node.proofs.Handles.{AllFit, PieceFits}
 use Rattle.laws_node.proofs.Tables.{cond_either}
 use Rattle.sp_runs.specs.Told.{Message, delivered_by, signed_by}
 use Rattle.laws_runs.specs.Flows.{IsIn}
 use Rattle.laws_runs.proofs.FlowFacts.{FlowAt, RelIs, cases_flow, delivered_next, flow_acked, flow_of, flow_received, flow_took, prefix_length, same_rows_is, with_flow_is}
+use Rattle.laws_runs.proofs.NoStarts.{NoStart, NoStarts}
+use Rattle.laws_runs.proofs.OnePaths.{IsOnePath}
+use Rattle.laws_runs.proofs.Quiet.{Quiet, quiet_acked, quiet_none, quiet_prio, quiet_weight}
 use Rattle.laws_runs.proofs.Tables.{same_node}
-
--- ---- effects that say nothing of reliable messages and signatures
-
-pub record Quiet (es : List Effect) : Type 0 where
-  pub no_delivery : (a : NodeId) → flat_map (delivered_by a) es ≡ []
-  pub no_signature : flat_map signed_by es ≡ []
-
-pub quiet_none : Quiet []
-quiet_none = record { no_delivery = λ a. refl; no_signature = refl }
-
-pub quiet_append : (xs ys : List Effect) → Quiet xs → Quiet ys → Quiet (xs ++ ys)
-quiet_append xs ys h k = record {
-  no_delivery = λ a. flat_map-append (delivered_by a) xs ys ∙ rw (h.no_delivery a, k.no_delivery a) refl;
-  no_signature = flat_map-append signed_by xs ys ∙ rw (h.no_signature, k.no_signature) refl;
-}
-
-quiet_either : (t : Bool) (xs ys : List Effect) → Quiet xs → Quiet ys → Quiet (cond t xs ys)
-quiet_either true xs ys h k = h
-quiet_either false xs ys h k = k
-
-pub quiet_flat : {X : Type 0} (f : X → List Effect) → ((x : X) → Quiet (f x)) → (xs : List X) → Quiet (flat_map f xs)
-quiet_flat f each [] = quiet_none
-quiet_flat f each (x ∷ xs) = quiet_append (f x) (flat_map f xs) (each x) (quiet_flat f each xs)
-
-pub quiet_weight : (body : Body) → Quiet (weight_effects body)
-quiet_weight (bodies.Prio p) = quiet_none
-quiet_weight (bodies.Rel r) = quiet_none
-quiet_weight (bodies.Ack a) = quiet_none
-quiet_weight (bodies.Weight u) = record { no_delivery = λ a. refl; no_signature = refl }
-quiet_weight (bodies.Krel a) = quiet_none
-quiet_weight (bodies.Kack a) = quiet_none
-quiet_weight (bodies.Epoch a) = quiet_none
-
-pub quiet_gone : (place : ℕ) (why : Why) (e : Option Entry) → Quiet (rows.gone place why e)
-quiet_gone place why None = quiet_none
-quiet_gone place why (Some e) = record { no_delivery = λ a. refl; no_signature = refl }
-
-quiet_stored : (place id : ℕ) (body : Body) → Quiet (rows.stored place id body)
-quiet_stored place id (bodies.Prio p) = record { no_delivery = λ a. refl; no_signature = refl }
-quiet_stored place id (bodies.Rel r) = quiet_none
-quiet_stored place id (bodies.Ack a) = quiet_none
-quiet_stored place id (bodies.Weight u) = quiet_none
-quiet_stored place id (bodies.Krel u) = quiet_none
-quiet_stored place id (bodies.Kack u) = quiet_none
-quiet_stored place id (bodies.Epoch u) = quiet_none
-
-quiet_put : (place : ℕ) (s : Store) (o : Kept) → Quiet (rows.put_effects place s o)
-quiet_put place s o = quiet_append (rows.stored place (s.last + 1) o.body) _ (quiet_stored place (s.last + 1) o.body) (quiet_gone place Evicted _)
-
-quiet_delivered : (body : Body) → Quiet (prio.delivered body)
-quiet_delivered (bodies.Prio p) = record { no_delivery = λ a. refl; no_signature = refl }
-quiet_delivered (bodies.Rel r) = quiet_none
-quiet_delivered (bodies.Ack a) = quiet_none
-quiet_delivered (bodies.Weight u) = quiet_none
-quiet_delivered (bodies.Krel u) = quiet_none
-quiet_delivered (bodies.Kack u) = quiet_none
-quiet_delivered (bodies.Epoch u) = quiet_none
-
-pub quiet_prio : (p : PrioState) (o : Kept) (came : Option NodeId) → Quiet (prio_effects p o came)
-quiet_prio p o came =
-    quiet_either (prio.is_here p o.body) (prio.delivered o.body ++ rows.put_effects 0 p.inbox o) (flat_map (rows.given_effects o came) p.peers)
-    (quiet_append (prio.delivered o.body) (rows.put_effects 0 p.inbox o) (quiet_delivered o.body) (quiet_put 0 p.inbox o))
-    (quiet_flat (rows.given_effects o came) (λ q. quiet_either (rows.goes_to o.body came q) (rows.put_effects q.peer q.store o) [] (quiet_put q.peer q.store o) quiet_none) p.peers)
-
-quiet_left : (place : ℕ) (s : Store) (pairs : List (ℕ × ℕ)) → Quiet (rows.left_effects place s pairs)
-quiet_left place s [] = quiet_none
-quiet_left place s (pair ∷ pairs) =
-    quiet_append (rows.gone place Acked (entry_in s pair.1)) (rows.left_effects place (removed s pair.1) pairs)
-    (quiet_gone place Acked (entry_in s pair.1)) (quiet_left place (removed s pair.1) pairs)
-
-pub quiet_acked : (p : PrioState) (v number : ℕ) → Quiet (acked_effects p v number)
-quiet_acked p v number = let q = prio.peer_in p v in quiet_left q.peer q.store (rows.landed q number)
-
-quiet_expiring : (place : ℕ) (es : List Entry) → Quiet (map (λ e. effects.Gone place e.id Expired) es)
-quiet_expiring place [] = quiet_none
-quiet_expiring place (e ∷ es) = let rest = quiet_expiring place es in record { no_delivery = λ a. rest.no_delivery a; no_signature = rest.no_signature }
-
-pub quiet_expired : (p : PrioState) (now : ℕ) → Quiet (expired_effects p now)
-quiet_expired p now =
-    quiet_append (rows.expired_effects 0 p.inbox now) _ (quiet_expiring 0 (expired_entries p.inbox now))
-    (quiet_flat (λ (q : PrioPeer). rows.expired_effects q.peer q.store now) (λ q. quiet_expiring q.peer (expired_entries q.store now)) p.peers)
 
 -- ---- what the effects at u say was delivered at d of what s sent
 
@@ -162,77 +70,11 @@ pub record Handles (C : Type 0) (s d : NodeId) (S D : List Message) (c : ℕ) (u
   pub low : c ≤ length (D ++ told_here u s d es)
   pub unsigned : flat_map signed_by es ≡ []
 
--- a message that is none of a K-path flow
-abbrev pub IsOnePath : Body → Type 0
-IsOnePath (bodies.Krel r) = ⊥
-IsOnePath (bodies.Kack a) = ⊥
-IsOnePath _ = Unit {0}
-
 -- a new object says of the flow what was sent and acknowledged
 pub record Vouched (C : Type 0) (s d : NodeId) (S : List Message) (c : ℕ) (o : Kept) : Type 0 where
   pub one_path : IsOnePath o.body
   pub message : C → (m : Rel) → o.body ≡ bodies.Rel m → m.src ≡ s → m.dst ≡ d → IsIn S m.seq m.payload
   pub ack : (a : Ack) → o.body ≡ bodies.Ack a → a.src ≡ s → a.dst ≡ d → a.seq ≤ c
-
--- ---- what is new of pieces that fit is none of a K-path flow
-
-update_plain : (me : NodeId) (w : WeightState) (body : Body) → offer_to me w body ≡ offers.New → IsOnePath body
-update_plain me w (bodies.Prio b) e = tt
-update_plain me w (bodies.Rel b) e = tt
-update_plain me w (bodies.Ack b) e = tt
-update_plain me w (bodies.Weight b) e = tt
-update_plain me w (bodies.Krel b) e = absurd (cc)
-update_plain me w (bodies.Kack b) e = absurd (cc)
-update_plain me w (bodies.Epoch b) e = tt
-
-prio_plain : (body : Body) → IsPrio body → IsOnePath body
-prio_plain (bodies.Prio b) is = tt
-prio_plain (bodies.Rel b) is = absurd is
-prio_plain (bodies.Ack b) is = absurd is
-prio_plain (bodies.Weight b) is = absurd is
-prio_plain (bodies.Krel b) is = absurd is
-prio_plain (bodies.Kack b) is = absurd is
-prio_plain (bodies.Epoch b) is = absurd is
-
-ack_plain : (body : Body) → is_of kinds.Ack body ≡ true → IsOnePath body
-ack_plain (bodies.Prio b) is = tt
-ack_plain (bodies.Rel b) is = tt
-ack_plain (bodies.Ack b) is = tt
-ack_plain (bodies.Weight b) is = tt
-ack_plain (bodies.Krel b) is = absurd (cc)
-ack_plain (bodies.Kack b) is = absurd (cc)
-ack_plain (bodies.Epoch b) is = tt
-
-rel_plain : (body : Body) → is_of kinds.Rel body ≡ true → IsOnePath body
-rel_plain (bodies.Prio b) is = tt
-rel_plain (bodies.Rel b) is = tt
-rel_plain (bodies.Ack b) is = tt
-rel_plain (bodies.Weight b) is = tt
-rel_plain (bodies.Krel b) is = absurd (cc)
-rel_plain (bodies.Kack b) is = absurd (cc)
-rel_plain (bodies.Epoch b) is = tt
-
-piece_plain : (k : Sizes) (arts : Arts) (at : Arrival) (p : Parts) (piece : Piece) → PieceFits k piece
-    → NewKeep (λ o. IsOnePath o.body) (handle arts at p piece).answered
-piece_plain k arts at p (WeightPiece o) fits =
-    (λ new. update_plain at.fixed.me p.weights o.body (judged.new_weight (is_signed arts at.fixed o) (offer_to at.fixed.me p.weights o.body) new).1, tt)
-piece_plain k arts at p (PrioAckPiece number) fits = tt
-piece_plain k arts at p (PrioPiece number o) fits = (
-  λ new. prio_plain o.body (judged.is_prio p.prio o.body at.now
-      (judged.new_prio (is_signed arts at.fixed o) (is_dated p.lives o.body) (judge_prio p.prio o.body at.now) new).1),
-  tt,
-)
-piece_plain k arts at p (ReportPiece flow sboot dboot base have) fits = tt
-piece_plain k arts at p (AckPiece flow o) fits = (λ new. ack_plain o.body fits.1, tt)
-piece_plain k arts at p (RelPiece flow o) fits = (λ new. rel_plain o.body fits.1, tt)
-
-pub new_plain : (k : Sizes) (arts : Arts) (at : Arrival) (p : Parts) (pieces : List Piece) → AllFit k pieces
-    → NewKeep (λ o. IsOnePath o.body) (handle_all arts at p pieces).answered
-new_plain k arts at p [] fit = tt
-new_plain k arts at p (piece ∷ pieces) fit =
-    let done = handle arts at p piece in
-    new_both (λ o. IsOnePath o.body) done.answered (handle_all arts at done.parts pieces).answered (piece_plain k arts at p piece fit.0)
-    (new_plain k arts at done.parts pieces fit.1)
 
 module _ (C : Type 0) (s d : NodeId) (S : List Message) (c : ℕ) (u : NodeId) (different : s ≡ d → ⊥) where
   still : (D : List Message) (r r2 : RelState) (es : List Effect) → Quiet es → r2.me ≡ r.me → r2.flows ≡ r.flows → RelIs C s d S D c u r → (C → IsPrefix D S) → c ≤ length D
@@ -448,38 +290,40 @@ module _ (C : Type 0) (s d : NodeId) (S : List Message) (c : ℕ) (u : NodeId) (
   reported_flows true r x e f = (e, f)
   reported_flows false r x e f = (refl, refl)
 
-  one_handled : (D : List Message) (arts : Arts) (at : Arrival) (p : Parts) (piece : Piece) → NewKeep (Vouched C s d S c) (handle arts at p piece).answered
+  one_handled : (D : List Message) (arts : Arts) (at : Arrival) (p : Parts) (piece : Piece) → NoStart piece
+      → NewKeep (Vouched C s d S c) (handle arts at p piece).answered
       → RelIs C s d S D c u p.rel → (C → IsPrefix D S) → c ≤ length D → Handles C s d S D c u (handle arts at p piece).parts.rel (handle arts at p piece).effects
-  one_handled D arts at p (WeightPiece o) new h prefix low =
+  one_handled D arts at p (WeightPiece o) none new h prefix low =
       chosen D (items.Weight (weight_answer (is_signed arts at.fixed o) (offer_to at.fixed.me p.weights o.body))) (record p { weights = held p.weights o }) p (weight_effects o.body)
       (λ t. still D p.rel p.rel (weight_effects o.body) (quiet_weight o.body) refl refl h prefix low) (still D p.rel p.rel [] quiet_none refl refl h prefix low)
-  one_handled D arts at p (PrioAckPiece number) new h prefix low = still D p.rel p.rel _ (quiet_acked p.prio at.from.0 number) refl refl h prefix low
-  one_handled D arts at p (PrioPiece number o) new h prefix low =
+  one_handled D arts at p (PrioAckPiece number) none new h prefix low = still D p.rel p.rel _ (quiet_acked p.prio at.from.0 number) refl refl h prefix low
+  one_handled D arts at p (PrioPiece number o) none new h prefix low =
       let answer = prio_answer (is_signed arts at.fixed o) (is_dated p.lives o.body) (judge_prio p.prio o.body at.now) in
       let admitted = record p { prio = admit_prio p.prio o (Some at.from) } in
       subst (λ r. Handles C s d S D c u r (cond (is_new (items.Prio answer)) (prio_effects p.prio o (Some at.from)) []))
       (sym (heard_rel answer at.from number (cond (is_new (items.Prio answer)) admitted p)))
       (chosen D (items.Prio answer) admitted p (prio_effects p.prio o (Some at.from))
       (λ t. still D p.rel p.rel _ (quiet_prio p.prio o (Some at.from)) refl refl h prefix low) (still D p.rel p.rel [] quiet_none refl refl h prefix low))
-  one_handled D arts at p (ReportPiece flow sboot dboot base have) new h prefix low =
+  one_handled D arts at p (ReportPiece flow sboot dboot base have) none new h prefix low =
       let same = reported_flows (flow_in p.rel.flows flow).active p.rel (with_peer p.rel at.from (told_peer (peer_in p.rel.peers at.from) flow base have)) refl refl in
       cond_either (λ (q : Parts). Handles C s d S D c u q.rel []) (are_held p.lives flow sboot dboot) (record p { rel = reported p.rel at.from flow base have }) p
       (still D p.rel (reported p.rel at.from flow base have) [] quiet_none same.0 same.1 h prefix low) (still D p.rel p.rel [] quiet_none refl refl h prefix low)
-  one_handled D arts at p (AckPiece flow o) new h prefix low =
+  one_handled D arts at p (AckPiece flow o) none new h prefix low =
       chosen D (items.Ack (ack_answer (is_signed arts at.fixed o) (is_dated p.lives o.body) (judge_ack_of p.rel flow o.body))) (record p { rel = admit_ack p.rel o }) p []
       (λ t. ack_taken D p.rel flow o (judged.new_ack _ _ _ t).1 (new.0 t) h prefix low) (still D p.rel p.rel [] quiet_none refl refl h prefix low)
-  one_handled D arts at p (RelPiece flow o) new h prefix low =
+  one_handled D arts at p (RelPiece flow o) none new h prefix low =
       chosen D (items.Rel (rel_answer (is_signed arts at.fixed o) (is_dated p.lives o.body) (judge_rel_of p.rel flow o.body))) (record p { rel = admit_rel p.rel o }) p (rel_effects p.rel o)
       (λ t. rel_taken D p.rel flow o (judged.new_rel _ _ _ t).1 (new.0 t) h prefix low) (still D p.rel p.rel [] quiet_none refl refl h prefix low)
+  one_handled D arts at p (EpochPiece o) none new h prefix low = absurd none
 
-  pub all_handled : (D : List Message) (arts : Arts) (at : Arrival) (p : Parts) (pieces : List Piece) → NewKeep (Vouched C s d S c) (handle_all arts at p pieces).answered
+  pub all_handled : (D : List Message) (arts : Arts) (at : Arrival) (p : Parts) (pieces : List Piece) → NoStarts pieces → NewKeep (Vouched C s d S c) (handle_all arts at p pieces).answered
       → RelIs C s d S D c u p.rel → (C → IsPrefix D S) → c ≤ length D → Handles C s d S D c u (handle_all arts at p pieces).parts.rel (handle_all arts at p pieces).effects
-  all_handled D arts at p [] new h prefix low = still D p.rel p.rel [] quiet_none refl refl h prefix low
-  all_handled D arts at p (piece ∷ pieces) new h prefix low =
+  all_handled D arts at p [] none new h prefix low = still D p.rel p.rel [] quiet_none refl refl h prefix low
+  all_handled D arts at p (piece ∷ pieces) none new h prefix low =
       let first = handle arts at p piece in
       let others = handle_all arts at first.parts pieces in
-      let one = one_handled D arts at p piece (new_left (Vouched C s d S c) first.answered others.answered new) h prefix low in
-      let rest = all_handled (D ++ told_here u s d first.effects) arts at first.parts pieces (new_right (Vouched C s d S c) first.answered others.answered new) one.rel one.prefix one.low in
+      let one = one_handled D arts at p piece none.0 (new_left (Vouched C s d S c) first.answered others.answered new) h prefix low in
+      let rest = all_handled (D ++ told_here u s d first.effects) arts at first.parts pieces none.1 (new_right (Vouched C s d S c) first.answered others.answered new) one.rel one.prefix one.low in
       let both : D ++ told_here u s d (first.effects ++ others.effects) ≡ (D ++ told_here u s d first.effects) ++ told_here u s d others.effects =
       ap (λ t. D ++ t) (told_both u s d first.effects others.effects) ∙ sym (append_assoc D (told_here u s d first.effects) (told_here u s d others.effects)) in
       record {

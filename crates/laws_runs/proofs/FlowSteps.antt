@@ -31,7 +31,8 @@ use Rattle.sp_runs.specs.Told.{Message, delivered_by, signed_by}
 use Rattle.laws_runs.specs.Acknowledged.{ack_in, acks_in}
 use Rattle.laws_runs.specs.Flows.{IsIn, AreNumbered}
 use Rattle.laws_runs.proofs.FlowFacts.{FlowAt, RelIs, cases_flow, flow_concluded, flow_grown, flow_of, flow_sent, in_last, same_at, same_rows_is, with_flow_is}
-use Rattle.laws_runs.proofs.FlowPieces.{Quiet, told_here, told_quiet}
+use Rattle.laws_runs.proofs.FlowPieces.{told_here, told_quiet}
+use Rattle.laws_runs.proofs.Quiet.{Quiet}
 use Rattle.laws_runs.proofs.Lists.{among_cons}
 use Rattle.laws_runs.proofs.Tables.{same_node}
 

@@ -15,7 +15,7 @@ use Rattle.sp_msg.specs.declared.effect.Why.TheVariants.{Taken}
 use Rattle.sp_msg.specs.declared.kept.Kept.{Kept}
 use Rattle.sp_msg.specs.declared.refused.SendRefused.{SendRefused}
 use Rattle.sp_msg.specs.declared.refused.SendRefused.TheVariants as refusals
-use Rattle.sp_rules.specs.Arrivals.{arrival_at, handled, link_after, pieces_in, pieces_where, reply_at, sections_in}
+use Rattle.sp_rules.specs.Arrivals.{arrival_at, handled, link_after, parts_met, pieces_in, reply_at, sections_in}
 use Rattle.sp_rules.specs.Arts.{Arts}
 use Rattle.sp_rules.specs.Handle.{weight_effects}
 use Rattle.sp_rules.specs.Link.{advanced}
@@ -23,7 +23,7 @@ use Rattle.sp_rules.specs.Lives.{held_boot}
 use Rattle.sp_rules.specs.Node.{NodeState, call_refusal, called, kept_or, link_in, signed_now, signed_once, with_link}
 use Rattle.sp_rules.specs.Polls.{frame_to, polled}
 use Rattle.sp_rules.specs.Weights.{held}
-use Rattle.sp_rules.specs.Parts.{Fixed}
+use Rattle.sp_rules.specs.Parts.{Fixed, Parts}
 use Rattle.sp_rules.specs.Prio.{admit_prio, expired_effects, prio_effects}
 use Rattle.sp_rules.specs.PrioPeer.{gone}
 use Rattle.sp_rules.specs.Rel.{RelState, pushed_in, served, took}
@@ -59,10 +59,13 @@ use Rattle.laws_runs.specs.Flows.{IsIn, AreNumbered}
 use Rattle.laws_runs.specs.Premises.{Carries}
 use Rattle.laws_runs.specs.Signs.{Good, Known, NodeIs, sizes_at}
 use Rattle.laws_runs.proofs.FlowFacts.{RelIs, flow_of}
-use Rattle.laws_runs.proofs.FlowPieces.{Handles, IsOnePath, Vouched, all_handled, new_plain, quiet_append, quiet_expired, quiet_gone, quiet_none, quiet_prio, quiet_weight, told_here}
+use Rattle.laws_runs.proofs.FlowPieces.{Handles, Vouched, all_handled, told_here}
+use Rattle.laws_runs.proofs.OnePaths.{IsOnePath, new_plain}
+use Rattle.laws_runs.proofs.Quiet.{quiet_append, quiet_expired, quiet_gone, quiet_none, quiet_prio, quiet_weight}
 use Rattle.laws_runs.proofs.FlowSteps.{Stepped, acked_here, acked_none, sent_step, served_step, settled_step, signed_other, silent, took_step}
 use Rattle.laws_runs.proofs.Lists.{among_cons}
 use Rattle.laws_runs.proofs.Goods.{arts_fit}
+use Rattle.laws_runs.proofs.NoStarts.{met_as_it_was, no_starts_at, pieces_at, without}
 use Rattle.laws_runs.proofs.Signed.{new_have}
 
 -- ---- the greatest number
@@ -124,13 +127,13 @@ new_on_one arts x P v n u bytes output after fits step input is =
     k : Sizes
     k = sizes_at x P v
 
-    few : FewFit k (pieces_where (reply_at arts n u bytes) (pieces_in (sections_in arts n.fixed bytes)))
-    few = where_fits k (pieces_in (sections_in arts n.fixed bytes)) (reply_at arts n u bytes)
+    few : FewFit k (pieces_at arts n u bytes)
+    few = where_fits k (pieces_in n.fixed (sections_in arts n.fixed bytes)) (reply_at arts n u bytes)
         (sections_fit k arts n.fixed n.signer bytes (arts_fit arts x P v n fits is) input is.holds.fixed.format is.holds.fixed.signature_len
         (sections_in arts n.fixed bytes) refl)
 
     go : (r : Option NodeRefused) → NewKeep (λ o. IsOnePath o.body) (refused_call r (arrived arts n u bytes)).answered
-    go None = new_plain k arts (arrival_at n u) n.parts (pieces_where (reply_at arts n u bytes) (pieces_in (sections_in arts n.fixed bytes))) few.fit
+    go None = new_plain k arts (arrival_at n u) (parts_met arts n u bytes) (pieces_at arts n u bytes) few.fit
     go (Some refused) = tt
 
 vouched : (arts : Arts) → ReadsBack arts → (x : Setting) (s d : NodeId) (es : List Event) (js : List Entry) (w : World) → IsTrue (is_correct x d) → FlowsHold arts x s d es js w → (o : Kept) → Known arts x es js o → IsTrue (arts.is_good o.body)
@@ -172,9 +175,10 @@ module _ (C : Type 0) (x : Setting) (P : Kept → Type 0) (arts : Arts) (s d : N
         messages = λ k z m good src dst among. absurd (let f : false ≡ true = rw h.unsigned at among in cc);
       }
 
-  datagram_done : (n : NodeState) (v : NodeId) (bytes : List ℕ) (output : Output) (after : NodeState) → NodeStep arts n (steps.Datagram v bytes) output after → NewKeep (Vouched C s d S c) output.answered
+  datagram_done : (n : NodeState) (v : NodeId) (bytes : List ℕ) (output : Output) (after : NodeState) → NodeStep arts n (steps.Datagram v bytes) output after → n.fixed.epochs ≡ false
+      → NewKeep (Vouched C s d S c) output.answered
       → RelIs C s d S D c u n.parts.rel → (C → IsPrefix D S) → c ≤ length D → Done [] output.effects after
-  datagram_done n v bytes output after step new h prefix low =
+  datagram_done n v bytes output after step plain new h prefix low =
       go (call_refusal n v) (subst (λ (o : Output). NewKeep (Vouched C s d S c) o.answered) step.0 new) (ap (λ (o : Output). o.effects) step.0) step.1
     where
       go : (r : Option NodeRefused) → NewKeep (Vouched C s d S c) (refused_call r (arrived arts n v bytes)).answered → output.effects ≡ (refused_call r (arrived arts n v bytes)).effects
@@ -182,7 +186,8 @@ module _ (C : Type 0) (x : Setting) (P : Kept → Type 0) (arts : Arts) (s d : N
       go None new e f = subst (λ es. Stepped arts C s d S [] D c u es after.parts.rel) (sym e)
           (subst (λ (m : NodeState). Stepped arts C s d S [] D c u (handled arts n v bytes).effects m.parts.rel) (sym f)
           (of_handled (handled arts n v bytes).effects (handled arts n v bytes).parts.rel
-          (all_handled C s d S c u different D arts (arrival_at n v) n.parts (pieces_where (reply_at arts n v bytes) (pieces_in (sections_in arts n.fixed bytes))) new h prefix low)))
+          (all_handled C s d S c u different D arts (arrival_at n v) (parts_met arts n v bytes) (pieces_at arts n v bytes) (no_starts_at arts n v bytes plain) new
+          (subst (λ (p : Parts). RelIs C s d S D c u p.rel) (sym (met_as_it_was arts n v bytes plain)) h) prefix low)))
       go (Some refused) new e f = subst (λ es. Stepped arts C s d S [] D c u es after.parts.rel) (sym e)
           (subst (λ (m : NodeState). Stepped arts C s d S [] D c u [] m.parts.rel) (sym f) (quietly n h prefix low))
 
@@ -345,7 +350,7 @@ module _ (arts : Arts) (x : Setting) (s d : NodeId) (different : s ≡ d → ⊥
       let moves : NodeStep arts n (steps.Datagram u bytes) output after = subst (λ y. NodeStep arts n y output after) same step in
       let good = new_have (λ o. IsTrue (arts.is_good o.body)) arts n i output after carries.goods input step in
       let fields = new_on_one arts x (Good arts x es js) v n u bytes output after fits moves (subst InputFits same input) is in
-      datagram_done C x (Good arts x es js) arts s d S D c v different fits carries.bodies n u bytes output after moves
+      datagram_done C x (Good arts x es js) arts s d S D c v different fits carries.bodies n u bytes output after moves (without x (Good arts x es js) v n is)
       (new_three (Known arts x es js) (λ o. IsTrue (arts.is_good o.body)) (λ o. IsOnePath o.body) (Vouched C s d S c)
       (vouched arts carries.bodies x s d es js w d_correct h) output.answered known good fields) rel h.prefix h.low
 

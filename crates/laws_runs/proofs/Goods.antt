@@ -15,7 +15,7 @@ use Rattle.sp_rules.specs.Arrivals.{pieces_where}
 use Rattle.sp_rules.specs.Arts.{Arts}
 use Rattle.sp_rules.specs.Node.{NodeState, Signer}
 use Rattle.sp_rules.specs.Parts.{Fixed, is_signed, nodes_of}
-use Rattle.sp_rules.specs.Pieces.{Piece, WeightPiece, PrioAckPiece, PrioPiece, ReportPiece, AckPiece, RelPiece}
+use Rattle.sp_rules.specs.Pieces.{Piece, WeightPiece, PrioAckPiece, PrioPiece, ReportPiece, AckPiece, RelPiece, EpochPiece}
 use Rattle.sp_rules.specs.declared.answers.Item.{Item}
 use Rattle.sp_rules.specs.declared.node.LinkReply.{LinkReply}
 use Rattle.sp_rules.specs.declared.node.LinkReply.TheVariants as links
@@ -56,6 +56,7 @@ all_of P (piece ∷ pieces) h = All-append P (objects_of piece) (objects_in piec
     one (ReportPiece flow sboot dboot base have) h = All-nil P
     one (AckPiece flow o) h = All-cons P o [] h (All-nil P)
     one (RelPiece flow o) h = All-cons P o [] h (All-nil P)
+    one (EpochPiece o) h = All-cons P o [] h (All-nil P)
 
 pub of_all : (P : Kept → Type 0) (pieces : List Piece) → All P (objects_in pieces) → AllKeep P pieces
 of_all P [] h = tt
@@ -65,6 +66,7 @@ of_all P (PrioPiece number o ∷ pieces) h = (All-head P o (objects_in pieces) h
 of_all P (ReportPiece flow sboot dboot base have ∷ pieces) h = (tt, of_all P pieces h)
 of_all P (AckPiece flow o ∷ pieces) h = (All-head P o (objects_in pieces) h, of_all P pieces (All-tail P o (objects_in pieces) h))
 of_all P (RelPiece flow o ∷ pieces) h = (All-head P o (objects_in pieces) h, of_all P pieces (All-tail P o (objects_in pieces) h))
+of_all P (EpochPiece o ∷ pieces) h = (All-head P o (objects_in pieces) h, of_all P pieces (All-tail P o (objects_in pieces) h))
 
 pub where_keep : (P : Kept → Type 0) (reply : LinkReply) (pieces : List Piece) → AllKeep P pieces → AllKeep P (pieces_where reply pieces)
 where_keep P links.Fresh pieces h = h
@@ -101,7 +103,7 @@ new_known arts x es js (a ∷ others) e = elim (cases_Bool (is_forged arts x es 
 ]
 
 pub good_new : (arts : Arts) (x : Setting) (es : List Event) (js : List Entry) (answered : List (Kept × Item)) → NewKeep (Known arts x es js) answered
-    → NewKeep (λ o. IsTrue (is_signed arts (record { me = record { 0 = 0 }; boot = 0; topology = x.topology; signature_len = 0 }) o)) answered
+    → NewKeep (λ o. IsTrue (is_signed arts (record { me = record { 0 = 0 }; boot = 0; topology = x.topology; signature_len = 0; epochs = false }) o)) answered
     → NewKeep IsOfBytes answered → NewKeep (λ o. IsTrue (arts.is_good o.body)) answered → NewKeep (Good arts x es js) answered
 good_new arts x es js [] one two three four = tt
 good_new arts x es js (a ∷ others) one two three four =

@@ -4,11 +4,14 @@ pub mod Lives
 pub mod Reaches
 pub mod Goods
 pub mod Acks
+pub mod NoStarts
 pub mod Unborn
 pub mod Signed
 pub mod Passes
 pub mod Bounds
 pub mod FlowFacts
+pub mod Quiet
+pub mod OnePaths
 pub mod FlowPieces
 pub mod FlowSteps
 pub mod Flows

@@ -14,14 +14,14 @@ use Rattle.sp_msg.specs.declared.effect.Why.TheVariants.{Taken}
 use Rattle.sp_msg.specs.declared.refused.SendRefused.{SendRefused}
 use Rattle.sp_rules.proofs.FlowJudged.{new_rel, same_flow}
 use Rattle.sp_rules.specs.Answers.{ack_answer, is_new, prio_answer, rel_answer, weight_answer}
-use Rattle.sp_rules.specs.Arrivals.{arrival_at, pieces_in, pieces_where, reply_at, sections_in}
+use Rattle.sp_rules.specs.Arrivals.{arrival_at, parts_met}
 use Rattle.sp_rules.specs.Arts.{Arts}
 use Rattle.sp_rules.specs.Flow.{flow_said}
 use Rattle.sp_rules.specs.Handle.{Arrival, handle, handle_all, heard_where, offer_to, weight_effects}
 use Rattle.sp_rules.specs.Lives.{are_held, is_dated}
 use Rattle.sp_rules.specs.Node.{NodeState, call_refusal}
 use Rattle.sp_rules.specs.Parts.{Parts, is_signed}
-use Rattle.sp_rules.specs.Pieces.{Piece, WeightPiece, PrioAckPiece, PrioPiece, ReportPiece, AckPiece, RelPiece}
+use Rattle.sp_rules.specs.Pieces.{Piece, WeightPiece, PrioAckPiece, PrioPiece, ReportPiece, AckPiece, RelPiece, EpochPiece}
 use Rattle.sp_rules.specs.Polls.{frame_to}
 use Rattle.sp_rules.specs.Prio.{admit_prio, expired_effects, judge_prio, prio_effects}
 use Rattle.sp_rules.specs.Rel.{RelState, admit_ack, admit_rel, delivery, flow_in, is_from, is_to, judge_ack_of, judge_rel, judge_rel_of, peer_in, rel_effects, reported, told, with_peer}
@@ -45,9 +45,11 @@ use Rattle.sp_runs.specs.Told.{Message, delivered, delivered_by, told_at}
 use Rattle.sp_runs.specs.Worlds.{World}
 use Rattle.sp_journal.specs.declared.entry.Entry.{Entry}
 use Rattle.sp_schedule_events.specs.declared.event.Event.{Event}
+use Rattle.laws_runs.specs.Signs.{Good}
 use Rattle.laws_runs.specs.Premises.{Carries}
+use Rattle.laws_runs.proofs.NoStarts.{NoStart, NoStarts, met_as_it_was, no_starts_at, pieces_at, without}
 use Rattle.laws_runs.proofs.FlowFacts.{flow_of}
-use Rattle.laws_runs.proofs.FlowPieces.{quiet_acked, quiet_expired, quiet_gone, quiet_prio, quiet_weight}
+use Rattle.laws_runs.proofs.Quiet.{quiet_acked, quiet_expired, quiet_gone, quiet_prio, quiet_weight}
 use Rattle.laws_runs.proofs.FlowRuns.{here_is, nothing_told}
 use Rattle.laws_runs.proofs.Lists.{told_more}
 use Rattle.laws_runs.proofs.Signed.{signs}
@@ -112,32 +114,34 @@ module _ (u : NodeId) where
   delivery_unheard true body other = rw other refl
   delivery_unheard false body other = refl
 
-  piece_keeps : (arts : Arts) (at : Arrival) (p : Parts) (piece : Piece) → p.rel.me ≡ u → Keeps (handle arts at p piece).parts (handle arts at p piece).effects
-  piece_keeps arts at p (WeightPiece o) me =
+  piece_keeps : (arts : Arts) (at : Arrival) (p : Parts) (piece : Piece) → NoStart piece → p.rel.me ≡ u
+      → Keeps (handle arts at p piece).parts (handle arts at p piece).effects
+  piece_keeps arts at p (WeightPiece o) none me =
       chosen (items.Weight (weight_answer (is_signed arts at.fixed o) (offer_to at.fixed.me p.weights o.body))) (record p { weights = held p.weights o }) p (weight_effects o.body)
       (λ t. (me, (quiet_weight o.body).no_delivery u)) me
-  piece_keeps arts at p (PrioAckPiece n) me = (me, (quiet_acked p.prio at.from.0 n).no_delivery u)
-  piece_keeps arts at p (PrioPiece n o) me =
+  piece_keeps arts at p (PrioAckPiece n) none me = (me, (quiet_acked p.prio at.from.0 n).no_delivery u)
+  piece_keeps arts at p (PrioPiece n o) none me =
       let answer = prio_answer (is_signed arts at.fixed o) (is_dated p.lives o.body) (judge_prio p.prio o.body at.now) in
       let admitted = record p { prio = admit_prio p.prio o (Some at.from) } in
       let done = chosen (items.Prio answer) admitted p (prio_effects p.prio o (Some at.from)) (λ t. (me, (quiet_prio p.prio o (Some at.from)).no_delivery u)) me in
       (heard_me answer at.from n (cond (is_new (items.Prio answer)) admitted p) ∙ done.0, done.1)
-  piece_keeps arts at p (ReportPiece flow sboot dboot base have) me =
+  piece_keeps arts at p (ReportPiece flow sboot dboot base have) none me =
       let reports = either_me (flow_in p.rel.flows flow).active p.rel (with_peer p.rel at.from (told (peer_in p.rel.peers at.from) flow base have)) refl in
       (where_me (are_held p.lives flow sboot dboot) (record p { rel = reported p.rel at.from flow base have }) p reports ∙ me, refl)
-  piece_keeps arts at p (AckPiece flow o) me =
+  piece_keeps arts at p (AckPiece flow o) none me =
       chosen (items.Ack (ack_answer (is_signed arts at.fixed o) (is_dated p.lives o.body) (judge_ack_of p.rel flow o.body))) (record p { rel = admit_ack p.rel o }) p [] (λ t. (me, refl)) me
-  piece_keeps arts at p (RelPiece flow o) me =
+  piece_keeps arts at p (RelPiece flow o) none me =
       chosen (items.Rel (rel_answer (is_signed arts at.fixed o) (is_dated p.lives o.body) (judge_rel_of p.rel flow o.body))) (record p { rel = admit_rel p.rel o }) p (rel_effects p.rel o)
       (λ t. (me, delivery_unheard (is_to p.rel (flow_said o.body)) o.body (other_source p.rel flow o.body me (judged.new_rel (is_signed arts at.fixed o) (is_dated p.lives o.body) (judge_rel_of p.rel flow o.body) t).1))) me
+  piece_keeps arts at p (EpochPiece o) none me = absurd none
 
-  all_keep : (arts : Arts) (at : Arrival) (p : Parts) (pieces : List Piece) → p.rel.me ≡ u → Keeps (handle_all arts at p pieces).parts (handle_all arts at p pieces).effects
-  all_keep arts at p [] me = (me, refl)
-  all_keep arts at p (piece ∷ pieces) me =
+  all_keep : (arts : Arts) (at : Arrival) (p : Parts) (pieces : List Piece) → NoStarts pieces → p.rel.me ≡ u → Keeps (handle_all arts at p pieces).parts (handle_all arts at p pieces).effects
+  all_keep arts at p [] none me = (me, refl)
+  all_keep arts at p (piece ∷ pieces) none me =
       let first = handle arts at p piece in
       let others = handle_all arts at first.parts pieces in
-      let one = piece_keeps arts at p piece me in
-      let rest = all_keep arts at first.parts pieces one.0 in
+      let one = piece_keeps arts at p piece none.0 me in
+      let rest = all_keep arts at first.parts pieces none.1 one.0 in
       (rest.0, none_both first.effects others.effects one.1 rest.1)
 
   -- ---- steps
@@ -155,22 +159,24 @@ module _ (u : NodeId) where
   acks arts (Some a) (Some r) = refl
   acks arts (Some a) None = refl
 
-  step_unheard : (arts : Arts) (old new : NodeState) (input : Input) (output : Output) → NodeStep arts old input output new → old.parts.rel.me ≡ u → Unheard output.effects
-  step_unheard arts old new (steps.Poll v) output step me = rw step.0 (called (call_refusal old v) (steps.replied (steps.Frame (frame_to arts old v))) refl)
-  step_unheard arts old new (steps.Datagram v bytes) output step me =
+  step_unheard : (arts : Arts) (old new : NodeState) (input : Input) (output : Output) → NodeStep arts old input output new → old.fixed.epochs ≡ false → old.parts.rel.me ≡ u → Unheard output.effects
+  step_unheard arts old new (steps.Poll v) output step plain me =
+      rw step.0 (called (call_refusal old v) (steps.replied (steps.Frame (frame_to arts old v))) refl)
+  step_unheard arts old new (steps.Datagram v bytes) output step plain me =
       rw step.0 (called (call_refusal old v) (steps.arrived arts old v bytes)
-      (all_keep arts (arrival_at old v) old.parts (pieces_where (reply_at arts old v bytes) (pieces_in (sections_in arts old.fixed bytes))) me).1)
-  step_unheard arts old new (steps.Tick now) output step me =
+      (all_keep arts (arrival_at old v) (parts_met arts old v bytes) (pieces_at arts old v bytes) (no_starts_at arts old v bytes plain)
+      (subst (λ (p : Parts). p.rel.me ≡ u) (sym (met_as_it_was arts old v bytes plain)) me)).1)
+  step_unheard arts old new (steps.Tick now) output step plain me =
       rw step.0 (none_both (expired_effects old.parts.prio (time_after old now)) (ack_effects arts (due_now old) (signer_refusal old.signer))
       ((quiet_expired old.parts.prio (time_after old now)).no_delivery u) (acks arts (due_now old) (signer_refusal old.signer)))
-  step_unheard arts old new (steps.SendRel d payload) output step me = rw step.0 (sent (rel_refusal old d) (rel_number old d) (rel_sent arts old d payload) refl)
-  step_unheard arts old new (steps.SendPrio m) output step me =
+  step_unheard arts old new (steps.SendRel d payload) output step plain me = rw step.0 (sent (rel_refusal old d) (rel_number old d) (rel_sent arts old d payload) refl)
+  step_unheard arts old new (steps.SendPrio m) output step plain me =
       rw step.output_is (sent (send_prio_refusal old m step.choice) old.parts.prio.next (prio_sent arts old m step.choice)
       ((quiet_prio old.parts.prio (own_prio arts old m step.choice) None).no_delivery u))
-  step_unheard arts old new (steps.SetWeight v weight) output step me =
+  step_unheard arts old new (steps.SetWeight v weight) output step plain me =
       rw step.0 (sent (weight_refusal old v weight) (weight_number old v) (weight_sent arts old v weight) ((quiet_weight (weight_body old v weight)).no_delivery u))
-  step_unheard arts old new (steps.TakeRel v) output step me = rw step.0 refl
-  step_unheard arts old new steps.TakePrio output step me = rw step.0 ((quiet_gone 0 Taken (oldest old.parts.prio.inbox)).no_delivery u)
+  step_unheard arts old new (steps.TakeRel v) output step plain me = rw step.0 refl
+  step_unheard arts old new steps.TakePrio output step plain me = rw step.0 ((quiet_gone 0 Taken (oldest old.parts.prio.inbox)).no_delivery u)
 
 -- ---- a whole run
 
@@ -188,7 +194,7 @@ none_of_its_own arts x es js w fits reads (Turned {es = es'} {js = js'} {old = o
     ∙ elim (cases_Bool ((acting e).0 == u.0)) [
       | inl t ↦
           let me : m.node.parts.rel.me ≡ u = is.holds.parts.rel.me ∙ same_node (acting e) u (eqb-true (acting e).0 u.0 t) in
-          rw t (step_unheard u arts m.node m.after m.input m.output m.step me)
+          rw t (step_unheard u arts m.node m.after m.input m.output m.step (without x (Good arts x es' js') (acting e) m.node is) me)
       | inr t ↦ rw t refl
     ]
 none_of_its_own arts x es js w fits reads (Turned {es = es'} {js = js'} {old = old} {e = e} {j = j} run range (Stays s) unforged) u =

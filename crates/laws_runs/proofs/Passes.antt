@@ -6,7 +6,7 @@ use Rattle.sp_frame.specs.Sections.{Contents}
 use Rattle.sp_frame.specs.declared.refused.SectionRefused.{SectionRefused}
 use Rattle.sp_msg.specs.declared.kept.Kept.{Kept}
 use Rattle.sp_msg.specs.declared.refused.SendRefused.{SendRefused}
-use Rattle.sp_rules.specs.Arrivals.{arrival_at, pieces_in, pieces_where, reply_at, sections_in}
+use Rattle.sp_rules.specs.Arrivals.{arrival_at, parts_met, pieces_in, reply_at, sections_in}
 use Rattle.sp_rules.specs.Arts.{Arts}
 use Rattle.sp_rules.specs.Node.{NodeState, call_refusal}
 use Rattle.sp_rules.specs.Parts.{Fixed}
@@ -31,6 +31,7 @@ use Rattle.sp_runs.specs.declared.what.What.TheVariants as whats
 use Rattle.laws_runs.specs.Laws.{IsHostile, OnlyTheAdversaryForges}
 use Rattle.laws_runs.specs.Premises.{Carries}
 use Rattle.laws_runs.specs.Signs.{Good}
+use Rattle.laws_runs.proofs.NoStarts.{in_keep, pieces_at}
 use Rattle.laws_runs.proofs.Lists.{among_get}
 use Rattle.laws_runs.proofs.Reaches.{came}
 use Rattle.laws_runs.proofs.Goods.{of_all, where_keep}
@@ -56,9 +57,10 @@ neither t o e f = rw (e, f) refl
 
 -- ---- what was made and passed is good
 
-pub in_good : (P : Kept → Type 0) (r : Result Contents SectionRefused) → ((s : Contents) → r ≡ Ok s → AllKeep P (pieces_in (Ok s))) → AllKeep P (pieces_in r)
-in_good P (Ok s) h = h s refl
-in_good P (Err refused) h = tt
+pub in_good : (P : Kept → Type 0) (f : Fixed) (r : Result Contents SectionRefused) → ((s : Contents) → r ≡ Ok s → AllKeep P (pieces_of s))
+    → AllKeep P (pieces_in f r)
+in_good P f (Ok s) h = in_keep P f s (h s refl)
+in_good P f (Err refused) h = tt
 
 pub called_good : (P : Kept → Type 0) (o : Output) (r : Option NodeRefused) → NewKeep P o.answered → NewKeep P (refused_call r o).answered
 called_good P o None h = h
@@ -74,12 +76,12 @@ pass_unforged arts x es js w new u v number j fits reads run m =
     let is = h.nodes v m.node m.is_there in
     let me : m.node.fixed.me ≡ v = ap (λ (f : Fixed). f.me) is.fixed in
     let moves : NodeStep arts m.node (steps.Datagram u it.bytes) m.output m.after = subst (λ i. NodeStep arts m.node i m.output m.after) it.is m.step in
-    let pieces = in_good P (sections_in arts m.node.fixed it.bytes)
+    let pieces = in_good P m.node.fixed (sections_in arts m.node.fixed it.bytes)
     (λ s read. of_all P (pieces_of s) (h.frames u v it.place it.bytes s it.there (ap (λ (f : Fixed). arts.sections f.signature_len it.bytes) (sym is.fixed) ∙ read))) in
     let news : NewKeep P m.output.answered =
     subst (λ (o : Output). NewKeep P o.answered) (sym moves.0) (called_good P (arrived arts m.node u it.bytes) (call_refusal m.node u)
-    (pieces_new P arts (arrival_at m.node u) m.node.parts (pieces_where (reply_at arts m.node u it.bytes) (pieces_in (sections_in arts m.node.fixed it.bytes)))
-    (where_keep P (reply_at arts m.node u it.bytes) (pieces_in (sections_in arts m.node.fixed it.bytes)) pieces))) in
+    (pieces_new P arts (arrival_at m.node u) (parts_met arts m.node u it.bytes) (pieces_at arts m.node u it.bytes)
+    (where_keep P (reply_at arts m.node u it.bytes) (pieces_in m.node.fixed (sections_in arts m.node.fixed it.bytes)) pieces))) in
     let tag : has_forged_tag arts x w m.node m.input ≡ false =
     ap (has_forged_tag arts x w m.node) it.is
     ∙ all_three (is_correct x u) (is_tagged (reply_at arts m.node u it.bytes)) (is_among it.bytes (frames_in w.directions u m.node.fixed.me)) (λ correct tagged. subst (λ (y : NodeId). is_among it.bytes (frames_in w.directions u y) ≡ true) (sym me) (among_get it.bytes (frames_in w.directions u v) it.place it.there)) in

@@ -18,7 +18,7 @@ use Rattle.sp_msg.specs.declared.effect.Why.TheVariants as whys
 use Rattle.sp_msg.specs.declared.kept.Kept.{Kept}
 use Rattle.sp_msg.specs.declared.refused.SendRefused.{SendRefused}
 use Rattle.sp_rules.specs.Answers.{ack_answer, is_new, prio_answer, rel_answer, weight_answer}
-use Rattle.sp_rules.specs.Arrivals.{arrival_at, handled, link_after, pieces_in, pieces_where, reply_at, sections_in}
+use Rattle.sp_rules.specs.Arrivals.{arrival_at, handled, link_after, parts_met}
 use Rattle.sp_rules.specs.Arts.{Arts}
 use Rattle.sp_rules.specs.Flow.{flow_said}
 use Rattle.sp_rules.specs.Handle.{Arrival, handle, handle_all, heard_where, offer_to, weight_effects}
@@ -26,7 +26,7 @@ use Rattle.sp_rules.specs.Link.{advanced}
 use Rattle.sp_rules.specs.Lives.{are_held, is_dated}
 use Rattle.sp_rules.specs.Node.{NodeState, call_refusal, called, kept_or, link_in, signed_now, signed_once, with_link}
 use Rattle.sp_rules.specs.Parts.{Parts, is_signed}
-use Rattle.sp_rules.specs.Pieces.{Piece, WeightPiece, PrioAckPiece, PrioPiece, ReportPiece, AckPiece, RelPiece}
+use Rattle.sp_rules.specs.Pieces.{Piece, WeightPiece, PrioAckPiece, PrioPiece, ReportPiece, AckPiece, RelPiece, EpochPiece}
 use Rattle.sp_rules.specs.Polls.{frame_to, polled}
 use Rattle.sp_rules.specs.Prio as prio
 use Rattle.sp_rules.specs.Prio.{PrioState, admit_prio, judge_prio, no_peer, peer_in, prio_effects}
@@ -57,6 +57,7 @@ use Rattle.sp_runs.specs.Settings.{Setting, SettingFits}
 use Rattle.laws_runs.specs.Signs.{NodeIs, sizes_at}
 use Rattle.laws_runs.proofs.PlaceFacts.{AllAway, Turns, admitted_turns, all_turn, inbox_turns, row_turns, turns_on, turns_same}
 use Rattle.laws_runs.proofs.Goods.{arts_fit}
+use Rattle.laws_runs.proofs.NoStarts.{NoStart, NoStarts, met_as_it_was, no_starts_at, pieces_at, without}
 use Rattle.laws_runs.proofs.StoreFacts.{Leads, Signs_it, Tells_rel, Tells_weight, expired_away, expired_is, expired_leads, gone_away, leads_nowhere, left_away, left_is, left_leads, oldest_is, oldest_leads}
 
 -- ---- effects of no place
@@ -137,14 +138,15 @@ module _ (capacity format : ℕ) where
   quiet_turns : (old new : PrioState) (es : List Effect) → AllAway es → new ≡ old → PlacesAre capacity old → Turns capacity old es new
   quiet_turns old new es away e h = turns_same capacity old new es away (ap (λ (p : PrioState). p.inbox) e) (ap (λ (p : PrioState). p.peers) e) h
 
-  one_turns : (arts : Arts) (at : Arrival) (p : Parts) (piece : Piece) → NewKeep (λ o. HasGoodFieldsIn format o.body) (handle arts at p piece).answered
+  one_turns : (arts : Arts) (at : Arrival) (p : Parts) (piece : Piece) → NoStart piece
+      → NewKeep (λ o. HasGoodFieldsIn format o.body) (handle arts at p piece).answered
       → PlacesAre capacity p.prio
       → Turns capacity p.prio (handle arts at p piece).effects (handle arts at p piece).parts.prio
-  one_turns arts at p (WeightPiece o) new h =
+  one_turns arts at p (WeightPiece o) none new h =
       let t = is_new (items.Weight (weight_answer (is_signed arts at.fixed o) (offer_to at.fixed.me p.weights o.body))) in
       quiet_turns p.prio (cond t (record p { weights = held_weight p.weights o }) p).prio (cond t (weight_effects o.body) []) (either_away t (weight_effects o.body) (weight_away o.body)) (same_prio t (record p { weights = held_weight p.weights o }) p refl) h
-  one_turns arts at p (PrioAckPiece number) new h = acked_turns p.prio at.from.0 number h
-  one_turns arts at p (PrioPiece number o) new h =
+  one_turns arts at p (PrioAckPiece number) none new h = acked_turns p.prio at.from.0 number h
+  one_turns arts at p (PrioPiece number o) none new h =
       let answer = prio_answer (is_signed arts at.fixed o) (is_dated p.lives o.body) (judge_prio p.prio o.body at.now) in
       let admitted = record p { prio = admit_prio p.prio o (Some at.from) } in
       let es = prio_effects p.prio o (Some at.from) in
@@ -159,26 +161,27 @@ module _ (capacity format : ℕ) where
       let after = cond (is_new (items.Prio answer)) admitted p in
       subst (λ xs. Turns capacity p.prio xs (heard_where answer at.from number after).prio) (append-nil (cond (is_new (items.Prio answer)) es []))
       (turns_on capacity p.prio after.prio (heard_where answer at.from number after).prio (cond (is_new (items.Prio answer)) es []) [] first (heard_turns answer at.from number after first.are))
-  one_turns arts at p (ReportPiece flow sboot dboot base have) new h =
+  one_turns arts at p (ReportPiece flow sboot dboot base have) none new h =
       quiet_turns p.prio (handle arts at p (ReportPiece flow sboot dboot base have)).parts.prio [] none_away
       (same_prio (are_held p.lives flow sboot dboot) (record p { rel = reported p.rel at.from flow base have }) p refl) h
-  one_turns arts at p (AckPiece flow o) new h =
+  one_turns arts at p (AckPiece flow o) none new h =
       let t = is_new (items.Ack (ack_answer (is_signed arts at.fixed o) (is_dated p.lives o.body) (judge_ack_of p.rel flow o.body))) in
       quiet_turns p.prio (cond t (record p { rel = admit_ack p.rel o }) p).prio (cond t [] []) (either_away t [] none_away) (same_prio t (record p { rel = admit_ack p.rel o }) p refl) h
-  one_turns arts at p (RelPiece flow o) new h =
+  one_turns arts at p (RelPiece flow o) none new h =
       let t = is_new (items.Rel (rel_answer (is_signed arts at.fixed o) (is_dated p.lives o.body) (judge_rel_of p.rel flow o.body))) in
       quiet_turns p.prio (cond t (record p { rel = admit_rel p.rel o }) p).prio (cond t (rel_effects p.rel o) []) (either_away t (rel_effects p.rel o) (rel_away (is_to p.rel (flow_said o.body)) o.body))
       (same_prio t (record p { rel = admit_rel p.rel o }) p refl) h
+  one_turns arts at p (EpochPiece o) none new h = absurd none
 
-  all_turns : (arts : Arts) (at : Arrival) (p : Parts) (pieces : List Piece)
+  all_turns : (arts : Arts) (at : Arrival) (p : Parts) (pieces : List Piece) → NoStarts pieces
       → NewKeep (λ o. HasGoodFieldsIn format o.body) (handle_all arts at p pieces).answered → PlacesAre capacity p.prio
       → Turns capacity p.prio (handle_all arts at p pieces).effects (handle_all arts at p pieces).parts.prio
-  all_turns arts at p [] new h = turns_same capacity p.prio p.prio [] none_away refl refl h
-  all_turns arts at p (piece ∷ pieces) new h =
+  all_turns arts at p [] none new h = turns_same capacity p.prio p.prio [] none_away refl refl h
+  all_turns arts at p (piece ∷ pieces) none new h =
       let first = handle arts at p piece in
       let others = handle_all arts at first.parts pieces in
-      let one = one_turns arts at p piece (new_left (λ o. HasGoodFieldsIn format o.body) first.answered others.answered new) h in
-      let rest = all_turns arts at first.parts pieces (new_right (λ o. HasGoodFieldsIn format o.body) first.answered others.answered new) one.are in
+      let one = one_turns arts at p piece none.0 (new_left (λ o. HasGoodFieldsIn format o.body) first.answered others.answered new) h in
+      let rest = all_turns arts at first.parts pieces none.1 (new_right (λ o. HasGoodFieldsIn format o.body) first.answered others.answered new) one.are in
       turns_on capacity p.prio first.parts.prio others.parts.prio first.effects others.effects one rest
 
   -- ---- the other calls
@@ -233,13 +236,16 @@ module _ (x : Setting) (arts : Arts) (fits : SettingFits arts x) (P : Kept → T
   turned n (steps.Datagram v bytes) output after step input is h = go (call_refusal n v) (ap (λ (o : Output). o.effects) step.0) step.1
     where
       news : NewKeep (λ o. HasGoodFieldsIn x.topology.format o.body) (handled arts n v bytes).answered
-      news = pieces_new (λ y. HasGoodFieldsIn x.topology.format y.body) arts (arrival_at n v) n.parts (pieces_where (reply_at arts n v bytes) (pieces_in (sections_in arts n.fixed bytes)))
+      news = pieces_new (λ y. HasGoodFieldsIn x.topology.format y.body) arts (arrival_at n v) (parts_met arts n v bytes) (pieces_at arts n v bytes)
           (step_fields (sizes_at x P u) arts n v bytes (arts_fit arts x P u n fits is) input is.holds)
 
       go : (r : Option NodeRefused) → output.effects ≡ (refused_call r (arrived arts n v bytes)).effects
           → after ≡ kept_or r n (called n (with_link n v (link_after arts n v bytes)) (handled arts n v bytes).parts) → Done n output after
       go None e f = by n output after (called n (with_link n v (link_after arts n v bytes)) (handled arts n v bytes).parts) (handled arts n v bytes).effects e f
-          (all_turns x.store x.topology.format arts (arrival_at n v) n.parts (pieces_where (reply_at arts n v bytes) (pieces_in (sections_in arts n.fixed bytes))) news h)
+          (let met = met_as_it_was arts n v bytes (without x P u n is) in
+          subst (λ (p : Parts). Turns x.store p.prio (handled arts n v bytes).effects (handled arts n v bytes).parts.prio) met
+          (all_turns x.store x.topology.format arts (arrival_at n v) (parts_met arts n v bytes) (pieces_at arts n v bytes)
+          (no_starts_at arts n v bytes (without x P u n is)) news (subst (λ (p : Parts). PlacesAre x.store p.prio) (sym met) h)))
       go (Some refused) e f = by n output after n [] e f (still n h)
   turned n (steps.Tick now) output after step input is h =
       by n output after (settled_by arts (at_time n now) (due_now n) (signer_refusal n.signer)) (prio.expired_effects n.parts.prio (time_after n now) ++ ack_effects arts (due_now n) (signer_refusal n.signer))

@@ -112,6 +112,7 @@ one_more capacity p es st (effects.Signed bytes) fresh h = quiet p es st (effect
 one_more capacity p es st (effects.Delivered src seq payload) fresh h = quiet p es st (effects.Delivered src seq payload) refl (λ id. refl) h
 one_more capacity p es st (effects.DeliveredPrio src seq payload) fresh h = quiet p es st (effects.DeliveredPrio src seq payload) refl (λ id. refl) h
 one_more capacity p es st (effects.WeightHeld origin edge seq weight) fresh h = quiet p es st (effects.WeightHeld origin edge seq weight) refl (λ id. refl) h
+one_more capacity p es st (effects.Ended flow) fresh h = quiet p es st (effects.Ended flow) refl (λ id. refl) h
 one_more capacity p es st (effects.Stored place id src seq prio) fresh h = elim (cases_Bool (place == p)) [
   | inl t ↦ rw t (stored p es st (effects.Stored place id src seq prio) (record { id = id; src = src.0; seq = seq; prio = prio }) (rw t refl) (λ i. refl) (fresh (eqb-true place p t)) h)
   | inr t ↦ rw t (quiet p es st (effects.Stored place id src seq prio) (rw t refl) (λ i. refl) h)

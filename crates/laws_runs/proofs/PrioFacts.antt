@@ -3,12 +3,10 @@ use Rattle.std.proofs.Common.{◌≡◌, ◌<◌, ℕ, zero, suc, ◌+◌, ◌==
 use Rattle.std.specs.Prelude.{◌⊎◌, ◌≢◌, ◌||◌, slice_index_or, slice_set}
 use Rattle.std.specs.List.{All, Contains, flat_map}
 use Rattle.std.proofs.lemmas.Bool.{cases_Bool, cases_eq, eq-eqb, eqb-true}
-use Rattle.std.proofs.lemmas.List.{append-nil, get_or-set_other, get_or-set_same, length-set, map-append}
+use Rattle.std.proofs.lemmas.List.{append-nil, get_or-set_other, get_or-set_same, map-append}
 use Rattle.std.proofs.lemmas.List.Concat.{flat_map-append}
 use Rattle.std.proofs.lemmas.List.Elements.{All-append, All-cons, All-nil}
 use Rattle.std.proofs.lemmas.List.Quantifiers.{all_pairs_push}
-use Rattle.sp_base.proofs.RowLemmas.{first_where-no_position}
-use Rattle.sp_base.specs.Rows.{first_where}
 use Rattle.sp_base.specs.declared.id.NodeId.{NodeId}
 use Rattle.sp_msg.specs.declared.body.Body.{Body}
 use Rattle.sp_msg.specs.declared.body.Body.TheVariants as bodies
@@ -23,7 +21,7 @@ use Rattle.sp_rules.specs.Arts.{Arts}
 use Rattle.sp_rules.specs.Handle.{Arrival, handle, handle_all, heard_where, offer_to, weight_effects}
 use Rattle.sp_rules.specs.Lives.{are_held, is_dated}
 use Rattle.sp_rules.specs.Parts.{Parts, is_signed}
-use Rattle.sp_rules.specs.Pieces.{Piece, WeightPiece, PrioAckPiece, PrioPiece, ReportPiece, AckPiece, RelPiece}
+use Rattle.sp_rules.specs.Pieces.{Piece, WeightPiece, PrioAckPiece, PrioPiece, ReportPiece, AckPiece, RelPiece, EpochPiece}
 use Rattle.sp_rules.specs.Prio as prio
 use Rattle.sp_rules.specs.Prio.{PrioState, admit_prio, acked_effects, is_here, is_node, judge_prio, marked, place_of, prio_effects, spread, window_at, window_in, windows_with}
 use Rattle.sp_rules.specs.PrioPeer as rows
@@ -45,9 +43,11 @@ use Rattle.laws_node.proofs.AskedLemmas.{new_left, new_right}
 use Rattle.laws_node.proofs.Handles as judged
 use Rattle.laws_node.proofs.Updates.{place_within}
 use Rattle.laws_node.proofs.WindowMarks.{marked_is_seen, seen_stays}
+use Rattle.laws_node.proofs.WindowPlaces.{has_place, long_with}
 use Rattle.sp_runs.specs.Told.{Message, prio_by}
 use Rattle.laws_runs.specs.Priority.{AreOnce}
 use Rattle.laws_node.proofs.Tables.{cond_either}
+use Rattle.laws_runs.proofs.NoStarts.{NoStart, NoStarts}
 use Rattle.laws_runs.proofs.Tables.{same_node}
 
 -- ---- effects without a priority delivery
@@ -170,28 +170,6 @@ marked_there windows i seq inside =
     let new = with_mark (slice_index_or windows i []) seq in
     subst (λ (w : List ℕ). is_seen w seq ≡ true) (sym (get_or-set_same windows i new [] inside)) (marked_is_seen (slice_index_or windows i []) seq)
 
-length_with : (windows : List (List ℕ)) (a : Option ℕ) (seq : ℕ) → length (windows_with windows a seq) ≡ length windows
-length_with windows None seq = refl
-length_with windows (Some i) seq = length-set windows i (with_mark (slice_index_or windows i []) seq)
-
--- a node has a place
-found_passes : (nodes : List NodeId) (id : ℕ) (none : NodeId) → is_node nodes id ≡ true → (first_where (λ n. n.0 == id) none nodes).0 ≡ id
-found_passes [] id none h = absurd (let f : false ≡ true = h in cc)
-found_passes (n ∷ nodes) id none h = elim (cases_Bool (n.0 == id)) [
-  | inl t ↦ rw t (eqb-true n.0 id t)
-  | inr t ↦ rw t (found_passes nodes id none (rw t at h))
-]
-
-has_place : (nodes : List NodeId) (id : ℕ) → is_node nodes id ≡ true → (i : ℕ) × (place_of nodes id ≡ Some i)
-has_place nodes id h = go (place_of nodes id) refl
-  where
-    go : (o : Option ℕ) → place_of nodes id ≡ o → (i : ℕ) × (place_of nodes id ≡ Some i)
-    go (Some i) e = (i, e)
-    go None e =
-        let none : NodeId = record { 0 = id + 1 } in
-        let here : id + 1 ≡ id = sym (ap (λ (n : NodeId). n.0) (first_where-no_position (λ n. n.0 == id) none nodes e)) ∙ found_passes nodes id none h in
-        absurd (omega (arith, here))
-
 -- ---- what stands at a correct d: each number of s that was told is seen, and none was told twice
 
 pub record PrioIs (s d : NodeId) (told : List ℕ) (p : PrioState) : Type 0 where
@@ -211,7 +189,7 @@ pub marks : (s d : NodeId) (told : List ℕ) (p p2 : PrioState) (src seq : ℕ) 
     → PrioIs s d told p2
 marks s d told p p2 src seq e f g h = record {
   me = e ∙ h.me;
-  len = rw (f, g) (length_with p.windows (place_of p.nodes src) seq ∙ h.len);
+  len = rw (f, g) (long_with p.windows (place_of p.nodes src) seq ∙ h.len);
   seen = λ q i. rw (f, g) (with_window p.windows (place_of p.nodes src) (place_of p.nodes s.0) seq q (inside p src h.len) (h.seen q i));
   once = h.once;
 }
@@ -354,15 +332,15 @@ module _ (C : Type 0) (s d : NodeId) (S : List Message) where
   done_same : (told : List ℕ) (p p2 : PrioState) (es : List Effect) → p2.me ≡ p.me → p2.nodes ≡ p.nodes → p2.windows ≡ p.windows → PrioDone C s d S told p es → PrioDone C s d S told p2 es
   done_same told p p2 es e f g h = record { at = same_windows s d (told ++ prio_numbers s es) p p2 e f g h.at; sent = h.sent }
 
-  one_handled : (told : List ℕ) (arts : Arts) (at : Arrival) (p : Parts) (piece : Piece) → NewKeep (VouchedPrio C s d S) (handle arts at p piece).answered → PrioIs s d told p.prio
+  one_handled : (told : List ℕ) (arts : Arts) (at : Arrival) (p : Parts) (piece : Piece) → NoStart piece → NewKeep (VouchedPrio C s d S) (handle arts at p piece).answered → PrioIs s d told p.prio
       → PrioDone C s d S told (handle arts at p piece).parts.prio (handle arts at p piece).effects
-  one_handled told arts at p (WeightPiece o) new h =
+  one_handled told arts at p (WeightPiece o) none new h =
       chosen told (items.Weight (weight_answer (is_signed arts at.fixed o) (offer_to at.fixed.me p.weights o.body))) (record p { weights = held p.weights o }) p (weight_effects o.body)
       (λ t. muted told p.prio (weight_effects o.body) (mute_weight o.body) h) (muted told p.prio [] mute_none h)
-  one_handled told arts at p (PrioAckPiece number) new h =
+  one_handled told arts at p (PrioAckPiece number) none new h =
       muted told (prio.acked p.prio at.from.0 number) (acked_effects p.prio at.from.0 number) (mute_acked p.prio at.from.0 number)
       (same_windows s d told p.prio _ refl refl refl h)
-  one_handled told arts at p (PrioPiece number o) new h =
+  one_handled told arts at p (PrioPiece number o) none new h =
       let answer = prio_answer (is_signed arts at.fixed o) (is_dated p.lives o.body) (judge_prio p.prio o.body at.now) in
       let admitted_to = record p { prio = admit_prio p.prio o (Some at.from) } in
       let after = cond (is_new (items.Prio answer)) admitted_to p in
@@ -370,25 +348,26 @@ module _ (C : Type 0) (s d : NodeId) (S : List Message) where
       done_same told after.prio (heard_where answer at.from number after).prio (cond (is_new (items.Prio answer)) (prio_effects p.prio o (Some at.from)) []) same.0 same.1 same.2
       (chosen told (items.Prio answer) admitted_to p (prio_effects p.prio o (Some at.from))
       (λ t. admitted told p.prio o (Some at.from) (new_prio p.prio o.body at.now (judged.new_prio _ _ _ t).1) (new.0 t) h) (muted told p.prio [] mute_none h))
-  one_handled told arts at p (ReportPiece flow sboot dboot base have) new h =
+  one_handled told arts at p (ReportPiece flow sboot dboot base have) none new h =
       let same = muted told p.prio [] mute_none h in
       cond_either (λ (q : Parts). PrioDone C s d S told q.prio []) (are_held p.lives flow sboot dboot) (record p { rel = reported p.rel at.from flow base have }) p
       same same
-  one_handled told arts at p (AckPiece flow o) new h =
+  one_handled told arts at p (AckPiece flow o) none new h =
       chosen told (items.Ack (ack_answer (is_signed arts at.fixed o) (is_dated p.lives o.body) (judge_ack_of p.rel flow o.body))) (record p { rel = admit_ack p.rel o }) p []
       (λ t. muted told p.prio [] mute_none h) (muted told p.prio [] mute_none h)
-  one_handled told arts at p (RelPiece flow o) new h =
+  one_handled told arts at p (RelPiece flow o) none new h =
       chosen told (items.Rel (rel_answer (is_signed arts at.fixed o) (is_dated p.lives o.body) (judge_rel_of p.rel flow o.body))) (record p { rel = admit_rel p.rel o }) p (rel_effects p.rel o)
       (λ t. muted told p.prio (rel_effects p.rel o) (mute_rel (is_to p.rel (flow_said o.body)) o.body) h) (muted told p.prio [] mute_none h)
+  one_handled told arts at p (EpochPiece o) none new h = absurd none
 
-  pub all_handled : (told : List ℕ) (arts : Arts) (at : Arrival) (p : Parts) (pieces : List Piece) → NewKeep (VouchedPrio C s d S) (handle_all arts at p pieces).answered → PrioIs s d told p.prio
+  pub all_handled : (told : List ℕ) (arts : Arts) (at : Arrival) (p : Parts) (pieces : List Piece) → NoStarts pieces → NewKeep (VouchedPrio C s d S) (handle_all arts at p pieces).answered → PrioIs s d told p.prio
       → PrioDone C s d S told (handle_all arts at p pieces).parts.prio (handle_all arts at p pieces).effects
-  all_handled told arts at p [] new h = muted told p.prio [] mute_none h
-  all_handled told arts at p (piece ∷ pieces) new h =
+  all_handled told arts at p [] none new h = muted told p.prio [] mute_none h
+  all_handled told arts at p (piece ∷ pieces) none new h =
       let first = handle arts at p piece in
       let others = handle_all arts at first.parts pieces in
-      let one = one_handled told arts at p piece (new_left (VouchedPrio C s d S) first.answered others.answered new) h in
-      let rest = all_handled (told ++ prio_numbers s first.effects) arts at first.parts pieces (new_right (VouchedPrio C s d S) first.answered others.answered new) one.at in
+      let one = one_handled told arts at p piece none.0 (new_left (VouchedPrio C s d S) first.answered others.answered new) h in
+      let rest = all_handled (told ++ prio_numbers s first.effects) arts at first.parts pieces none.1 (new_right (VouchedPrio C s d S) first.answered others.answered new) one.at in
       let both : told ++ prio_numbers s (first.effects ++ others.effects) ≡ (told ++ prio_numbers s first.effects) ++ prio_numbers s others.effects =
       ap (λ (ms : List Message). told ++ map (λ (m : Message). m.0) ms) (flat_map-append (prio_by s) first.effects others.effects)
       ∙ ap (λ t. told ++ t) (map-append (λ (m : Message). m.0) (flat_map (prio_by s) first.effects) (flat_map (prio_by s) others.effects))

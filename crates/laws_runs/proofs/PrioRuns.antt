@@ -18,6 +18,7 @@ use Rattle.sp_rules.specs.Steps as steps
 use Rattle.sp_rules.specs.Steps.{Input, NodeStep, Output}
 use Rattle.laws_node.specs.Inputs.{InputFits}
 use Rattle.laws_node.specs.Asked.{NewKeep}
+use Rattle.laws_runs.proofs.NoStarts.{without}
 use Rattle.laws_runs.proofs.Lives.{step_stays}
 use Rattle.sp_runs.specs.Forgery.{forged_object, has_forged_tag, is_among}
 use Rattle.sp_runs.specs.Inputs.{acting, crafted_frame, flipped, input_of, slot_alone}
@@ -76,12 +77,12 @@ module _ (arts : Arts) (x : Setting) (s d : NodeId) (fits : SettingFits arts x) 
   abbrev P : Kept → Type 0
   P = Good arts x es js
 
-  arrived_at : (v u : NodeId) (n : NodeState) (i : Input) (output : Output) (after : NodeState) → NodeStep arts n i output after → InputFits i → NewKeep (Known arts x es js) output.answered
-      → PrioHold arts x s d es js w → (v ≡ d → PrioIs s d told n.parts.prio) → (bytes : List ℕ) × (i ≡ steps.Datagram u bytes) → Acted arts C s d S [] told v after.parts.prio output.effects
-  arrived_at v u n i output after step input known h at (bytes, same) =
+  arrived_at : (v u : NodeId) (n : NodeState) (i : Input) (output : Output) (after : NodeState) → NodeStep arts n i output after → InputFits i → NodeIs x P v n
+      → NewKeep (Known arts x es js) output.answered → PrioHold arts x s d es js w → (v ≡ d → PrioIs s d told n.parts.prio) → (bytes : List ℕ) × (i ≡ steps.Datagram u bytes) → Acted arts C s d S [] told v after.parts.prio output.effects
+  arrived_at v u n i output after step input is known h at (bytes, same) =
       let moves : NodeStep arts n (steps.Datagram u bytes) output after = subst (λ y. NodeStep arts n y output after) same step in
       let good = new_have (λ o. IsTrue (arts.is_good o.body)) arts n i output after carries.goods input step in
-      datagram_done C x P arts carries.bodies fits s d S told v n u bytes output after moves
+      datagram_done C x P arts carries.bodies fits s d S told v n u bytes output after moves (without x P v n is)
       (new_both (Known arts x es js) (λ o. IsTrue (arts.is_good o.body)) (VouchedPrio C s d S) (vouched arts x s d es js w h) output.answered known good) at
 
   acted : (e : Event) (n : NodeState) (number : ℕ) (i : Input) (output : Output) (after : NodeState) → input_of arts x es w n e ≡ Some i → InputFits i → NodeStep arts n i output after → Says x number output j
@@ -106,12 +107,12 @@ module _ (arts : Arts) (x : Setting) (s d : NodeId) (fits : SettingFits arts x) 
       let same : i ≡ steps.SetWeight v weight = cc in weight_done C x P arts carries.bodies fits s d S told u n v weight output after (subst (λ y. NodeStep arts n y output after) same step) (subst InputFits same input) is at
   acted (events.Poll u v) n number i output after reaches input step says is known h at =
       let same : i ≡ steps.Poll v = cc in poll_done C x P arts carries.bodies fits s d S told u n v output after (subst (λ y. NodeStep arts n y output after) same step) at
-  acted (events.Pass u v k) n number i output after reaches input step says is known h at = arrived_at v u n i output after step input known h at (came_bytes u (λ y. y) _ i reaches)
-  acted (events.Flip u v k back bit) n number i output after reaches input step says is known h at = arrived_at v u n i output after step input known h at (came_bytes u (flipped back bit) _ i reaches)
-  acted (events.Inject u v bytes) n number i output after reaches input step says is known h at = arrived_at v u n i output after step input known h at (bytes, cc)
-  acted (events.Craft u v key body) n number i output after reaches input step says is known h at = arrived_at v u n i output after step input known h at (crafted_bytes _ u _ i reaches)
+  acted (events.Pass u v k) n number i output after reaches input step says is known h at = arrived_at v u n i output after step input is known h at (came_bytes u (λ y. y) _ i reaches)
+  acted (events.Flip u v k back bit) n number i output after reaches input step says is known h at = arrived_at v u n i output after step input is known h at (came_bytes u (flipped back bit) _ i reaches)
+  acted (events.Inject u v bytes) n number i output after reaches input step says is known h at = arrived_at v u n i output after step input is known h at (bytes, cc)
+  acted (events.Craft u v key body) n number i output after reaches input step says is known h at = arrived_at v u n i output after step input is known h at (crafted_bytes _ u _ i reaches)
   acted (events.CraftStatus u v a b base have) n number i output after reaches input step says is known h at =
-      arrived_at v u n i output after step input known h at (crafted_frame arts n u (slot_alone (flow_of a b) base have None []), cc)
+      arrived_at v u n i output after step input is known h at (crafted_frame arts n u (slot_alone (flow_of a b) base have None []), cc)
 
 -- ---- one event more
 

@@ -1,6 +1,6 @@
 -- What each step tells and keeps of priority messages.
 use Rattle.std.proofs.Common.{◌≡◌, ℕ, ◌==◌, Bool, true, false, cond, List, [], ◌∷◌, ◌++◌, Option, Some, None, refl, sym, ap, ap₂, subst, ◌∙◌, inl, inr, arith}
-use Rattle.std.specs.Prelude.{◌&&◌, ◌||◌, IsTrue}
+use Rattle.std.specs.Prelude.{◌&&◌, ◌||◌, not, IsTrue}
 use Rattle.std.specs.List.{All, Contains, flat_map}
 use Rattle.std.proofs.lemmas.Bool.{eq-eqb}
 use Rattle.std.proofs.lemmas.List.Concat.{flat_map-append}
@@ -16,7 +16,7 @@ use Rattle.sp_msg.specs.declared.kept.Kept.{Kept}
 use Rattle.sp_msg.specs.declared.refused.SendRefused.{SendRefused}
 use Rattle.sp_msg.specs.declared.refused.SendRefused.TheVariants as refusals
 use Rattle.sp_rules.specs.Answers.{ack_answer, is_new, prio_answer, rel_answer, weight_answer}
-use Rattle.sp_rules.specs.Arrivals.{arrival_at, handled, link_after, pieces_in, pieces_where, reply_at, sections_in}
+use Rattle.sp_rules.specs.Arrivals.{arrival_at, handled, link_after, parts_met}
 use Rattle.sp_rules.specs.Arts.{Arts}
 use Rattle.sp_rules.specs.Flow.{flow_said}
 use Rattle.sp_rules.specs.Handle.{Arrival, handle, handle_all, offer_to, weight_effects}
@@ -24,14 +24,14 @@ use Rattle.sp_rules.specs.Link.{advanced}
 use Rattle.sp_rules.specs.Lives.{is_dated}
 use Rattle.sp_rules.specs.Node.{NodeState, call_refusal, called, kept_or, link_in, signed_now, signed_once, with_link}
 use Rattle.sp_rules.specs.Parts.{Fixed, Parts, is_signed}
-use Rattle.sp_rules.specs.Pieces.{Piece, WeightPiece, PrioAckPiece, PrioPiece, ReportPiece, AckPiece, RelPiece}
+use Rattle.sp_rules.specs.Pieces.{Piece, WeightPiece, PrioAckPiece, PrioPiece, ReportPiece, AckPiece, RelPiece, EpochPiece}
 use Rattle.sp_rules.specs.Polls.{frame_to, polled}
 use Rattle.sp_rules.specs.Prio as prio
 use Rattle.sp_rules.specs.Prio.{PrioState, admit_prio, expired_effects, is_here, judge_prio, marked, prio_effects}
 use Rattle.sp_rules.specs.PrioPeer.{gone}
 use Rattle.sp_rules.specs.Rel.{delivery, is_to, judge_ack_of, judge_rel_of, pushed_in, rel_effects}
 use Rattle.sp_rules.specs.Masks.{Choice}
-use Rattle.sp_rules.specs.Sends.{PrioSend, mask_in, no_paths, own_prio, prio_body, prio_refusal, prio_sent as prio_told, rel_body, rel_number, rel_refusal, rel_sent, send_prio_refusal, signer_refusal, weight_body, weight_number, weight_refusal, weight_sent}
+use Rattle.sp_rules.specs.Sends.{PrioSend, is_unmet, mask_in, no_paths, own_prio, prio_body, prio_refusal, prio_sent as prio_told, rel_body, rel_number, rel_refusal, rel_sent, send_prio_refusal, signer_refusal, weight_body, weight_number, weight_refusal, weight_sent}
 use Rattle.sp_rules.specs.Steps as steps
 use Rattle.sp_rules.specs.Steps.{NodeStep, Output, accepted, arrived, refused_call, refused_send, replied}
 use Rattle.sp_rules.specs.Store.{oldest, said}
@@ -54,10 +54,11 @@ use Rattle.sp_journal.specs.declared.entry.Reply.{Reply}
 use Rattle.sp_journal.specs.declared.entry.Reply.TheVariants as replies
 use Rattle.sp_schedule_events.specs.declared.event.Event.TheVariants as events
 use Rattle.laws_runs.specs.Signs.{NodeIs, sizes_at}
-use Rattle.laws_runs.proofs.FlowPieces.{quiet_acked, quiet_expired, quiet_gone, quiet_prio, quiet_weight}
+use Rattle.laws_runs.proofs.Quiet.{quiet_acked, quiet_expired, quiet_gone, quiet_prio, quiet_weight}
 use Rattle.laws_runs.proofs.Goods.{arts_fit}
 use Rattle.laws_runs.proofs.Lists.{among_cons}
-use Rattle.laws_runs.proofs.PrioFacts.{Mute, PrioIs, VouchedPrio, all_handled, marks, mute_append, mute_expired, mute_gone, mute_none, mute_own, mute_signed, mute_weight, muted, prio_numbers, same_windows, spread_same}
+use Rattle.laws_runs.proofs.NoStarts.{NoStart, NoStarts, met_as_it_was, no_starts_at, pieces_at}
+use Rattle.laws_runs.proofs.PrioFacts.{Mute, PrioDone, PrioIs, VouchedPrio, all_handled, marks, mute_append, mute_expired, mute_gone, mute_none, mute_own, mute_signed, mute_weight, muted, prio_numbers, same_windows, spread_same}
 
 -- ---- pieces sign nothing
 
@@ -69,20 +70,22 @@ rel_unsigned : (t : Bool) (body : Body) → flat_map signed_by (cond t (delivery
 rel_unsigned true body = refl
 rel_unsigned false body = refl
 
-unsigned_piece : (arts : Arts) (at : Arrival) (p : Parts) (piece : Piece) → flat_map signed_by (handle arts at p piece).effects ≡ []
-unsigned_piece arts at p (WeightPiece o) = either_unsigned (is_new (items.Weight (weight_answer (is_signed arts at.fixed o) (offer_to at.fixed.me p.weights o.body)))) (weight_effects o.body) (quiet_weight o.body).no_signature
-unsigned_piece arts at p (PrioAckPiece number) = (quiet_acked p.prio at.from.0 number).no_signature
-unsigned_piece arts at p (PrioPiece number o) = either_unsigned (is_new (items.Prio (prio_answer (is_signed arts at.fixed o) (is_dated p.lives o.body) (judge_prio p.prio o.body at.now)))) (prio_effects p.prio o (Some at.from)) (quiet_prio p.prio o (Some at.from)).no_signature
-unsigned_piece arts at p (ReportPiece flow sboot dboot base have) = refl
-unsigned_piece arts at p (AckPiece flow o) = either_unsigned (is_new (items.Ack (ack_answer (is_signed arts at.fixed o) (is_dated p.lives o.body) (judge_ack_of p.rel flow o.body)))) [] refl
-unsigned_piece arts at p (RelPiece flow o) =
+unsigned_piece : (arts : Arts) (at : Arrival) (p : Parts) (piece : Piece) → NoStart piece → flat_map signed_by (handle arts at p piece).effects ≡ []
+unsigned_piece arts at p (WeightPiece o) none = either_unsigned (is_new (items.Weight (weight_answer (is_signed arts at.fixed o) (offer_to at.fixed.me p.weights o.body)))) (weight_effects o.body) (quiet_weight o.body).no_signature
+unsigned_piece arts at p (PrioAckPiece number) none = (quiet_acked p.prio at.from.0 number).no_signature
+unsigned_piece arts at p (PrioPiece number o) none = either_unsigned (is_new (items.Prio (prio_answer (is_signed arts at.fixed o) (is_dated p.lives o.body) (judge_prio p.prio o.body at.now)))) (prio_effects p.prio o (Some at.from)) (quiet_prio p.prio o (Some at.from)).no_signature
+unsigned_piece arts at p (ReportPiece flow sboot dboot base have) none = refl
+unsigned_piece arts at p (AckPiece flow o) none = either_unsigned (is_new (items.Ack (ack_answer (is_signed arts at.fixed o) (is_dated p.lives o.body) (judge_ack_of p.rel flow o.body)))) [] refl
+unsigned_piece arts at p (RelPiece flow o) none =
     either_unsigned (is_new (items.Rel (rel_answer (is_signed arts at.fixed o) (is_dated p.lives o.body) (judge_rel_of p.rel flow o.body)))) (rel_effects p.rel o) (rel_unsigned (is_to p.rel (flow_said o.body)) o.body)
+unsigned_piece arts at p (EpochPiece o) none = absurd none
 
-pub unsigned_all : (arts : Arts) (at : Arrival) (p : Parts) (pieces : List Piece) → flat_map signed_by (handle_all arts at p pieces).effects ≡ []
-unsigned_all arts at p [] = refl
-unsigned_all arts at p (piece ∷ pieces) =
+pub unsigned_all : (arts : Arts) (at : Arrival) (p : Parts) (pieces : List Piece) → NoStarts pieces
+    → flat_map signed_by (handle_all arts at p pieces).effects ≡ []
+unsigned_all arts at p [] none = refl
+unsigned_all arts at p (piece ∷ pieces) none =
     let first = handle arts at p piece in
-    flat_map-append signed_by first.effects (handle_all arts at first.parts pieces).effects ∙ rw (unsigned_piece arts at p piece, unsigned_all arts at first.parts pieces) refl
+    flat_map-append signed_by first.effects (handle_all arts at first.parts pieces).effects ∙ rw (unsigned_piece arts at p piece none.0, unsigned_all arts at first.parts pieces none.1) refl
 
 -- ---- the acting node's part
 
@@ -131,19 +134,29 @@ module _ (C : Type 0) (x : Setting) (P : Kept → Type 0) (arts : Arts) (reads :
   quietly : (n : NodeState) → (u ≡ d → PrioIs s d told n.parts.prio) → Acted arts C s d S [] told u n.parts.prio []
   quietly n h = unsigned n.parts.prio n.parts.prio [] mute_none refl refl refl refl h
 
-  pub datagram_done : (n : NodeState) (v : NodeId) (bytes : List ℕ) (output : Output) (after : NodeState) → NodeStep arts n (steps.Datagram v bytes) output after → NewKeep (VouchedPrio C s d S) output.answered
+  pub datagram_done : (n : NodeState) (v : NodeId) (bytes : List ℕ) (output : Output) (after : NodeState) → NodeStep arts n (steps.Datagram v bytes) output after → n.fixed.epochs ≡ false
+      → NewKeep (VouchedPrio C s d S) output.answered
       → (u ≡ d → PrioIs s d told n.parts.prio) → Acted arts C s d S [] told u after.parts.prio output.effects
-  datagram_done n v bytes output after step new h =
+  datagram_done n v bytes output after step plain new h =
       go (call_refusal n v) (subst (λ (o : Output). NewKeep (VouchedPrio C s d S) o.answered) step.0 new) (ap (λ (o : Output). o.effects) step.0) step.1
     where
+      none : NoStarts (pieces_at arts n v bytes)
+      none = no_starts_at arts n v bytes plain
+
+      all : u ≡ d → NewKeep (VouchedPrio C s d S) (handled arts n v bytes).answered
+          → PrioDone C s d S told (handled arts n v bytes).parts.prio (handled arts n v bytes).effects
+      all z new =
+          all_handled C s d S told arts (arrival_at n v) (parts_met arts n v bytes) (pieces_at arts n v bytes) none new
+          (subst (λ (p : Parts). PrioIs s d told p.prio) (sym (met_as_it_was arts n v bytes plain)) (h z))
+
       go : (r : Option NodeRefused) → NewKeep (VouchedPrio C s d S) (refused_call r (arrived arts n v bytes)).answered → output.effects ≡ (refused_call r (arrived arts n v bytes)).effects
           → after ≡ kept_or r n (called n (with_link n v (link_after arts n v bytes)) (handled arts n v bytes).parts) → Acted arts C s d S [] told u after.parts.prio output.effects
       go None new e f = subst (λ es. Acted arts C s d S [] told u after.parts.prio es) (sym e)
           (subst (λ (m : NodeState). Acted arts C s d S [] told u m.parts.prio (handled arts n v bytes).effects) (sym f) (record {
-            at = λ z. (all_handled C s d S told arts (arrival_at n v) n.parts (pieces_where (reply_at arts n v bytes) (pieces_in (sections_in arts n.fixed bytes))) new (h z)).at;
-            sent = λ z k. (all_handled C s d S told arts (arrival_at n v) n.parts (pieces_where (reply_at arts n v bytes) (pieces_in (sections_in arts n.fixed bytes))) new (h z)).sent k;
+            at = λ z. (all z new).at;
+            sent = λ z k. (all z new).sent k;
             messages = λ k z b good src dst among.
-                absurd (let q : false ≡ true = rw (unsigned_all arts (arrival_at n v) n.parts (pieces_where (reply_at arts n v bytes) (pieces_in (sections_in arts n.fixed bytes)))) at among in cc);
+                absurd (let q : false ≡ true = rw (unsigned_all arts (arrival_at n v) (parts_met arts n v bytes) (pieces_at arts n v bytes) none) at among in cc);
           }))
       go (Some refused) new e f = subst (λ es. Acted arts C s d S [] told u after.parts.prio es) (sym e)
           (subst (λ (m : NodeState). Acted arts C s d S [] told u m.parts.prio []) (sym f) (quietly n h))
@@ -219,9 +232,9 @@ module _ (C : Type 0) (x : Setting) (P : Kept → Type 0) (arts : Arts) (reads :
   sent_if None n m = sent_now n m
   sent_if (Some refused) n m = []
 
-  first_false : (a b : Bool) (q : SendRefused) (o : Option SendRefused) → cond (a || b) (Some q) o ≡ None → a ≡ false
-  first_false true b q o e = absurd (cc)
-  first_false false b q o e = refl
+  first_false : (a b c : Bool) (q : SendRefused) (o : Option SendRefused) → cond (a || b || c) (Some q) o ≡ None → a ≡ false
+  first_false true b c q o e = absurd (cc)
+  first_false false b c q o e = refl
 
   pub prio_done : (n : NodeState) (m : PrioSend) (output : Output) (after : NodeState) (step : NodeStep arts n (steps.SendPrio m) output after) → InputFits (steps.SendPrio m) → NodeIs x P u n
       → (u ≡ d → PrioIs s d told n.parts.prio) → Acted arts C s d S (sent_if (send_prio_refusal n m step.choice) n m) told u after.parts.prio output.effects
@@ -238,7 +251,8 @@ module _ (C : Type 0) (x : Setting) (P : Kept → Type 0) (arts : Arts) (reads :
           let p = n.parts.prio in
           let o = own_prio arts n m step.choice in
           let body = prio_body n m (mask_in step.choice) in
-          let other : (m.dst.0 == n.fixed.me.0) ≡ false = first_false _ _ _ _ both.0 in
+          let other : (m.dst.0 == n.fixed.me.0) ≡ false =
+          first_false (m.dst.0 == n.fixed.me.0) (not (prio.is_node n.parts.prio.nodes m.dst.0)) (is_unmet n m.dst) _ _ both.0 in
           let away : is_here p o.body ≡ false = ap (λ k. m.dst.0 == k) (is.holds.parts.prio.me ∙ ap (λ (v : NodeId). v.0) (sym me)) ∙ other in
           let mute : Mute (prio_told arts n m step.choice) = mute_signed (arts.spell body) (prio_effects p o None) (mute_own p o away) in
           let one : flat_map signed_by (prio_told arts n m step.choice) ≡ arts.spell body ∷ [] = ap (λ t. arts.spell body ∷ t) (quiet_prio p o None).no_signature in

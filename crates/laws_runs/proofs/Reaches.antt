@@ -78,13 +78,13 @@ one_object o (bodies.Kack a) is of = All-nil IsOfBytes
 one_object o (bodies.Epoch e) is of = All-nil IsOfBytes
 
 plain_alone : (body : Body) (o : Kept) → IsPlain (object_alone body o)
-plain_alone (bodies.Prio p) o = record { document = refl; paths = refl; probe = refl; epoch = refl }
-plain_alone (bodies.Rel r) o = record { document = refl; paths = refl; probe = refl; epoch = refl }
-plain_alone (bodies.Ack a) o = record { document = refl; paths = refl; probe = refl; epoch = refl }
-plain_alone (bodies.Weight w) o = record { document = refl; paths = refl; probe = refl; epoch = refl }
-plain_alone (bodies.Krel r) o = record { document = refl; paths = refl; probe = refl; epoch = refl }
-plain_alone (bodies.Kack a) o = record { document = refl; paths = refl; probe = refl; epoch = refl }
-plain_alone (bodies.Epoch e) o = record { document = refl; paths = refl; probe = refl; epoch = refl }
+plain_alone (bodies.Prio p) o = record { document = refl; paths = refl; probe = refl }
+plain_alone (bodies.Rel r) o = record { document = refl; paths = refl; probe = refl }
+plain_alone (bodies.Ack a) o = record { document = refl; paths = refl; probe = refl }
+plain_alone (bodies.Weight w) o = record { document = refl; paths = refl; probe = refl }
+plain_alone (bodies.Krel r) o = record { document = refl; paths = refl; probe = refl }
+plain_alone (bodies.Kack a) o = record { document = refl; paths = refl; probe = refl }
+plain_alone (bodies.Epoch e) o = record { document = refl; paths = refl; probe = refl }
 
 crafted_bytes : (format : ℕ) (arts : Arts) (n : NodeState) (c : NodeId) (s : Contents) → Carries format arts → IsPlain s → AreOfBytes s
     → AreBytes (crafted_frame arts n c s)
@@ -138,7 +138,7 @@ input_fits arts x es w n (events.Craft c v key object) input carries are range r
 input_fits arts x es w n (events.CraftStatus c v s d base have) input carries are range reaches =
     let contents = slot_alone (record { src = s; dst = d }) base have None [] in
     subst InputFits (same_input (steps.Datagram c (crafted_frame arts n c contents)) input reaches)
-    (crafted_bytes x.topology.format arts n c contents carries (record { document = refl; paths = refl; probe = refl; epoch = refl }) (All-nil IsOfBytes))
+    (crafted_bytes x.topology.format arts n c contents carries (record { document = refl; paths = refl; probe = refl }) (All-nil IsOfBytes))
 
 -- the payload that a client asks to be sent is bytes
 pub payload_fits : (arts : Arts) (x : Setting) (es : List Event) (w : World) (n : NodeState) (e : Event) (input : Input) → InRange x es e

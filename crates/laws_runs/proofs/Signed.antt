@@ -10,7 +10,7 @@ use Rattle.sp_base.specs.declared.id.NodeId.{NodeId}
 use Rattle.sp_frame.specs.Sections.{Contents}
 use Rattle.sp_frame.specs.declared.refused.SectionRefused.{SectionRefused}
 use Rattle.sp_msg.specs.declared.kept.Kept.{Kept}
-use Rattle.sp_rules.specs.Arrivals.{arrival_at, pieces_in, pieces_where, reply_at, sections_in}
+use Rattle.sp_rules.specs.Arrivals.{arrival_at, parts_met, pieces_in, reply_at, sections_in}
 use Rattle.sp_rules.specs.Arts.{Arts}
 use Rattle.sp_rules.specs.Link.{next_head}
 use Rattle.sp_rules.specs.Node.{NodeState, call_refusal, link_in, signed_now}
@@ -43,6 +43,7 @@ use Rattle.sp_schedule_events.specs.declared.event.Event.TheVariants as events
 use Rattle.laws_runs.specs.Signs.{Good, NodeIs, Signs, SignsBegin, TurnsKeepSigns, sizes_at}
 use Rattle.laws_runs.specs.Premises.{Carries, HasGoodMessages, IsOfBytes}
 use Rattle.laws_runs.proofs.Acks.{step_ack}
+use Rattle.laws_runs.proofs.NoStarts.{in_keep, pieces_at, without}
 use Rattle.laws_runs.proofs.Unborn.{step_unborn}
 use Rattle.laws_runs.proofs.Reaches.{input_fits, payload_fits}
 use Rattle.laws_runs.proofs.Tables.{frame_put, node_put}
@@ -61,8 +62,8 @@ ReadHas P arts = (len : ℕ) (bytes : List ℕ) (s : Contents) → AreBytes byte
 
 -- so what came in a datagram of bytes has it
 sections_have : (P : Kept → Type 0) (arts : Arts) (f : Fixed) (bytes : List ℕ) (o : Result Contents SectionRefused) → ReadHas P arts → AreBytes bytes
-    → sections_in arts f bytes ≡ o → AllKeep P (pieces_in o)
-sections_have P arts f bytes (Ok s) reads are is = of_all P (pieces_of s) (reads f.signature_len bytes s are is)
+    → sections_in arts f bytes ≡ o → AllKeep P (pieces_in f o)
+sections_have P arts f bytes (Ok s) reads are is = in_keep P f s (of_all P (pieces_of s) (reads f.signature_len bytes s are is))
 sections_have P arts f bytes (Err refused) reads are is = tt
 
 -- and so has what is new
@@ -72,12 +73,12 @@ new_have P arts n (steps.Datagram v bytes) output after reads are s =
     subst (λ (o : Output). NewKeep P o.answered) (sym s.0) (go (call_refusal n v))
   where
     pieces : List Piece
-    pieces = pieces_where (reply_at arts n v bytes) (pieces_in (sections_in arts n.fixed bytes))
+    pieces = pieces_at arts n v bytes
 
     go : (r : Option NodeRefused) → NewKeep P (refused_call r (arrived arts n v bytes)).answered
     go (Some refused) = tt
-    go None = pieces_new P arts (arrival_at n v) n.parts pieces
-        (where_keep P (reply_at arts n v bytes) (pieces_in (sections_in arts n.fixed bytes)) (sections_have P arts n.fixed bytes (sections_in arts n.fixed bytes) reads are refl))
+    go None = pieces_new P arts (arrival_at n v) (parts_met arts n v bytes) pieces
+        (where_keep P (reply_at arts n v bytes) (pieces_in n.fixed (sections_in arts n.fixed bytes)) (sections_have P arts n.fixed bytes (sections_in arts n.fixed bytes) reads are refl))
 new_have P arts n (steps.Poll v) output after reads are s = none_new _ output.answered (ap (λ (o : Output). o.answered) s.0 ∙ none_called _ (call_refusal n v) refl)
 new_have P arts n (steps.Tick now) output after reads are s = none_new _ output.answered (ap (λ (o : Output). o.answered) s.0)
 new_have P arts n (steps.SendRel dst payload) output after reads are s =
@@ -120,7 +121,7 @@ acted arts x es js w new e j m fits carries reach asked same unforged is =
       shape = shapes_stay arts m.node m.input m.output m.after m.step ∙ is.shape;
       holds = step_holds (sizes_at x Q (acting e)) arts m.node m.input m.output m.after fit reach news owns m.step (node_weaker (sizes_at x P (acting e)) Q more m.node is.holds);
       acks = step_ack arts m.node m.input m.output m.after m.step is.acks;
-      unborn = step_unborn arts m.node m.input m.output m.after m.step is.unborn;
+      unborn = step_unborn arts m.node m.input m.output m.after m.step (without x P (acting e) m.node is) is.unborn;
     }
 
 -- a frame that a poll gave carries what the node keeps
@@ -192,7 +193,7 @@ made_bytes format arts n v output made carries of out reply =
     let c = contents_to n.fixed n.parts v in
     let is : frame_to arts n v ≡ made = gives (call_refusal n v) (ap (λ (o : Output). o.reply) (sym out) ∙ reply) in
     subst AreBytes is (All-append (λ (b : ℕ). b < 256) (arts.frame h c) (arts.tag (link_in n v).key (arts.frame h c))
-    (carries.frames h c (record { document = refl; paths = refl; probe = refl; epoch = refl }) (all_of IsOfBytes (pieces_of c) of)) (carries.tags (link_in n v).key (arts.frame h c)))
+    (carries.frames h c (record { document = refl; paths = refl; probe = refl }) (all_of IsOfBytes (pieces_of c) of)) (carries.tags (link_in n v).key (arts.frame h c)))
   where
     gives : (r : Option NodeRefused) → (refused_call r (replied (steps.Frame (frame_to arts n v)))).reply ≡ steps.Frame made → frame_to arts n v ≡ made
     gives None e = cc

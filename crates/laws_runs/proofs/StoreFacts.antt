@@ -8,6 +8,7 @@ use Rattle.std.proofs.lemmas.Bool.Decides.{nat_tests}
 use Rattle.std.proofs.lemmas.List.{length-append, length-drop, map-append}
 use Rattle.std.proofs.lemmas.List.Elements.{All-head, All-nil, All-tail}
 use Rattle.sp_base.specs.declared.id.EdgeId.{EdgeId}
+use Rattle.sp_base.specs.declared.id.Flow.{Flow}
 use Rattle.sp_base.specs.declared.id.NodeId.{NodeId}
 use Rattle.sp_msg.specs.declared.body.Body.{Body}
 use Rattle.sp_msg.specs.declared.body.Body.TheVariants as bodies
@@ -57,6 +58,7 @@ pub data IsAway (p : ℕ) : Effect → Type 0 where
   Tells_rel : {src : NodeId} {seq : ℕ} {payload : List ℕ} → IsAway p (effects.Delivered src seq payload)
   Tells_prio : {src : NodeId} {seq : ℕ} {payload : List ℕ} → IsAway p (effects.DeliveredPrio src seq payload)
   Tells_weight : {origin : NodeId} {edge : EdgeId} {seq weight : ℕ} → IsAway p (effects.WeightHeld origin edge seq weight)
+  Ends_flow : {flow : Flow} → IsAway p (effects.Ended flow)
   Stores : {place id seq prio : ℕ} {src : NodeId} → (place ≡ p → ⊥) → IsAway p (effects.Stored place id src seq prio)
   Leaves : {place id : ℕ} {why : Why} → (place ≡ p → ⊥) → IsAway p (effects.Gone place id why)
 
@@ -73,6 +75,7 @@ one_away capacity p st (effects.Signed bytes) is = (refl, (tt, tt))
 one_away capacity p st (effects.Delivered src seq payload) is = (refl, (tt, tt))
 one_away capacity p st (effects.DeliveredPrio src seq payload) is = (refl, (tt, tt))
 one_away capacity p st (effects.WeightHeld origin edge seq weight) is = (refl, (tt, tt))
+one_away capacity p st (effects.Ended flow) is = (refl, (tt, tt))
 one_away capacity p st (effects.Stored place id src seq prio) (Stores other) =
     let f : (place == p) ≡ false = ne_eqb place p other in (rw f refl, (λ same. absurd (other same), tt))
 one_away capacity p st (effects.Gone place id whys.Evicted) (Leaves other) =

@@ -13,14 +13,14 @@ use Rattle.sp_msg.specs.declared.body.Body.TheVariants as bodies
 use Rattle.sp_msg.specs.declared.kept.Kept.{Kept}
 use Rattle.sp_msg.specs.declared.refused.SendRefused.{SendRefused}
 use Rattle.sp_rules.specs.Answers.{ack_answer, is_new, prio_answer, rel_answer, weight_answer}
-use Rattle.sp_rules.specs.Arrivals.{arrival_at, pieces_in, pieces_where, reply_at, sections_in}
+use Rattle.sp_rules.specs.Arrivals.{arrival_at, parts_met}
 use Rattle.sp_rules.specs.Arts.{Arts}
 use Rattle.sp_rules.specs.Flow.{FlowState, acknowledged_by, after_take, concluded, flow_said, is_flow, no_flow, number_said, pushed, received}
 use Rattle.sp_rules.specs.Handle.{Arrival, handle, handle_all, heard_where, offer_to}
 use Rattle.sp_rules.specs.Lives.{are_held, held_boot, is_dated, start}
 use Rattle.sp_rules.specs.Node.{NodeState, call_refusal, kept_or, signed_now}
 use Rattle.sp_rules.specs.Parts.{Parts, is_signed}
-use Rattle.sp_rules.specs.Pieces.{Piece, AckPiece, PrioAckPiece, PrioPiece, RelPiece, ReportPiece, WeightPiece}
+use Rattle.sp_rules.specs.Pieces.{Piece, AckPiece, PrioAckPiece, PrioPiece, RelPiece, ReportPiece, WeightPiece, EpochPiece}
 use Rattle.sp_rules.specs.Prio.{admit_prio, judge_prio}
 use Rattle.sp_rules.specs.Rel.{RelState, admit_ack, admit_rel, due_place, flow_in, flow_to_me, is_to, judge_ack_of, judge_rel_of, next_place, peer_in, reported, served, served_at, settled, settled_at, told, with_flow, with_peer}
 use Rattle.sp_rules.specs.Sends.{rel_body, rel_refusal, send_prio_refusal, signer_refusal, weight_refusal}
@@ -35,6 +35,7 @@ use Rattle.laws_node.proofs.Handles as judged
 use Rattle.laws_node.proofs.Reliable.{dated_due}
 use Rattle.laws_node.proofs.Tables.{all_drop_first, all_first, all_push, all_replace, cond_either, cond_where}
 use Rattle.laws_runs.specs.Unborn.{FlowUnborn, HoldNone, NamesNone, Unborn}
+use Rattle.laws_runs.proofs.NoStarts.{NoStart, NoStarts, met_as_it_was, no_starts_at, pieces_at}
 
 -- ---- boots
 
@@ -139,12 +140,12 @@ settled_unborn r o names h = go (due_place r)
 
 -- ---- pieces
 
-piece_unborn : (arts : Arts) (at : Arrival) (p : Parts) (piece : Piece) → Unborn p → Unborn (handle arts at p piece).parts
-piece_unborn arts at p (WeightPiece o) h =
+piece_unborn : (arts : Arts) (at : Arrival) (p : Parts) (piece : Piece) → NoStart piece → Unborn p → Unborn (handle arts at p piece).parts
+piece_unborn arts at p (WeightPiece o) none h =
     cond_either Unborn (is_new (items.Weight (weight_answer (is_signed arts at.fixed o) (offer_to at.fixed.me p.weights o.body))))
     (record p { weights = held p.weights o }) p (record { lives = h.lives; flows = h.flows }) h
-piece_unborn arts at p (PrioAckPiece number) h = record { lives = h.lives; flows = h.flows }
-piece_unborn arts at p (PrioPiece number o) h =
+piece_unborn arts at p (PrioAckPiece number) none h = record { lives = h.lives; flows = h.flows }
+piece_unborn arts at p (PrioPiece number o) none h =
     let answer = prio_answer (is_signed arts at.fixed o) (is_dated p.lives o.body) (judge_prio p.prio o.body at.now) in
     let admitted = record p { prio = admit_prio p.prio o (Some at.from) } in
     heard answer (cond (is_new (items.Prio answer)) admitted p)
@@ -157,10 +158,10 @@ piece_unborn arts at p (PrioPiece number o) h =
     heard prios.Epoch q u = u
     heard prios.Expired q u = u
     heard prios.BadSig q u = u
-piece_unborn arts at p (ReportPiece flow sboot dboot base have) h =
+piece_unborn arts at p (ReportPiece flow sboot dboot base have) none h =
     cond_either Unborn (are_held p.lives flow sboot dboot) (record p { rel = reported p.rel at.from flow base have }) p
     (record { lives = h.lives; flows = reported_unborn p.rel at.from flow base have h.flows }) h
-piece_unborn arts at p (AckPiece flow o) h =
+piece_unborn arts at p (AckPiece flow o) none h =
     let right = is_signed arts at.fixed o in
     let dated = is_dated p.lives o.body in
     cond_where Unborn (is_new (items.Ack (ack_answer right dated (judge_ack_of p.rel flow o.body)))) (record p { rel = admit_ack p.rel o }) p
@@ -173,7 +174,7 @@ piece_unborn arts at p (AckPiece flow o) h =
           (acked_unborn (flow_in p.rel.flows said) o names (flow_unborn p.rel said h.flows));
     })
     (λ old. h)
-piece_unborn arts at p (RelPiece flow o) h =
+piece_unborn arts at p (RelPiece flow o) none h =
     let right = is_signed arts at.fixed o in
     let dated = is_dated p.lives o.body in
     cond_where Unborn (is_new (items.Rel (rel_answer right dated (judge_rel_of p.rel flow o.body)))) (record p { rel = admit_rel p.rel o }) p
@@ -182,10 +183,12 @@ piece_unborn arts at p (RelPiece flow o) h =
       flows = admit_unborn p.rel o (dated_none p.lives h.lives o.body (judged.new_rel right dated (judge_rel_of p.rel flow o.body) new).2) h.flows;
     })
     (λ old. h)
+piece_unborn arts at p (EpochPiece o) none h = absurd none
 
-pub pieces_unborn : (arts : Arts) (at : Arrival) (p : Parts) (pieces : List Piece) → Unborn p → Unborn (handle_all arts at p pieces).parts
-pieces_unborn arts at p [] h = h
-pieces_unborn arts at p (piece ∷ pieces) h = pieces_unborn arts at (handle arts at p piece).parts pieces (piece_unborn arts at p piece h)
+pub pieces_unborn : (arts : Arts) (at : Arrival) (p : Parts) (pieces : List Piece) → NoStarts pieces → Unborn p → Unborn (handle_all arts at p pieces).parts
+pieces_unborn arts at p [] none h = h
+pieces_unborn arts at p (piece ∷ pieces) none h =
+    pieces_unborn arts at (handle arts at p piece).parts pieces none.1 (piece_unborn arts at p piece none.0 h)
 
 -- ---- steps
 
@@ -193,15 +196,16 @@ kept_unborn : {X : Type 0} (r : Option X) (n m : NodeState) → Unborn n.parts �
 kept_unborn None n m old new = new
 kept_unborn (Some x) n m old new = old
 
-pub step_unborn : (arts : Arts) (n : NodeState) (input : Input) (output : Output) (new : NodeState) → NodeStep arts n input output new → Unborn n.parts
-    → Unborn new.parts
-step_unborn arts n (Poll v) output new s h =
+pub step_unborn : (arts : Arts) (n : NodeState) (input : Input) (output : Output) (new : NodeState) → NodeStep arts n input output new → n.fixed.epochs ≡ false
+    → Unborn n.parts → Unborn new.parts
+step_unborn arts n (Poll v) output new s without h =
     subst (λ (m : NodeState). Unborn m.parts) (sym s.1)
     (kept_unborn (call_refusal n v) n _ h (record { lives = h.lives; flows = served_unborn n.parts.rel v h.flows }))
-step_unborn arts n (Datagram v bytes) output new s h =
+step_unborn arts n (Datagram v bytes) output new s without h =
     subst (λ (m : NodeState). Unborn m.parts) (sym s.1) (kept_unborn (call_refusal n v) n _ h
-    (pieces_unborn arts (arrival_at n v) n.parts (pieces_where (reply_at arts n v bytes) (pieces_in (sections_in arts n.fixed bytes))) h))
-step_unborn arts n (Tick now) output new s h =
+    (pieces_unborn arts (arrival_at n v) (parts_met arts n v bytes) (pieces_at arts n v bytes) (no_starts_at arts n v bytes without)
+    (subst Unborn (sym (met_as_it_was arts n v bytes without)) h)))
+step_unborn arts n (Tick now) output new s without h =
     subst (λ (m : NodeState). Unborn m.parts) (sym s.1) (go (due_now n) refl (signer_refusal n.signer))
   where
     later : Unborn (at_time n now).parts
@@ -214,7 +218,7 @@ step_unborn arts n (Tick now) output new s h =
         let d = dated_due n ack e in
         let names : NamesNone (bodies.Ack ack) = (ap (λ (a : Ack). a.sboot) d.is ∙ h.lives d.raw.src, ap (λ (a : Ack). a.dboot) d.is ∙ h.lives d.raw.dst) in
         record { lives = h.lives; flows = settled_unborn n.parts.rel (signed_now arts (at_time n now) (bodies.Ack ack)) names h.flows }
-step_unborn arts n (SendRel dst payload) output new s h =
+step_unborn arts n (SendRel dst payload) output new s without h =
     let o = signed_now arts n (rel_body n dst payload) in
     let said = flow_said o.body in
     subst (λ (m : NodeState). Unborn m.parts) (sym s.1) (kept_unborn (rel_refusal n dst) n _ h (record {
@@ -222,18 +226,18 @@ step_unborn arts n (SendRel dst payload) output new s h =
       flows = with_unborn n.parts.rel said (pushed (flow_in n.parts.rel.flows said) o) h.flows
           (pushed_unborn (flow_in n.parts.rel.flows said) o (h.lives n.fixed.me, h.lives dst) (flow_unborn n.parts.rel said h.flows));
     }))
-step_unborn arts n (SendPrio m) output new s h =
+step_unborn arts n (SendPrio m) output new s without h =
     subst (λ (m : NodeState). Unborn m.parts) (sym s.new_is) (kept_unborn (send_prio_refusal n m s.choice) n _ h (record { lives = h.lives; flows = h.flows }))
-step_unborn arts n (SetWeight v weight) output new s h =
+step_unborn arts n (SetWeight v weight) output new s without h =
     subst (λ (m : NodeState). Unborn m.parts) (sym s.1) (kept_unborn (weight_refusal n v weight) n _ h (record { lives = h.lives; flows = h.flows }))
-step_unborn arts n (TakeRel src) output new s h =
+step_unborn arts n (TakeRel src) output new s without h =
     let flow = flow_to_me n.parts.rel src in
     subst (λ (m : NodeState). Unborn m.parts) (sym s.1) (record {
       lives = h.lives;
       flows = with_unborn n.parts.rel flow (after_take (flow_in n.parts.rel.flows flow)) h.flows
           (took_unborn (flow_in n.parts.rel.flows flow) (flow_unborn n.parts.rel flow h.flows));
     })
-step_unborn arts n TakePrio output new s h = subst (λ (m : NodeState). Unborn m.parts) (sym s.1) (record { lives = h.lives; flows = h.flows })
+step_unborn arts n TakePrio output new s without h = subst (λ (m : NodeState). Unborn m.parts) (sym s.1) (record { lives = h.lives; flows = h.flows })
 
 -- ---- the start
 

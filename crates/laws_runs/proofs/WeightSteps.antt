@@ -16,7 +16,7 @@ use Rattle.sp_msg.specs.declared.effect.Why.TheVariants as whys
 use Rattle.sp_msg.specs.declared.kept.Kept.{Kept}
 use Rattle.sp_msg.specs.declared.refused.SendRefused.{SendRefused}
 use Rattle.sp_rules.specs.Answers.{ack_answer, is_new, prio_answer, rel_answer, weight_answer}
-use Rattle.sp_rules.specs.Arrivals.{arrival_at, handled, link_after, pieces_in, pieces_where, reply_at, sections_in}
+use Rattle.sp_rules.specs.Arrivals.{arrival_at, handled, link_after, parts_met}
 use Rattle.sp_rules.specs.Arts.{Arts}
 use Rattle.sp_rules.specs.Flow.{flow_said}
 use Rattle.sp_rules.specs.Handle.{Arrival, handle, handle_all, heard_where, offer_of, offer_to, weight_effects}
@@ -24,7 +24,7 @@ use Rattle.sp_rules.specs.Link.{advanced}
 use Rattle.sp_rules.specs.Lives.{are_held, is_dated}
 use Rattle.sp_rules.specs.Node.{NodeState, call_refusal, called, kept_or, link_in, signed_now, signed_once, with_link}
 use Rattle.sp_rules.specs.Parts.{Fixed, Parts, is_signed}
-use Rattle.sp_rules.specs.Pieces.{Piece, WeightPiece, PrioAckPiece, PrioPiece, ReportPiece, AckPiece, RelPiece}
+use Rattle.sp_rules.specs.Pieces.{Piece, WeightPiece, PrioAckPiece, PrioPiece, ReportPiece, AckPiece, RelPiece, EpochPiece}
 use Rattle.sp_rules.specs.Polls.{frame_to, polled}
 use Rattle.sp_rules.specs.Prio as prio
 use Rattle.sp_rules.specs.Prio.{PrioState, admit_prio, judge_prio, prio_effects}
@@ -59,6 +59,7 @@ use Rattle.sp_runs.specs.Settings.{Setting}
 use Rattle.laws_runs.specs.Weights.{EachHeld}
 use Rattle.laws_runs.specs.Signs.{NodeIs, sizes_at}
 use Rattle.laws_runs.proofs.Lists.{both}
+use Rattle.laws_runs.proofs.NoStarts.{NoStart, NoStarts, met_as_it_was, no_starts_at, pieces_at, without}
 
 -- the last weight that is told of an end of an edge
 abbrev pub last_weight : (edge : ℕ) → NodeId → ℕ → List Effect → ℕ
@@ -88,6 +89,7 @@ each_both P (effects.Stored place id src seq prio ∷ xs) ys one two = each_both
 each_both P (effects.Gone place id why ∷ xs) ys one two = each_both P xs ys one two
 each_both P (effects.Delivered src seq payload ∷ xs) ys one two = each_both P xs ys one two
 each_both P (effects.DeliveredPrio src seq payload ∷ xs) ys one two = each_both P xs ys one two
+each_both P (effects.Ended flow ∷ xs) ys one two = each_both P xs ys one two
 
 pub each_less : (P Q : WeightBody → Type 0) → ((u : WeightBody) → P u → Q u) → (es : List Effect) → EachHeld P es → EachHeld Q es
 each_less P Q less [] h = tt
@@ -97,6 +99,7 @@ each_less P Q less (effects.Stored place id src seq prio ∷ es) h = each_less P
 each_less P Q less (effects.Gone place id why ∷ es) h = each_less P Q less es h
 each_less P Q less (effects.Delivered src seq payload ∷ es) h = each_less P Q less es h
 each_less P Q less (effects.DeliveredPrio src seq payload ∷ es) h = each_less P Q less es h
+each_less P Q less (effects.Ended flow ∷ es) h = each_less P Q less es h
 
 no_both : (xs ys : List Effect) → NoUpdates xs → NoUpdates ys → NoUpdates (xs ++ ys)
 no_both xs ys h k = record {
@@ -253,40 +256,42 @@ module _ (P : WeightBody → Type 0) where
   still : (p : Parts) (w : WeightState) (es : List Effect) → NoUpdates es → w ≡ p.weights → HasRows p.weights → WTurns P p.weights es w
   still p w es none e h = w_same P p.weights w es none (ap (λ (s : WeightState). s.edges) e) (ap (λ (s : WeightState). s.rows) e) h
 
-  one_turns : (arts : Arts) (at : Arrival) (p : Parts) (piece : Piece) → NewKeep (λ o. (u : WeightBody) → o.body ≡ bodies.Weight u → P u) (handle arts at p piece).answered → HasRows p.weights
+  one_turns : (arts : Arts) (at : Arrival) (p : Parts) (piece : Piece) → NoStart piece → NewKeep (λ o. (u : WeightBody) → o.body ≡ bodies.Weight u → P u) (handle arts at p piece).answered → HasRows p.weights
       → WTurns P p.weights (handle arts at p piece).effects (handle arts at p piece).parts.weights
-  one_turns arts at p (WeightPiece o) new h = elim (cases_Bool (is_new (items.Weight (weight_answer (is_signed arts at.fixed o) (offer_to at.fixed.me p.weights o.body))))) [
+  one_turns arts at p (WeightPiece o) none new h = elim (cases_Bool (is_new (items.Weight (weight_answer (is_signed arts at.fixed o) (offer_to at.fixed.me p.weights o.body))))) [
     | inl t ↦
         let is = judged.new_weight (is_signed arts at.fixed o) (offer_to at.fixed.me p.weights o.body) t in
         let done = held_turns P p.weights o (new_at p.weights o.body (offered at.fixed.me p.weights o.body is.1)) (new.0 t) h in
         rw t done
     | inr t ↦ let same = still p p.weights [] no_none refl h in rw t same
   ]
-  one_turns arts at p (PrioAckPiece number) new h = still p p.weights (prio.acked_effects p.prio at.from.0 number) (no_acked p.prio at.from.0 number) refl h
-  one_turns arts at p (PrioPiece number o) new h =
+  one_turns arts at p (PrioAckPiece number) none new h =
+      still p p.weights (prio.acked_effects p.prio at.from.0 number) (no_acked p.prio at.from.0 number) refl h
+  one_turns arts at p (PrioPiece number o) none new h =
       let answer = prio_answer (is_signed arts at.fixed o) (is_dated p.lives o.body) (judge_prio p.prio o.body at.now) in
       let t = is_new (items.Prio answer) in
       let admitted = record p { prio = admit_prio p.prio o (Some at.from) } in
       still p (heard_where answer at.from number (cond t admitted p)).weights (cond t (prio_effects p.prio o (Some at.from)) []) (no_either t (prio_effects p.prio o (Some at.from)) (no_prio p.prio o (Some at.from)))
       (w_heard answer at.from number (cond t admitted p) ∙ w_either t admitted p refl) h
-  one_turns arts at p (ReportPiece flow sboot dboot base have) new h =
+  one_turns arts at p (ReportPiece flow sboot dboot base have) none new h =
       still p (handle arts at p (ReportPiece flow sboot dboot base have)).parts.weights [] no_none
       (w_either (are_held p.lives flow sboot dboot) (record p { rel = reported p.rel at.from flow base have }) p refl) h
-  one_turns arts at p (AckPiece flow o) new h =
+  one_turns arts at p (AckPiece flow o) none new h =
       let t = is_new (items.Ack (ack_answer (is_signed arts at.fixed o) (is_dated p.lives o.body) (judge_ack_of p.rel flow o.body))) in
       still p (cond t (record p { rel = admit_ack p.rel o }) p).weights (cond t [] []) (no_either t [] no_none) (w_either t (record p { rel = admit_ack p.rel o }) p refl) h
-  one_turns arts at p (RelPiece flow o) new h =
+  one_turns arts at p (RelPiece flow o) none new h =
       let t = is_new (items.Rel (rel_answer (is_signed arts at.fixed o) (is_dated p.lives o.body) (judge_rel_of p.rel flow o.body))) in
       still p (cond t (record p { rel = admit_rel p.rel o }) p).weights (cond t (rel_effects p.rel o) []) (no_either t (rel_effects p.rel o) (no_rel (is_to p.rel (flow_said o.body)) o.body)) (w_either t (record p { rel = admit_rel p.rel o }) p refl) h
+  one_turns arts at p (EpochPiece o) none new h = absurd none
 
-  all_turns : (arts : Arts) (at : Arrival) (p : Parts) (pieces : List Piece) → NewKeep (λ o. (u : WeightBody) → o.body ≡ bodies.Weight u → P u) (handle_all arts at p pieces).answered → HasRows p.weights
+  all_turns : (arts : Arts) (at : Arrival) (p : Parts) (pieces : List Piece) → NoStarts pieces → NewKeep (λ o. (u : WeightBody) → o.body ≡ bodies.Weight u → P u) (handle_all arts at p pieces).answered → HasRows p.weights
       → WTurns P p.weights (handle_all arts at p pieces).effects (handle_all arts at p pieces).parts.weights
-  all_turns arts at p [] new h = still p p.weights [] no_none refl h
-  all_turns arts at p (piece ∷ pieces) new h =
+  all_turns arts at p [] none new h = still p p.weights [] no_none refl h
+  all_turns arts at p (piece ∷ pieces) none new h =
       let first = handle arts at p piece in
       let others = handle_all arts at first.parts pieces in
-      let one = one_turns arts at p piece (new_left (λ o. (u : WeightBody) → o.body ≡ bodies.Weight u → P u) first.answered others.answered new) h in
-      let rest = all_turns arts at first.parts pieces (new_right (λ o. (u : WeightBody) → o.body ≡ bodies.Weight u → P u) first.answered others.answered new) one.rows in
+      let one = one_turns arts at p piece none.0 (new_left (λ o. (u : WeightBody) → o.body ≡ bodies.Weight u → P u) first.answered others.answered new) h in
+      let rest = all_turns arts at first.parts pieces none.1 (new_right (λ o. (u : WeightBody) → o.body ≡ bodies.Weight u → P u) first.answered others.answered new) one.rows in
       w_on P p.weights first.parts.weights others.parts.weights first.effects others.effects one rest
 
 -- ---- all cases
@@ -314,7 +319,10 @@ module _ (x : Setting) (arts : Arts) (K : Kept → Type 0) (P : WeightBody → T
       go : (r : Option NodeRefused) → NewKeep (λ y. (w : WeightBody) → y.body ≡ bodies.Weight w → P w) (refused_call r (arrived arts n v bytes)).answered → output.effects ≡ (refused_call r (arrived arts n v bytes)).effects
           → after ≡ kept_or r n (called n (with_link n v (link_after arts n v bytes)) (handled arts n v bytes).parts) → Done n output after
       go None new e f = by n output after (called n (with_link n v (link_after arts n v bytes)) (handled arts n v bytes).parts) (handled arts n v bytes).effects e f
-          (all_turns P arts (arrival_at n v) n.parts (pieces_where (reply_at arts n v bytes) (pieces_in (sections_in arts n.fixed bytes))) new h)
+          (let met = met_as_it_was arts n v bytes (without x K u n is) in
+          subst (λ (p : Parts). WTurns P p.weights (handled arts n v bytes).effects (handled arts n v bytes).parts.weights) met
+          (all_turns P arts (arrival_at n v) (parts_met arts n v bytes) (pieces_at arts n v bytes) (no_starts_at arts n v bytes (without x K u n is)) new
+          (subst (λ (p : Parts). HasRows p.weights) (sym met) h)))
       go (Some refused) new e f = by n output after n [] e f (plain n [] no_none h)
   turned n (steps.Tick now) output after step input is new own h =
       by n output after (settled_by arts (at_time n now) (due_now n) (signer_refusal n.signer)) (prio.expired_effects n.parts.prio (time_after n now) ++ ack_effects arts (due_now n) (signer_refusal n.signer))

@@ -21,7 +21,8 @@ use Rattle.sp_rules.specs.Prio as prio
 use Rattle.sp_rules.specs.Rel as rel
 use Rattle.sp_rules.specs.Rel.{RelState, flow_in, own_flow, room}
 use Rattle.sp_rules.specs.Masks.{Choice, Mask, OnlyPaths}
-use Rattle.sp_rules.specs.Sends.{PrioSend, no_paths, no_room, prio_refusal, rel_refusal, send_prio_refusal, signer_refusal, weight_refusal, weight_refusal_at}
+use Rattle.sp_rules.specs.Sends.{PrioSend, is_unmet, no_life, no_paths, no_room, prio_refusal}
+use Rattle.sp_rules.specs.Sends.{rel_refusal, send_prio_refusal, signer_refusal, weight_refusal, weight_refusal_at}
 use Rattle.sp_rules.specs.Steps as steps
 use Rattle.sp_rules.specs.Steps.{Input, NodeStep, Output}
 use Rattle.sp_rules.specs.Weights.{minimum}
@@ -41,6 +42,7 @@ use Rattle.sp_schedule_crafts.specs.Objects.{body_of}
 use Rattle.sp_schedule_events.specs.declared.event.Event.{Event}
 use Rattle.sp_schedule_events.specs.declared.event.Event.TheVariants as events
 use Rattle.laws_runs.specs.Calls.{EachReplyHasWords, NeighboursAreAnswered}
+use Rattle.laws_runs.proofs.NoStarts.{none_unmet, without}
 use Rattle.laws_runs.proofs.Counts.{few_calls}
 use Rattle.laws_runs.specs.Signs.{Good, NodeIs, sizes_at}
 use Rattle.laws_runs.proofs.Lists.{both}
@@ -120,9 +122,11 @@ rel_words x P u dst n is ends =
     let nodes : n.parts.rel.nodes ≡ nodes_of x.topology = ap (λ (s : Shape). s.rel.nodes) is.shape in
     let known : (v : NodeId) → is_node x v ≡ true → rel.is_node n.parts.rel v ≡ true =
     λ v h. ap (λ (ns : List NodeId). list_any (λ m. m.0 == v.0) ns) nodes ∙ h in
-    both_have (no_room (room n.parts.rel dst)) (signer_refusal n.signer)
+    both_have (no_life (is_unmet n dst)) (or_else (no_room (room n.parts.rel dst)) (signer_refusal n.signer))
+    (subst (λ (t : Bool). HasWords (no_life t)) (sym (none_unmet n dst (without x P u n is))) tt)
+    (both_have (no_room (room n.parts.rel dst)) (signer_refusal n.signer)
     (room_words n.parts.rel dst (known n.parts.rel.me (ap (is_node x) me ∙ ends.mine)) (known dst ends.there) (ap (λ (v : NodeId). v.0 == dst.0) me ∙ ends.other))
-    (signer_words n.signer (all_reserved x P u n is))
+    (signer_words n.signer (all_reserved x P u n is)))
 
 -- ---- a priority message
 
@@ -139,10 +143,11 @@ prio_words x P u n m choice is ends =
     let other : (m.dst.0 == n.fixed.me.0) ≡ false = ne_eqb m.dst.0 n.fixed.me.0 (λ same.
     let wrong : (u.0 == m.dst.0) ≡ true = eq-eqb u.0 m.dst.0 (ap (λ (v : NodeId). v.0) (sym me) ∙ sym same) in
     let e : true ≡ false = sym wrong ∙ ends.other in cc) in
+    let unmet : is_unmet n m.dst ≡ false = none_unmet n m.dst (without x P u n is) in
     both_have (prio_refusal n m) (no_paths choice)
     (elim (cases_Bool (nat_lt m.expiry n.now)) [
-      | inl t ↦ rw (other, known, t) (told _)
-      | inr t ↦ rw (other, known, t) (signer_words n.signer (all_reserved x P u n is))
+      | inl t ↦ rw (other, known, unmet, t) (told _)
+      | inr t ↦ rw (other, known, unmet, t) (signer_words n.signer (all_reserved x P u n is))
     ])
     (paths_words choice)
 

@@ -30,12 +30,11 @@ HasGoodMessages arts s = All (λ o. IsTrue (arts.is_good o.body)) (objects_in (p
 abbrev pub written : Arts → Head → Contents → (key : List ℕ) → List ℕ
 written arts h s key = arts.frame h s ++ arts.tag key (arts.frame h s)
 
--- no part that no node writes: no document, and nothing after the slot
+-- no part that no node writes: no document, no K-path slot, no probe
 pub record IsPlain (s : Contents) : Type 0 where
   pub document : s.document ≡ None
   pub paths : s.paths ≡ None
   pub probe : s.probe ≡ None
-  pub epoch : s.epoch ≡ None
 
 -- frames and messages of one format
 pub record Carries (format : ℕ) (arts : Arts) : Type 0 where

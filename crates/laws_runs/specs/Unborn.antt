@@ -1,5 +1,5 @@
--- In a run no node says of its start: no frame that is made or crafted has an Epoch object. So each boot that a node holds is 0, and so is each that
--- its messages name.
+-- In a run without epochs no node signs its start, nor heeds what says of one. So each boot that a node holds is 0, and so is
+-- each that its messages name.
 use Rattle.std.specs.Prelude.{◌≡◌, IfSome, List}
 use Rattle.std.specs.List.{All}
 use Rattle.sp_base.specs.declared.id.NodeId.{NodeId}

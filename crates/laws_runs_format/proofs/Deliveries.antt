@@ -1,5 +1,5 @@
 -- The journal of a run tells no more deliveries of an event than a frame has bytes.
-use Rattle.std.proofs.Common.{◌≡◌, ◌≤◌, ℕ, suc, ◌+◌, ◌-◌, ◌*◌, Bool, List, [], ◌∷◌, ◌++◌, length, length-append, map, filter, Option, Some, None, Result, Ok, Err, refl, sym, ap, inl, inr, arith, nat_lt}
+use Rattle.std.proofs.Common.{◌≡◌, ◌≤◌, ℕ, suc, ◌+◌, ◌-◌, ◌*◌, ◌==◌, Bool, true, false, cond, List, [], ◌∷◌, ◌++◌, length, length-append, map, filter, Option, Some, None, Result, Ok, Err, refl, sym, ap, inl, inr, arith, nat_lt}
 use Rattle.std.specs.List.{flat_map}
 use Rattle.std.specs.Prelude.{IfSome}
 use Rattle.std.proofs.lemmas.Bool.{cases_Bool}
@@ -12,10 +12,12 @@ use Rattle.laws_node.specs.Inputs.{InputFits}
 use Rattle.laws_node.specs.Objects.{objects_in}
 use Rattle.laws_runs.proofs.Signed.{even, reached}
 use Rattle.sp_base.specs.Spelling.{AreBytes}
+use Rattle.sp_base.specs.declared.format.TheConstants.{FORMAT_1}
 use Rattle.sp_base.specs.declared.id.NodeId.{NodeId}
 use Rattle.sp_frame.proofs.SectionLemmas.{read_is_spelled}
 use Rattle.sp_frame.specs.Frames.{opened_in, sections_part, tagged_part}
-use Rattle.sp_frame.specs.Objects.{object_bytes}
+use Rattle.sp_frame.specs.Grammar.{later_bytes}
+use Rattle.sp_frame.specs.Objects.{IsObject, object_bytes}
 use Rattle.sp_frame.specs.Prioritized.{numbered_bytes, prios_bytes}
 use Rattle.sp_frame.specs.Probes.{epoch_bytes, probes_bytes}
 use Rattle.sp_frame.specs.Ranges.{IsContentsIn, IsDocument, Later}
@@ -23,6 +25,7 @@ use Rattle.sp_frame.specs.Reliable.{Report, ack_bytes, paths_bytes, place_bytes,
 use Rattle.sp_frame.specs.Sections.{Contents, control_bytes, plain_bytes, sections_bytes_in, sections_of_in}
 use Rattle.sp_frame.specs.Views.{as_list}
 use Rattle.sp_frame.specs.Weights.{weights_bytes}
+use Rattle.sp_frame.specs.declared.kind.Kind.TheVariants as kinds
 use Rattle.sp_frame.specs.declared.frame.TheConstants.{MAX_FRAME_BYTES}
 use Rattle.sp_frame.specs.declared.refused.FrameRefused.TheVariants as frames
 use Rattle.sp_frame.specs.declared.refused.SectionRefused.{SectionRefused}
@@ -32,8 +35,9 @@ use Rattle.sp_msg.specs.declared.effect.Effect.{Effect}
 use Rattle.sp_msg.specs.declared.kept.Kept.{Kept}
 use Rattle.sp_node_format.specs.Format.{format_in}
 use Rattle.sp_rules.proofs.ArrivalLemmas.{of_frame}
-use Rattle.sp_rules.specs.Arrivals.{arrival_at, handled, pieces_in, pieces_where, reply_at, sections_in}
+use Rattle.sp_rules.specs.Arrivals.{arrival_at, handled, parts_met, pieces_in, pieces_where, reply_at, sections_in}
 use Rattle.sp_rules.specs.Node.{NodeState, call_refusal, link_in}
+use Rattle.sp_rules.specs.Parts.{Fixed}
 use Rattle.sp_rules.specs.Pieces.{Piece, pieces_of}
 use Rattle.sp_rules.specs.Sends.{send_prio_refusal}
 use Rattle.sp_rules.specs.Steps as steps
@@ -102,9 +106,18 @@ map_long : (ms : List (ℕ × Kept)) → length (prio_objects ms) ≡ length ms
 map_long [] = refl
 map_long (m ∷ ms) = ap suc (map_long ms)
 
-plain_long : (format : ℕ) (s : Contents) → length (objects_in (pieces_of s)) ≤ length (plain_bytes format s)
+epoch_long : (format len : ℕ) (o : Option Kept) → IfSome o (Later format (IsObject format kinds.Epoch len)) → length (as_list o) ≤ length (epoch_bytes format o)
+unfolding epoch_bytes
+epoch_long format len None is = omega arith
+epoch_long format len (Some o) is = go (format == FORMAT_1) is.0
+  where
+    go : (t : Bool) → t ≡ false → 1 ≤ length (later_bytes (object_bytes format) t (Some o))
+    go true e = absurd (cc)
+    go false e = omega (arith, a_byte format o)
+
+plain_long : (format len : ℕ) (s : Contents) → IsContentsIn format len s → length (objects_in (pieces_of s)) ≤ length (plain_bytes format s)
 unfolding plain_bytes
-plain_long format s =
+plain_long format len s is =
     let front = weights_bytes format s.weights ++ big_bytes 8 s.prio_ack in
     let most = front ++ prios_bytes format s.prios in
     let with_slot = most ++ slot_bytes format s.slot in
@@ -115,12 +128,15 @@ plain_long format s =
     let slot = length-append most (slot_bytes format s.slot) in
     let prios = length-append front (prios_bytes format s.prios) in
     let first = length-append (weights_bytes format s.weights) (big_bytes 8 s.prio_ack) in
-    let objects = length-append s.weights (prio_objects s.prios ++ slot_objects s.slot) in
-    let rest = length-append (prio_objects s.prios) (slot_objects s.slot) in
+    let ends = slot_objects s.slot ++ as_list s.epoch in
+    let objects = length-append s.weights (prio_objects s.prios ++ ends) in
+    let rest = length-append (prio_objects s.prios) ends in
+    let both = length-append (slot_objects s.slot) (as_list s.epoch) in
+    let epoch = epoch_long format len s.epoch is.epoch in
     let are = ap length (objects_are s) in
     let each_weight = weights_long format s.weights in
     let each_prio = prios_long format s.prios in
-    omega (arith, last, before, paths, slot, prios, first, objects, rest, are, map_long s.prios, each_weight, each_prio, slot_long format s.slot)
+    omega (arith, last, before, paths, slot, prios, first, objects, rest, both, epoch, are, map_long s.prios, each_weight, each_prio, slot_long format s.slot)
 
 -- a document comes alone
 sections_long : (format : ℕ) (len : ℕ) (s : Contents) → IsContentsIn format len s → length (objects_in (pieces_of s)) ≤ length (sections_bytes_in format s)
@@ -128,7 +144,7 @@ unfolding sections_bytes_in
 sections_long format len s is = go s.document refl is.document
   where
     go : (d : Option (List ℕ)) → s.document ≡ d → IfSome d (Later format (IsDocument s)) → length (objects_in (pieces_of s)) ≤ length (control_bytes format s d)
-    go None none later = (plain_long format) s
+    go None none later = plain_long format len s is
     go (Some document) some later =
         let alone : length (objects_in (pieces_of s)) ≡ 0 = ap (λ (c : Contents). length (objects_in (pieces_of c))) later.1.alone in
         omega (arith, alone)
@@ -151,15 +167,37 @@ nothing_more (links.Stale boot counter) ps = omega arith
 nothing_more (links.OtherTopology theirs) ps = omega arith
 nothing_more (links.Section refused) ps = omega arith
 
+-- what is heeded of them is no more
+heeded_few : (f : Fixed) (s : Contents) → length (objects_in (pieces_in f (Ok s))) ≤ length (objects_in (pieces_of s))
+heeded_few f s = go f.epochs
+  where
+    less : length (objects_in (pieces_of (record s { epoch = None }))) ≤ length (objects_in (pieces_of s))
+    less =
+        let slot = slot_objects s.slot in
+        let prios = prio_objects s.prios in
+        let one = ap length (objects_are s) in
+        let two = ap length (objects_are (record s { epoch = None })) in
+        let one_first = length-append s.weights (prios ++ (slot ++ as_list s.epoch)) in
+        let two_first = length-append s.weights (prios ++ (slot ++ [])) in
+        let one_next = length-append prios (slot ++ as_list s.epoch) in
+        let two_next = length-append prios (slot ++ []) in
+        let one_last = length-append slot (as_list s.epoch) in
+        let two_last = length-append slot [] in
+        omega (arith, one, two, one_first, two_first, one_next, two_next, one_last, two_last)
+
+    go : (t : Bool) → length (objects_in (pieces_of (cond t s (record s { epoch = None })))) ≤ length (objects_in (pieces_of s))
+    go true = omega arith
+    go false = less
+
 read_few : (format : ℕ) (len : ℕ) (bytes : List ℕ) (r : Result Contents SectionRefused) → AreBytes bytes → sections_of_in format len (sections_part bytes) ≡ r
-    → length (objects_in (pieces_in r)) ≤ length bytes - 33
-read_few format len bytes (Ok s) are is =
+    → (f : Fixed) → length (objects_in (pieces_in f r)) ≤ length bytes - 33
+read_few format len bytes (Ok s) are is f =
     let spelling = read_is_spelled format len (sections_part bytes) s (part_are bytes are) is in
-    omega (arith, sections_long format len s spelling.1, ap length spelling.0, part_short bytes)
-read_few format len bytes (Err refused) are is = omega arith
+    omega (arith, heeded_few f s, sections_long format len s spelling.1, ap length spelling.0, part_short bytes)
+read_few format len bytes (Err refused) are is f = omega arith
 
 few_objects : (format : ℕ) (n : NodeState) (u : NodeId) (bytes : List ℕ) → AreBytes bytes
-    → let arts = format_in format in length (objects_in (pieces_where (reply_at arts n u bytes) (pieces_in (sections_in arts n.fixed bytes)))) ≤ MAX_FRAME_BYTES - 33
+    → let arts = format_in format in length (objects_in (pieces_where (reply_at arts n u bytes) (pieces_in n.fixed (sections_in arts n.fixed bytes)))) ≤ MAX_FRAME_BYTES - 33
 few_objects format n u bytes are = elim (cases_Bool (nat_lt MAX_FRAME_BYTES (length bytes))) [
   | inl long ↦
       let is : opened_in format bytes ≡ Err frames.TooLong = rw long refl in
@@ -167,8 +205,8 @@ few_objects format n u bytes are = elim (cases_Bool (nat_lt MAX_FRAME_BYTES (len
       rw reply (omega arith)
   | inr short ↦
       let within : length bytes ≤ MAX_FRAME_BYTES = grind (arith, nat_tests) in
-      let read = read_few format n.fixed.signature_len bytes _ are refl in
-      omega (arith, within, nothing_more (reply_at (format_in format) n u bytes) (pieces_in (sections_in (format_in format) n.fixed bytes)), read)
+      let read = read_few format n.fixed.signature_len bytes _ are refl n.fixed in
+      omega (arith, within, nothing_more (reply_at (format_in format) n u bytes) (pieces_in n.fixed (sections_in (format_in format) n.fixed bytes)), read)
 ]
 
 answers_long : (xs : List (Kept × Item)) → length (map (λ (a : Kept × Item). a.0) xs) ≡ length xs
@@ -188,8 +226,8 @@ answered_few format old new (steps.Datagram u bytes) output fits step =
     heard : (r : Option NodeRefused) → length (refused_call r (steps.arrived (format_in format) old u bytes)).answered ≤ MAX_FRAME_BYTES - 33
     heard (Some r) = omega arith
     heard None =
-        let pieces = pieces_where (reply_at (format_in format) old u bytes) (pieces_in (sections_in (format_in format) old.fixed bytes)) in
-        let objects = objects_are_answered (format_in format) (arrival_at old u) old.parts pieces in
+        let pieces = pieces_where (reply_at (format_in format) old u bytes) (pieces_in old.fixed (sections_in (format_in format) old.fixed bytes)) in
+        let objects = objects_are_answered (format_in format) (arrival_at old u) (parts_met (format_in format) old u bytes) pieces in
         omega (arith, few_objects format old u bytes fits, ap length objects, answers_long (handled (format_in format) old u bytes).answered)
 answered_few format old new (steps.Tick now) output fits step = rw step.0 (omega arith)
 answered_few format old new (steps.SendRel d payload) output fits step = rw step.0 (silent _ _ _)
@@ -249,6 +287,6 @@ journals_are_countable s es js w graph run =
     let fits = headers_fit s graph in
     record {
       entries = sym (even (arts_of (setting_of s)) (setting_of s) es js w run);
-      deliveries = all_few is_delivered (record { signed = λ b. refl; stored = λ a b c d e. refl; gone = λ a b c. refl; held = λ a b c d. refl }) (setting_of s) es js w fits run;
-      priority = all_few is_delivered_prio (record { signed = λ b. refl; stored = λ a b c d e. refl; gone = λ a b c. refl; held = λ a b c d. refl }) (setting_of s) es js w fits run;
+      deliveries = all_few is_delivered (record { signed = λ b. refl; stored = λ a b c d e. refl; gone = λ a b c. refl; held = λ a b c d. refl; ended = λ f. refl }) (setting_of s) es js w fits run;
+      priority = all_few is_delivered_prio (record { signed = λ b. refl; stored = λ a b c d e. refl; gone = λ a b c. refl; held = λ a b c d. refl; ended = λ f. refl }) (setting_of s) es js w fits run;
     }

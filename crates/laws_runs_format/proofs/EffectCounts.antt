@@ -3,7 +3,9 @@ use Rattle.std.proofs.Common.{◌≡◌, ◌≤◌, ℕ, ◌+◌, Bool, true, fa
 use Rattle.std.specs.List.{flat_map}
 use Rattle.std.proofs.lemmas.Bool.{cases_Bool}
 use Rattle.std.proofs.lemmas.List.Elements.{filter-append}
+use Rattle.std.specs.Prelude.{◌&&◌}
 use Rattle.sp_base.specs.declared.id.EdgeId.{EdgeId}
+use Rattle.sp_base.specs.declared.id.Flow.{Flow}
 use Rattle.sp_base.specs.declared.id.NodeId.{NodeId}
 use Rattle.sp_msg.specs.declared.body.Ack.{Ack}
 use Rattle.sp_msg.specs.declared.body.Body.{Body}
@@ -14,20 +16,20 @@ use Rattle.sp_msg.specs.declared.effect.Why.{Why}
 use Rattle.sp_msg.specs.declared.effect.Why.TheVariants as whys
 use Rattle.sp_msg.specs.declared.kept.Kept.{Kept}
 use Rattle.sp_msg.specs.declared.refused.SendRefused.{SendRefused}
-use Rattle.sp_rules.specs.Answers.{ack_answer, is_new, prio_answer, rel_answer, weight_answer}
+use Rattle.sp_rules.specs.Answers.{ack_answer, epoch_answer, is_new, prio_answer, rel_answer, weight_answer}
 use Rattle.sp_rules.specs.Arts.{Arts}
-use Rattle.sp_rules.specs.Arrivals.{arrival_at, pieces_in, pieces_where, reply_at, sections_in}
+use Rattle.sp_rules.specs.Arrivals.{arrival_at, parts_met, pieces_in, pieces_where, reply_at, sections_in}
 use Rattle.sp_rules.specs.Polls.{frame_to}
-use Rattle.sp_rules.specs.Flow.{flow_said}
-use Rattle.sp_rules.specs.Handle.{Arrival, handle, handle_all, offer_to, where_new, weight_effects}
-use Rattle.sp_rules.specs.Lives.{is_dated}
+use Rattle.sp_rules.specs.Flow.{FlowState, ends, flow_said}
+use Rattle.sp_rules.specs.Handle.{Arrival, handle, handle_all, met, offer_to, where_new, weight_effects}
+use Rattle.sp_rules.specs.Lives.{is_dated, judge_epoch, origin_said}
 use Rattle.sp_rules.specs.Node.{NodeState, call_refusal}
 use Rattle.sp_rules.specs.Parts.{Parts, is_signed}
-use Rattle.sp_rules.specs.Pieces.{Piece, WeightPiece, PrioAckPiece, PrioPiece, ReportPiece, AckPiece, RelPiece}
+use Rattle.sp_rules.specs.Pieces.{Piece, WeightPiece, PrioAckPiece, PrioPiece, ReportPiece, AckPiece, RelPiece, EpochPiece}
 use Rattle.sp_rules.specs.Prio.{PrioState, acked_effects, admit_prio, delivered, expired_effects, is_here, judge_prio, peer_in, prio_effects}
 use Rattle.sp_rules.specs.PrioPeer as rows
 use Rattle.sp_rules.specs.PrioPeer.{PrioPeer, gone, goes_to, put_effects, stored}
-use Rattle.sp_rules.specs.Rel.{RelState, admit_ack, admit_rel, delivery, is_to, judge_ack_of, judge_rel_of, rel_effects}
+use Rattle.sp_rules.specs.Rel.{RelState, admit_ack, admit_rel, delivery, ended_by, is_end, is_to, judge_ack_of, judge_rel_of, rel_effects, restart_effects}
 use Rattle.sp_rules.specs.Sends.{mask_in, own_prio, prio_body, prio_sent, rel_body, rel_number, rel_refusal, rel_sent, send_prio_refusal, signed_effect, signer_refusal, weight_body, weight_number, weight_refusal, weight_sent}
 use Rattle.sp_rules.specs.Steps as steps
 use Rattle.sp_rules.specs.Steps.{Input, NodeStep, Output, accepted, refused_call, refused_send}
@@ -45,6 +47,7 @@ pub record TellsDeliveries (p : Effect → Bool) : Type 0 where
   pub stored : (place id : ℕ) (src : NodeId) (seq prio : ℕ) → p (effects.Stored place id src seq prio) ≡ false
   pub gone : (place id : ℕ) (why : Why) → p (effects.Gone place id why) ≡ false
   pub held : (origin : NodeId) (edge : EdgeId) (seq weight : ℕ) → p (effects.WeightHeld origin edge seq weight) ≡ false
+  pub ended : (flow : Flow) → p (effects.Ended flow) ≡ false
 
 module _ (p : Effect → Bool) (tells : TellsDeliveries p) where
   -- how many of these pass it
@@ -145,6 +148,16 @@ module _ (p : Effect → Bool) (tells : TellsDeliveries p) where
       go true = one (delivery o.body)
       go false = omega arith
 
+  ended_none : (v : NodeId) (f : FlowState) → number (ended_by v f) ≡ 0
+  ended_none v f = go (is_end v (ends f) && f.active)
+    where
+      go : (t : Bool) → number (cond t (effects.Ended (ends f) ∷ []) []) ≡ 0
+      go true = none (effects.Ended (ends f)) (tells.ended (ends f))
+      go false = refl
+
+  restart_none : (r : RelState) (v : NodeId) → number (restart_effects r v) ≡ 0
+  restart_none r v = none_each (ended_by v) (ended_none v) r.flows
+
   -- ---- arrivals
 
   new_most : (answer : Item) (o : Kept) (old new : Parts) (es : List Effect) → number es ≤ 1 → number (where_new answer o old new es).effects ≤ 1
@@ -170,6 +183,9 @@ module _ (p : Effect → Bool) (tells : TellsDeliveries p) where
       new_most (items.Rel (rel_answer (is_signed arts at.fixed o) (is_dated q.lives o.body) (judge_rel_of q.rel flow o.body))) o q
       (record q { rel = admit_rel q.rel o })
       (rel_effects q.rel o) (rel_one q.rel o)
+  piece_most arts at q (EpochPiece o) =
+      new_most (items.Epoch (epoch_answer (is_signed arts at.fixed o) (judge_epoch at.fixed.me q.lives o.body))) o q (met q o)
+      (restart_effects q.rel (origin_said o.body)) (omega (arith, restart_none q.rel (origin_said o.body)))
 
   all_most : (arts : Arts) (at : Arrival) (q : Parts) (ps : List Piece) → number (handle_all arts at q ps).effects ≤ length (handle_all arts at q ps).answered
   all_most arts at q [] = omega arith
@@ -206,7 +222,8 @@ module _ (p : Effect → Bool) (tells : TellsDeliveries p) where
   step_most arts old new (steps.Poll v) output step = rw step.0 (called (call_refusal old v) (steps.replied (steps.Frame (frame_to arts old v))) (omega arith))
   step_most arts old new (steps.Datagram u bytes) output step =
       rw step.0 (called (call_refusal old u) (steps.arrived arts old u bytes)
-      (let most = all_most arts (arrival_at old u) old.parts (pieces_where (reply_at arts old u bytes) (pieces_in (sections_in arts old.fixed bytes))) in omega (arith, most)))
+      (let pieces = pieces_where (reply_at arts old u bytes) (pieces_in old.fixed (sections_in arts old.fixed bytes)) in
+      let most = all_most arts (arrival_at old u) (parts_met arts old u bytes) pieces in omega (arith, most)))
   step_most arts old new (steps.Tick now) output step = rw step.0 (omega (arith, ticked arts old now))
   step_most arts old new (steps.SendRel d payload) output step = rw step.0 (below (steps.send_rel_output arts old d payload) (sent (rel_refusal old d) (rel_number old d) (rel_sent arts old d payload) (one (signed_effect arts (rel_body old d payload)))))
   step_most arts old new (steps.SendPrio m) output step =

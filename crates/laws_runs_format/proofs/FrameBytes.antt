@@ -8,7 +8,7 @@ use Rattle.byteorder.specs.Endian.{big_bytes}
 use Rattle.sp_base.specs.Spelling.{AreBytes}
 use Rattle.sp_frame.specs.Frames.{ends_bytes, head_bytes, numbers_bytes}
 use Rattle.sp_frame.specs.Grammar.{counted_bytes, later_bytes}
-use Rattle.sp_frame.specs.Objects.{object_bytes}
+use Rattle.sp_frame.specs.Objects.{IsObject, object_bytes}
 use Rattle.sp_frame.specs.Prioritized.{numbered_bytes, prios_bytes}
 use Rattle.sp_frame.specs.Probes.{epoch_bytes, probe_bytes, probes_bytes}
 use Rattle.sp_frame.specs.Ranges.{IsContentsIn, IsDocument, Later}
@@ -17,6 +17,7 @@ use Rattle.sp_frame.specs.Sections.{Contents, control_bytes, plain_bytes, sectio
 use Rattle.sp_frame.specs.Views.{as_list}
 use Rattle.sp_frame.specs.Weights.{weights_bytes}
 use Rattle.sp_frame.specs.declared.head.Head.{Head}
+use Rattle.sp_frame.specs.declared.kind.Kind.TheVariants as kinds
 use Rattle.sp_frame.specs.declared.probe.Probe.{Probe}
 use Rattle.sp_base.specs.declared.format.TheConstants.{FORMAT_1}
 use Rattle.sp_msg.specs.Bodies.{encoded_in, fields_of, kind_of, numbers_of, payload_of}
@@ -24,7 +25,7 @@ use Rattle.sp_msg.specs.Fields.{Rule, size_of, spelled}
 use Rattle.sp_msg.specs.declared.body.Body.{Body}
 use Rattle.sp_msg.specs.declared.body.Body.TheVariants as bodies
 use Rattle.sp_msg.specs.declared.kept.Kept.{Kept}
-use Rattle.sp_rules.specs.Pieces.{Piece, WeightPiece, PrioAckPiece, AckPiece, RelPiece, pieces_of, prio_piece, slot_pieces}
+use Rattle.sp_rules.specs.Pieces.{Piece, WeightPiece, PrioAckPiece, AckPiece, RelPiece, EpochPiece, pieces_of, prio_piece, slot_pieces}
 use Rattle.laws_node.specs.Objects.{objects_in, objects_of}
 use Rattle.laws_runs.specs.Premises.{AreOfBytes, IsOfBytes, IsPlain}
 use Rattle.laws_runs_format.proofs.Bytes.{joined, joined3, joined4, left, none, of_number, one_first, parts3, parts4, right}
@@ -187,12 +188,17 @@ slot_ones (Some r) =
     ∙ ap (λ (xs : List Kept). xs ++ objects_in (map (RelPiece r.flow) r.rels)) (each_one (AckPiece r.flow) (λ o. refl) (as_list r.ack))
     ∙ ap (λ (xs : List Kept). as_list r.ack ++ xs) (each_one (RelPiece r.flow) (λ o. refl) r.rels)
 
-pub objects_are : (s : Contents) → objects_in (pieces_of s) ≡ s.weights ++ (prio_objects s.prios ++ slot_objects s.slot)
+pub objects_are : (s : Contents) → objects_in (pieces_of s) ≡ s.weights ++ (prio_objects s.prios ++ (slot_objects s.slot ++ as_list s.epoch))
 objects_are s =
-    objects_both (map WeightPiece s.weights) (PrioAckPiece s.prio_ack ∷ (map prio_piece s.prios ++ slot_pieces s.slot))
-    ∙ ap (λ (xs : List Kept). xs ++ objects_in (map prio_piece s.prios ++ slot_pieces s.slot)) (each_one WeightPiece (λ o. refl) s.weights)
-    ∙ ap (λ (xs : List Kept). s.weights ++ xs) (objects_both (map prio_piece s.prios) (slot_pieces s.slot)
-    ∙ ap (λ (xs : List Kept). xs ++ objects_in (slot_pieces s.slot)) (prio_ones s.prios) ∙ ap (λ (xs : List Kept). prio_objects s.prios ++ xs) (slot_ones s.slot))
+    let last = map EpochPiece (as_list s.epoch) in
+    let later = slot_pieces s.slot ++ last in
+    objects_both (map WeightPiece s.weights) (PrioAckPiece s.prio_ack ∷ (map prio_piece s.prios ++ later))
+    ∙ ap (λ (xs : List Kept). xs ++ objects_in (map prio_piece s.prios ++ later)) (each_one WeightPiece (λ o. refl) s.weights)
+    ∙ ap (λ (xs : List Kept). s.weights ++ xs) (objects_both (map prio_piece s.prios) later
+    ∙ ap (λ (xs : List Kept). xs ++ objects_in later) (prio_ones s.prios)
+    ∙ ap (λ (xs : List Kept). prio_objects s.prios ++ xs) (objects_both (slot_pieces s.slot) last
+    ∙ ap (λ (xs : List Kept). xs ++ objects_in last) (slot_ones s.slot)
+    ∙ ap (λ (xs : List Kept). slot_objects s.slot ++ xs) (each_one EpochPiece (λ o. refl) (as_list s.epoch))))
 
 prios_in : (ms : List (ℕ × Kept)) → All IsOfBytes (prio_objects ms) → All IsNumberedOf ms
 unfolding IsNumberedOf
@@ -203,6 +209,27 @@ prios_out : (ms : List (ℕ × Kept)) → All IsNumberedOf ms → All IsOfBytes 
 unfolding IsNumberedOf
 prios_out [] all = All-nil IsOfBytes
 prios_out (m ∷ ms) all = All-cons IsOfBytes m.1 (prio_objects ms) (All-head IsNumberedOf m ms all) (prios_out ms (All-tail IsNumberedOf m ms all))
+
+-- ---- the Epoch object, which format 1 lacks
+
+epoch_in : (format : ℕ) (o : Option Kept) → All IsOfBytes (as_list o) → AreBytes (epoch_bytes format o)
+unfolding epoch_bytes
+epoch_in format o all = go (format == FORMAT_1) o all
+  where
+    go : (t : Bool) (o : Option Kept) → All IsOfBytes (as_list o) → AreBytes (later_bytes (object_bytes format) t o)
+    go true o all = none
+    go false None all = of_number 1 0
+    go false (Some o) all = joined (big_bytes 1 1) (object_bytes format o) (of_number 1 1) (object_in format o (All-head IsOfBytes o [] all))
+
+epoch_out : (format len : ℕ) (o : Option Kept) → IfSome o (Later format (IsObject format kinds.Epoch len)) → AreBytes (epoch_bytes format o)
+    → All IsOfBytes (as_list o)
+unfolding epoch_bytes
+epoch_out format len None later are = All-nil IsOfBytes
+epoch_out format len (Some o) later are = go (format == FORMAT_1) later.0 are
+  where
+    go : (t : Bool) → t ≡ false → AreBytes (later_bytes (object_bytes format) t (Some o)) → All IsOfBytes (o ∷ [])
+    go true e are = absurd (cc)
+    go false e are = All-cons IsOfBytes o [] (object_out format o (right (big_bytes 1 1) (object_bytes format o) are)) (All-nil IsOfBytes)
 
 -- ---- parts that no node writes
 
@@ -222,54 +249,51 @@ no_probe format = go (format == FORMAT_1)
     go true = none
     go false = of_number 1 0
 
-no_epoch : (format : ℕ) → AreBytes (epoch_bytes format None)
-unfolding epoch_bytes
-no_epoch format = go (format == FORMAT_1)
-  where
-    go : (t : Bool) → AreBytes (later_bytes (object_bytes format) t None)
-    go true = none
-    go false = of_number 1 0
-
 -- ---- all sections
 
 pub sections_in : (format : ℕ) (s : Contents) → IsPlain s → AreOfBytes s → AreBytes (sections_bytes_in format s)
 unfolding sections_bytes_in plain_bytes weights_bytes prios_bytes
 sections_in format s plain of =
     let all = subst (All IsOfBytes) (objects_are s) of in
-    let rest = all_right s.weights (prio_objects s.prios ++ slot_objects s.slot) all in
+    let ends = slot_objects s.slot ++ as_list s.epoch in
+    let rest = all_right s.weights (prio_objects s.prios ++ ends) all in
+    let last = all_right (prio_objects s.prios) ends rest in
     let weights = weights_bytes format s.weights in
     let prios = prios_bytes format s.prios in
     let front = weights ++ big_bytes 8 s.prio_ack ++ prios ++ slot_bytes format s.slot in
     let paths = paths_bytes format s.paths in
     let probe = probes_bytes format s.probe in
     let front_are : AreBytes front = joined4 weights (big_bytes 8 s.prio_ack) prios (slot_bytes format s.slot)
-    (counted_in IsOfBytes (object_bytes format) (object_in format) s.weights (all_left s.weights (prio_objects s.prios ++ slot_objects s.slot) all))
+    (counted_in IsOfBytes (object_bytes format) (object_in format) s.weights (all_left s.weights (prio_objects s.prios ++ ends) all))
     (of_number 8 s.prio_ack)
     (counted_in IsNumberedOf (numbered_bytes format) (numbered_in format) s.prios
-    (prios_in s.prios (all_left (prio_objects s.prios) (slot_objects s.slot) rest)))
-    (slot_in format s.slot (all_right (prio_objects s.prios) (slot_objects s.slot) rest)) in
+    (prios_in s.prios (all_left (prio_objects s.prios) ends rest)))
+    (slot_in format s.slot (all_left (slot_objects s.slot) (as_list s.epoch) last)) in
     let paths_are = subst (λ (o : Option Report). AreBytes (paths_bytes format o)) (sym plain.paths) (no_paths format) in
     let probe_are = subst (λ (o : Option Probe). AreBytes (probes_bytes format o)) (sym plain.probe) (no_probe format) in
-    let epoch_are = subst (λ (o : Option Kept). AreBytes (epoch_bytes format o)) (sym plain.epoch) (no_epoch format) in
+    let epoch_are = epoch_in format s.epoch (all_right (slot_objects s.slot) (as_list s.epoch) last) in
     subst (λ (d : Option (List ℕ)). AreBytes (control_bytes format s d)) (sym plain.document)
     (joined (front ++ paths ++ probe) (epoch_bytes format s.epoch) (joined (front ++ paths) probe (joined front paths front_are paths_are) probe_are) epoch_are)
 
-plain_out : (format : ℕ) (s : Contents) → AreBytes (plain_bytes format s) → AreOfBytes s
+plain_out : (format len : ℕ) (s : Contents) → IsContentsIn format len s → AreBytes (plain_bytes format s) → AreOfBytes s
 unfolding plain_bytes weights_bytes prios_bytes
-plain_out format s are =
+plain_out format len s is are =
     let weights = weights_bytes format s.weights in
     let prios = prios_bytes format s.prios in
     let slot = slot_bytes format s.slot in
     let front = weights ++ big_bytes 8 s.prio_ack ++ prios ++ slot in
     let paths = paths_bytes format s.paths in
     let probe = probes_bytes format s.probe in
+    let ends = slot_objects s.slot ++ as_list s.epoch in
+    let last = right (front ++ paths ++ probe) (epoch_bytes format s.epoch) are in
     let parts = parts4 weights (big_bytes 8 s.prio_ack) prios slot
     (left front paths (left (front ++ paths) probe (left (front ++ paths ++ probe) (epoch_bytes format s.epoch) are))) in
     subst (All IsOfBytes) (sym (objects_are s))
-    (All-append IsOfBytes s.weights (prio_objects s.prios ++ slot_objects s.slot)
+    (All-append IsOfBytes s.weights (prio_objects s.prios ++ ends)
     (counted_out IsOfBytes (object_bytes format) (object_out format) s.weights parts.0)
-    (All-append IsOfBytes (prio_objects s.prios) (slot_objects s.slot)
-    (prios_out s.prios (counted_out IsNumberedOf (numbered_bytes format) (numbered_out format) s.prios parts.2)) (slot_out format s.slot parts.3)))
+    (All-append IsOfBytes (prio_objects s.prios) ends
+    (prios_out s.prios (counted_out IsNumberedOf (numbered_bytes format) (numbered_out format) s.prios parts.2))
+    (All-append IsOfBytes (slot_objects s.slot) (as_list s.epoch) (slot_out format s.slot parts.3) (epoch_out format len s.epoch is.epoch last))))
 
 -- a document comes alone
 pub sections_out : (format len : ℕ) (s : Contents) → IsContentsIn format len s → AreBytes (sections_bytes_in format s) → AreOfBytes s
@@ -277,7 +301,7 @@ unfolding sections_bytes_in
 sections_out format len s is are = go s.document refl is.document are
   where
     go : (d : Option (List ℕ)) → s.document ≡ d → IfSome d (Later format (IsDocument s)) → AreBytes (control_bytes format s d) → AreOfBytes s
-    go None none later are = plain_out format s are
+    go None alone later are = plain_out format len s is are
     go (Some document) some later are = subst AreOfBytes (sym later.1.alone) (All-nil IsOfBytes)
 
 -- ---- heads

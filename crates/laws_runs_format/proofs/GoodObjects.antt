@@ -4,7 +4,7 @@ use Rattle.std.specs.List.{All}
 use Rattle.std.specs.Prelude.{IfSome, IsTrue}
 use Rattle.std.proofs.lemmas.List.Elements.{All-append, All-cons, All-nil}
 use Rattle.sp_frame.specs.Objects.{IsObject}
-use Rattle.sp_frame.specs.Ranges.{IsContentsIn, IsNumbered, IsReport}
+use Rattle.sp_frame.specs.Ranges.{IsContentsIn, IsNumbered, IsReport, Later}
 use Rattle.sp_frame.specs.Reliable.{Report}
 use Rattle.sp_frame.specs.Sections.{Contents}
 use Rattle.sp_frame.specs.Views.{as_list}
@@ -37,9 +37,14 @@ module _ (format len : ℕ) where
   in_slot None is = All-nil IsGood
   in_slot (Some r) is = All-append IsGood (as_list r.ack) r.rels (at_most_one r.ack is.ack) (each kinds.Rel r.rels is.rels)
 
+  of_start : (o : Option Kept) → IfSome o (Later format (IsObject format kinds.Epoch len)) → All IsGood (as_list o)
+  of_start None is = All-nil IsGood
+  of_start (Some o) is = All-cons IsGood o [] (one kinds.Epoch o is.1) (All-nil IsGood)
+
   pub objects_are_good : (s : Contents) → IsContentsIn format len s → All (λ o. IsTrue ((format_in format).is_good o.body)) (objects_in (pieces_of s))
   objects_are_good s is =
       subst (All IsGood) (sym (objects_are s))
-      (All-append IsGood s.weights (prio_objects s.prios ++ slot_objects s.slot) (each kinds.Weight s.weights is.weights)
-      (All-append IsGood (prio_objects s.prios) (slot_objects s.slot)
-      (all_map (IsNumbered format len) IsGood (λ m. m.1) (λ m numbered. one kinds.Prio m.1 numbered.object) s.prios is.prios) (in_slot s.slot is.slot)))
+      (All-append IsGood s.weights (prio_objects s.prios ++ (slot_objects s.slot ++ as_list s.epoch)) (each kinds.Weight s.weights is.weights)
+      (All-append IsGood (prio_objects s.prios) (slot_objects s.slot ++ as_list s.epoch)
+      (all_map (IsNumbered format len) IsGood (λ m. m.1) (λ m numbered. one kinds.Prio m.1 numbered.object) s.prios is.prios)
+      (All-append IsGood (slot_objects s.slot) (as_list s.epoch) (in_slot s.slot is.slot) (of_start s.epoch is.epoch))))

@@ -34,7 +34,7 @@ opens : (format len : ℕ) → len ≤ most_signature → (h : Head) (s : Conten
 opens format len small h s key range same plain is =
     let bytes = written (format_in format) h s key in
     let back = read_back len h s (hmac key (head_bytes h ++ sections_bytes_in h.format s)) small range
-    (record { document = plain.document; paths = plain.paths; probe = plain.probe; epoch = plain.epoch })
+    (record { document = plain.document; paths = plain.paths; probe = plain.probe })
     (subst (λ (f : ℕ). IsContentsIn f len s) (sym same) is) (length-hmac key (head_bytes h ++ sections_bytes_in h.format s)) in
     subst (λ (f : ℕ). opened_in f bytes ≡ Ok bytes) same back.opens
 

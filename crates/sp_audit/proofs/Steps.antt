@@ -58,6 +58,7 @@ each_holds x es js u good before (e ∷ later) shares =
     one (effects.Gone place id why) share = (good.bounded u place, share place)
     one (effects.Signed bytes) share = tt
     one (effects.WeightHeld origin edge seq weight) share = tt
+    one (effects.Ended flow) share = tt
 
 -- ---- what is asked of all follows from what each effect asks
 
@@ -83,6 +84,7 @@ prefix_found x es js s u all before (e ∷ later) a b holds = one e holds.0 (pre
     one (effects.Gone place id why) here rest = rest
     one (effects.Signed bytes) here rest = rest
     one (effects.WeightHeld origin edge seq weight) here rest = rest
+    one (effects.Ended flow) here rest = rest
 
 once_found : (x : Setting) (es : List Event) (js : List Entry) (s u : NodeId) (all before later : List Effect) → IsTrue (is_correct x u)
     → EachHolds x es js u all before later → (flat_map (prio_by s) later ≡ []) ⊎ AreOnce (numbers s all)
@@ -103,6 +105,7 @@ once_found x es js s u all before (e ∷ later) b holds = one e holds.0 (once_fo
     one (effects.Gone place id why) here rest = rest
     one (effects.Signed bytes) here rest = rest
     one (effects.WeightHeld origin edge seq weight) here rest = rest
+    one (effects.Ended flow) here rest = rest
 
 -- no effect is of the place
 record IsUntouched (p : ℕ) (later : List Effect) : Type 0 where
@@ -149,6 +152,11 @@ bound_found x es js u p all before (e ∷ later) holds = one e holds.0 (bound_fo
         kept : IsUntouched p later ⊎ (length (held_in p all) ≤ x.store) → IsUntouched p (effects.WeightHeld origin edge seq weight ∷ later) ⊎ (length (held_in p all) ≤ x.store)
         kept (inl none) = inl (record { stored = none.stored; gone = none.gone })
         kept (inr found) = inr found
+    one (effects.Ended flow) here rest = kept rest
+      where
+        kept : IsUntouched p later ⊎ (length (held_in p all) ≤ x.store) → IsUntouched p (effects.Ended flow ∷ later) ⊎ (length (held_in p all) ≤ x.store)
+        kept (inl none) = inl (record { stored = none.stored; gone = none.gone })
+        kept (inr found) = inr found
 
 filter_same : (f g : Held → Bool) → ((h : Held) → f h ≡ g h) → (hs : List Held) → filter f hs ≡ filter g hs
 filter_same f g same [] = refl
@@ -183,6 +191,7 @@ shares_from x es js u p all before (e ∷ later) holds = (one e holds.0, shares_
     one (effects.DeliveredPrio src seq payload) here = tt
     one (effects.Signed bytes) here = tt
     one (effects.WeightHeld origin edge seq weight) here = tt
+    one (effects.Ended flow) here = tt
 
 -- ---- one event more
 

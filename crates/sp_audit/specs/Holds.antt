@@ -27,6 +27,7 @@ EffectHolds x es js u all before _ = Unit {0}
 abbrev pub asks : Effect → Bool
 asks (effects.Signed bytes) = false
 asks (effects.WeightHeld origin edge seq weight) = false
+asks (effects.Ended flow) = false
 asks _ = true
 
 -- each of the later effects, one after the other

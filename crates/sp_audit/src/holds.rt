@@ -67,7 +67,7 @@ fn asks(effect: &Effect) -> bool
     ensures { result ≡ asks effect.now }
 {
     match effect {
-        Effect::Signed(_) | Effect::WeightHeld { .. } => false,
+        Effect::Signed(_) | Effect::WeightHeld { .. } | Effect::Ended(_) => false,
         _ => true,
     }
 }

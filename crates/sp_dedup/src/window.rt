@@ -61,6 +61,13 @@ impl Window {
         self.greatest = self.greatest.max(seq);
         true
     }
+
+    /// No number was seen, as at first. It takes no memory.
+    pub fn clear(&mut self)
+        ensures { self.new ≡ [] }
+    {
+        *self = Window::new();
+    }
 }
 
 /// A ring of which no place holds a number of its own remainder.

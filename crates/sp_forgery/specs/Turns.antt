@@ -1,5 +1,6 @@
 -- A walk over objects and their answers in turn, for the first that is forged.
 use Rattle.std.specs.Prelude.{ℕ, List, [], ◌∷◌, ◌++◌, map, option_map, Option, None, Some, if◌then◌else◌}
+use Rattle.sp_frame.specs.Sections.{Contents}
 use Rattle.sp_frame.specs.Views.{as_list, as_object}
 use Rattle.sp_frame.specs.declared.sections.Slot.{Slot}
 use Rattle.sp_journal.specs.declared.entry.Entry.{Entry}
@@ -21,6 +22,10 @@ forged_in_turn x es js os [] = None
 forged_in_turn x es js [] (item ∷ items) = None
 forged_in_turn x es js (o ∷ os) (item ∷ items) =
     if is_forged (format_in x.topology.format) x es js (o, item) then Some (encoded_in x.topology.format o.body) else forged_in_turn x es js os items
+
+-- what a node without epochs handles of contents: all but the Epoch object
+abbrev pub without_epoch : Contents → Contents
+without_epoch contents = record contents { epoch = None }
 
 -- the objects of a slot
 abbrev pub slot_objects : Option Slot → List Kept

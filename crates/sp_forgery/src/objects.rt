@@ -11,7 +11,7 @@ ghost use Rattle.sp_rules.specs.Answers.{is_new};
 ghost use Rattle.sp_rules.specs.Pieces.{pieces_of};
 ghost use Rattle.sp_runs.specs.Forgery.{is_forged};
 ghost use Rattle.sp_runs.specs.Scenarios.{setting_of};
-ghost use Rattle.sp_forgery.specs.Turns.{forged_in_turn, or_later, slot_objects};
+ghost use Rattle.sp_forgery.specs.Turns.{forged_in_turn, or_later, slot_objects, without_epoch};
 
 use crate::hints::Hints;
 use crate::nodes::is_correct;
@@ -20,7 +20,7 @@ use sp_base::Four;
 use sp_frame::{ObjectRef, Sections, Slot};
 use sp_journal::Entry;
 use sp_msg::{BodyRef, a_body_has_one_spelling, signer};
-use sp_rules::{AckAnswer, Item, PrioAnswer, RelAnswer, WeightAnswer};
+use sp_rules::{AckAnswer, EpochAnswer, Item, PrioAnswer, RelAnswer, WeightAnswer};
 use sp_schedule_events::{Event, Scenario};
 
 /// What was done before an event.
@@ -43,6 +43,7 @@ struct Looked<'a, 'b> {
 }
 
 /// The first object of a handled frame of the scenario's format that is forged: its bytes. The answers are those to its objects, in the order of handling.
+/// The node runs without epochs, so it handled no Epoch object.
 #[tactic(auto, using(crate::proofs::Turns::objects_in_sections))]
 pub fn first_forged<'a>(
     known: &Known<'_>,
@@ -53,7 +54,7 @@ pub fn first_forged<'a>(
     requires of_format { AreOf known.now.scenario.now.format sections.now }
     ensures { option_map (λ b. b.now) result
         ≡ forged_in_turn (setting_of known.now.scenario.now) known.now.events.now known.now.journal.now
-        (objects_in (pieces_of (as_contents sections.now))) items.now }
+        (objects_in (pieces_of (without_epoch (as_contents sections.now)))) items.now }
 {
     let weight = look(known, &sections.weight, items);
     if weight.found.is_some() {
@@ -204,6 +205,7 @@ fn is_new(item: Item) -> bool
             | Item::Prio(PrioAnswer::New)
             | Item::Ack(AckAnswer::New)
             | Item::Rel(RelAnswer::New)
+            | Item::Epoch(EpochAnswer::New)
     )
 }
 

@@ -3,7 +3,7 @@
 --     accepted SEQ           ticked                        toolong              stale BOOT COUNTER
 --     full BASE HAVE         tickspent INDEX               short NEED LEFT      topology THEIRS
 --     spent INDEX            ticknotreserved BOUND         magic                section cut | count | object | tail
---     expired NOW            low MIN                       version              fresh, and a word for each object: weight: prio: ack: rel:
+--     expired NOW            low MIN                       version              fresh, and a word for each object: weight: prio: ack: rel: epoch:
 --     nopaths FOUND          frame NUMBER LENGTH DIGEST    notforme               with new badend epoch foreign low old expired seen ahead
 --     payload HEX            payload SRC SEQ HEX           badtag                 gap full inboxfull badsig
 --     empty                                                learned BOOT
@@ -11,6 +11,7 @@
 --     + signed HEX                        + delivered rel SRC SEQ HEX
 --     + stored PLACE ID SRC SEQ PRIO      + delivered prio SRC SEQ HEX
 --     + gone PLACE ID WHY                 + weight ORIGIN EDGE SEQ WEIGHT
+--                                         + ended S D
 use Rattle.std.specs.Prelude.{List, [], ◌∷◌, ◌++◌, map, codes}
 use Rattle.std.specs.Fmt.{decimal}
 use Rattle.sp_text.specs.Spelling.{Word, hex_word}
@@ -51,6 +52,7 @@ item_word (items.Weight answer) = codes "weight:" ++ answer_word answer
 item_word (items.Prio answer) = codes "prio:" ++ answer_word answer
 item_word (items.Ack answer) = codes "ack:" ++ answer_word answer
 item_word (items.Rel answer) = codes "rel:" ++ answer_word answer
+item_word (items.Epoch answer) = codes "epoch:" ++ answer_word answer
 
 abbrev pub section_word : SectionWord → Word
 section_word sections.Cut = codes "cut"
@@ -132,6 +134,7 @@ effect_fields (effects.Gone place id why) = codes "gone" ∷ decimal place ∷ d
 effect_fields (effects.Delivered src seq payload) = codes "delivered" ∷ codes "rel" ∷ decimal src.0 ∷ decimal seq ∷ hex_word payload ∷ []
 effect_fields (effects.DeliveredPrio src seq payload) = codes "delivered" ∷ codes "prio" ∷ decimal src.0 ∷ decimal seq ∷ hex_word payload ∷ []
 effect_fields (effects.WeightHeld origin edge seq weight) = codes "weight" ∷ decimal origin.0 ∷ decimal edge.0 ∷ decimal seq ∷ decimal weight ∷ []
+effect_fields (effects.Ended flow) = codes "ended" ∷ decimal flow.src.0 ∷ decimal flow.dst.0 ∷ []
 
 abbrev pub effect_words : Effect → List Word
 effect_words effect = codes "+" ∷ effect_fields effect

@@ -74,6 +74,11 @@ fn push_fields(out: &mut String, effect: &Effect) -> Result<(), Memory>
             push_field(out, *seq)?;
             push_field(out, u64::from(*weight))
         }
+        Effect::Ended(flow) => {
+            push_name_field(out, "ended")?;
+            push_field(out, u64::from(flow.src.0))?;
+            push_field(out, u64::from(flow.dst.0))
+        }
     }
 }
 

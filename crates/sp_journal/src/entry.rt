@@ -101,6 +101,7 @@ pub enum ItemWord {
     Prio(AnswerWord),
     Ack(AnswerWord),
     Rel(AnswerWord),
+    Epoch(AnswerWord),
 }
 
 /// The word of an answer. Which object may have which, is a matter of the rules.

@@ -188,6 +188,7 @@ fn push_item(out: &mut String, item: ItemWord) -> Result<(), Memory>
         ItemWord::Prio(answer) => (" prio:", answer),
         ItemWord::Ack(answer) => (" ack:", answer),
         ItemWord::Rel(answer) => (" rel:", answer),
+        ItemWord::Epoch(answer) => (" epoch:", answer),
     };
     out.push_str(object)?;
     out.push_str(answer_word(answer))?;

@@ -28,6 +28,7 @@ effect_back (effects.Gone at key whys.Taken) = refl
 effect_back (effects.Delivered src number bytes) = refl
 effect_back (effects.DeliveredPrio src number bytes) = refl
 effect_back (effects.WeightHeld origin edge number weight) = refl
+effect_back (effects.Ended flow) = refl
 
 -- its words are those of its row
 pub row_words : (e : Effect) → spelled (cells (form_of e)) (values_of e) ≡ effect_fields e
@@ -40,6 +41,7 @@ row_words (effects.Gone at key whys.Taken) = refl
 row_words (effects.Delivered src number bytes) = refl
 row_words (effects.DeliveredPrio src number bytes) = refl
 row_words (effects.WeightHeld origin edge number weight) = refl
+row_words (effects.Ended flow) = refl
 
 -- and they fit that row, and none before it
 form_again : (e : Effect) → form_for (effect_fields e) ≡ Some (form_of e)
@@ -52,6 +54,7 @@ form_again (effects.Gone at key whys.Taken) = refl
 form_again (effects.Delivered src number bytes) = refl
 form_again (effects.DeliveredPrio src number bytes) = refl
 form_again (effects.WeightHeld origin edge number weight) = refl
+form_again (effects.Ended flow) = refl
 
 -- the words of a row's values are those of its effect, which are in the same ranges
 record IsOfForm (form : Form) (xs : Values (cells form)) : Type 0 where
@@ -68,6 +71,7 @@ of_form (forms.Gone whys.Taken) xs = record { words = refl; ranges = λ are. are
 of_form (forms.Delivered kinds.Rel) xs = record { words = refl; ranges = λ are. are }
 of_form (forms.Delivered kinds.Prio) xs = record { words = refl; ranges = λ are. are }
 of_form forms.Weight xs = record { words = refl; ranges = λ are. are }
+of_form forms.Ended xs = record { words = refl; ranges = λ are. are }
 
 good_form : (form : Form) → is_good_row (cells form) ≡ true
 good_form forms.Signed = refl
@@ -79,6 +83,7 @@ good_form (forms.Gone whys.Taken) = refl
 good_form (forms.Delivered kinds.Rel) = refl
 good_form (forms.Delivered kinds.Prio) = refl
 good_form forms.Weight = refl
+good_form forms.Ended = refl
 
 -- the row that was found is fitted
 pub found_fits : {F : Type 0} (test : F → Bool) (all : List F) (found : F) → find test all ≡ Some found → test found ≡ true

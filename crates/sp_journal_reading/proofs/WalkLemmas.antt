@@ -28,7 +28,7 @@ use Rattle.sp_journal_reading.specs.EffectTable.{IsInRange, form_of, values_of}
 use Rattle.sp_journal.specs.JournalText.{delivered_count, frame_count, is_frame, is_sent, priority_count, sent_count, summary_words, version_words}
 use Rattle.sp_journal_reading.specs.Reading.{IsGoodEntry, IsJournal, are_counts, closed, says, summary_cells, summary_more, version_cells}
 use Rattle.sp_journal_reading.specs.ReplyTable as forms
-use Rattle.sp_journal_reading.specs.ReplyTable.{Form, IsGoodReply, MAX_ENTRIES, Of_items, Of_row, cells, reply_of}
+use Rattle.sp_journal_reading.specs.ReplyTable.{Form, IsGoodReply, MAX_ENTRIES, Of_items, Of_row, cells}
 use Rattle.sp_journal.specs.Words.{effect_fields, effect_words, item_word, reply_words}
 use Rattle.sp_journal_reading.specs.declared.item_words.TheConstants.{MAX_ITEMS}
 use Rattle.sp_journal.specs.declared.entry.AnswerWord.TheVariants as answers
@@ -82,6 +82,7 @@ good_plus (effect_forms.Gone whys.Taken) = refl
 good_plus (effect_forms.Delivered kinds.Rel) = refl
 good_plus (effect_forms.Delivered kinds.Prio) = refl
 good_plus effect_forms.Weight = refl
+good_plus effect_forms.Ended = refl
 
 effect_line : (effect : Effect) → IsInRange effect → IsGoodLine (effect_words effect)
 effect_line effect is =
@@ -204,6 +205,19 @@ short_item (items.Rel answers.Gap) = record { good = refl; short = refl }
 short_item (items.Rel answers.Full) = record { good = refl; short = refl }
 short_item (items.Rel answers.InboxFull) = record { good = refl; short = refl }
 short_item (items.Rel answers.BadSig) = record { good = refl; short = refl }
+short_item (items.Epoch answers.New) = record { good = refl; short = refl }
+short_item (items.Epoch answers.BadEnd) = record { good = refl; short = refl }
+short_item (items.Epoch answers.Epoch) = record { good = refl; short = refl }
+short_item (items.Epoch answers.Foreign) = record { good = refl; short = refl }
+short_item (items.Epoch answers.Low) = record { good = refl; short = refl }
+short_item (items.Epoch answers.Old) = record { good = refl; short = refl }
+short_item (items.Epoch answers.Expired) = record { good = refl; short = refl }
+short_item (items.Epoch answers.Seen) = record { good = refl; short = refl }
+short_item (items.Epoch answers.Ahead) = record { good = refl; short = refl }
+short_item (items.Epoch answers.Gap) = record { good = refl; short = refl }
+short_item (items.Epoch answers.Full) = record { good = refl; short = refl }
+short_item (items.Epoch answers.InboxFull) = record { good = refl; short = refl }
+short_item (items.Epoch answers.BadSig) = record { good = refl; short = refl }
 
 abbrev item_cells : List ItemWord → List Cell
 item_cells [] = []

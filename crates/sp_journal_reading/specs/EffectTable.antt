@@ -3,9 +3,11 @@
 --     signed HEX                        delivered rel SRC SEQ HEX
 --     stored PLACE ID SRC SEQ PRIO      delivered prio SRC SEQ HEX
 --     gone PLACE ID WHY                 weight ORIGIN EDGE SEQ WEIGHT
+--                                       ended S D
 use Rattle.std.specs.Prelude.{ℕ, ◌+◌, ◌-◌, ◌^◌, List, [], ◌∷◌, Option, Some, None, Result, Ok, Err, codes}
 use Rattle.sp_base.specs.Refusals.{◌>>=◌}
 use Rattle.sp_base.specs.declared.limits.TheConstants.{MAX_EDGES_2, MAX_NODES_2, MAX_PAYLOAD_BYTES, MAX_PRIORITY, MAX_SEQ, MAX_WEIGHT}
+use Rattle.sp_base.specs.declared.id.Flow.{Flow}
 use Rattle.sp_base.specs.declared.id.NodeId.{NodeId}
 use Rattle.sp_text.specs.Spelling.{Word}
 use Rattle.sp_lines.specs.Cells.{Bytes, Cell, Name, Number}
@@ -27,6 +29,7 @@ pub data Form : Type 0 where
   Gone : Why → Form
   Delivered : Kind → Form
   Weight : Form
+  Ended : Form
 
 -- ---- places
 
@@ -60,17 +63,21 @@ cells Stored = Name (codes "stored") ∷ place ∷ any_number ∷ node ∷ seq �
 cells (Gone why) = Name (codes "gone") ∷ place ∷ any_number ∷ Name (why_word why) ∷ []
 cells (Delivered kind) = Name (codes "delivered") ∷ Name (kind_word kind) ∷ node ∷ seq ∷ payload ∷ []
 cells Weight = Name (codes "weight") ∷ node ∷ Number 0 (MAX_EDGES_2 - 1) ∷ seq ∷ Number 1 MAX_WEIGHT ∷ []
+cells Ended = Name (codes "ended") ∷ node ∷ node ∷ []
 
 -- all forms
 abbrev pub forms : List Form
 forms =
     Signed ∷ Stored ∷ Gone whys.Evicted ∷ Gone whys.Expired ∷ Gone whys.Acked ∷ Gone whys.Taken
-    ∷ Delivered kinds.Rel ∷ Delivered kinds.Prio ∷ Weight ∷ []
+    ∷ Delivered kinds.Rel ∷ Delivered kinds.Prio ∷ Weight ∷ Ended ∷ []
 
 -- ---- effects
 
 abbrev pub id : ℕ → NodeId
 id n = record { 0 = n }
+
+abbrev pub flow : (src dst : ℕ) → Flow
+flow src dst = record { src = id src; dst = id dst }
 
 -- the effect of a row with these values
 abbrev pub effect_of : (form : Form) → Values (cells form) → Effect
@@ -80,6 +87,7 @@ effect_of (Gone why) x = effects.Gone x.0 x.1.0 why
 effect_of (Delivered kinds.Rel) x = effects.Delivered (id x.0) x.1.0 x.1.1.0
 effect_of (Delivered kinds.Prio) x = effects.DeliveredPrio (id x.0) x.1.0 x.1.1.0
 effect_of Weight x = effects.WeightHeld (id x.0) (record { 0 = x.1.0 }) x.1.1.0 x.1.1.1.0
+effect_of Ended x = effects.Ended (flow x.0 x.1.0)
 
 -- the row of an effect
 abbrev pub form_of : Effect → Form
@@ -89,6 +97,7 @@ form_of (effects.Gone at key why) = Gone why
 form_of (effects.Delivered src number bytes) = Delivered kinds.Rel
 form_of (effects.DeliveredPrio src number bytes) = Delivered kinds.Prio
 form_of (effects.WeightHeld origin edge number weight) = Weight
+form_of (effects.Ended of) = Ended
 
 -- its values in that row
 abbrev pub values_of : (e : Effect) → Values (cells (form_of e))
@@ -98,6 +107,7 @@ values_of (effects.Gone at key why) = (at, (key, tt))
 values_of (effects.Delivered src number bytes) = (src.0, (number, (bytes, tt)))
 values_of (effects.DeliveredPrio src number bytes) = (src.0, (number, (bytes, tt)))
 values_of (effects.WeightHeld origin edge number weight) = (origin.0, (edge.0, (number, (weight, tt))))
+values_of (effects.Ended of) = (of.src.0, (of.dst.0, tt))
 
 -- an effect in its ranges
 abbrev pub IsInRange : Effect → Type 0

@@ -10,6 +10,7 @@
 --
 --     weight:  new foreign low old badsig                  ack:  new badend epoch old ahead badsig
 --     prio:    new badend epoch expired seen badsig        rel:  new badend epoch old ahead gap full inboxfull badsig
+--     epoch:   new badend old badsig
 use Rattle.std.specs.Prelude.{ℕ, ◌≡◌, ◌≤◌, ◌-◌, ◌^◌, nat_le, List, [], ◌∷◌, ◌++◌, All}
 use Rattle.std.specs.Prelude.{find, length, map, Option, Some, None, Result, Ok, Err, codes, if◌then◌else◌}
 use Rattle.sp_base.specs.Refusals.{◌>>=◌}
@@ -150,9 +151,14 @@ ack_answers = answers.New ∷ answers.BadEnd ∷ answers.Epoch ∷ answers.Old �
 abbrev pub rel_answers : List AnswerWord
 rel_answers = answers.New ∷ answers.BadEnd ∷ answers.Epoch ∷ answers.Old ∷ answers.Ahead ∷ answers.Gap ∷ answers.Full ∷ answers.InboxFull ∷ answers.BadSig ∷ []
 
+abbrev pub epoch_answers : List AnswerWord
+epoch_answers = answers.New ∷ answers.BadEnd ∷ answers.Old ∷ answers.BadSig ∷ []
+
 -- all items
 abbrev pub all_items : List ItemWord
-all_items = map items.Weight weight_answers ++ (map items.Prio prio_answers ++ (map items.Ack ack_answers ++ map items.Rel rel_answers))
+all_items =
+    map items.Weight weight_answers
+    ++ (map items.Prio prio_answers ++ (map items.Ack ack_answers ++ (map items.Rel rel_answers ++ map items.Epoch epoch_answers)))
 
 -- the item among these that has this word
 abbrev pub item_among : List ItemWord → Word → Option ItemWord

@@ -9,7 +9,8 @@ ghost use Rattle.sp_journal_reading.specs.EffectTable.{kind_word, read_effect, r
 ghost use Rattle.sp_journal_reading.specs.EffectTable as forms;
 
 use sp_base::{
-    EdgeId, MAX_EDGES_2, MAX_NODES_2, MAX_PAYLOAD_BYTES, MAX_PRIORITY, MAX_SEQ, MAX_WEIGHT, NodeId,
+    EdgeId, Flow, MAX_EDGES_2, MAX_NODES_2, MAX_PAYLOAD_BYTES, MAX_PRIORITY, MAX_SEQ, MAX_WEIGHT,
+    NodeId,
 };
 use sp_lines::{Fault, LineRefused, bytes, named, ranged};
 use sp_msg::{Effect, Why};
@@ -31,6 +32,7 @@ pub fn read_effect(alloc: Global, words: &[&[u8]]) -> Result<Effect, LineRefused
 {
     match words {
         [name, a] => two(alloc, name, a),
+        [name, a, b] => three(name, a, b),
         [name, a, b, c] => four(name, a, b, c),
         [name, a, b, c, d] => five(alloc, name, a, b, c, d),
         [name, a, b, c, d, e] => six(name, a, b, c, d, e),
@@ -43,6 +45,15 @@ fn two(alloc: Global, name: &[u8], body: &[u8]) -> Result<Effect, LineRefused>
 {
     if named(name, b"signed") {
         return signed(alloc, body);
+    }
+    Err(LineRefused::Bad(Fault::Form))
+}
+
+fn three(name: &[u8], src: &[u8], dst: &[u8]) -> Result<Effect, LineRefused>
+    ensures { Reads result (read_effect (name.now ∷ src.now ∷ dst.now ∷ [])) }
+{
+    if named(name, b"ended") {
+        return ended(src, dst);
     }
     Err(LineRefused::Bad(Fault::Form))
 }
@@ -191,4 +202,13 @@ fn weight(origin: &[u8], edge: &[u8], seq: &[u8], weight: &[u8]) -> Result<Effec
         seq,
         weight,
     })
+}
+
+#[tactic(auto, unfolding(crate::specs::EffectTable::read_form))]
+fn ended(src: &[u8], dst: &[u8]) -> Result<Effect, LineRefused>
+    ensures { Reads result (read_form forms.Ended (codes "ended" ∷ src.now ∷ dst.now ∷ [])) }
+{
+    let src = node(src)?;
+    let dst = node(dst)?;
+    Ok(Effect::Ended(Flow { src, dst }))
 }

@@ -15,7 +15,7 @@ use std::alloc::Global;
 pub const MAX_ITEMS: usize = 1_024;
 
 /// The word of each item.
-const ITEMS: [(&[u8], ItemWord); 26] = [
+const ITEMS: [(&[u8], ItemWord); 30] = [
     (b"weight:new", ItemWord::Weight(AnswerWord::New)),
     (b"weight:foreign", ItemWord::Weight(AnswerWord::Foreign)),
     (b"weight:low", ItemWord::Weight(AnswerWord::Low)),
@@ -42,6 +42,10 @@ const ITEMS: [(&[u8], ItemWord); 26] = [
     (b"rel:full", ItemWord::Rel(AnswerWord::Full)),
     (b"rel:inboxfull", ItemWord::Rel(AnswerWord::InboxFull)),
     (b"rel:badsig", ItemWord::Rel(AnswerWord::BadSig)),
+    (b"epoch:new", ItemWord::Epoch(AnswerWord::New)),
+    (b"epoch:badend", ItemWord::Epoch(AnswerWord::BadEnd)),
+    (b"epoch:old", ItemWord::Epoch(AnswerWord::Old)),
+    (b"epoch:badsig", ItemWord::Epoch(AnswerWord::BadSig)),
 ];
 
 /// The items of these words, or the first fault.

@@ -2,7 +2,7 @@
 ghost use Rattle.std.specs.Prelude.{◌≡◌, ◌-◌, ◌<◌, ◌++◌, [], ◌∷◌, IfErr, IfOk, IsOk};
 
 use crate::MsgRefused;
-use sp_base::{Bytes, EdgeId, Memory, NodeId, push_in_room};
+use sp_base::{Bytes, EdgeId, Flow, Memory, NodeId, push_in_room};
 use std::alloc::Global;
 use std::marker::Model;
 
@@ -44,6 +44,8 @@ pub enum Effect {
         seq: u64,
         weight: u32,
     },
+    /// Another life of an end of this flow began. The flow was active, and is as before its first message.
+    Ended(Flow),
 }
 
 /// Why an entry left a store.

@@ -1,5 +1,6 @@
 -- What its link makes of a datagram is what the rules say.
-use Rattle.std.proofs.Common.{rules, ◌≡◌, ◌≤◌, ◌+◌, ◌==◌, ◌∙◌, ℕ, Bool, true, false, not, List, [], Some, Result, Ok, Err, refl, sym, ap, cond, arith}
+use Rattle.std.proofs.Common.{rules, ◌≡◌, ◌≤◌, ◌+◌, ◌==◌, ◌∙◌, ℕ, Bool, true, false, not, List, [], Some, Result, Ok, Err, refl, sym, ap, cond, arith, nat_lt}
+use Rattle.std.proofs.lemmas.Bool.Decides.{nat_tests}
 use Rattle.std.specs.Prelude.{option_map, unwrap_or}
 use Rattle.std.specs.Result.{result_err}
 use Rattle.sp_base.specs.declared.id.NodeId.{NodeId}
@@ -12,7 +13,7 @@ use Rattle.sp_node.specs.Life.{reply_tags}
 use Rattle.sp_frame.specs.declared.refused.FrameRefused.{FrameRefused}
 use Rattle.sp_frame.specs.declared.refused.FrameRefused.TheVariants as frames
 use Rattle.sp_rules.proofs.ArrivalLemmas.{link_stays, link_with, of_frame, of_link}
-use Rattle.sp_rules.specs.Arrivals.{link_after, link_says, no_frame, not_read, pieces_in, pieces_where, reply_at, sections_in}
+use Rattle.sp_rules.specs.Arrivals.{has_risen, link_after, link_says, no_frame, not_read, pieces_in, pieces_where, reply_at, sections_in}
 use Rattle.sp_rules.specs.Link.{Link}
 use Rattle.sp_rules.specs.Node.{NodeState, link_in}
 use Rattle.sp_rules.specs.Parts.{Fixed}
@@ -96,15 +97,30 @@ passed_link n v bytes frame l left is link gives =
     ∙ ap (λ (b : List ℕ). link_with (format_of n.fixed) (link_in n v) b (Ok frame)) (opened_whole n.fixed.topology.format bytes frame is)
     ∙ link_is n v bytes frame is
 
+-- the boot of the neighbour as it was known rises with this datagram, or doesn't
+pub passed_risen : (n : NodeState) (v : NodeId) (bytes : List ℕ) (l left : Link) (risen : Bool) → l ≡ link_in n v
+    → left ≡ link_after (format_of n.fixed) n v bytes → risen ≡ has_risen l left
+    → risen ≡ has_risen (link_in n v) (link_after (format_of n.fixed) n v bytes)
+passed_risen n v bytes l left risen link is rises =
+    rises ∙ ap (λ (k : Link). has_risen k left) link ∙ ap (has_risen (link_in n v)) is
+
+pub none_rises : (n : NodeState) (v : NodeId) (bytes : List ℕ) (refused : FrameRefused) → opened_in n.fixed.topology.format bytes ≡ Err refused
+    → false ≡ has_risen (link_in n v) (link_after (format_of n.fixed) n v bytes)
+none_rises n v bytes refused is =
+    sym (not_above (link_in n v).peer_boot) ∙ ap (has_risen (link_in n v)) (same_link n v bytes refused is)
+  where
+    not_above : (boot : ℕ) → nat_lt boot boot ≡ false
+    not_above boot = grind (arith, nat_tests)
+
 pub passed_pieces : (n : NodeState) (v : NodeId) (bytes frame : List ℕ) (f : Fixed) (reply : LinkReply) (pieces : List Piece)
     → opened_in n.fixed.topology.format bytes ≡ Ok frame → f ≡ n.fixed → reply ≡ reply_at (format_of n.fixed) n v bytes
-    → pieces ≡ pieces_where reply (pieces_in (sections_in (format_of f) f frame))
-    → pieces ≡ pieces_where (reply_at (format_of n.fixed) n v bytes) (pieces_in (sections_in (format_of n.fixed) n.fixed bytes))
+    → pieces ≡ pieces_where reply (pieces_in f (sections_in (format_of f) f frame))
+    → pieces ≡ pieces_where (reply_at (format_of n.fixed) n v bytes) (pieces_in n.fixed (sections_in (format_of n.fixed) n.fixed bytes))
 passed_pieces n v bytes frame f reply pieces is fixed replied gives =
     gives
-    ∙ ap (λ (r : LinkReply). pieces_where r (pieces_in (sections_in (format_of f) f frame))) replied
-    ∙ ap (λ (g : Fixed). pieces_where (reply_at (format_of n.fixed) n v bytes) (pieces_in (sections_in (format_of g) g frame))) fixed
-    ∙ ap (λ (b : List ℕ). pieces_where (reply_at (format_of n.fixed) n v bytes) (pieces_in (sections_in (format_of n.fixed) n.fixed b)))
+    ∙ ap (λ (r : LinkReply). pieces_where r (pieces_in f (sections_in (format_of f) f frame))) replied
+    ∙ ap (λ (g : Fixed). pieces_where (reply_at (format_of n.fixed) n v bytes) (pieces_in g (sections_in (format_of g) g frame))) fixed
+    ∙ ap (λ (b : List ℕ). pieces_where (reply_at (format_of n.fixed) n v bytes) (pieces_in n.fixed (sections_in (format_of n.fixed) n.fixed b)))
     (opened_whole n.fixed.topology.format bytes frame is)
 
 -- ---- the tag of a frame

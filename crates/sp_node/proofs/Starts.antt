@@ -1,44 +1,36 @@
 -- A node that starts keeps what every step keeps.
-use Rattle.std.proofs.Common.{◌≡◌, ◌<◌, ◌^◌, ℕ, ◌==◌, Bool, true, false, List, [], ◌∷◌, map, Some, refl, arith, cond}
-use Rattle.std.proofs.lemmas.Bool.Decides.{nat_tests}
-use Rattle.sp_base.specs.declared.id.EdgeId.{EdgeId}
-use Rattle.sp_base.specs.declared.id.NodeId.{NodeId}
+use Rattle.std.proofs.Common.{◌≡◌, ◌<◌, ◌^◌, ℕ, Bool, true, false, refl, sym, subst, arith, cond}
 use Rattle.sp_node_format.specs.Format.{format_of}
-use Rattle.sp_hss.specs.KeyTree.{signature_len}
-use Rattle.sp_sign.specs.Heights.{param_of}
+use Rattle.sp_rules.specs.Node.{NodeState, announced}
+use Rattle.sp_rules.specs.Parts.{Fixed}
 use Rattle.sp_sign.specs.NodeSigner.{NodeSigner}
-use Rattle.sp_topology.specs.Keys.{key_of}
-use Rattle.sp_topology.specs.Ranges.{AreNodes}
-use Rattle.sp_topology.specs.declared.topology.LmsHeight.{LmsHeight}
-use Rattle.sp_topology.specs.declared.topology.LmsHeight.TheVariants.{Five, Ten}
-use Rattle.sp_topology.specs.declared.topology.NodeKey.{NodeKey}
-use Rattle.laws_node.proofs.Boot.{boot_keeps}
 use Rattle.laws_node.specs.Nodes.{IsKept, SignerHolds}
-use Rattle.laws_node.specs.Sizes.{IsNode}
-use Rattle.sp_node_state.specs.Boots.{IsBootable, booted_of, fixed_of}
+use Rattle.sp_node_state.proofs.Started.{started_kept}
+use Rattle.sp_node_state.specs.Boots.{IsBootable, booted_of, fixed_of, started_of}
 use Rattle.sp_node_state.specs.States.{signer_in}
 use Rattle.sp_node_state.specs.declared.boot.NodeConfig.{NodeConfig}
 
-found_in : (format : ℕ) (height : LmsHeight) (before : ℕ) (nodes : List NodeKey) (me : NodeId) (key : List ℕ) → AreNodes format height before nodes
-    → key_of me.0 nodes ≡ Some key
-    → IsNode format me
-found_in format height before [] me key are found = absurd (cc)
-found_in format height before (n ∷ nodes) me key are found = go (n.id.0 == me.0) refl found (λ e. found_in format height n.id.0 nodes me key are.2 e)
+-- where it signed its boot, its signer was in its ranges before
+abbrev with_boot : NodeConfig → NodeSigner → ℕ → NodeState
+with_boot c own boot = announced (format_of (fixed_of c boot)) (booted_of c own boot)
+
+signer_before : (c : NodeConfig) (own : NodeSigner) (boot : ℕ) → SignerHolds (started_of c own boot).signer → SignerHolds (signer_in own)
+signer_before c own boot holds = go c.epochs holds
   where
-    go : (t : Bool) → (n.id.0 == me.0) ≡ t → cond t (Some n.key) (key_of me.0 nodes) ≡ Some key → (key_of me.0 nodes ≡ Some key → IsNode format me) → IsNode format me
-    go true is e later = let same : n.id.0 ≡ me.0 = grind (arith, nat_tests, is) in (omega (arith, same, are.0.0), omega (arith, same, are.0.1))
-    go false is e later = later e
+    go : (epochs : Bool) → SignerHolds (cond epochs (with_boot c own boot) (booted_of c own boot)).signer → SignerHolds (signer_in own)
+    go true after = let index = after.index in record { index = omega (arith, index); bound = after.bound; total = after.total }
+    go false after = after
 
-short : (h : LmsHeight) → signature_len (param_of h) < 65536
-short Five = omega arith
-short Ten = omega arith
+-- and what is fixed stays
+same_fixed : (c : NodeConfig) (own : NodeSigner) (boot : ℕ) → (started_of c own boot).fixed ≡ fixed_of c boot
+same_fixed c own boot = go c.epochs
+  where
+    go : (epochs : Bool) → (cond epochs (with_boot c own boot) (booted_of c own boot)).fixed ≡ fixed_of c boot
+    go true = refl
+    go false = refl
 
-pub kept_at_start : (c : NodeConfig) (own : NodeSigner) (boot : ℕ) → boot < 2 ^ 64 → IsBootable c own boot → SignerHolds (signer_in own) → IsKept (format_of (fixed_of c boot)) (booted_of c own boot)
+pub kept_at_start : (c : NodeConfig) (own : NodeSigner) (boot : ℕ) → boot < 2 ^ 64 → IsBootable c own boot → SignerHolds (started_of c own boot).signer
+    → IsKept (format_of (started_of c own boot).fixed) (started_of c own boot)
 kept_at_start c own boot small is holds =
-    boot_keeps (format_of (fixed_of c boot)) (fixed_of c boot) (signer_in own) (map (λ (k : EdgeId × List ℕ). k.1) c.keys) c.limits.buffer c.limits.store (record {
-      me = found_in c.topology.format c.topology.height 0 c.topology.nodes c.me _ is.topology.ranges.nodes is.is_mine;
-      boot = small;
-      topology = is.topology;
-      short = short c.topology.height;
-      signer = holds;
-    })
+    subst (λ (f : Fixed). IsKept (format_of f) (started_of c own boot)) (sym (same_fixed c own boot))
+    (started_kept c own boot small is (signer_before c own boot holds))

@@ -4,7 +4,7 @@ use Rattle.std.specs.Prelude.{IfSome, option_copied, option_map}
 use Rattle.std.specs.List.{All}
 use Rattle.std.proofs.lemmas.List.Elements.{All-cons, All-head, All-nil, All-tail}
 use Rattle.sp_frame.specs.Objects.{IsObject}
-use Rattle.sp_frame.specs.Ranges.{IsNumbered, IsReport}
+use Rattle.sp_frame.specs.Ranges.{IsNumbered, IsReport, Later}
 use Rattle.sp_frame.specs.Reliable.{Report}
 use Rattle.sp_frame.specs.Views.{as_list}
 use Rattle.sp_frame.specs.Writing.{IsWritable, IsWritableSlot, out_report}
@@ -24,6 +24,16 @@ writable_one format (Some b) None kind len e all = absurd (cc)
 writable_one format (Some b) (Some o) kind len e all =
     let same : b.now ≡ o = cc in
     subst (IsWritable format) (sym same) (writable format kind len o (All-head (IsObject format kind len) o [] all))
+
+-- one that format 1 lacks
+pub writable_later : (format : ℕ) (r : Option (Bor Kept)) (x : Option Kept) (kind : Kind) (len : ℕ) → option_copied r ≡ x
+    → IfSome x (Later format (IsObject format kind len))
+    → IfSome r (λ o. IsWritable format o.now)
+writable_later format None x kind len e good = tt
+writable_later format (Some b) None kind len e good = absurd (cc)
+writable_later format (Some b) (Some o) kind len e good =
+    let same : b.now ≡ o = cc in
+    subst (IsWritable format) (sym same) (writable format kind len o good.1)
 
 -- each message of a list with link numbers
 pub writable_all : (format : ℕ) (rs : List (ℕ × Bor Kept)) (ms : List (ℕ × Kept)) (len : ℕ) → map (λ (p : ℕ × Bor Kept). (p.0, p.1.now)) rs ≡ ms

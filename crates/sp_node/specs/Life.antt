@@ -29,7 +29,7 @@ pub record IsLife (n : NodeState) (keys : List NodeKey) : Type 0 where
 -- how many signatures may be checked for a datagram: none where it isn't fresh and whole; else one for each object that may be new
 abbrev pub datagram_checks : NodeState → NodeId → List ℕ → ℕ
 datagram_checks n v bytes =
-    frame_checks (arrival_at n v) n.parts (pieces_where (reply_at (format_of n.fixed) n v bytes) (pieces_in (sections_in (format_of n.fixed) n.fixed bytes)))
+    frame_checks (arrival_at n v) n.parts (pieces_where (reply_at (format_of n.fixed) n v bytes) (pieces_in n.fixed (sections_in (format_of n.fixed) n.fixed bytes)))
 
 -- how many tags are checked for a datagram, by what became of it at its link: one of a frame that names the link's ends, and none of any other
 abbrev pub reply_tags : LinkReply → ℕ

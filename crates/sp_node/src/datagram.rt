@@ -3,7 +3,7 @@ ghost use Rattle.std.specs.Prelude.{◌≡◌, ◌≤◌, ◌<◌, ◌+◌, [], 
 ghost use Rattle.sp_base.specs.Cursor.{or_else};
 ghost use Rattle.sp_base.specs.Refusals.{Gives};
 ghost use Rattle.sp_base.specs.Rows.{replace_where};
-ghost use Rattle.sp_rules.specs.Node.{called, is_link, with_link};
+ghost use Rattle.sp_rules.specs.Node.{called, is_link, link_in, with_link};
 ghost use Rattle.sp_rules.specs.declared.node.TheConstants.{MAX_CALLS};
 ghost use Rattle.laws_node.specs.Nodes.{IsKept};
 ghost use Rattle.sp_node_arrivals.specs.Admitted.{IsAdmitted};
@@ -16,6 +16,8 @@ ghost use Rattle.sp_node.specs.Life.{datagram_checks, datagram_tags};
 ghost use Rattle.sp_node_arrivals.specs.Work.{frame_checks};
 ghost use Rattle.sp_frame.specs.declared.sections.TheConstants.{MOST_OBJECTS};
 ghost use Rattle.sp_node_state.specs.ReadyStates.{IsAnswered};
+ghost use Rattle.sp_frame.specs.Views.{as_contents};
+ghost use Rattle.sp_rules.specs.Arrivals.{greeted, has_risen, heeded};
 ghost use Rattle.sp_rules.specs.Arrivals.{arrival_at, link_after, no_frame, not_fresh, not_read, or_fresh, pieces_in, pieces_where, reply_at, sections_in};
 ghost use Rattle.sp_rules.specs.Handle.{handle_all};
 
@@ -23,18 +25,20 @@ use sp_base::{Listed, Memory, NodeId};
 use sp_frame::{Frame, FrameRefused, Sections};
 use sp_link::Link;
 use sp_msg::Effects;
-use sp_node_arrivals::{Arrived, arrive};
+use sp_node_arrivals::{Arrival, Arrived, arrive, greet};
 use sp_node_parts::Fixed;
 use sp_node_state::State;
 use sp_rules::{LinkAnswer, LinkReply, NodeRefused, Step, Taken};
 use sp_sign::Checker;
 use std::alloc::Global;
 
-/// What became of a datagram at its link: the reply, the link after it, and the sections that are to be handled, if any.
+/// What became of a datagram at its link: the reply, the link after it, whether another life of the neighbour began, and the sections that are to be
+/// handled, if any.
 #[derive(Debug, Drop)]
 struct Passage<'a> {
     reply: LinkReply,
     link: Link,
+    risen: bool,
     sections: Option<Sections<'a>>,
 }
 
@@ -57,7 +61,14 @@ pub fn datagram(
 {
     let place = state.place_for(from)?;
     let passage = passed(state, place, from, bytes, tags);
-    let arrived = admit_sections(state, checker, alloc, from, &passage.sections)?;
+    let arrived = admit_sections(
+        state,
+        checker,
+        alloc,
+        from,
+        passage.risen,
+        &passage.sections,
+    )?;
     answered(state, place, from, passage.link);
     Ok(Step {
         reply: Taken {
@@ -80,26 +91,31 @@ fn passed<'a>(
     ensures reply { result.reply ≡ reply_at (format_of state.entry.now.fixed) state.entry.now from bytes.now }
     ensures link { result.link ≡ link_after (format_of state.entry.now.fixed) state.entry.now from bytes.now }
     ensures pieces { pieces_with result.sections ≡ pieces_where (reply_at (format_of state.entry.now.fixed) state.entry.now from bytes.now)
-        (pieces_in (sections_in (format_of state.entry.now.fixed) state.entry.now.fixed bytes.now)) }
+        (pieces_in state.entry.now.fixed (sections_in (format_of state.entry.now.fixed) state.entry.now.fixed bytes.now)) }
+    ensures risen { result.risen ≡ has_risen (link_in state.entry.now from) (link_after (format_of state.entry.now.fixed) state.entry.now from bytes.now) }
     ensures formats { IfSome result.sections (AreOf state.entry.now.fixed.topology.format) }
     ensures work { tags.new ≤ tags.old + datagram_tags state.entry.now from bytes.now }
 {
     let mut link = state.link_at(place, from);
+    let before = link;
     let frame = match opened(&state.fixed, bytes) {
         Ok(frame) => frame,
         Err(refused) => {
             return Passage {
                 reply: no_frame(refused),
                 link,
+                risen: false,
                 sections: None,
             };
         }
     };
     let answer = link.accept(&frame, tags);
+    let risen = has_risen(&before, &link);
     let (reply, sections) = after_link(&state.fixed, answer, &frame);
     Passage {
         reply,
         link,
+        risen,
         sections,
     }
 }
@@ -123,37 +139,41 @@ fn answered(state: &mut State, place: usize, v: NodeId, link: Link)
     state.calls += 1;
 }
 
-/// Takes the objects of these sections, if there are any. After `Memory` the node is as before.
+/// Takes the objects of these sections, if there are any. Before them, where another life of the neighbour began, what it reported is forgotten. After
+/// `Memory` the node is as before.
 fn admit_sections(
     state: &mut State,
     checker: &mut Checker,
     alloc: Global,
     from: NodeId,
+    risen: bool,
     sections: &Option<Sections<'_>>,
 ) -> Result<Arrived, Memory>
     requires kept { IsKept (format_of state.old.fixed) state.old }
     requires keys { checker.old.nodes ≡ state.old.fixed.topology.nodes }
     requires formats { IfSome sections.now (AreOf state.old.fixed.topology.format) }
     ensures taken { IfOk result (λ a. IsAdmitted
-        (handle_all (format_of state.old.fixed) (arrival_at state.old from) state.old.parts (pieces_with sections.now))
-        state.new.parts a.items a.effects.list) }
+        (handle_all (format_of state.old.fixed) (arrival_at state.old from) (greeted state.old.fixed.epochs risen from state.old.parts)
+        (pieces_with sections.now)) state.new.parts a.items a.effects.list) }
     ensures others { IfOk result (λ _. state.new ≡ record state.old { parts = state.new.parts }) }
     ensures as_before { OnErr result (state.new ≡ state.old) }
     ensures keys { checker.new.nodes ≡ checker.old.nodes }
     ensures work { checker.new.checks ≤ checker.old.checks + frame_checks (arrival_at state.old from) state.old.parts (pieces_with sections.now) }
     ensures few { checker.new.checks ≤ checker.old.checks + MOST_OBJECTS }
 {
+    let at = Arrival {
+        fixed: &state.fixed,
+        time: state.now,
+        from,
+        risen,
+    };
     match sections {
-        None => nothing_admitted(alloc),
-        Some(sections) => arrive(
-            alloc,
-            &state.fixed,
-            &mut state.core,
-            checker,
-            state.now,
-            from,
-            sections,
-        ),
+        None => {
+            let arrived = nothing_admitted(alloc)?;
+            greet(&at, &mut state.core);
+            Ok(arrived)
+        }
+        Some(sections) => arrive(alloc, &at, &mut state.core, checker, sections),
     }
 }
 
@@ -202,7 +222,7 @@ fn after_link<'a>(
     requires { slice_index frame.now 2 ≡ fixed.now.topology.format }
     ensures reply { result.0 ≡ or_fresh (or_else (not_fresh answer)
         (not_read fixed.now.topology.version (head_of frame.now).topology (sections_in (format_of fixed.now) fixed.now frame.now))) }
-    ensures pieces { pieces_with result.1 ≡ pieces_where result.0 (pieces_in (sections_in (format_of fixed.now) fixed.now frame.now)) }
+    ensures pieces { pieces_with result.1 ≡ pieces_where result.0 (pieces_in fixed.now (sections_in (format_of fixed.now) fixed.now frame.now)) }
     ensures formats { IfSome result.1 (AreOf fixed.now.topology.format) }
 {
     match answer {
@@ -219,7 +239,7 @@ fn of_fresh<'a>(fixed: &Fixed, frame: &Frame<'a>) -> (LinkReply, Option<Sections
     requires { slice_index frame.now 2 ≡ fixed.now.topology.format }
     ensures reply { result.0
         ≡ or_fresh (not_read fixed.now.topology.version (head_of frame.now).topology (sections_in (format_of fixed.now) fixed.now frame.now)) }
-    ensures pieces { pieces_with result.1 ≡ pieces_where result.0 (pieces_in (sections_in (format_of fixed.now) fixed.now frame.now)) }
+    ensures pieces { pieces_with result.1 ≡ pieces_where result.0 (pieces_in fixed.now (sections_in (format_of fixed.now) fixed.now frame.now)) }
     ensures formats { IfSome result.1 (AreOf fixed.now.topology.format) }
 {
     let theirs = frame.head().topology;
@@ -227,7 +247,27 @@ fn of_fresh<'a>(fixed: &Fixed, frame: &Frame<'a>) -> (LinkReply, Option<Sections
         return (LinkReply::OtherTopology { theirs }, None);
     }
     match frame.sections(fixed.signature_len) {
-        Ok(sections) => (LinkReply::Fresh, Some(sections)),
+        Ok(sections) => (LinkReply::Fresh, Some(heeded(fixed, sections))),
         Err(refused) => (LinkReply::Section(refused), None),
     }
+}
+
+/// Whether the boot of the neighbour, as it is known, rose.
+fn has_risen(old: &Link, new: &Link) -> bool
+    ensures { result ≡ has_risen old.now new.now }
+{
+    old.peer_boot < new.peer_boot
+}
+
+/// These sections without their Epoch object where nodes run without epochs.
+fn heeded<'a>(fixed: &Fixed, sections: Sections<'a>) -> Sections<'a>
+    requires { AreOf fixed.now.topology.format sections }
+    ensures contents { as_contents result ≡ heeded fixed.now (as_contents sections.entry) }
+    ensures formats { AreOf fixed.now.topology.format result }
+{
+    let mut sections = sections;
+    if !fixed.epochs {
+        sections.epoch = None;
+    }
+    sections
 }

@@ -2,7 +2,8 @@
 //! cause and leaves all as it was.
 //!
 //! # The order of calls
-//! 1. `Node::boot`, with a boot number above that of every life before. The signer has its indexes reserved up to a bound.
+//! 1. `Node::boot`, with a boot number above that of every life before. The signer has its indexes reserved up to a bound. With epochs the start signs the
+//!    boot with the first of them, and its effects tell so.
 //! 2. Then, in any order and as often as the caller likes: `tick` with the time, `datagram` with what came from a neighbour's address, `poll` of a
 //!    neighbour and then the frame out to it, and what clients ask: `send_rel`, `send_prio`, `set_weight`, `take_rel`, `take_prio`.
 //!
@@ -20,7 +21,8 @@
 //! - `extend(upto)` may only be called once the reservation up to `upto` is on the disk.
 //! - `Effect::Delivered` and `DeliveredPrio` are told once, when the message arrives; its payload waits until a client takes it. A full inbox refuses what
 //!   comes after it, until somebody takes.
-//! - `Stored`, `Gone` and `WeightHeld` ask for nothing: they tell what the node keeps.
+//! - `Stored`, `Gone`, `WeightHeld` and `Ended` ask for nothing: they tell what the node keeps. After `Ended` a client of this node that had messages of the
+//!   flow on their way sends them again, if it wants them to arrive: another life of the other end began.
 //! - After `Memory` the node is as before the call, and the call may be made again. After `Worn` the life is over: boot again, with the next number.
 //!
 //! # What it costs

@@ -7,11 +7,12 @@ ghost use Rattle.sp_paths.specs.declared.limits.TheConstants.{MAX_PATHS};
 ghost use Rattle.sp_rules.specs.Node.{extended, link_in};
 ghost use Rattle.sp_rules.specs.Prio.{expiring};
 ghost use Rattle.sp_rules.specs.Rel.{position_in};
+ghost use Rattle.sp_rules.specs.Lives.{held_boot};
 ghost use Rattle.sp_rules.specs.Messages.{as_send};
 ghost use Rattle.sp_rules.specs.Sends.{prio_refusal, rel_refusal, weight_refusal};
 ghost use Rattle.sp_rules.specs.Steps.{SendPrio, SendRel, SetWeight};
 ghost use Rattle.sp_rules.specs.Ticks.{due_now, time_after};
-ghost use Rattle.sp_node_state.specs.Boots.{IsBootable, booted_of};
+ghost use Rattle.sp_node_state.specs.Boots.{IsBootable, started_of, told_at_start};
 ghost use Rattle.sp_frame.specs.declared.sections.TheConstants.{MOST_OBJECTS};
 ghost use Rattle.sp_node.specs.Calls.{Datagrams, Polls, TakesPrio, TakesRel, Ticks};
 ghost use Rattle.sp_node.specs.Life.{IsIdle, datagram_checks, datagram_tags};
@@ -56,20 +57,26 @@ impl Model for Node {
 }
 
 impl Node {
-    /// A node at the start of a life with this boot number, under a topology of either format. Only want of memory refuses.
+    /// A node at the start of a life with this boot number, under a topology of either format, and what its start causes. `can_boot` says when a
+    /// node may be booted. Only want of memory refuses.
     ///
-    /// A boot number never comes again, and is above that of every life before: neighbours take frames of lower ones for stale.
+    /// A boot number never comes again, and is above that of every life before: neighbours take frames of lower ones for stale. With epochs the
+    /// node signs the boot of this life with its next index and holds it: the effects tell it.
     pub fn boot(
         alloc: Global,
         config: NodeConfig,
         signer: NodeSigner,
         boot: u64,
-    ) -> Result<Node, NodeRefused>
+    ) -> Result<Step<Node>, NodeRefused>
         requires { IsBootable config signer boot }
-        ensures node { IfOk result (λ node. node ≡ record { state = booted_of config signer boot; checks = 0; tags = 0 }) }
+        ensures node { IfOk result (λ step. step.reply ≡ record { state = started_of config signer boot; checks = 0; tags = 0 }) }
+        ensures told { IfOk result (λ step. step.effects.list ≡ told_at_start config boot) }
         ensures memory { IfErr result (λ refused. refused ≡ NodeRefused.Memory) }
     {
-        let state = State::boot(alloc, config, signer, boot)?;
+        let Step {
+            reply: state,
+            effects,
+        } = State::start(alloc, config, signer, boot)?;
         let checker = match checker_for(alloc, &state) {
             Ok(checker) => checker,
             Err(refused) => {
@@ -77,11 +84,15 @@ impl Node {
                 return Err(refused);
             }
         };
-        Ok(Node {
+        let node = Node {
             state,
             checker,
             book: PathBook::new(alloc),
             tags: 0,
+        };
+        Ok(Step {
+            reply: node,
+            effects,
         })
     }
 
@@ -104,7 +115,7 @@ impl Node {
     /// datagrams. All memory is taken before anything changes.
     ///
     /// Its signatures are checked once for each object that may be new when its turn comes, and for no other: so none of a datagram that isn't
-    /// fresh, nor of an object that is old, seen, expired, of a bad end or of another boot than the one that is held, and ten at most. One tag is
+    /// fresh, nor of an object that is old, seen, expired, of a bad end or of another boot than the one that is held, and eleven at most. One tag is
     /// checked where the datagram is a frame that names the ends of its link, and none else.
     #[tactic(auto, using(crate::proofs::Steps::life_by_datagram))]
     pub fn datagram(
@@ -144,7 +155,8 @@ impl Node {
 
     /// Signs a client's reliable message, and keeps it until its destination acknowledges it. Gives its number, counted from 1 in each flow.
     ///
-    /// The first of these that applies: `BadEnd` where the destination isn't another node, `Full`, `Spent`, `NotReserved`.
+    /// The first of these that applies: `BadEnd` where the destination isn't another node, and where with epochs no life of it is known, `Full`,
+    /// `Spent`, `NotReserved`.
     #[tactic(auto, using(crate::proofs::Steps::life_by_rel))]
     pub fn send_rel(
         &mut self,
@@ -163,8 +175,8 @@ impl Node {
     /// Signs a client's priority message, which goes over so many paths that share no node, or over all edges where `paths` is 0. Gives its number,
     /// counted from 1 over all destinations. A priority is 1 to 10, and 10 goes first; the message is gone once the time is above `expiry`.
     ///
-    /// The first of these that applies: `BadEnd` where the destination isn't another node, `Expired`, `Spent`, `NotReserved`, and `NoPaths` where there
-    /// are fewer paths. `Memory` may come in place of the last.
+    /// The first of these that applies: `BadEnd` where the destination isn't another node, and where with epochs no life of it is known, `Expired`,
+    /// `Spent`, `NotReserved`, and `NoPaths` where there are fewer paths. `Memory` may come in place of the last.
     #[tactic(auto, using(crate::proofs::Steps::life_by_prio))]
     pub fn send_prio(
         &mut self,
@@ -280,6 +292,13 @@ impl Node {
         ensures { result ≡ (link_in self.entry.now.state v).seen }
     {
         self.state.seen(v)
+    }
+
+    /// The boot that is held of a node, 0 where none is: of this node itself its own. Where nodes run without epochs it is 0 of all.
+    pub fn held_boot(&self, node: NodeId) -> u64
+        ensures { result ≡ held_boot self.entry.now.state.parts.lives node }
+    {
+        self.state.core.lives.held_boot(node)
     }
 
     /// Up to which number the messages of a flow are acknowledged, and up to which they are here. None exactly where the flow isn't active here.

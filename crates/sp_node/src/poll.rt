@@ -12,6 +12,7 @@ ghost use Rattle.sp_base.specs.Rows.{first_where, replace_where};
 ghost use Rattle.sp_base.specs.declared.limits.TheConstants.{MAX_MESSAGES};
 ghost use Rattle.sp_rules.specs.Link as rules;
 ghost use Rattle.sp_rules.specs.Link.{advanced, next_head};
+ghost use Rattle.sp_rules.specs.Lives.{moved as gone_on};
 ghost use Rattle.sp_rules.specs.Node.{is_link};
 ghost use Rattle.sp_rules.specs.Parts.{place_in, place_of};
 ghost use Rattle.sp_rules.specs.Polls.{after_poll, contents_to, dated, frame_to};
@@ -86,14 +87,17 @@ fn unsealed(
     requires contents { IsContentsIn fixed.now.topology.format fixed.now.signature_len (contents_to fixed.now core.now v) }
     ensures { IfOk result (λ bytes. bytes ≡ frame_bytes head.now (contents_to fixed.now core.now v) (replicate 32 0)) }
 {
+    let at = place_of(fixed, v);
+    let weight = core.weights.next(at);
+    let epoch = core.lives.next(&core.origins, at);
     let sections = OutSections {
-        weight: core.weights.next(place_of(fixed, v)),
+        weight,
         prio_ack: core.prio.heard_of(v),
         prios: core.prio.messages_for(v),
         slot: slot_for(fixed, core, v),
         paths: None,
         probe: None,
-        epoch: None,
+        epoch,
     };
     match write(alloc, head, &sections) {
         Ok(bytes) => Ok(bytes),
@@ -153,11 +157,18 @@ fn first_of<'a>(rels: Four<&'a Kept>, format: u8) -> Four<&'a Kept>
 /// What was next in turn of each part went to a neighbour, the node in this place.
 fn moved(core: &mut Parts, at: usize, v: NodeId)
     requires { (peer_in core.old.prio v.0).number + MAX_MESSAGES ≤ 2 ^ 63 }
-    ensures { core.new ≡ record { weights = moved core.old.weights at; prio = carried core.old.prio v.0; rel = served core.old.rel v; lives = core.old.lives } }
+    ensures { core.new ≡ record {
+      weights = moved core.old.weights at;
+      prio = carried core.old.prio v.0;
+      rel = served core.old.rel v;
+      lives = core.old.lives;
+      origins = gone_on core.old.lives core.old.origins at;
+    } }
 {
     core.weights.moved(at);
     core.prio.carry(v);
     core.rel.served(v);
+    core.origins.moved(&core.lives, at);
 }
 
 /// The next frame over the link in this place was made.

@@ -4,3 +4,5 @@ pub mod PrioLemmas
 pub mod RelLemmas
 pub mod RoomLemmas
 pub mod WorkLemmas
+pub mod GreetLemmas
+pub mod EndsLemmas

@@ -27,6 +27,7 @@ use Rattle.sp_rules.specs.Lives.{is_dated}
 use Rattle.sp_rules.specs.Parts.{Parts, is_signed}
 use Rattle.sp_rules.specs.Pieces.{PrioPiece}
 use Rattle.sp_rules.specs.Prio.{PrioState, acked, admit_prio, heard, is_here, is_node, is_peer, judge_prio, marked, no_peer, peer_in, place_of, places}
+use Rattle.sp_rules.specs.Prio.{unheard}
 use Rattle.sp_rules.specs.Prio.{window_at, window_in, windows_with}
 use Rattle.sp_rules.specs.PrioPeer as rows
 use Rattle.sp_rules.specs.PrioPeer.{PrioPeer, goes_to}
@@ -146,6 +147,22 @@ acked_ids count s v number has = record {
   inbox = has.inbox;
   stores = replaced_all (λ q. q.store.last + count ≤ 2 ^ 63) (is_peer v) (λ q. rows.acked q number) no_peer
       (λ q below. omega (arith, below, less_last q.store (rows.landed q number))) s.peers has.stores;
+}
+
+-- ---- another life of a neighbour
+
+pub unheard_follows : (s : PrioState) (v : ℕ) → Follows s (unheard s v)
+unheard_follows s v = record {
+  places = λ body came. ap (λ (n : ℕ). cond (is_here s body) 1 n)
+      (replaced_count (is_peer v) (goes_to body came) rows.unheard no_peer (λ q. refl) s.peers);
+  judged = λ body now new. judged_by_peers s (unheard s v).peers body now new;
+  peers = replaced_length (is_peer v) (rows.unheard (peer_in s v)) s.peers;
+}
+
+pub unheard_ids : (count : ℕ) (s : PrioState) (v : ℕ) → HasIds count s → HasIds count (unheard s v)
+unheard_ids count s v has = record {
+  inbox = has.inbox;
+  stores = replaced_all (λ q. q.store.last + count ≤ 2 ^ 63) (is_peer v) rows.unheard no_peer (λ q below. below) s.peers has.stores;
 }
 
 -- ---- a message that was heard

@@ -11,11 +11,12 @@ use Rattle.sp_frame.specs.declared.sections.Slot.{Slot}
 use Rattle.sp_msg.specs.declared.kept.Kept.{Kept}
 use Rattle.sp_rules.specs.Handle.{Arrival}
 use Rattle.sp_rules.specs.Parts.{Fixed, Parts}
-use Rattle.sp_rules.specs.Pieces.{AckPiece, Piece, PrioAckPiece, RelPiece, WeightPiece, pieces_of, prio_piece, slot_pieces}
+use Rattle.sp_rules.specs.Pieces.{AckPiece, EpochPiece, Piece, PrioAckPiece, RelPiece, WeightPiece, pieces_of, prio_piece, slot_pieces}
 use Rattle.sp_rules.specs.Prio.{PrioState}
 use Rattle.sp_rules.specs.Rel.{RelState}
 use Rattle.sp_rules.specs.declared.lives.Life.{Life}
 use Rattle.sp_node_arrivals.specs.Ack.{ack_checks, acked_by}
+use Rattle.sp_node_arrivals.specs.Epoch.{epoch_checks}
 use Rattle.sp_node_arrivals.specs.Prio.{prio_checks, prios_checks}
 use Rattle.sp_node_arrivals.specs.Rel.{is_followed, rel_checks, rels_checks}
 use Rattle.sp_node_arrivals.specs.Signed.{of_some}
@@ -23,23 +24,34 @@ use Rattle.sp_node_arrivals.specs.Slot.{slot_checks}
 use Rattle.sp_node_arrivals.specs.Weight.{weight_checks}
 use Rattle.sp_node_arrivals.specs.Work.{checks_for, frame_checks, section_checks}
 
-rels_are : (at : Arrival) (p : Parts) (flow : Flow) (moved : Bool) (os : List Kept)
-    → rels_checks moved at.fixed p.lives p.rel flow os ≡ checks_for at p moved (map (RelPiece flow) os)
-rels_are at p flow moved [] = refl
-rels_are at p flow moved (o ∷ os) =
-    ap (λ (n : ℕ). rel_checks moved p.lives p.rel flow o + n) (rels_are at p flow (moved || is_followed moved at.fixed p.lives p.rel flow o) os)
+-- an Epoch object comes last, and costs the same whatever comes before it
+epoch_is : (at : Arrival) (p : Parts) (moved : Bool) (o : Option Kept)
+    → of_some (epoch_checks at.fixed.me p.lives) o ≡ checks_for at p moved (map EpochPiece (as_list o))
+epoch_is at p moved None = refl
+epoch_is at p moved (Some o) = omega arith
 
-slot_objects : (at : Arrival) (p : Parts) (flow : Flow) (ack : Option Kept) (os : List Kept)
+rels_are : (at : Arrival) (p : Parts) (flow : Flow) (moved : Bool) (os : List Kept) (e : Option Kept)
+    → rels_checks moved at.fixed p.lives p.rel flow os + of_some (epoch_checks at.fixed.me p.lives) e
+    ≡ checks_for at p moved (map (RelPiece flow) os ++ map EpochPiece (as_list e))
+rels_are at p flow moved [] e = let same = epoch_is at p moved e in omega (arith, same)
+rels_are at p flow moved (o ∷ os) e =
+    let rest = rels_are at p flow (moved || is_followed moved at.fixed p.lives p.rel flow o) os e in
+    omega (arith, rest)
+
+slot_objects : (at : Arrival) (p : Parts) (flow : Flow) (ack : Option Kept) (os : List Kept) (e : Option Kept)
     → of_some (ack_checks p.lives p.rel flow) ack + rels_checks (acked_by at.fixed p.lives p.rel flow ack) at.fixed p.lives p.rel flow os
-    ≡ checks_for at p false (map (AckPiece flow) (as_list ack) ++ map (RelPiece flow) os)
-slot_objects at p flow None os = let same = rels_are at p flow false os in omega (arith, same)
-slot_objects at p flow (Some a) os =
-    ap (λ (n : ℕ). ack_checks p.lives p.rel flow a + n) (rels_are at p flow (acked_by at.fixed p.lives p.rel flow (Some a)) os)
+    + of_some (epoch_checks at.fixed.me p.lives) e
+    ≡ checks_for at p false ((map (AckPiece flow) (as_list ack) ++ map (RelPiece flow) os) ++ map EpochPiece (as_list e))
+slot_objects at p flow None os e = let same = rels_are at p flow false os e in omega (arith, same)
+slot_objects at p flow (Some a) os e =
+    let rest = rels_are at p flow (acked_by at.fixed p.lives p.rel flow (Some a)) os e in
+    omega (arith, rest)
 
-slot_is : (at : Arrival) (p : Parts) (slot : Option Slot)
-    → of_some (slot_checks at.fixed p.lives p.rel) slot ≡ checks_for at p false (slot_pieces (option_map as_report slot))
-slot_is at p None = refl
-slot_is at p (Some s) = slot_objects at p s.flow (option_map as_object s.ack) (map as_object s.rels)
+slot_is : (at : Arrival) (p : Parts) (slot : Option Slot) (e : Option Kept)
+    → of_some (slot_checks at.fixed p.lives p.rel) slot + of_some (epoch_checks at.fixed.me p.lives) e
+    ≡ checks_for at p false (slot_pieces (option_map as_report slot) ++ map EpochPiece (as_list e))
+slot_is at p None e = let same = epoch_is at p false e in omega (arith, same)
+slot_is at p (Some s) e = slot_objects at p s.flow (option_map as_object s.ack) (map as_object s.rels) e
 
 prios_are : (at : Arrival) (p : Parts) (ms : List (ℕ × Kept)) (rest : List Piece)
     → prios_checks at p.lives p.prio ms + checks_for at p false rest ≡ checks_for at p false (map prio_piece ms ++ rest)
@@ -53,12 +65,14 @@ weight_is at p (Some o) rest = refl
 
 pub as_pieces : (at : Arrival) (p : Parts) (s : Sections) → section_checks at p s ≡ frame_checks at p (pieces_of (as_contents s))
 as_pieces at p s =
-    let tail : List Piece = slot_pieces (option_map as_report s.slot) in
+    let end : List Piece = map EpochPiece (as_list (option_map as_object s.epoch)) in
+    let tail : List Piece = slot_pieces (option_map as_report s.slot) ++ end in
     let prios : List Piece = map prio_piece (map as_numbered s.prios) ++ tail in
     let weight : ℕ = of_some (weight_checks at.fixed.me p.weights) (option_map as_object s.weight) in
     let prio : ℕ = prios_checks at p.lives p.prio (map as_numbered s.prios) in
     let slot : ℕ = of_some (slot_checks at.fixed p.lives p.rel) s.slot in
-    let one : slot ≡ checks_for at p false tail = slot_is at p s.slot in
+    let epoch : ℕ = of_some (epoch_checks at.fixed.me p.lives) (option_map as_object s.epoch) in
+    let one : slot + epoch ≡ checks_for at p false tail = slot_is at p s.slot (option_map as_object s.epoch) in
     let two : prio + checks_for at p false tail ≡ checks_for at p false prios = prios_are at p (map as_numbered s.prios) tail in
     let three : weight + checks_for at p false prios ≡ frame_checks at p (pieces_of (as_contents s)) =
     weight_is at p (option_map as_object s.weight) (PrioAckPiece s.prio_ack ∷ prios) in

@@ -6,6 +6,7 @@ pub mod Prio
 pub mod Ack
 pub mod Rel
 pub mod Slot
+pub mod Epoch
 -- ---- a whole frame
 pub mod Ready
 pub mod Work

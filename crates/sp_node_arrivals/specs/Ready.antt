@@ -5,6 +5,7 @@ use Rattle.sp_frame.specs.Views.{as_numbered, as_object}
 use Rattle.sp_frame.specs.declared.sections.Sections.{Sections}
 use Rattle.sp_rules.specs.Handle as rules
 use Rattle.sp_rules.specs.Parts.{Parts}
+use Rattle.sp_node_arrivals.specs.Epoch.{IsEpochReady}
 use Rattle.sp_node_arrivals.specs.Prio.{ArePriosReady}
 use Rattle.sp_node_arrivals.specs.Slot.{IsSlotReady}
 use Rattle.sp_node_arrivals.specs.Weight.{IsWeightReady}
@@ -14,3 +15,4 @@ pub record IsReady (at : rules.Arrival) (p : Parts) (sections : Sections) (ready
   pub update : IfSome (option_map as_object sections.weight) (λ o. IsWeightReady at.fixed p.weights o ready.weight)
   pub messages : ArePriosReady at p.lives p.prio (map as_numbered sections.prios) ready.prios
   pub slot : IfSome sections.slot (λ s. IsSlotReady at.fixed p.lives p.rel s ready.slot)
+  pub epoch : IfSome (option_map as_object sections.epoch) (λ o. IsEpochReady at.fixed p.lives o ready.epoch)

@@ -1,9 +1,10 @@
 // A fresh frame arrives: all memory and all signatures first, then its objects one after another, kind after kind.
-ghost use Rattle.std.specs.Prelude.{◌≡◌, ◌≤◌, ◌<◌, ◌+◌, ◌-◌, [], ◌++◌, IfOk, OnErr, drop, length, vec_capacity};
+ghost use Rattle.std.specs.Prelude.{◌≡◌, ◌≤◌, ◌<◌, ◌^◌, ◌+◌, ◌-◌, [], ◌++◌, IfOk, OnErr, drop, length, vec_capacity};
 ghost use Rattle.sp_base.specs.declared.limits.TheConstants.{MAX_MESSAGES};
 ghost use Rattle.sp_frame.specs.OfFormat.{AreOf};
 ghost use Rattle.sp_frame.specs.Views.{as_contents, as_list};
 ghost use Rattle.sp_frame.specs.declared.sections.TheConstants.{MOST_OBJECTS};
+ghost use Rattle.sp_rules.specs.Arrivals.{greeted};
 ghost use Rattle.sp_rules.specs.Handle.{handle_all};
 ghost use Rattle.sp_rules.specs.Pieces.{pieces_of};
 ghost use Rattle.sp_node_arrivals.specs.Admitted.{IsAdmitted};
@@ -11,17 +12,18 @@ ghost use Rattle.sp_node_arrivals.specs.Arrival.{as_arrival};
 ghost use Rattle.sp_node_arrivals.specs.Done.{IsDone, items_of};
 ghost use Rattle.sp_node_arrivals.specs.Prio.{HasIds};
 ghost use Rattle.sp_node_arrivals.specs.Ready.{IsReady};
-ghost use Rattle.sp_node_arrivals.specs.Rooms.{frame_room};
+ghost use Rattle.sp_node_arrivals.specs.Rooms.{frame_room, messages_room};
 ghost use Rattle.sp_node_arrivals.specs.Work.{frame_checks, section_checks};
 ghost use Rattle.sp_node_format.specs.Format.{format_of};
 
 use crate::arrival::Arrival;
+use crate::greeting::greet;
 use crate::slot::{SlotAnswers, SlotReady};
-use crate::{prio, slot, weight};
-use sp_base::{Four, Listed, MAX_MESSAGES, Memory, NodeId, push_in_room};
+use crate::{epoch, prio, slot, weight};
+use sp_base::{Four, Listed, MAX_MESSAGES, Memory, push_in_room};
 use sp_frame::{MOST_OBJECTS, Sections};
 use sp_msg::{Effects, Kept};
-use sp_node_parts::{Fixed, Parts};
+use sp_node_parts::Parts;
 use sp_prio::Parcel;
 use sp_rules::Item;
 use sp_sign::Checker;
@@ -35,39 +37,34 @@ pub struct Arrived {
 }
 
 /// Takes the objects of a fresh frame from a neighbour, which are of the topology's format, in the order of the rules: the update of a weight, the
-/// acknowledged link number, the priority messages, and the slot with its report, its acknowledgement and its messages.
+/// acknowledged link number, the priority messages, the slot with its report, its acknowledgement and its messages, and the Epoch object. Before all of
+/// them, where another life of the neighbour began, what it reported in its life before is forgotten.
 ///
 /// All memory is taken before anything changes, so it is refused for want of memory alone, and then nothing has changed. A signature is checked
 /// once for each object that may be new when its turn comes, and for no other: for none that names other boots than those that are held.
 pub fn arrive(
     alloc: Global,
-    fixed: &Fixed,
+    at: &Arrival<'_>,
     parts: &mut Parts,
     checker: &mut Checker,
-    now: u64,
-    from: NodeId,
     sections: &Sections<'_>,
 ) -> Result<Arrived, Memory>
-    requires formats { AreOf fixed.now.topology.format sections.now }
-    requires keys { checker.old.nodes ≡ fixed.now.topology.nodes }
+    requires formats { AreOf at.now.fixed.now.topology.format sections.now }
+    requires keys { checker.old.nodes ≡ at.now.fixed.now.topology.nodes }
     requires ids { HasIds MAX_MESSAGES parts.old.prio }
     ensures taken { IfOk result (λ a. IsAdmitted
-        (handle_all (format_of fixed.now) (record { fixed = fixed.now; now = now; from = from }) parts.old (pieces_of (as_contents sections.now)))
-        parts.new a.items a.effects.list) }
+        (handle_all (format_of at.now.fixed.now) (as_arrival at.now) (greeted at.now.fixed.now.epochs at.now.risen at.now.from parts.old)
+        (pieces_of (as_contents sections.now))) parts.new a.items a.effects.list) }
     ensures as_before { OnErr result (parts.new ≡ parts.old) }
     ensures keys { checker.new.nodes ≡ checker.old.nodes }
     ensures work { checker.new.checks ≤ checker.old.checks
-        + frame_checks (record { fixed = fixed.now; now = now; from = from }) parts.old (pieces_of (as_contents sections.now)) }
+        + frame_checks (as_arrival at.now) parts.old (pieces_of (as_contents sections.now)) }
     ensures few { checker.new.checks ≤ checker.old.checks + MOST_OBJECTS }
 {
-    let at = Arrival {
-        fixed,
-        time: now,
-        from,
-    };
-    let room = room_for(alloc, parts)?;
-    let ready = make_ready(alloc, &at, parts, checker, sections)?;
-    Ok(taken(&at, parts, sections, ready, room))
+    let room = room_for(alloc, at, parts, sections)?;
+    let ready = make_ready(alloc, at, parts, checker, sections)?;
+    greet(at, parts);
+    Ok(taken(at, parts, sections, ready, room))
 }
 
 // ---- what is made ready before anything changes
@@ -78,6 +75,7 @@ pub(crate) struct Ready {
     pub weight: Option<Kept>,
     pub prios: Four<Option<Parcel>>,
     pub slot: SlotReady,
+    pub epoch: Option<Kept>,
 }
 
 /// Makes the objects of a frame ready, kind after kind. It is refused for want of memory alone. A signature is checked once for each object that
@@ -97,12 +95,14 @@ fn make_ready(
     ensures few { checker.new.checks ≤ checker.old.checks + MOST_OBJECTS }
 {
     let weight = weight::ready(alloc, at, parts, checker, &sections.weight)?;
+    let epoch = epoch::ready(alloc, at, parts, checker, &sections.epoch)?;
     let prios = prio::ready_from(alloc, at, parts, checker, &sections.prios, 0)?;
     match slot::ready(alloc, at, parts, checker, &sections.slot) {
         Ok(slot) => Ok(Ready {
             weight,
             prios,
             slot,
+            epoch,
         }),
         Err(memory) => {
             prio::leave(prios);
@@ -119,22 +119,29 @@ struct Room {
 }
 
 /// No effects and no answers yet, with room for all that a frame can give.
-fn room_for(alloc: Global, parts: &Parts) -> Result<Room, Memory>
-    ensures effects { IfOk result (λ room. room.effects ≡ record { list = []; room = frame_room parts.now.prio }) }
+fn room_for(
+    alloc: Global,
+    at: &Arrival<'_>,
+    parts: &Parts,
+    sections: &Sections<'_>,
+) -> Result<Room, Memory>
+    ensures effects { IfOk result (λ room. room.effects ≡ record { list = []; room = frame_room (as_arrival at.now) parts.now sections.now }) }
     ensures empty { IfOk result (λ room. room.items.items ≡ []) }
     ensures items { IfOk result (λ room. MOST_OBJECTS ≤ vec_capacity room.items) }
 {
-    let effects = with_room(alloc, parts)?;
+    let ends = epoch::room_for(at, parts, &sections.epoch);
+    let effects = with_room(alloc, parts, ends)?;
     let items = Vec::with_capacity(alloc, MOST_OBJECTS)?;
     Ok(Room { effects, items })
 }
 
-/// No effects yet, with room for all that a frame can cause.
-fn with_room(alloc: Global, parts: &Parts) -> Result<Effects, Memory>
-    ensures { IfOk result (λ effects. effects ≡ record { list = []; room = frame_room parts.now.prio }) }
+/// No effects yet, with room for all that the messages of a frame can cause, and for so many ends of flows.
+fn with_room(alloc: Global, parts: &Parts, ends: usize) -> Result<Effects, Memory>
+    requires { ends < 2 ^ 63 + 5 }
+    ensures { IfOk result (λ effects. effects ≡ record { list = []; room = messages_room parts.now.prio + ends }) }
 {
     let of_a_message = 2 * parts.prio.neighbours() + 3;
-    let room = 1 + MAX_MESSAGES + MAX_MESSAGES * of_a_message + MAX_MESSAGES;
+    let room = 1 + MAX_MESSAGES + MAX_MESSAGES * of_a_message + MAX_MESSAGES + ends;
     match Effects::with_room(alloc, room) {
         Ok(effects) => Ok(effects),
         Err(_) => Err(Memory),
@@ -149,6 +156,7 @@ pub(crate) struct Answers {
     pub weight: Option<Item>,
     pub prios: Four<Item>,
     pub slot: SlotAnswers,
+    pub epoch: Option<Item>,
 }
 
 /// Takes the objects that were made ready, in the order of the rules. It takes no memory.
@@ -161,7 +169,7 @@ fn taken(
 ) -> Arrived
     requires ready { IsReady (as_arrival at.now) parts.old sections.now ready }
     requires ids { HasIds MAX_MESSAGES parts.old.prio }
-    requires effects { room.effects ≡ record { list = []; room = frame_room parts.old.prio } }
+    requires effects { room.effects ≡ record { list = []; room = frame_room (as_arrival at.now) parts.old sections.now } }
     requires empty { room.items.items ≡ [] }
     requires items { MOST_OBJECTS ≤ vec_capacity room.items }
     ensures { IsAdmitted
@@ -186,7 +194,7 @@ fn admit(
 ) -> Answers
     requires ready { IsReady (as_arrival at.now) parts.old sections.now ready }
     requires ids { HasIds MAX_MESSAGES parts.old.prio }
-    requires room { frame_room parts.old.prio ≤ out.old.room }
+    requires room { frame_room (as_arrival at.now) parts.old sections.now ≤ out.old.room }
     ensures { IsDone
         (handle_all (format_of at.now.fixed.now) (as_arrival at.now) parts.old (pieces_of (as_contents sections.now)))
         parts.new (items_of result) out.old out.new }
@@ -195,15 +203,18 @@ fn admit(
         weight,
         prios,
         slot,
+        epoch,
     } = ready;
     let weight = weight::admit(at, parts, &sections.weight, weight, out);
     prio::acknowledge(parts, at.from, sections.prio_ack, out);
     let prios = prio::admit_from(at, parts, &sections.prios, 0, prios, out);
     let slot = slot::admit(at, parts, &sections.slot, slot, out);
+    let epoch = epoch::admit(at, parts, &sections.epoch, epoch, out);
     Answers {
         weight,
         prios,
         slot,
+        epoch,
     }
 }
 
@@ -217,11 +228,13 @@ fn listed(mut items: Vec<Item>, answers: Answers) -> Listed<Item>
         weight,
         prios,
         slot,
+        epoch,
     } = answers;
     list_one(&mut items, weight);
     list_from(&mut items, &prios, 0);
     list_one(&mut items, slot.ack);
     list_from(&mut items, &slot.rels, 0);
+    list_one(&mut items, epoch);
     Listed::from_vec(items)
 }
 

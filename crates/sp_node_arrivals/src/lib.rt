@@ -7,10 +7,14 @@
 mod ack;
 mod arrival;
 mod arriving;
+mod epoch;
+mod greeting;
 mod prio;
 mod rel;
 mod signed;
 mod slot;
 mod weight;
 
+pub use arrival::Arrival;
 pub use arriving::{Arrived, arrive};
+pub use greeting::greet;

@@ -1,5 +1,5 @@
 // A slot of a frame: its report, its acknowledgement, its messages.
-ghost use Rattle.std.specs.Prelude.{◌≡◌, ◌≤◌, ◌+◌, IfOk, IfSome, Some, option_map};
+ghost use Rattle.std.specs.Prelude.{length, ◌≡◌, ◌≤◌, ◌+◌, IfOk, IfSome, Some, option_map};
 ghost use Rattle.sp_base.specs.declared.limits.TheConstants.{MAX_MESSAGES};
 ghost use Rattle.sp_frame.specs.OfFormat.{IsSlotOf};
 ghost use Rattle.sp_frame.specs.Views.{as_report};
@@ -96,9 +96,10 @@ pub(crate) fn admit(
 ) -> SlotAnswers
     requires ready { IfSome slot.now (λ s. IsSlotReady at.now.fixed.now parts.old.lives parts.old.rel s ready) }
     requires room { MAX_MESSAGES ≤ out.old.room }
-    ensures { IsDone
+    ensures done { IsDone
         (handle_all (format_of at.now.fixed.now) (as_arrival at.now) parts.old (slot_pieces (option_map as_report slot.now)))
         parts.new (slot_items result) out.old out.new }
+    ensures few { IfSome slot.now (λ s. length s.rels ≤ MAX_MESSAGES) }
 {
     match slot {
         Some(slot) => admit_slot(at, parts, slot, ready, out),
@@ -121,10 +122,12 @@ fn admit_slot(
 ) -> SlotAnswers
     requires ready { IsSlotReady at.now.fixed.now parts.old.lives parts.old.rel slot.now ready }
     requires room { MAX_MESSAGES ≤ out.old.room }
-    ensures { IsDone
+    ensures done { IsDone
         (handle_all (format_of at.now.fixed.now) (as_arrival at.now) parts.old (slot_pieces (option_map as_report (Some slot.now))))
         parts.new (slot_items result) out.old out.new }
+    ensures few { length slot.now.rels ≤ MAX_MESSAGES }
 {
+    let _few = slot.rels.len();
     let SlotReady { ack, rels } = ready;
     let row = parts.rel.place(slot.flow);
     report(at, parts, row, slot);

@@ -22,8 +22,8 @@ use Rattle.sp_frame.specs.Grammar.{counted_bytes, later_bytes}
 use Rattle.sp_frame.specs.Objects.{IsObject, most, object_bytes}
 use Rattle.sp_frame.specs.Prioritized.{numbered_bytes, prios_bytes}
 use Rattle.sp_frame.specs.Probes.{epoch_bytes, probe_bytes, probes_bytes}
-use Rattle.sp_frame.specs.Ranges.{IsContentsIn, IsHead, IsNumbered, IsReport}
-use Rattle.sp_frame.specs.Reliable.{Report, ack_bytes, boot_bytes, paths_bytes, place_bytes, rels_bytes, report_bytes, slot_bytes}
+use Rattle.sp_frame.specs.Ranges.{IsContentsIn, IsHead, IsNumbered, IsReport, Later}
+use Rattle.sp_frame.specs.Reliable.{Report, ack_bytes, paths_bytes, place_bytes, rels_bytes, report_bytes, slot_bytes}
 use Rattle.sp_frame.specs.Sections.{Contents, control_bytes, plain_bytes, sections_bytes_in, sections_of_in}
 use Rattle.sp_frame.specs.Weights.{weights_bytes}
 use Rattle.sp_frame.specs.declared.head.Head.{Head}
@@ -128,24 +128,27 @@ place_len : (format : ℕ) (r : Report) → length (place_bytes format r) ≤ 34
 unfolding place_bytes
 place_len format r = omega (arith, place_long format r, by_most format 0 8 8 (omega arith) (omega arith))
 
-rels_len : (format : ℕ) (len : ℕ) → len ≤ most_signature → (rs : List Kept) → All (IsObject format kinds.Rel len) rs → length rs ≤ most format kinds.Rel
-    → length (rels_bytes format rs) ≤ 24665
+-- with at most so many messages
+rels_len : (format len few : ℕ) → len ≤ most_signature → (rs : List Kept) → All (IsObject format kinds.Rel len) rs → length rs ≤ few
+    → length (rels_bytes format rs) ≤ 6166 * few + 1
 unfolding rels_bytes
-rels_len format len small rs all few =
+rels_len format len few small rs all within =
     let counted = counted_len (IsObject format kinds.Rel len) (object_bytes format) 6166 (object_len format kinds.Rel len small) rs all in
-    omega (arith, few, by_most format MAX_MESSAGES 2 4 (omega arith) (omega arith), counted)
+    omega (arith, within, counted)
 
-report_len : (format : ℕ) (len : ℕ) → len ≤ most_signature → (r : Report) → IsReport format kinds.Ack kinds.Rel len r → length (report_bytes format r) ≤ 30867
+report_len : (format len few : ℕ) → len ≤ most_signature → most format kinds.Rel ≤ few → (r : Report) → IsReport format kinds.Ack kinds.Rel len r
+    → length (report_bytes format r) ≤ 6166 * few + 6202
 unfolding report_bytes
-report_len format len small r is =
-    subst (λ (k : ℕ). k ≤ 30867) (sym (three (place_bytes format r) (ack_bytes format r.ack) (rels_bytes format r.rels)))
-    (let place = place_len format r in let acks = ack_len format len small r.ack is.ack in let rels = rels_len format len small r.rels is.rels is.few in omega (arith, place, acks, rels))
+report_len format len few small most_few r is =
+    subst (λ (k : ℕ). k ≤ 6166 * few + 6202) (sym (three (place_bytes format r) (ack_bytes format r.ack) (rels_bytes format r.rels)))
+    (let place = place_len format r in let acks = ack_len format len small r.ack is.ack in let within = is.few in
+    let rels = rels_len format len few small r.rels is.rels (omega (arith, within, most_few)) in omega (arith, place, acks, rels))
 
-slot_len : (format : ℕ) (len : ℕ) → len ≤ most_signature → (s : Option Report) → IfSome s (IsReport format kinds.Ack kinds.Rel len)
-    → length (slot_bytes format s) ≤ 30868
+slot_len : (format len few : ℕ) → len ≤ most_signature → most format kinds.Rel ≤ few → (s : Option Report) → IfSome s (IsReport format kinds.Ack kinds.Rel len)
+    → length (slot_bytes format s) ≤ 6166 * few + 6203
 unfolding slot_bytes
-slot_len format len small None is = omega arith
-slot_len format len small (Some r) is = let one = report_len format len small r is in omega (arith, one)
+slot_len format len few small most_few None is = omega arith
+slot_len format len few small most_few (Some r) is = let one = report_len format len few small most_few r is in omega (arith, one)
 
 weights_len : (format : ℕ) (len : ℕ) → len ≤ most_signature → (os : List Kept) → All (IsObject format kinds.Weight len) os → length os ≤ 1
     → length (weights_bytes format os) ≤ 6167
@@ -189,6 +192,27 @@ no_epoch format = go (format == FORMAT_1)
     go true = omega arith
     go false = omega arith
 
+epoch_len : (format len : ℕ) → len ≤ most_signature → (o : Kept) → IsObject format kinds.Epoch len o → length (epoch_bytes format (Some o)) ≤ 6167
+unfolding epoch_bytes
+epoch_len format len small o is = go (format == FORMAT_1)
+  where
+    go : (t : Bool) → length (later_bytes (object_bytes format) t (Some o)) ≤ 6167
+    go true = omega arith
+    go false = let one = object_len format kinds.Epoch len small o is in omega (arith, one)
+
+-- a slot with an Epoch object has two messages less
+last_len : (format len : ℕ) → len ≤ most_signature → (s : Option Report) → IfSome s (IsReport format kinds.Ack kinds.Rel len) → (o : Option Kept)
+    → IfSome o (Later format (IsObject format kinds.Epoch len)) → length (slot_bytes format s) + length (epoch_bytes format o) ≤ 30869
+last_len format len small s is None later =
+    let slot = slot_len format len 4 small (by_most format MAX_MESSAGES 2 4 (omega arith) (omega arith)) s is in
+    let none = no_epoch format in
+    omega (arith, slot, none)
+last_len format len small s is (Some o) later =
+    let few : most format kinds.Rel ≤ 2 = rw later.0 (omega arith) in
+    let slot = slot_len format len 2 small few s is in
+    let one = epoch_len format len small o later.1 in
+    omega (arith, slot, one)
+
 seven : (a b c d e f g : List ℕ)
     → length (a ++ b ++ c ++ d ++ e ++ f ++ g) ≡ length a + length b + length c + length d + length e + length f + length g
 seven a b c d e f g =
@@ -199,12 +223,11 @@ seven a b c d e f g =
     let fifth = length-append (a ++ b) c in
     omega (arith, first, second, third, fourth, fifth, length-append a b)
 
--- these are the parts that it has
+-- these parts it lacks
 pub record IsPlain (s : Contents) : Type 0 where
   pub document : s.document ≡ None
   pub paths : s.paths ≡ None
   pub probe : s.probe ≡ None
-  pub epoch : s.epoch ≡ None
 
 sections_len : (format : ℕ) (len : ℕ) → len ≤ most_signature → (s : Contents) → IsPlain s → IsContentsIn format len s
     → length (sections_bytes_in format s) ≤ 61743
@@ -217,12 +240,11 @@ sections_len format len small s plain is =
     let one = weights_len format len small s.weights is.weights is.few_weights in
     let two = eight_bytes s.prio_ack in
     let more = prios_len format len small s.prios is.prios is.few_prios in
-    let reported = slot_len format len small s.slot is.slot in
+    let reported = last_len format len small s.slot is.slot s.epoch is.epoch in
     let paths = subst (λ (o : Option Report). length (paths_bytes format o) ≤ 1) (sym plain.paths) (no_paths format) in
     let probe = subst (λ (o : Option Probe). length (probes_bytes format o) ≤ 1) (sym plain.probe) (no_probe format) in
-    let epoch = subst (λ (o : Option Kept). length (epoch_bytes format o) ≤ 1) (sym plain.epoch) (no_epoch format) in
     subst (λ (d : Option (List ℕ)). length (control_bytes format s d) ≤ 61743) (sym plain.document)
-    (omega (arith, parts, one, two, more, reported, paths, probe, epoch))
+    (omega (arith, parts, one, two, more, reported, paths, probe))
 
 head_len : (h : Head) → length (head_bytes h) ≡ 33
 unfolding head_bytes ends_bytes numbers_bytes
@@ -302,7 +324,7 @@ polled_is_read_back n v kept small is =
     let whole : length (inner ++ tag) ≡ length inner + length tag = length-append inner tag in
     let signed : tagged_part (inner ++ tag) ≡ inner = take_at inner tag (length (inner ++ tag) - 32) (omega (arith, whole, long)) in
     let behind : tag_part (inner ++ tag) ≡ tag = drop_at inner tag (length (inner ++ tag) - 32) (omega (arith, whole, long)) in (
-      read_back n.fixed.signature_len h s tag small (head_fits n v kept is) (record { document = refl; paths = refl; probe = refl; epoch = refl })
+      read_back n.fixed.signature_len h s tag small (head_fits n v kept is) (record { document = refl; paths = refl; probe = refl })
           (frames_fit (format_of n.fixed) n v kept) long,
       ap₂ (λ (a b : List ℕ). pointwise nat_eq a (hmac l.key b)) behind signed ∙ same_bytes tag,
     )

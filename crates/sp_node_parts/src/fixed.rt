@@ -3,7 +3,8 @@ use sp_base::NodeId;
 use sp_topology::Topology;
 use std::marker::Model;
 
-/// A node in one of its lives: its id, its boot number, the topology that it runs under, and how many bytes all signatures have there.
+/// A node in one of its lives: its id, its boot number, the topology that it runs under, how many bytes all signatures have there, and whether
+/// nodes run with epochs.
 /// A contract sees the same of the rules (`sp_rules`).
 #[derive(Debug, Drop)]
 pub struct Fixed {
@@ -11,6 +12,7 @@ pub struct Fixed {
     pub boot: u64,
     pub topology: Topology,
     pub signature_len: usize,
+    pub epochs: bool,
 }
 
 impl Model for Fixed {
@@ -18,5 +20,5 @@ impl Model for Fixed {
 
     ghost Value = { parts.Fixed };
 
-    ghost view = { λ f. record { me = f.me; boot = f.boot; topology = f.topology; signature_len = f.signature_len } };
+    ghost view = { λ f. record { me = f.me; boot = f.boot; topology = f.topology; signature_len = f.signature_len; epochs = f.epochs } };
 }

@@ -1,5 +1,5 @@
 // The parts of a node in memory.
-ghost use Rattle.std.specs.Prelude.{◌≡◌, ◌≤◌, IfOk, length, map};
+ghost use Rattle.std.specs.Prelude.{◌≡◌, ◌≤◌, IfOk, None as Nothing, false, length, map, replicate};
 ghost use Rattle.sp_rules.specs.Parts.{as_neighbour, empty_parts};
 ghost use Rattle.sp_rules.specs.Prio as prio;
 ghost use Rattle.sp_rules.specs.Rel as rel;
@@ -9,7 +9,7 @@ ghost use Rattle.sp_rules.specs.Lives as lives;
 ghost use Rattle.sp_topology.specs.Ranges.{IsTopology};
 
 use sp_base::{EdgeId, Limits, Memory, NodeId};
-use sp_lives::Lives;
+use sp_lives::{Lives, Origins};
 use sp_prio::{Neighbour, PrioTable};
 use sp_rel::RelTable;
 use sp_topology::{NodeKey, Topology};
@@ -24,6 +24,7 @@ pub struct Parts {
     pub prio: PrioTable,
     pub rel: RelTable,
     pub lives: Lives,
+    pub origins: Origins,
 }
 
 impl Model for Parts {
@@ -31,7 +32,7 @@ impl Model for Parts {
 
     ghost Value = { rules.Parts };
 
-    ghost view = { λ c. record { weights = c.weights; prio = c.prio; rel = c.rel; lives = c.lives } };
+    ghost view = { λ c. record { weights = c.weights; prio = c.prio; rel = c.rel; lives = c.lives; origins = c.origins } };
 }
 
 impl Parts {
@@ -45,7 +46,7 @@ impl Parts {
     ) -> Result<Parts, Memory>
         requires { IsTopology topology.now }
         ensures { IfOk result (λ parts. parts
-            ≡ empty_parts (record { me = me; boot = 0; topology = topology.now; signature_len = 0 }) limits.buffer limits.store) }
+            ≡ empty_parts (record { me = me; boot = 0; topology = topology.now; signature_len = 0; epochs = false }) limits.buffer limits.store) }
     {
         let Ok(joined) = topology.neighbours(alloc, me) else {
             return Err(Memory);
@@ -74,6 +75,7 @@ fn tables_of(
       prio = prio.start me.0 nodes.now neighbours.now limits.store;
       rel = rel.start me nodes.now peers.now limits.buffer;
       lives = lives.start nodes.now;
+      origins = replicate (length nodes.now) Nothing;
     }) }
 {
     let weights = Weights::new(alloc, topology)?;
@@ -82,11 +84,13 @@ fn tables_of(
         return Err(Memory);
     };
     let lives = Lives::new(alloc, nodes)?;
+    let origins = Origins::new(alloc, nodes.len())?;
     Ok(Parts {
         weights,
         prio,
         rel,
         lives,
+        origins,
     })
 }
 

@@ -2,6 +2,7 @@ pub mod Fitted
 pub mod Links
 pub mod Sizes
 pub mod Starts
+pub mod Started
 pub mod Ends
 pub mod InEffect
 pub mod Sent

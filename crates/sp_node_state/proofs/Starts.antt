@@ -1,5 +1,5 @@
 -- A node at the start of its life.
-use Rattle.std.proofs.Common.{◌≡◌, ◌∙◌, ℕ, List, [], ◌∷◌, map, refl, ap, arith}
+use Rattle.std.proofs.Common.{◌≡◌, ◌∙◌, ℕ, false, List, [], ◌∷◌, map, refl, ap, arith}
 use Rattle.std.specs.Prelude.{zip}
 use Rattle.sp_base.specs.declared.id.EdgeId.{EdgeId}
 use Rattle.sp_base.specs.declared.id.NodeId.{NodeId}
@@ -26,12 +26,12 @@ linked f (n ∷ joined) (k ∷ keys) = ap (λ (rest : List Link). new_link f.me 
 -- ---- the whole state
 
 abbrev with_len : NodeConfig → ℕ → ℕ → Fixed
-with_len c boot len = record { me = c.me; boot = boot; topology = c.topology; signature_len = len }
+with_len c boot len = record { me = c.me; boot = boot; topology = c.topology; signature_len = len; epochs = c.epochs }
 
 pub started : (c : NodeConfig) (own : NodeSigner) (boot len : ℕ) (links : List Link) (core : Parts) → len ≡ signature_len own.signer.height
     → own.signer.height ≡ param_of c.topology.height
     → links ≡ map (λ (p : (NodeId × EdgeId) × (EdgeId × List ℕ)). new_link c.me p.0.0 boot p.1.1) (zip (neighbours_of (with_len c boot len)) c.keys)
-    → core ≡ empty_parts (record { me = c.me; boot = 0; topology = c.topology; signature_len = 0 }) c.limits.buffer c.limits.store
+    → core ≡ empty_parts (record { me = c.me; boot = 0; topology = c.topology; signature_len = 0; epochs = false }) c.limits.buffer c.limits.store
     → state_of (with_len c boot len) 0 0 links own core ≡ booted_of c own boot
 started c own boot len links core long height are parts =
     ap (λ (n : ℕ). state_of (with_len c boot n) 0 0 links own core) (long ∙ ap signature_len height)

@@ -1,18 +1,33 @@
 -- What a node is made of at the start of one of its lives.
-use Rattle.std.specs.Prelude.{ℕ, ◌≡◌, ◌≤◌, Some, map}
+use Rattle.std.specs.Prelude.{ℕ, ◌≡◌, ◌≤◌, ◌<◌, List, Some, map, true}
+use Rattle.sp_base.specs.declared.format.TheConstants.{FORMAT_2}
 use Rattle.sp_hss.specs.KeyTree.{public_key, signature_len}
-use Rattle.sp_rules.specs.Node.{NodeState, booted}
+use Rattle.sp_msg.specs.declared.effect.Effect.{Effect}
+use Rattle.sp_node_format.specs.Format.{format_of}
+use Rattle.sp_rules.specs.Node.{NodeState, Signer, booted, start_effects, started}
 use Rattle.sp_rules.specs.Parts.{Fixed, neighbours_of}
 use Rattle.sp_sign.specs.Heights.{param_of}
 use Rattle.sp_sign.specs.NodeSigner.{NodeSigner}
 use Rattle.sp_topology.specs.Keys.{key_of}
+use Rattle.sp_topology.specs.declared.topology.Topology.{Topology}
 use Rattle.sp_rules.specs.Topologies.{IsRunnable}
 use Rattle.sp_node_state.specs.States.{signer_in}
 use Rattle.sp_node_state.specs.declared.boot.NodeConfig.{NodeConfig}
 
 -- what stays as it is in this life
 abbrev pub fixed_of : NodeConfig → ℕ → Fixed
-fixed_of c boot = record { me = c.me; boot = boot; topology = c.topology; signature_len = signature_len (param_of c.topology.height) }
+fixed_of c boot = record {
+  me = c.me;
+  boot = boot;
+  topology = c.topology;
+  signature_len = signature_len (param_of c.topology.height);
+  epochs = c.epochs;
+}
+
+-- the signer signs an Epoch object next
+pub record Announces (t : Topology) (s : Signer) : Type 0 where
+  pub format : t.format ≡ FORMAT_2
+  pub index : s.index < s.bound
 
 -- the node is one of a topology that nodes run under, the signer is its own, with the key that the topology has for it, and there is a link key for
 -- each of its edges, in their order
@@ -23,7 +38,15 @@ pub record IsBootable (c : NodeConfig) (own : NodeSigner) (boot : ℕ) : Type 0 
   pub is_mine : key_of c.me.0 c.topology.nodes ≡ Some (public_key own.signer.height own.signer.seed)
   pub keys : map (λ k. k.0) c.keys ≡ map (λ n. n.1) (neighbours_of (fixed_of c boot))
   pub life : 1 ≤ boot
+  pub announces : c.epochs ≡ true → Announces c.topology (signer_in own)
 
 -- nothing was sent, heard or kept
 abbrev pub booted_of : NodeConfig → NodeSigner → ℕ → NodeState
 booted_of c own boot = booted (fixed_of c boot) (signer_in own) (map (λ k. k.1) c.keys) c.limits.buffer c.limits.store
+
+-- the same, and with epochs its boot is said to all
+abbrev pub started_of : NodeConfig → NodeSigner → ℕ → NodeState
+started_of c own boot = started (format_of (fixed_of c boot)) (fixed_of c boot) (signer_in own) (map (λ k. k.1) c.keys) c.limits.buffer c.limits.store
+
+abbrev pub told_at_start : NodeConfig → ℕ → List Effect
+told_at_start c boot = start_effects (format_of (fixed_of c boot)) (fixed_of c boot)

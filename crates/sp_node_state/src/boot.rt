@@ -1,7 +1,8 @@
 // What a node is made of at the start of one of its lives.
 ghost use Rattle.std.specs.Prelude.{◌≡◌, ◌<◌, ◌^◌, ◌↔◌, IfErr, IfOk, IsTrue, Some as There, length, map, zip};
 ghost use Rattle.laws_node.specs.Nodes.{SignerHolds};
-ghost use Rattle.sp_node_state.specs.Boots.{IsBootable, booted_of};
+ghost use Rattle.sp_node_state.specs.Boots.{Announces, IsBootable, booted_of};
+ghost use Rattle.sp_node_state.specs.States.{signer_in};
 ghost use Rattle.sp_rules.specs.Link.{new_link};
 ghost use Rattle.sp_rules.specs.Parts.{neighbours_of};
 ghost use Rattle.sp_sign.specs.Heights.{param_of};
@@ -11,7 +12,7 @@ ghost use Rattle.sp_rules.specs.Topologies.{IsRunnable};
 ghost use Rattle.sp_topology.specs.Ranges.{IsTopology};
 
 use crate::state::State;
-use sp_base::{EdgeId, Limits, Listed, Memory, NodeId};
+use sp_base::{EdgeId, FORMAT_2, Limits, Listed, Memory, NodeId};
 use sp_link::Link;
 use sp_node_parts::{Fixed, Parts};
 use sp_rules::NodeRefused;
@@ -20,14 +21,15 @@ use sp_topology::{Edge, LmsHeight, Topology};
 use std::alloc::Global;
 use std::fmt;
 
-/// Who the node is, the topology that it runs under, how much it keeps, and the key that it shares with the neighbour at each of its edges,
-/// ascending by edge. A debug line says no key.
+/// Who the node is, the topology that it runs under, how much it keeps, the key that it shares with the neighbour at each of its edges,
+/// ascending by edge, and whether nodes run with epochs: a node may then start again, and says so to all others. A debug line says no key.
 #[derive(Drop)]
 pub struct NodeConfig {
     pub me: NodeId,
     pub topology: Topology,
     pub limits: Limits,
     pub keys: Listed<(EdgeId, [u8; 32])>,
+    pub epochs: bool,
 }
 
 impl fmt::Debug for NodeConfig {
@@ -35,6 +37,7 @@ impl fmt::Debug for NodeConfig {
         f.debug_struct("NodeConfig")
             .field("me", &self.me)
             .field("limits", &self.limits)
+            .field("epochs", &self.epochs)
             .finish_non_exhaustive()
     }
 }
@@ -51,6 +54,14 @@ pub fn can_boot(config: &NodeConfig, signer: &NodeSigner, boot: u64) -> bool
         && has_height(signer, topology.height)
         && has_key(topology, config.me, &signer.public())
         && has_keys(topology.edges.as_slice(), config.me, config.keys.as_slice())
+        && (!config.epochs || can_announce(topology, signer))
+}
+
+/// Whether the signer signs an Epoch object next: only format 2 has such objects, and an index must be left.
+fn can_announce(topology: &Topology, signer: &NodeSigner) -> bool
+    ensures { IsTrue result ↔ Announces topology.now (signer_in signer.now) }
+{
+    topology.format == FORMAT_2 && signer.index() < signer.bound()
 }
 
 /// Whether the key has trees of this height.
@@ -111,12 +122,14 @@ impl State {
             topology,
             limits,
             keys,
+            epochs,
         } = config;
         let fixed = Fixed {
             me,
             boot,
             topology,
             signature_len: signer.signature_len(),
+            epochs,
         };
         let links = links_of(alloc, &fixed, keys.as_slice())?;
         let core = Parts::new(alloc, me, &fixed.topology, limits)?;

@@ -2,6 +2,7 @@
 //! client sends from it: each call is one step of the overlay's rules, or is refused with its cause and leaves all as it was.
 #![tactic(auto)]
 
+mod announce;
 mod boot;
 mod priority;
 mod reliable;

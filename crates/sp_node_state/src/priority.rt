@@ -72,7 +72,7 @@ fn may_send(state: &State, message: &PrioSend<'_>) -> Result<(), SendRefused>
     ensures refused { IfErr result (λ refused. prio_refusal state.entry.now (as_send message.now) ≡ There refused) }
     ensures no_want { result ≢ Err SendRefused.Memory }
 {
-    if !state.is_other(message.dst) {
+    if !state.is_other(message.dst) || state.is_unmet(message.dst) {
         return Err(SendRefused::BadEnd);
     }
     if message.expiry < state.now {

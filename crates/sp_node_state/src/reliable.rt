@@ -55,6 +55,9 @@ fn rel_number(state: &State, dst: NodeId) -> Result<u64, SendRefused>
     ensures refused { IfErr result (λ refused. rel_refusal state.entry.now dst ≡ There refused) }
     ensures no_want { result ≢ Err SendRefused.Memory }
 {
+    if state.is_unmet(dst) {
+        return Err(SendRefused::BadEnd);
+    }
     let number = match state.core.rel.room(dst) {
         Ok(number) => number,
         Err(RelRefused::BadEnd) => return Err(SendRefused::BadEnd),

@@ -5,6 +5,7 @@ ghost use Rattle.sp_node_format.specs.Format.{format_of};
 ghost use Rattle.sp_node_state.specs.ReadyStates.{IsAnswered};
 ghost use Rattle.sp_node_state.specs.States.{is_other};
 ghost use Rattle.sp_rules.specs.Node.{call_refusal, is_link, link_in};
+ghost use Rattle.sp_rules.specs.Sends.{is_unmet};
 ghost use Rattle.sp_rules.specs.declared.node.TheConstants.{MAX_CALLS};
 
 use sp_base::NodeId;
@@ -50,6 +51,13 @@ impl State {
         ensures { result ≡ is_other self.entry.now node }
     {
         node.0 != self.fixed.me.0 && self.core.prio.is_node(node)
+    }
+
+    /// Whether this node knows no life of that one, where nodes run with epochs. Then nothing is sent to it.
+    pub fn is_unmet(&self, node: NodeId) -> bool
+        ensures { result ≡ is_unmet self.entry.now node }
+    {
+        self.fixed.epochs && self.core.lives.held_boot(node) == 0
     }
 
     /// Where the link to a neighbour stands. It is refused where a poll or a datagram isn't answered.

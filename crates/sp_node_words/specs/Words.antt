@@ -6,6 +6,8 @@ use Rattle.sp_msg.specs.declared.refused.SendRefused.{SendRefused}
 use Rattle.sp_msg.specs.declared.refused.SendRefused.TheVariants as refusals
 use Rattle.sp_rules.specs.declared.answers.AckAnswer.{AckAnswer}
 use Rattle.sp_rules.specs.declared.answers.AckAnswer.TheVariants as acks
+use Rattle.sp_rules.specs.declared.answers.EpochAnswer.{EpochAnswer}
+use Rattle.sp_rules.specs.declared.answers.EpochAnswer.TheVariants as epochs
 use Rattle.sp_rules.specs.declared.answers.Item.{Item}
 use Rattle.sp_rules.specs.declared.answers.Item.TheVariants as items
 use Rattle.sp_rules.specs.declared.answers.PrioAnswer.{PrioAnswer}
@@ -90,12 +92,20 @@ rel_word rels.InboxFull = answers.InboxFull
 rel_word rels.BadSig = answers.BadSig
 rel_word rels.New = answers.New
 
+-- the answer to an Epoch object
+abbrev pub epoch_word : EpochAnswer → AnswerWord
+epoch_word epochs.BadEnd = answers.BadEnd
+epoch_word epochs.Old = answers.Old
+epoch_word epochs.BadSig = answers.BadSig
+epoch_word epochs.New = answers.New
+
 -- the kind of an object and its answer
 abbrev pub item_word : Item → ItemWord
 item_word (items.Weight answer) = item_words.Weight (weight_word answer)
 item_word (items.Prio answer) = item_words.Prio (prio_word answer)
 item_word (items.Ack answer) = item_words.Ack (ack_word answer)
 item_word (items.Rel answer) = item_words.Rel (rel_word answer)
+item_word (items.Epoch answer) = item_words.Epoch (epoch_word answer)
 
 -- ---- the other calls. None for an answer that no event of a schedule gets
 

@@ -1,12 +1,15 @@
 // The words of a journal for what a node answered.
 ghost use Rattle.std.specs.Prelude.{◌≡◌, ◌≤◌, [], None as Nothing, Some as There, length, map, vec_capacity};
-ghost use Rattle.sp_node_words.specs.Words.{ack_word, item_word, link_word, prio_word, refused_word, rel_word, section_word, tick_word, weight_word};
+ghost use Rattle.sp_node_words.specs.Words.{ack_word, epoch_word, item_word, link_word, prio_word};
+ghost use Rattle.sp_node_words.specs.Words.{refused_word, rel_word, section_word, tick_word, weight_word};
 
 use sp_base::{Listed, push_in_room};
 use sp_frame::SectionRefused;
 use sp_journal::{AnswerWord, ItemWord, LinkWord, Reply, SectionWord};
 use sp_msg::SendRefused;
-use sp_rules::{AckAnswer, Item, LinkReply, PrioAnswer, RelAnswer, TickReply, WeightAnswer};
+use sp_rules::{
+    AckAnswer, EpochAnswer, Item, LinkReply, PrioAnswer, RelAnswer, TickReply, WeightAnswer,
+};
 
 fn section_word(refused: SectionRefused) -> SectionWord
     ensures { result ≡ section_word refused }
@@ -48,6 +51,7 @@ pub fn item_word(item: Item) -> ItemWord
         Item::Prio(answer) => ItemWord::Prio(prio_word(answer)),
         Item::Ack(answer) => ItemWord::Ack(ack_word(answer)),
         Item::Rel(answer) => ItemWord::Rel(rel_word(answer)),
+        Item::Epoch(answer) => ItemWord::Epoch(epoch_word(answer)),
     }
 }
 
@@ -102,6 +106,17 @@ fn rel_word(answer: RelAnswer) -> AnswerWord
         RelAnswer::InboxFull => AnswerWord::InboxFull,
         RelAnswer::BadSig => AnswerWord::BadSig,
         RelAnswer::New => AnswerWord::New,
+    }
+}
+
+fn epoch_word(answer: EpochAnswer) -> AnswerWord
+    ensures { result ≡ epoch_word answer }
+{
+    match answer {
+        EpochAnswer::BadEnd => AnswerWord::BadEnd,
+        EpochAnswer::Old => AnswerWord::Old,
+        EpochAnswer::BadSig => AnswerWord::BadSig,
+        EpochAnswer::New => AnswerWord::New,
     }
 }
 

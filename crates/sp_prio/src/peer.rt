@@ -5,6 +5,7 @@ ghost use Rattle.sp_msg.specs.Masks.{bits};
 ghost use Rattle.sp_rules.specs.Polls.{as_message};
 ghost use Rattle.sp_rules.specs.Prio.{is_peer};
 ghost use Rattle.sp_rules.specs.PrioPeer.{acked, acked_effects, carried, expired, expired_effects, filled, goes_to, heard, new_peer, next_prios, put_effects};
+ghost use Rattle.sp_rules.specs.PrioPeer.{unheard};
 ghost use Rattle.sp_prio.specs.Flight.{with_flight};
 ghost use Rattle.sp_prio.specs.Given.{goes_along};
 ghost use Rattle.sp_rules.specs.Store as stores;
@@ -160,6 +161,14 @@ impl Peer {
         ensures { result ≡ self.now.heard }
     {
         self.heard
+    }
+
+    /// Another life of it began: nothing was heard from it, and nothing is in flight to it. The last link number stays. It takes no memory.
+    pub fn forget(&mut self)
+        ensures { self.new ≡ unheard self.old }
+    {
+        self.heard = 0;
+        self.flight.pairs = Four::new();
     }
 
     /// How many entries have an expiry before this time.

@@ -5,7 +5,8 @@ ghost use Rattle.sp_rules.specs.Changes.{FitsAFormat};
 ghost use Rattle.sp_msg.specs.Views.{as_body};
 ghost use Rattle.sp_rules.specs.Polls.{as_message};
 ghost use Rattle.sp_rules.specs.Prio.{acked, acked_effects, admit_prio, carried, expired, expired_effects, expiring, heard, is_node};
-ghost use Rattle.sp_rules.specs.Prio.{judge_fields, judge_prio, marked, next_prios, peer_in, places, prio_effects, spread, start, taken};
+ghost use Rattle.sp_rules.specs.Prio.{judge_fields, judge_prio, marked, next_prios, peer_in, places, prio_effects, renewed, spread, start};
+ghost use Rattle.sp_rules.specs.Prio.{taken, unheard};
 ghost use Rattle.sp_rules.specs.Store.{oldest};
 ghost use Rattle.sp_rules.specs.Told.{told};
 ghost use Rattle.sp_prio.specs.Parcel.{AreBeside};
@@ -15,7 +16,7 @@ ghost use Rattle.sp_rules.specs.declared.store.TheConstants.{IDS};
 use crate::field::{dst_of, next_after_own, seq_of, src_of};
 use crate::peer::Peer;
 use crate::rows::{count_to, expire_peers, expiring_in, peers_of, place_of, spread};
-use crate::windows::{is_node, mark, seen_in, windows_of};
+use crate::windows::{clear, is_node, mark, seen_in, windows_of};
 use crate::{Parcel, Spare, place};
 use sp_base::{Four, Memory, NodeId};
 use sp_dedup::Window;
@@ -190,6 +191,24 @@ impl PrioTable {
         match place_of(&self.peers, v) {
             Some(place) => self.peers[place].heard(),
             None => 0,
+        }
+    }
+
+    /// Another life of a source began: none of its numbers was seen. Nothing changes where it is no node. It takes no memory.
+    pub fn renew(&mut self, source: NodeId)
+        ensures { self.new ≡ renewed self.old source.0 }
+    {
+        clear(&mut self.windows, &self.nodes, source.0);
+    }
+
+    /// Another life of a neighbour began: nothing was heard from it, and nothing is in flight to it. The last link number that was given stays. It takes no
+    /// memory.
+    #[tactic(auto, using(sp_base::proofs::RowLemmas::placed, crate::proofs::RowLemmas::nothing_waits))]
+    pub fn forget(&mut self, neighbour: NodeId)
+        ensures { self.new ≡ unheard self.old neighbour.0 }
+    {
+        if let Some(place) = place_of(&self.peers, neighbour) {
+            self.peers[place].forget();
         }
     }
 

@@ -1,6 +1,6 @@
 // The windows of all nodes, each in the place of its node.
 ghost use Rattle.std.specs.Prelude.{◌≡◌, ◌<◌, IfOk, IfSome, [], length, replicate};
-ghost use Rattle.sp_rules.specs.Prio.{is_node, place_of, window_at, windows_with};
+ghost use Rattle.sp_rules.specs.Prio.{is_node, place_of, window_at, windows_less, windows_with};
 ghost use Rattle.sp_rules.specs.Window.{is_seen};
 
 use sp_base::{Memory, NodeId};
@@ -51,5 +51,15 @@ pub fn mark(windows: &mut [Window], nodes: &[NodeId], src: u8, seq: u64)
 {
     if let Some(place) = place_of(nodes, src) {
         let _ = windows[place].first(seq);
+    }
+}
+
+/// No number of a source was seen, where the source is a node. It takes no memory.
+pub fn clear(windows: &mut [Window], nodes: &[NodeId], src: u8)
+    requires { length windows.old ≡ length nodes.now }
+    ensures { windows.new ≡ windows_less windows.old (place_of nodes.now src) }
+{
+    if let Some(place) = place_of(nodes, src) {
+        windows[place].clear();
     }
 }

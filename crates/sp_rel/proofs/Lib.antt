@@ -1,4 +1,5 @@
 pub mod FlowLemmas
+pub mod RestartLemmas
 pub mod SeatLemmas
 pub mod SoundLemmas
 pub mod Standing

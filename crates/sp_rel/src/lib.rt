@@ -12,6 +12,7 @@ mod messages;
 mod pairs;
 mod peers;
 mod place;
+mod restarts;
 mod row;
 mod seat;
 mod table;

@@ -1,6 +1,7 @@
 // What a node keeps of its neighbours: the flow that went to each last, and what each reported. Rows are only ever replaced.
 ghost use Rattle.std.specs.Prelude.{◌≡◌, IfOk, Some, map, position};
-ghost use Rattle.sp_rules.specs.Rel.{is_peer, is_view, new_peer, no_view, peer_in, put_peer, told, view_in};
+ghost use Rattle.sp_rules.specs.Rel.{is_peer, is_view, new_peer, no_view, no_views, peer_in, put_peer, told, view_in};
+ghost use Rattle.sp_rules.specs.Rel.{view_less, viewed, views_less};
 
 use crate::view::View;
 use sp_base::{Cursor, Flow, Memory, NodeId};
@@ -74,6 +75,20 @@ impl PeerRow {
         ensures { self.new ≡ record self.old { last = Some place } }
     {
         self.cursor.moved(place);
+    }
+
+    /// Another life of a node began: nothing was reported of the flows with it as an end.
+    fn restart(&mut self, node: NodeId)
+        ensures { self.new ≡ views_less node self.old }
+    {
+        restart_views(&mut self.views, node);
+    }
+
+    /// Nothing was reported.
+    fn forget(&mut self)
+        ensures { self.new ≡ no_views self.old }
+    {
+        clear_views(&mut self.views);
     }
 
     fn place(&self, flow: Flow) -> Option<usize>
@@ -152,6 +167,23 @@ impl Peers {
         }
     }
 
+    /// Another life of a node began: no neighbour reported of the flows with it as an end.
+    pub fn restart(&mut self, node: NodeId)
+        ensures { self.new ≡ map (views_less node) self.old }
+    {
+        restart_peers(&mut self.rows, node);
+    }
+
+    /// Another life of a neighbour began: it reported nothing.
+    #[tactic(auto, using(sp_base::proofs::RowLemmas::placed))]
+    pub fn forget(&mut self, v: NodeId)
+        ensures { self.new ≡ put_peer self.old v (no_views (peer_in self.old v)) }
+    {
+        if let Some(place) = self.place(v) {
+            self.rows[place].forget();
+        }
+    }
+
     fn place(&self, v: NodeId) -> Option<usize>
         ensures { result ≡ position (is_peer v) self.now }
     {
@@ -165,4 +197,31 @@ fn no_views(alloc: Global, flows: &[Flow]) -> Result<Vec<View>, Memory>
 {
     let views = flows.iter().map(|flow| View::none(*flow)).collect(alloc)?;
     Ok(views)
+}
+
+/// Nothing was reported by these neighbours of the flows with this node as an end.
+fn restart_peers(rows: &mut [PeerRow], node: NodeId)
+    ensures { rows.new ≡ map (views_less node) rows.old }
+{
+    'rows: for row in rows.iter_mut() {
+        row.restart(node);
+    }
+}
+
+/// Nothing was reported, where the flow has this node as an end.
+fn restart_views(views: &mut [View], node: NodeId)
+    ensures { views.new ≡ map (view_less node) views.old }
+{
+    'views: for view in views.iter_mut() {
+        view.restart(node);
+    }
+}
+
+/// Nothing was reported.
+fn clear_views(views: &mut [View])
+    ensures { views.new ≡ map (λ w. no_view (viewed w)) views.old }
+{
+    'views: for view in views.iter_mut() {
+        view.clear();
+    }
 }

@@ -1,16 +1,18 @@
 // One flow at one node: each call is one of the rules' equations.
-ghost use Rattle.std.specs.Prelude.{◌≡◌, ◌==◌, ◌+◌, ◌<◌, ◌≤◌, true, false, length, map, option_copied, slice_get};
+ghost use Rattle.std.specs.Prelude.{◌≡◌, ◌==◌, ◌+◌, ◌&&◌, ◌<◌, ◌≤◌, true, false, length, map, option_copied, slice_get};
 ghost use Rattle.sp_base.specs.declared.limits.TheConstants.{MAX_SEQ};
 ghost use Rattle.sp_rules.specs.Flow.{acknowledged_by, after_take, concluded, ends, is_flow, is_full, no_flow, number_said, pushed, received};
-ghost use Rattle.sp_rules.specs.Rel.{is_due, messages_after};
+ghost use Rattle.sp_rules.specs.Rel.{ended_by, flow_less, is_due, is_end, messages_after};
+ghost use Rattle.sp_rules.specs.Told.{told};
 ghost use Rattle.sp_rel.specs.Changes.{CanChange, changed};
 ghost use Rattle.sp_rel.specs.Rows.{IsSeated, with_state};
 
 use crate::change::Change;
 use crate::held::Held;
 use crate::seat::Seat;
+use crate::view::is_end;
 use sp_base::{Bytes, Flow, Four, NodeId};
-use sp_msg::{Body, Kept};
+use sp_msg::{Body, Effect, Effects, Kept};
 use std::marker::Model;
 use std::mem::size_of;
 
@@ -235,6 +237,33 @@ impl FlowRow {
         match &mut self.held {
             Held::End(inbox) => inbox.take(),
             _ => None,
+        }
+    }
+
+    /// Whether the flow is active and has this node as an end.
+    pub fn is_ended(&self, node: NodeId) -> bool
+        ensures { result ≡ (is_end node (ends self.now.state) && self.now.state.active) }
+    {
+        is_end(node, self.flow) && self.is_active()
+    }
+
+    /// Tells that the flow ends, where it is active and has this node as an end.
+    pub fn tell_end(&self, node: NodeId, effects: &mut Effects)
+        requires { length (ended_by node self.now.state) ≤ effects.old.room }
+        ensures { effects.new ≡ told effects.old (ended_by node self.now.state) }
+    {
+        if self.is_ended(node) {
+            effects.push(Effect::Ended(self.flow));
+        }
+    }
+
+    /// The flow is as before its first message, where it has this node as an end.
+    pub fn restart(&mut self, node: NodeId)
+        ensures { self.new ≡ with_state self.old (flow_less node self.old.state) }
+    {
+        if is_end(node, self.flow) {
+            self.held = Held::Idle;
+            self.ack = None;
         }
     }
 }

@@ -1,6 +1,6 @@
 // What a neighbour reported last of a flow.
 ghost use Rattle.std.specs.Prelude.{◌≡◌};
-ghost use Rattle.sp_rules.specs.Rel.{is_view, no_view};
+ghost use Rattle.sp_rules.specs.Rel.{is_end, is_view, no_view, view_less, viewed};
 
 use sp_base::{Flow, NodeId};
 use std::marker::Model;
@@ -55,4 +55,37 @@ impl View {
     {
         self.src.0 == flow.src.0 && self.dst.0 == flow.dst.0
     }
+
+    /// Its flow.
+    fn flow(&self) -> Flow
+        ensures { result ≡ viewed self.now }
+    {
+        Flow {
+            src: self.src,
+            dst: self.dst,
+        }
+    }
+
+    /// Nothing was reported.
+    pub fn clear(&mut self)
+        ensures { self.new ≡ no_view (viewed self.old) }
+    {
+        *self = View::none(self.flow());
+    }
+
+    /// Nothing was reported, where the flow has this node as an end.
+    pub fn restart(&mut self, node: NodeId)
+        ensures { self.new ≡ view_less node self.old }
+    {
+        if is_end(node, self.flow()) {
+            self.clear();
+        }
+    }
+}
+
+/// Whether the node is an end of the flow.
+pub fn is_end(node: NodeId, flow: Flow) -> bool
+    ensures { result ≡ is_end node flow }
+{
+    flow.src.0 == node.0 || flow.dst.0 == node.0
 }

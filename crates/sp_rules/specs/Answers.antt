@@ -2,6 +2,8 @@
 use Rattle.std.specs.Prelude.{Bool, true, false, not, if◌then◌else◌}
 use Rattle.sp_rules.specs.declared.answers.AckAnswer.{AckAnswer}
 use Rattle.sp_rules.specs.declared.answers.AckAnswer.TheVariants as ack
+use Rattle.sp_rules.specs.declared.answers.EpochAnswer.{EpochAnswer}
+use Rattle.sp_rules.specs.declared.answers.EpochAnswer.TheVariants as epoch
 use Rattle.sp_rules.specs.declared.answers.Item.{Item}
 use Rattle.sp_rules.specs.declared.answers.Item.TheVariants as items
 use Rattle.sp_rules.specs.declared.answers.PrioAnswer.{PrioAnswer}
@@ -10,6 +12,8 @@ use Rattle.sp_rules.specs.declared.answers.RelAnswer.{RelAnswer}
 use Rattle.sp_rules.specs.declared.answers.RelAnswer.TheVariants as rel
 use Rattle.sp_rules.specs.declared.answers.WeightAnswer.{WeightAnswer}
 use Rattle.sp_rules.specs.declared.answers.WeightAnswer.TheVariants as weight
+use Rattle.sp_rules.specs.declared.lives.EpochJudged.{EpochJudged}
+use Rattle.sp_rules.specs.declared.lives.EpochJudged.TheVariants as lives
 use Rattle.sp_rules.specs.declared.prio.PrioJudged.{PrioJudged}
 use Rattle.sp_rules.specs.declared.prio.PrioJudged.TheVariants as prios
 use Rattle.sp_rules.specs.declared.rel.AckJudged.{AckJudged}
@@ -47,9 +51,15 @@ rel_answer right dated rels.Full = if dated then rel.Full else rel.Epoch
 rel_answer right dated rels.InboxFull = if dated then rel.InboxFull else rel.Epoch
 rel_answer right dated rels.New = if not dated then rel.Epoch else if right then rel.New else rel.BadSig
 
+abbrev pub epoch_answer : Bool → EpochJudged → EpochAnswer
+epoch_answer right lives.BadEnd = epoch.BadEnd
+epoch_answer right lives.Old = epoch.Old
+epoch_answer right lives.New = if right then epoch.New else epoch.BadSig
+
 abbrev pub is_new : Item → Bool
 is_new (items.Weight weight.New) = true
 is_new (items.Prio prio.New) = true
 is_new (items.Ack ack.New) = true
 is_new (items.Rel rel.New) = true
+is_new (items.Epoch epoch.New) = true
 is_new answer = false

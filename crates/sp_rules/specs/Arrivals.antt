@@ -2,11 +2,12 @@
 --
 --     its length, its name, its version      TooLong, Short, Magic, Version     nothing changes
 --     the link                               NotForMe, BadTag                   nothing changes
---                                            Learned                            the neighbour's boot is known
+--                                            Learned                            the neighbour's boot is known; with epochs, where
+--                                                                               it rises, what that one reported is forgotten
 --                                            Stale                              nothing changes
 --     the topology, the sections             OtherTopology, Section             the link keeps it as its last frame
 --     none of these                          Fresh                              the same, and its pieces are handled
-use Rattle.std.specs.Prelude.{ℕ, ◌==◌, not, List, [], Option, None, Some, option_map, unwrap_or, Result, Ok, Err, if◌then◌else◌}
+use Rattle.std.specs.Prelude.{ℕ, ◌==◌, ◌&&◌, nat_lt, Bool, not, List, [], Option, None, Some, option_map, unwrap_or, Result, Ok, Err, if◌then◌else◌}
 use Rattle.std.specs.Result.{result_err}
 use Rattle.sp_base.specs.Cursor.{or_else}
 use Rattle.sp_base.specs.declared.id.NodeId.{NodeId}
@@ -18,8 +19,10 @@ use Rattle.sp_rules.specs.Arts.{Arts, is_right}
 use Rattle.sp_rules.specs.Handle.{Arrival, Handled, handle_all}
 use Rattle.sp_rules.specs.Link.{Link, after_frame, link_answer}
 use Rattle.sp_rules.specs.Node.{NodeState, call_refusal, called, kept_or, link_in, with_link}
-use Rattle.sp_rules.specs.Parts.{Fixed}
+use Rattle.sp_rules.specs.Parts.{Fixed, Parts}
 use Rattle.sp_rules.specs.Pieces.{Piece, pieces_of}
+use Rattle.sp_rules.specs.Prio as prio
+use Rattle.sp_rules.specs.Rel as rel
 use Rattle.sp_rules.specs.declared.link.LinkAnswer.{LinkAnswer}
 use Rattle.sp_rules.specs.declared.link.LinkAnswer.TheVariants as answers
 use Rattle.sp_rules.specs.declared.node.LinkReply.{LinkReply}
@@ -70,9 +73,13 @@ abbrev pub link_after : Arts → NodeState → NodeId → List ℕ → Link
 link_after arts n v bytes =
     kept_or (no_frame (arts.opened bytes)) (link_in n v) (after_frame (link_in n v) (arts.head bytes) (is_right arts (link_in n v).key bytes))
 
-abbrev pub pieces_in : Result Contents SectionRefused → List Piece
-pieces_in (Ok contents) = pieces_of contents
-pieces_in (Err refused) = []
+-- where nodes run without epochs, no Epoch object is handled
+abbrev pub heeded : Fixed → Contents → Contents
+heeded f contents = if f.epochs then contents else record contents { epoch = None }
+
+abbrev pub pieces_in : Fixed → Result Contents SectionRefused → List Piece
+pieces_in f (Ok contents) = pieces_of (heeded f contents)
+pieces_in f (Err refused) = []
 
 -- the pieces that are handled: all where the datagram passed, and else none
 abbrev pub pieces_where : LinkReply → List Piece → List Piece
@@ -82,9 +89,21 @@ pieces_where _ pieces = []
 abbrev pub arrival_at : NodeState → NodeId → Arrival
 arrival_at n v = record { fixed = n.fixed; now = n.now; from = v }
 
+-- another life of the neighbour began: its boot, as it is known, rises, also from 0
+abbrev pub has_risen : (old new : Link) → Bool
+has_risen old new = nat_lt old.peer_boot new.peer_boot
+
+-- with epochs, what it reported and acknowledged in its life before is forgotten then
+abbrev pub greeted : (epochs risen : Bool) → NodeId → Parts → Parts
+greeted epochs risen v p = if epochs && risen then record p { prio = prio.unheard p.prio v.0; rel = rel.unheard p.rel v } else p
+
+-- before the pieces are handled
+abbrev pub parts_met : Arts → NodeState → NodeId → List ℕ → Parts
+parts_met arts n v bytes = greeted n.fixed.epochs (has_risen (link_in n v) (link_after arts n v bytes)) v n.parts
+
 abbrev pub handled : Arts → NodeState → NodeId → List ℕ → Handled
 handled arts n v bytes =
-    handle_all arts (arrival_at n v) n.parts (pieces_where (reply_at arts n v bytes) (pieces_in (sections_in arts n.fixed bytes)))
+    handle_all arts (arrival_at n v) (parts_met arts n v bytes) (pieces_where (reply_at arts n v bytes) (pieces_in n.fixed (sections_in arts n.fixed bytes)))
 
 abbrev pub after_datagram : Arts → NodeState → NodeId → List ℕ → NodeState
 after_datagram arts n v bytes =

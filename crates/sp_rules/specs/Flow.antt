@@ -11,7 +11,7 @@ use Rattle.sp_msg.specs.declared.body.Body.{Body}
 use Rattle.sp_msg.specs.declared.body.Body.TheVariants as bodies
 use Rattle.sp_msg.specs.declared.kept.Kept.{Kept}
 
--- A flow is active from the first message or acknowledgement on that the node took, and stays active. The kept acknowledgement is the last
+-- A flow is active from the first message or acknowledgement on that the node took, until another life of one of its ends begins. The kept acknowledgement is the last
 -- one that raised base. At the destination the position has no list, and the inbox holds what was delivered and not yet taken by a client.
 pub record FlowState : Type 0 where
   pub src : NodeId

@@ -8,15 +8,17 @@ use Rattle.sp_msg.specs.declared.body.Body.TheVariants as bodies
 use Rattle.sp_msg.specs.declared.effect.Effect.{Effect}
 use Rattle.sp_msg.specs.declared.effect.Effect.TheVariants.{WeightHeld}
 use Rattle.sp_msg.specs.declared.kept.Kept.{Kept}
-use Rattle.sp_rules.specs.Answers.{ack_answer, is_new, prio_answer, rel_answer, weight_answer}
+use Rattle.sp_rules.specs.Answers.{ack_answer, epoch_answer, is_new, prio_answer, rel_answer, weight_answer}
 use Rattle.sp_rules.specs.Arts.{Arts}
-use Rattle.sp_rules.specs.Lives.{are_held, is_dated}
+use Rattle.sp_rules.specs.Lives as lives
+use Rattle.sp_rules.specs.Lives.{are_held, is_dated, judge_epoch, origin_said}
 use Rattle.sp_rules.specs.Parts.{Fixed, Parts, is_signed}
-use Rattle.sp_rules.specs.Pieces.{Piece, WeightPiece, PrioAckPiece, PrioPiece, ReportPiece, AckPiece, RelPiece}
-use Rattle.sp_rules.specs.Prio.{acked, acked_effects, admit_prio, heard, judge_prio, prio_effects}
-use Rattle.sp_rules.specs.Rel.{admit_ack, admit_rel, judge_ack_of, judge_rel_of, rel_effects, reported}
+use Rattle.sp_rules.specs.Pieces.{Piece, WeightPiece, PrioAckPiece, PrioPiece, ReportPiece, AckPiece, RelPiece, EpochPiece}
+use Rattle.sp_rules.specs.Prio.{acked, acked_effects, admit_prio, heard, judge_prio, prio_effects, renewed}
+use Rattle.sp_rules.specs.Rel.{admit_ack, admit_rel, judge_ack_of, judge_rel_of, rel_effects, reported, restart_effects, restarted}
 use Rattle.sp_rules.specs.Weights.{WeightState, held, offer}
 use Rattle.sp_rules.specs.declared.answers.AckAnswer.{AckAnswer}
+use Rattle.sp_rules.specs.declared.answers.EpochAnswer.{EpochAnswer}
 use Rattle.sp_rules.specs.declared.answers.Item.{Item}
 use Rattle.sp_rules.specs.declared.answers.Item.TheVariants as items
 use Rattle.sp_rules.specs.declared.answers.PrioAnswer.{PrioAnswer}
@@ -95,6 +97,19 @@ rel_handled answer o p = where_new (items.Rel answer) o p (record p { rel = admi
 abbrev pub reported_where : Bool → NodeId → Flow → (base have : ℕ) → Parts → Parts
 reported_where dated v flow base have p = if dated then record p { rel = reported p.rel v flow base have } else p
 
+-- ---- what a node says of its own start
+
+-- another life of the object's origin began: its boot is held, its flows are as before their first message, and no priority message of it was seen
+abbrev pub met : Parts → Kept → Parts
+met p o = record p {
+  prio = renewed p.prio (origin_said o.body).0;
+  rel = restarted p.rel (origin_said o.body);
+  lives = lives.held p.lives o;
+}
+
+abbrev pub epoch_handled : EpochAnswer → Kept → Parts → Handled
+epoch_handled answer o p = where_new (items.Epoch answer) o p (met p o) (restart_effects p.rel (origin_said o.body))
+
 -- ---- all pieces
 
 abbrev pub handle : Arts → Arrival → Parts → Piece → Handled
@@ -107,6 +122,7 @@ handle arts at p (AckPiece flow o) =
     ack_handled (ack_answer (is_signed arts at.fixed o) (is_dated p.lives o.body) (judge_ack_of p.rel flow o.body)) o p
 handle arts at p (RelPiece flow o) =
     rel_handled (rel_answer (is_signed arts at.fixed o) (is_dated p.lives o.body) (judge_rel_of p.rel flow o.body)) o p
+handle arts at p (EpochPiece o) = epoch_handled (epoch_answer (is_signed arts at.fixed o) (judge_epoch at.fixed.me p.lives o.body)) o p
 
 -- one after another: each piece meets what those before it left
 abbrev pub handle_all : Arts → Arrival → Parts → List Piece → Handled

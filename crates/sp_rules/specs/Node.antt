@@ -1,13 +1,17 @@
 -- One node: what it keeps from call to call. Nothing else of the world is in its rules.
-use Rattle.std.specs.Prelude.{ℕ, ◌==◌, ◌+◌, Bool, not, List, [], map, zip, Option, None, Some, if◌then◌else◌}
+use Rattle.std.specs.Prelude.{ℕ, ◌==◌, ◌+◌, Bool, not, List, [], ◌∷◌, map, zip, Option, None, Some, if◌then◌else◌}
 use Rattle.std.specs.List.{list_any}
 use Rattle.sp_base.specs.Rows.{first_where, replace_where}
 use Rattle.sp_base.specs.declared.id.EdgeId.{EdgeId}
 use Rattle.sp_base.specs.declared.id.NodeId.{NodeId}
 use Rattle.sp_msg.specs.declared.body.Body.{Body}
+use Rattle.sp_msg.specs.declared.body.Body.TheVariants as bodies
+use Rattle.sp_msg.specs.declared.effect.Effect.{Effect}
+use Rattle.sp_msg.specs.declared.effect.Effect.TheVariants.{Signed}
 use Rattle.sp_msg.specs.declared.kept.Kept.{Kept}
 use Rattle.sp_rules.specs.Arts.{Arts}
 use Rattle.sp_rules.specs.Link.{Link, new_link}
+use Rattle.sp_rules.specs.Lives.{held}
 use Rattle.sp_rules.specs.Parts.{Fixed, Parts, empty_parts, neighbours_of}
 use Rattle.sp_rules.specs.declared.node.NodeRefused.{NodeRefused}
 use Rattle.sp_rules.specs.declared.node.NodeRefused.TheVariants as refusals
@@ -87,6 +91,22 @@ signed_now arts n body = record {
 -- a signature was made, and left these parts
 abbrev pub signed_once : NodeState → Parts → NodeState
 signed_once n parts = record n { signer = record n.signer { index = n.signer.index + 1 }; parts = parts }
+
+-- ---- the start with epochs: the node signs the boot of this life, and holds it
+
+abbrev pub own_epoch : Fixed → Body
+own_epoch f = bodies.Epoch (record { origin = f.me; boot = f.boot })
+
+-- a node as it booted, after that
+abbrev pub announced : Arts → NodeState → NodeState
+announced arts n = signed_once n (record n.parts { lives = held n.parts.lives (signed_now arts n (own_epoch n.fixed)) })
+
+abbrev pub started : Arts → Fixed → Signer → List (List ℕ) → (buffer store : ℕ) → NodeState
+started arts f signer keys buffer store =
+    if f.epochs then announced arts (booted f signer keys buffer store) else booted f signer keys buffer store
+
+abbrev pub start_effects : Arts → Fixed → List Effect
+start_effects arts f = if f.epochs then Signed (arts.spell (own_epoch f)) ∷ [] else []
 
 -- ---- refusals
 

@@ -1,6 +1,6 @@
 -- What a node keeps for others: the weights of links, priority messages and reliable messages, and which lives of nodes it knows. And what stays as it is in
 -- one of its lives.
-use Rattle.std.specs.Prelude.{ℕ, ◌==◌, ◌+◌, Bool, false, List, [], ◌∷◌, map, position, Option, None, Some, if◌then◌else◌}
+use Rattle.std.specs.Prelude.{ℕ, ◌==◌, ◌+◌, Bool, false, List, [], ◌∷◌, length, map, position, replicate, Option, None, Some, if◌then◌else◌}
 use Rattle.sp_base.specs.declared.id.EdgeId.{EdgeId}
 use Rattle.sp_base.specs.declared.id.NodeId.{NodeId}
 use Rattle.sp_msg.specs.Views.{signer_of}
@@ -26,12 +26,15 @@ pub record Fixed : Type 0 where
   pub boot : ℕ
   pub topology : Topology
   pub signature_len : ℕ
+  -- whether nodes run with epochs
+  pub epochs : Bool
 
 pub record Parts : Type 0 where
   pub weights : WeightState
   pub prio : PrioState
   pub rel : RelState
   pub lives : List Life
+  pub origins : List (Option ℕ)
 
 -- ---- the topology as a node sees it
 
@@ -76,4 +79,5 @@ empty_parts f buffer store = record {
   prio = prio.start f.me.0 (nodes_of f.topology) (map as_neighbour (neighbours_of f)) store;
   rel = rel.start f.me (nodes_of f.topology) (map (λ n. n.0) (neighbours_of f)) buffer;
   lives = lives.start (nodes_of f.topology);
+  origins = replicate (length f.topology.nodes) None;
 }

@@ -1,6 +1,6 @@
 -- The sections of a frame as a list of pieces, in the order in which a node handles them:
 --
---     weight updates | the acknowledged link number | priority messages | the report | its acknowledgement | its messages
+--     weight updates | the acknowledged link number | priority messages | the report | its acknowledgement | its messages | the Epoch object
 use Rattle.std.specs.Prelude.{ℕ, List, [], ◌∷◌, ◌++◌, map, Option, None, Some}
 use Rattle.sp_base.specs.declared.id.Flow.{Flow}
 use Rattle.sp_frame.specs.Reliable.{Report}
@@ -17,6 +17,7 @@ pub data Piece : Type 0 where
   ReportPiece : (flow : Flow) (sboot dboot base have : ℕ) → Piece
   AckPiece : (flow : Flow) (object : Kept) → Piece
   RelPiece : (flow : Flow) (object : Kept) → Piece
+  EpochPiece : (object : Kept) → Piece
 
 abbrev pub prio_piece : ℕ × Kept → Piece
 prio_piece message = PrioPiece message.0 message.1
@@ -26,4 +27,4 @@ slot_pieces None = []
 slot_pieces (Some r) = ReportPiece r.flow r.sboot r.dboot r.base r.have ∷ (map (AckPiece r.flow) (as_list r.ack) ++ map (RelPiece r.flow) r.rels)
 
 abbrev pub pieces_of : Contents → List Piece
-pieces_of s = map WeightPiece s.weights ++ (PrioAckPiece s.prio_ack ∷ (map prio_piece s.prios ++ slot_pieces s.slot))
+pieces_of s = map WeightPiece s.weights ++ (PrioAckPiece s.prio_ack ∷ (map prio_piece s.prios ++ (slot_pieces s.slot ++ map EpochPiece (as_list s.epoch))))

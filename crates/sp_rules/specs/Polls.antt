@@ -9,6 +9,7 @@ use Rattle.sp_frame.specs.Views.{as_list}
 use Rattle.sp_msg.specs.declared.kept.Kept.{Kept}
 use Rattle.sp_rules.specs.Arts.{Arts}
 use Rattle.sp_rules.specs.Link.{advanced, next_head}
+use Rattle.sp_rules.specs.Lives as lives
 use Rattle.sp_rules.specs.Lives.{held_boot}
 use Rattle.sp_rules.specs.Node.{NodeState, call_refusal, called, kept_or, link_in, with_link}
 use Rattle.sp_rules.specs.Parts.{Fixed, Parts, place_of}
@@ -34,12 +35,18 @@ contents_to f p v = record {
   slot = option_map (dated f.topology.format p.lives) (slot_for p.rel v);
   paths = None;
   probe = None;
-  epoch = None;
+  epoch = lives.next p.lives p.origins (place_of f v);
 }
 
 -- the parts after it went
 abbrev pub polled : Fixed → Parts → NodeId → Parts
-polled f p v = record { weights = moved p.weights (place_of f v); prio = carried p.prio v.0; rel = served p.rel v; lives = p.lives }
+polled f p v = record {
+  weights = moved p.weights (place_of f v);
+  prio = carried p.prio v.0;
+  rel = served p.rel v;
+  lives = p.lives;
+  origins = lives.moved p.lives p.origins (place_of f v);
+}
 
 -- the bytes of the frame before its tag, of the format of the topology
 abbrev pub untagged : Arts → NodeState → NodeId → List ℕ

@@ -149,6 +149,20 @@ acked_effects s v number = rows.acked_effects (peer_in s v) number
 abbrev pub heard : PrioState → ℕ → ℕ → PrioState
 heard s v number = with_peer s v (rows.heard (peer_in s v) number)
 
+-- ---- lives of other nodes
+
+abbrev pub windows_less : List (List ℕ) → Option ℕ → List (List ℕ)
+windows_less windows None = windows
+windows_less windows (Some place) = slice_set windows place []
+
+-- another life of the source began: none of its numbers was seen
+abbrev pub renewed : PrioState → ℕ → PrioState
+renewed s source = record s { windows = windows_less s.windows (place_of s.nodes source) }
+
+-- another life of the neighbour began. The last link number that was given stays
+abbrev pub unheard : PrioState → ℕ → PrioState
+unheard s v = with_peer s v (rows.unheard (peer_in s v))
+
 -- ---- time, and clients
 
 -- how many entries of all places leave when the time is this

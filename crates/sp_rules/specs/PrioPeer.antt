@@ -149,6 +149,10 @@ acked_effects q number = left_effects q.peer q.store (landed q number)
 abbrev pub heard : PrioPeer → ℕ → PrioPeer
 heard q number = record q { heard = max q.heard number }
 
+-- another life of it began: nothing was heard from it, and nothing is in flight to it
+abbrev pub unheard : PrioPeer → PrioPeer
+unheard q = record q { heard = 0; flight = [] }
+
 -- ---- time
 
 abbrev pub expired : PrioPeer → ℕ → PrioPeer

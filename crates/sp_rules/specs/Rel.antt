@@ -5,7 +5,7 @@
 --     signed    the place of the flow to this node whose acknowledgement was signed last
 --
 -- Rows are only ever replaced, so each place stays that of its flow.
-use Rattle.std.specs.Prelude.{ℕ, ◌≡◌, ◌+◌, ◌-◌, ◌==◌, Bool, not, ◌&&◌, nat_le, nat_lt, max, List, [], ◌∷◌, length, map, filter, take, drop}
+use Rattle.std.specs.Prelude.{ℕ, ◌≡◌, ◌+◌, ◌-◌, ◌==◌, Bool, not, ◌&&◌, ◌||◌, nat_le, nat_lt, max, List, [], ◌∷◌, length, map, filter, take, drop}
 use Rattle.std.specs.Prelude.{Option, Some, None, Result, Ok, Err, slice_get, if◌then◌else◌}
 use Rattle.std.specs.List.{All, flat_map, list_any}
 use Rattle.std.specs.Option.{option_and_then, option_map}
@@ -22,7 +22,7 @@ use Rattle.sp_msg.specs.declared.body.Body.{Body}
 use Rattle.sp_msg.specs.declared.body.Body.TheVariants as bodies
 use Rattle.sp_msg.specs.declared.body.Kack.{Kack}
 use Rattle.sp_msg.specs.declared.effect.Effect.{Effect}
-use Rattle.sp_msg.specs.declared.effect.Effect.TheVariants.{Delivered}
+use Rattle.sp_msg.specs.declared.effect.Effect.TheVariants.{Delivered, Ended}
 use Rattle.sp_msg.specs.declared.kept.Kept.{Kept}
 use Rattle.sp_rules.specs.Flow.{FlowState, IsStanding, no_flow, ends, is_flow, is_full, flow_said, number_said, pushed, received}
 use Rattle.sp_rules.specs.Flow.{acknowledged_by, concluded, after_take}
@@ -318,6 +318,43 @@ oldest r src = slice_get (flow_in r.flows (flow_to_me r src)).inbox 0
 -- it left. Nothing changes where the inbox is empty
 abbrev pub took : RelState → NodeId → RelState
 took r src = with_flow r (flow_to_me r src) (after_take (flow_in r.flows (flow_to_me r src)))
+
+-- ---- lives of other nodes
+
+-- the node is an end of the flow
+abbrev pub is_end : NodeId → Flow → Bool
+is_end v flow = (flow.src.0 == v.0) || (flow.dst.0 == v.0)
+
+-- the flow is as before its first message where this node is an end of it, and nothing was reported of it
+abbrev pub flow_less : NodeId → FlowState → FlowState
+flow_less v f = if is_end v (ends f) then no_flow (ends f) else f
+
+abbrev pub viewed : View → Flow
+viewed w = record { src = w.src; dst = w.dst }
+
+abbrev pub view_less : NodeId → View → View
+view_less v w = if is_end v (viewed w) then no_view (viewed w) else w
+
+abbrev pub views_less : NodeId → RelPeer → RelPeer
+views_less v p = record p { views = map (view_less v) p.views }
+
+-- another life of a node began: so is each flow with it as an end
+abbrev pub restarted : RelState → NodeId → RelState
+restarted r v = record r { flows = map (flow_less v) r.flows; peers = map (views_less v) r.peers }
+
+-- those of them that were active end, in order
+abbrev pub ended_by : NodeId → FlowState → List Effect
+ended_by v f = if is_end v (ends f) && f.active then Ended (ends f) ∷ [] else []
+
+abbrev pub restart_effects : RelState → NodeId → List Effect
+restart_effects r v = flat_map (ended_by v) r.flows
+
+-- another life of the neighbour began: it reported nothing
+abbrev pub no_views : RelPeer → RelPeer
+no_views p = record p { views = map (λ w. no_view (viewed w)) p.views }
+
+abbrev pub unheard : RelState → NodeId → RelState
+unheard r v = with_peer r v (no_views (peer_in r.peers v))
 
 -- ---- what always holds
 

@@ -1,6 +1,6 @@
 -- What clients of a node ask for: messages, a weight of a link, and what waits for them. Each is refused by the first cause that applies, and
 -- then nothing changes. What is accepted is signed with the next index, and kept.
-use Rattle.std.specs.Prelude.{ℕ, ◌==◌, ◌+◌, nat_lt, not, ◌||◌, List, [], ◌∷◌, Option, None, Some, Result, Ok, Err, if◌then◌else◌}
+use Rattle.std.specs.Prelude.{ℕ, ◌==◌, ◌+◌, nat_lt, Bool, not, ◌&&◌, ◌||◌, List, [], ◌∷◌, Option, None, Some, Result, Ok, Err, if◌then◌else◌}
 use Rattle.sp_base.specs.Cursor.{or_else}
 use Rattle.sp_base.specs.declared.id.NodeId.{NodeId}
 use Rattle.sp_msg.specs.Masks.{mask_from}
@@ -32,6 +32,13 @@ use Rattle.sp_rules.specs.declared.rel.RelRefused.TheVariants as rels
 abbrev pub signer_refusal : Signer → Option SendRefused
 signer_refusal s = if s.index == s.total then Some (refusals.Spent s.index) else if s.index == s.bound then Some (refusals.NotReserved s.bound) else None
 
+-- with epochs nothing is sent to a node of which no life is known
+abbrev pub is_unmet : NodeState → NodeId → Bool
+is_unmet n dst = n.fixed.epochs && (held_boot n.parts.lives dst == 0)
+
+abbrev pub no_life : Bool → Option SendRefused
+no_life unmet = if unmet then Some refusals.BadEnd else None
+
 -- ---- a reliable message
 
 abbrev pub no_room : Result ℕ RelRefused → Option SendRefused
@@ -41,7 +48,7 @@ no_room (Err (rels.Full base have)) = Some (refusals.Full base have)
 no_room (Err rels.Memory) = Some refusals.Memory
 
 abbrev pub rel_refusal : NodeState → NodeId → Option SendRefused
-rel_refusal n dst = or_else (no_room (room n.parts.rel dst)) (signer_refusal n.signer)
+rel_refusal n dst = or_else (no_life (is_unmet n dst)) (or_else (no_room (room n.parts.rel dst)) (signer_refusal n.signer))
 
 -- the number after the last of the flow
 abbrev pub rel_number : NodeState → NodeId → ℕ
@@ -76,7 +83,7 @@ pub record PrioSend : Type 0 where
 
 abbrev pub prio_refusal : NodeState → PrioSend → Option SendRefused
 prio_refusal n m =
-    if (m.dst.0 == n.fixed.me.0) || not (is_node n.parts.prio.nodes m.dst.0) then Some refusals.BadEnd
+    if (m.dst.0 == n.fixed.me.0) || not (is_node n.parts.prio.nodes m.dst.0) || is_unmet n m.dst then Some refusals.BadEnd
     else if nat_lt m.expiry n.now then Some (refusals.Expired n.now)
     else signer_refusal n.signer
 

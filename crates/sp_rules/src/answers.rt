@@ -68,6 +68,18 @@ pub enum RelAnswer {
     New,
 }
 
+/// The answer to an Epoch object, in which a node says the boot of its life.
+#[derive(Clone, Copy, Debug, PartialEq, Eq)]
+pub enum EpochAnswer {
+    /// Its origin isn't another node.
+    BadEnd,
+    /// The boot that is held of its origin is at least this one. Normal where these objects go round.
+    Old,
+    /// The signature isn't the origin's. An attack.
+    BadSig,
+    New,
+}
+
 /// The answer to one object of a frame, by its kind.
 #[derive(Clone, Copy, Debug, PartialEq, Eq)]
 pub enum Item {
@@ -75,4 +87,5 @@ pub enum Item {
     Prio(PrioAnswer),
     Ack(AckAnswer),
     Rel(RelAnswer),
+    Epoch(EpochAnswer),
 }

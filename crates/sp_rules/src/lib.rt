@@ -13,9 +13,9 @@ mod store;
 mod weights;
 mod window;
 
-pub use answers::{AckAnswer, Item, PrioAnswer, RelAnswer, WeightAnswer};
+pub use answers::{AckAnswer, EpochAnswer, Item, PrioAnswer, RelAnswer, WeightAnswer};
 pub use link::LinkAnswer;
-pub use lives::Life;
+pub use lives::{EpochJudged, Life};
 pub use node::{LinkReply, MAX_CALLS, NodeRefused, Step, Taken, TickReply};
 pub use prio::{Neighbour, PrioJudged};
 pub use rel::{AckJudged, RelJudged, RelRefused};

@@ -1,5 +1,5 @@
 -- What the header of a schedule makes: who is there, with which keys and bounds, and which of them are compromised.
-use Rattle.std.specs.Prelude.{ℕ, ◌<◌, ◌≤◌, ◌==◌, ◌&&◌, Bool, not, IsTrue, List, map, filter}
+use Rattle.std.specs.Prelude.{ℕ, ◌<◌, ◌≤◌, ◌==◌, ◌&&◌, Bool, false, not, IsTrue, List, map, filter}
 use Rattle.std.specs.List.{list_any}
 use Rattle.sp_base.specs.declared.id.NodeId.{NodeId}
 use Rattle.sp_topology.specs.declared.topology.Topology.{Topology}
@@ -42,9 +42,9 @@ is_correct x u = is_node x u && not (is_one_of x.bad u)
 
 -- ---- each correct node at its start: it boots with 1, and all its indexes are reserved
 
--- what is fixed in its life
+-- what is fixed in its life, which is without epochs
 abbrev pub fixed_of : Setting → NodeId → Fixed
-fixed_of x u = record { me = u; boot = 1; topology = x.topology; signature_len = x.signature_len }
+fixed_of x u = record { me = u; boot = 1; topology = x.topology; signature_len = x.signature_len; epochs = false }
 
 -- its signer
 abbrev pub first_signer : Setting → NodeId → Signer

@@ -1,5 +1,5 @@
 -- A configuration that fits its topology makes a node that may boot.
-use Rattle.std.proofs.Common.{◌≡◌, ◌≤◌, ℕ, true, false, eqb, List, [], ◌∷◌, map, refl, ap, inl, inr, arith}
+use Rattle.std.proofs.Common.{◌≡◌, ◌≤◌, ℕ, true, false, eqb, List, [], ◌∷◌, map, refl, sym, ap, inl, inr, arith}
 use Rattle.std.specs.List.{All}
 use Rattle.std.proofs.lemmas.Bool.{cases_Bool, eqb-false}
 use Rattle.std.proofs.lemmas.List.Elements.{All-cons, All-nil}
@@ -44,4 +44,5 @@ bootable c t o fits topology opening = record {
   is_mine = fits.own;
   keys = edges_of (neighbours_from c.node.0 0 t.edges) c.peers fits.peers.neighbours_are;
   life = opening.boot;
+  announces = λ on. absurd (let wrong : true ≡ false = sym on in cc);
 }

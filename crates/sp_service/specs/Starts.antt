@@ -1,6 +1,6 @@
 -- How a daemon's node starts: nothing was sent, heard or kept, no client has a session, and the signer has the indexes that the first line of the
 -- recording says.
-use Rattle.std.specs.Prelude.{ℕ, ◌≡◌, ◌≤◌}
+use Rattle.std.specs.Prelude.{ℕ, ◌≡◌, ◌≤◌, false}
 use Rattle.sp_client.specs.Tables.{no_sessions}
 use Rattle.sp_config.specs.declared.config.Config.{Config}
 use Rattle.sp_hss.specs.KeyTree.{total}
@@ -12,8 +12,9 @@ use Rattle.sp_service_station.specs.Stations.{Station, node_of}
 use Rattle.sp_sign.specs.Heights.{param_of}
 use Rattle.sp_topology.specs.declared.topology.Topology.{Topology}
 
+-- it runs without epochs
 abbrev pub node_config : Config → Topology → NodeConfig
-node_config c t = record { me = c.node; topology = t; limits = record { buffer = c.buffer; store = c.store }; keys = link_keys c t }
+node_config c t = record { me = c.node; topology = t; limits = record { buffer = c.buffer; store = c.store }; keys = link_keys c t; epochs = false }
 
 -- how many messages the node's key signs
 abbrev pub total_of : Topology → ℕ

@@ -39,6 +39,7 @@ pub fn station_at(
             store: config.store,
         },
         keys: Listed::from_vec(keys),
+        epochs: false,
     };
     Station::boot(alloc, node, signer, opening.boot)
 }

@@ -5,6 +5,7 @@ use Rattle.std.proofs.lemmas.Bool.{eqb-false}
 use Rattle.std.proofs.lemmas.Option.{none-some}
 use Rattle.laws_keystate.specs.Runs.{SignsInOrder, TakesNext}
 use Rattle.sp_base.specs.Cursor.{or_else}
+use Rattle.sp_base.specs.declared.id.NodeId.{NodeId}
 use Rattle.sp_client.specs.Tables as tables
 use Rattle.sp_client_node.specs.Steps.{AnswersBy}
 use Rattle.sp_client_node.specs.declared.local.LocalNode.{LocalNode}
@@ -20,7 +21,7 @@ use Rattle.sp_rules.specs.Parts.{Parts, edge_to}
 use Rattle.sp_rules.specs.Polls.{after_poll}
 use Rattle.sp_rules.specs.Prio.{is_node}
 use Rattle.sp_rules.specs.Rel.{room}
-use Rattle.sp_rules.specs.Sends.{PrioSend, after_send_prio, after_send_rel, after_set_weight, after_take_prio, after_take_rel, no_paths, no_room, prio_refusal, rel_refusal, send_prio_refusal, signer_refusal, weight_refusal, weight_refusal_at}
+use Rattle.sp_rules.specs.Sends.{PrioSend, after_send_prio, after_send_rel, after_set_weight, after_take_prio, after_take_rel, is_unmet, no_life, no_paths, no_room, prio_refusal, rel_refusal, send_prio_refusal, signer_refusal, weight_refusal, weight_refusal_at}
 use Rattle.sp_rules.specs.Steps.{Datagram, Input, NodeStep, Output, Poll, SendPrio, SendRel, SetWeight, TakePrio, TakeRel, Tick}
 use Rattle.sp_rules.specs.Ticks.{after_tick, at_time, due_now, settled_by}
 use Rattle.sp_rules.specs.Weights.{minimum}
@@ -57,8 +58,13 @@ prio_free : (n : NodeState) (m : PrioSend) (choice : Choice) → send_prio_refus
 prio_free n m choice free =
     let own = first_free (prio_refusal n m) (no_paths choice) free in
     test_free (nat_lt m.expiry n.now) (refusals.Expired n.now) (signer_refusal n.signer)
-    (test_free ((m.dst.0 == n.fixed.me.0) || not (is_node n.parts.prio.nodes m.dst.0)) refusals.BadEnd
+    (test_free ((m.dst.0 == n.fixed.me.0) || not (is_node n.parts.prio.nodes m.dst.0) || is_unmet n m.dst) refusals.BadEnd
     (if nat_lt m.expiry n.now then Some (refusals.Expired n.now) else signer_refusal n.signer) own)
+
+rel_free : (n : NodeState) (dst : NodeId) → rel_refusal n dst ≡ None → signer_refusal n.signer ≡ None
+rel_free n dst free =
+    second_free (no_room (room n.parts.rel dst)) (signer_refusal n.signer)
+    (second_free (no_life (is_unmet n dst)) (or_else (no_room (room n.parts.rel dst)) (signer_refusal n.signer)) free)
 
 weight_free : (n : NodeState) (edge : Option ℕ) (weight : ℕ) → weight_refusal_at n edge weight ≡ None → signer_refusal n.signer ≡ None
 weight_free n None weight free = absurd (none-some refusals.BadEnd (sym free))
@@ -102,7 +108,7 @@ goes old (Tick now) output new step =
     is_going old new (after_tick (format_of old.fixed) old now) step.1 (goes_settled old (at_time old now) (due_now old) (signer_refusal old.signer) refl (λ free. free))
 goes old (SendRel dst payload) output new step =
     is_going old new (after_send_rel (format_of old.fixed) old dst payload) step.1
-    (goes_signed (rel_refusal old dst) old _ (second_free (no_room (room old.parts.rel dst)) (signer_refusal old.signer)))
+    (goes_signed (rel_refusal old dst) old _ (rel_free old dst))
 goes old (SendPrio message) output new step =
     is_going old new (after_send_prio (format_of old.fixed) old message step.choice) step.new_is
     (goes_signed (send_prio_refusal old message step.choice) old _ (prio_free old message step.choice))

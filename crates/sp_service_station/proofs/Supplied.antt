@@ -14,7 +14,7 @@ use Rattle.sp_rules.specs.Node.{NodeState, Signer, call_refusal, extended}
 use Rattle.sp_rules.specs.Parts.{edge_to}
 use Rattle.sp_rules.specs.Prio.{is_node}
 use Rattle.sp_rules.specs.Rel.{room}
-use Rattle.sp_rules.specs.Sends.{PrioSend, no_paths, no_room, prio_refusal, rel_refusal, send_prio_refusal, signer_refusal, weight_refusal, weight_refusal_at}
+use Rattle.sp_rules.specs.Sends.{PrioSend, is_unmet, no_life, no_paths, no_room, prio_refusal, rel_refusal, send_prio_refusal, signer_refusal, weight_refusal, weight_refusal_at}
 use Rattle.sp_rules.specs.Steps as steps
 use Rattle.sp_rules.specs.Ticks.{due_now, reply_of, tick_reply_of}
 use Rattle.sp_rules.specs.Weights.{minimum}
@@ -54,6 +54,10 @@ free_room (Err rels.BadEnd) refusal free = λ b is. absurd (cc)
 free_room (Err (rels.Full base have)) refusal free = λ b is. absurd (cc)
 free_room (Err rels.Memory) refusal free = λ b is. absurd (cc)
 
+free_life : (unmet : Bool) (refusal : Option SendRefused) → IsFree refusal → IsFree (or_else (no_life unmet) refusal)
+free_life true refusal free = λ b is. absurd (cc)
+free_life false refusal free = free
+
 free_paths : (choice : Choice) (refusal : Option SendRefused) → IsFree refusal → IsFree (or_else refusal (no_paths choice))
 free_paths (Mask mask) None free = λ b is. absurd (cc)
 free_paths (OnlyPaths found) None free = λ b is. absurd (cc)
@@ -65,7 +69,7 @@ free_test false refused refusal one other = other
 
 free_prio : (n : NodeState) (m : PrioSend) → IsFree (signer_refusal n.signer) → IsFree (prio_refusal n m)
 free_prio n m free =
-    free_test ((m.dst.0 == n.fixed.me.0) || not (is_node n.parts.prio.nodes m.dst.0)) refusals.BadEnd
+    free_test ((m.dst.0 == n.fixed.me.0) || not (is_node n.parts.prio.nodes m.dst.0) || is_unmet n m.dst) refusals.BadEnd
     (if nat_lt m.expiry n.now then Some (refusals.Expired n.now) else signer_refusal n.signer) (λ b is. absurd (cc))
     (free_test (nat_lt m.expiry n.now) (refusals.Expired n.now) (signer_refusal n.signer) (λ b is. absurd (cc)) free)
 
@@ -120,7 +124,8 @@ supplied n free (steps.Datagram from bytes) output new step =
 supplied n free (steps.Tick now) output new step = fine_output _ output step.0 (fine_tick (due_now n) (signer_refusal n.signer) free)
 supplied n free (steps.SendRel dst payload) output new step =
     fine_output _ output step.0
-    (fine_send (rel_refusal n dst) _ (free_room (room n.parts.rel dst) (signer_refusal n.signer) free) (λ b. ((λ is. absurd (cc)), λ is. absurd (cc))))
+    (fine_send (rel_refusal n dst) _ (free_life (is_unmet n dst) _ (free_room (room n.parts.rel dst) (signer_refusal n.signer) free))
+    (λ b. ((λ is. absurd (cc)), λ is. absurd (cc))))
 supplied n free (steps.SendPrio message) output new step =
     fine_output _ output step.output_is
     (fine_send (send_prio_refusal n message step.choice) _ (free_paths step.choice (prio_refusal n message) (free_prio n message free))

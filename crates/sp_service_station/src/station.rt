@@ -1,7 +1,7 @@
 // A node with the sessions of its clients.
 ghost use Rattle.std.specs.Prelude.{◌≡◌, IfOk};
 ghost use Rattle.sp_client.specs.Tables.{no_sessions};
-ghost use Rattle.sp_node_state.specs.Boots.{IsBootable, booted_of};
+ghost use Rattle.sp_node_state.specs.Boots.{IsBootable, started_of};
 ghost use Rattle.sp_service_station.specs.Stations.{node_of};
 
 use crate::asked;
@@ -9,6 +9,7 @@ use sp_base::{Bytes, Memory, NodeId};
 use sp_client::Clients;
 use sp_client_node::LocalNode;
 use sp_node::{Node, NodeConfig};
+use sp_rules::Step;
 use sp_service_turns::{Core, Indexes};
 use sp_sign::NodeSigner;
 use std::alloc::Global;
@@ -34,8 +35,8 @@ impl Model for Station {
 }
 
 impl Station {
-    /// A station at the start of a life of its node with this boot number: nothing was sent, heard or kept, and no client has a session. Only want of
-    /// memory refuses.
+    /// A station at the start of a life of its node with this boot number: nothing was sent, heard or kept but its own boot, with epochs, and no
+    /// client has a session. What the start caused isn't told. Only want of memory refuses.
     #[tactic(auto, using(crate::proofs::Boots::is_short))]
     pub fn boot(
         alloc: Global,
@@ -44,11 +45,11 @@ impl Station {
         boot: u64,
     ) -> Result<Station, Memory>
         requires { IsBootable config signer boot }
-        ensures node { IfOk result (λ station. node_of station ≡ booted_of config signer boot) }
+        ensures node { IfOk result (λ station. node_of station ≡ started_of config signer boot) }
         ensures clients { IfOk result (λ station. station.clients ≡ no_sessions) }
     {
         let clients = Clients::new(alloc)?;
-        let Ok(node) = Node::boot(alloc, config, signer, boot) else {
+        let Ok(Step { reply: node, .. }) = Node::boot(alloc, config, signer, boot) else {
             return Err(Memory);
         };
         Ok(Station {

@@ -1,5 +1,5 @@
 -- A datagram that arrived at a node among all: it is told, or something of it is forged.
-use Rattle.std.proofs.Common.{◌≡◌, ℕ, true, List, map, Option, None, Some, refl, sym, ap, ◌∙◌, subst, eq-eqb}
+use Rattle.std.proofs.Common.{◌≡◌, ℕ, true, false, List, map, Option, None, Some, refl, sym, ap, ◌∙◌, subst, eq-eqb}
 use Rattle.std.proofs.lemmas.Option.{same_Some}
 use Rattle.sp_base.specs.declared.id.NodeId.{NodeId}
 use Rattle.sp_forgery.specs.Found.{Answered, answered}
@@ -28,8 +28,8 @@ use Rattle.sp_world_steps.specs.Members.{HeardAmong, without_node}
 module _ (s : Scenario) (es : List Event) (js : List Entry) (nodes after : List NodeState) (ds : List Direction) (u v : NodeId) (bytes : List ℕ) (step : Step Taken) (len : ℕ) where
   -- what is judged of any state that took it so
   abbrev pub IsJudged : Option What → Type 0
-  IsJudged what = (n new : NodeState) (w : World) → n.fixed.me ≡ v → n.fixed.signature_len ≡ len → call_refusal n u ≡ None → w.directions ≡ ds
-      → Answered s.format n u bytes step new
+  IsJudged what = (n new : NodeState) (w : World) → n.fixed.me ≡ v → n.fixed.signature_len ≡ len → n.fixed.epochs ≡ false
+      → call_refusal n u ≡ None → w.directions ≡ ds → Answered s.format n u bytes step new
       → what ≡ forged (arts_of (setting_of s)) (setting_of s) es js w n (Datagram u bytes) (answered s.format n u bytes step)
 
   same_old : (can : CanHear s.format len nodes v u) → (h : HeardAmong nodes u v bytes step after) → can.call.node ≡ h.old
@@ -44,10 +44,12 @@ module _ (s : Scenario) (es : List Event) (js : List Entry) (nodes after : List 
 
   -- what is said of any state that took it so, holds of the one that did
   pub when_heard : (P : Type 0) → CanHear s.format len nodes v u → HeardAmong nodes u v bytes step after
-      → ((n new : NodeState) → n.fixed.signature_len ≡ len → call_refusal n u ≡ None → Answered s.format n u bytes step new → P) → P
+      → ((n new : NodeState) → n.fixed.signature_len ≡ len → n.fixed.epochs ≡ false → call_refusal n u ≡ None
+      → Answered s.format n u bytes step new → P) → P
   when_heard P can h says =
       let same = same_old can h in
       says h.old h.new (subst (λ (n : NodeState). n.fixed.signature_len ≡ len) same can.long)
+      (subst (λ (n : NodeState). n.fixed.epochs ≡ false) same can.plain)
       (subst (λ (n : NodeState). call_refusal n u ≡ None) same can.call.answers) (took can h)
 
   judged_is : (what : Option What) → (can : CanHear s.format len nodes v u) → (h : HeardAmong nodes u v bytes step after) → IsJudged what
@@ -57,6 +59,7 @@ module _ (s : Scenario) (es : List Event) (js : List Entry) (nodes after : List 
       judged h.old h.new (world_of nodes ds)
       (subst (λ (n : NodeState). n.fixed.me ≡ v) same can.me)
       (subst (λ (n : NodeState). n.fixed.signature_len ≡ len) same can.long)
+      (subst (λ (n : NodeState). n.fixed.epochs ≡ false) same can.plain)
       (subst (λ (n : NodeState). call_refusal n u ≡ None) same can.call.answers)
       refl (took can h)
 

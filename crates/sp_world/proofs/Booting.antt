@@ -11,7 +11,7 @@ use Rattle.sp_adversary.specs.Keys.{whole_signer}
 use Rattle.sp_base.proofs.FormatLemmas as formats
 use Rattle.sp_base.specs.declared.limits.TheConstants.{MAX_EDGES_2}
 use Rattle.sp_base.specs.declared.id.NodeId.{NodeId}
-use Rattle.sp_node_state.specs.Boots.{IsBootable, booted_of}
+use Rattle.sp_node_state.specs.Boots.{IsBootable, booted_of, started_of}
 use Rattle.sp_node_state.specs.States.{signer_in}
 use Rattle.sp_node_state.specs.declared.boot.NodeConfig.{NodeConfig}
 use Rattle.sp_hss.specs.KeyTree.{public_key}
@@ -63,6 +63,7 @@ is_bootable s own header mine correct = record {
       ∙ ap (λ (o : NodeSigner). Some (public_key o.signer.height o.signer.seed)) (sym mine);
   keys = map_of_map (λ k. k.0) (λ n. (n.1, edge_key s.seed n.1.0)) (neighbours_from own.node.0 0 s.graph.edges);
   life = omega arith;
+  announces = λ with_epochs. absurd (cc);
 }
 
 pub is_at_boot : (s : Scenario) (own : NodeSigner) → IsOwn s own → booted_of (config_of s own.node) own 1 ≡ node_at_boot (setting_of s) own.node
@@ -121,5 +122,5 @@ pub may_boot : (s : Scenario) (own : NodeSigner) (config : NodeConfig) → confi
 may_boot s own config is header mine correct = subst (λ (c : NodeConfig). IsBootable c own 1) (sym is) (is_bootable s own header mine correct)
 
 pub at_boot : (s : Scenario) (own : NodeSigner) (config : NodeConfig) → config ≡ config_of s own.node → IsOwn s own
-    → booted_of config own 1 ≡ node_at_boot (setting_of s) own.node
-at_boot s own config is mine = ap (λ (c : NodeConfig). booted_of c own 1) is ∙ is_at_boot s own mine
+    → started_of config own 1 ≡ node_at_boot (setting_of s) own.node
+at_boot s own config is mine = ap (λ (c : NodeConfig). started_of c own 1) is ∙ is_at_boot s own mine

@@ -143,6 +143,7 @@ module _ (s : Scenario) (es : List Event) (js : List Entry) (w : World) (e : Eve
     me = ap (λ (f : Fixed). f.me) (fixed_is (acting e) actor.0 actor.1);
     of_format = ap (λ (f : Fixed). f.topology.format) (fixed_is (acting e) actor.0 actor.1);
     long = ap (λ (f : Fixed). f.signature_len) (fixed_is (acting e) actor.0 actor.1);
+    plain = ap (λ (f : Fixed). f.epochs) (fixed_is (acting e) actor.0 actor.1);
   }
 
   pub at_first : IsAtFirst s.format w.nodes (acting e)

@@ -1,5 +1,5 @@
 -- A datagram that arrives at one node among all.
-use Rattle.std.specs.Prelude.{ℕ, ◌≡◌, List, None, Some}
+use Rattle.std.specs.Prelude.{ℕ, ◌≡◌, List, None, Some, false}
 use Rattle.sp_base.specs.declared.id.NodeId.{NodeId}
 use Rattle.laws_runs_format.specs.Arts.{arts_of}
 use Rattle.sp_journal.specs.declared.entry.Entry.{Entry}
@@ -16,12 +16,13 @@ use Rattle.sp_world.specs.declared.acts.Done.{Done}
 use Rattle.sp_world.specs.declared.acts.Done.TheVariants as dones
 use Rattle.sp_world_steps.specs.Members.{CanCall, without_node}
 
--- v is there, answers u, and is of this format, with signatures of this length
+-- v is there, answers u, and is of this format, with signatures of this length, and without epochs
 pub record CanHear (format len : ℕ) (nodes : List NodeState) (v u : NodeId) : Type 0 where
   pub call : CanCall nodes v u
   pub me : call.node.fixed.me ≡ v
   pub of_format : call.node.fixed.topology.format ≡ format
   pub long : call.node.fixed.signature_len ≡ len
+  pub plain : call.node.fixed.epochs ≡ false
 
 -- v took it, its entry tells it, and nothing of it is forged
 pub record IsHeard (s : Scenario) (es : List Event) (js : List Entry) (w : World) (u v : NodeId) (bytes : List ℕ)

@@ -1,5 +1,5 @@
 -- The keys of a scenario's nodes.
-use Rattle.std.specs.Prelude.{ℕ, ◌≡◌, List, filter, map}
+use Rattle.std.specs.Prelude.{ℕ, ◌≡◌, List, false, filter, map}
 use Rattle.sp_base.specs.declared.id.EdgeId.{EdgeId}
 use Rattle.sp_base.specs.declared.id.NodeId.{NodeId}
 use Rattle.sp_node_state.specs.declared.boot.NodeConfig.{NodeConfig}
@@ -33,6 +33,6 @@ boots_of s owns = map (node_at_boot (setting_of s)) (filter (is_correct (setting
 abbrev pub keyed_edges : Scenario → NodeId → List (EdgeId × List ℕ)
 keyed_edges s u = map (λ n. (n.1, edge_key s.seed n.1.0)) (neighbours_from u.0 0 s.graph.edges)
 
--- a node as it is configured
+-- a node as it is configured, without epochs
 abbrev pub config_of : Scenario → NodeId → NodeConfig
-config_of s u = record { me = u; topology = topology_of s; limits = s.limits; keys = keyed_edges s u }
+config_of s u = record { me = u; topology = topology_of s; limits = s.limits; keys = keyed_edges s u; epochs = false }

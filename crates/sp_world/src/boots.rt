@@ -13,6 +13,7 @@ use sp_adversary::{edge_key, signer_of};
 use sp_base::{EdgeId, Listed, Memory, NodeId, push};
 use sp_forgery::is_correct;
 use sp_node::{Node, NodeConfig};
+use sp_rules::Step;
 use sp_schedule_events::Scenario;
 use sp_sign::NodeSigner;
 use sp_topology::{Edge, LmsHeight, NodeKey, Topology};
@@ -132,7 +133,7 @@ fn member(
     let me = signer.node();
     let config = config_of(alloc, scenario, keys, me)?;
     match Node::boot(alloc, config, signer, BOOT) {
-        Ok(node) => Ok(Member::new(me, node)),
+        Ok(Step { reply: node, .. }) => Ok(Member::new(me, node)),
         Err(_) => Err(Memory),
     }
 }
@@ -161,6 +162,7 @@ fn config_of(
         },
         limits: scenario.limits,
         keys: Listed::from_vec(edge_keys(alloc, &scenario.seed, edges, me)?),
+        epochs: false,
     })
 }
 

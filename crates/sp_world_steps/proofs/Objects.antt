@@ -1,5 +1,6 @@
 -- The objects of a datagram that a node takes: they are few, and each is a message with its fields in their ranges.
-use Rattle.std.proofs.Common.{◌≡◌, ◌+◌, ◌≤◌, ◌<◌, ◌-◌, ℕ, List, [], ◌∷◌, ◌++◌, length, map, length-append, append_assoc, Option, Some, None, Result, Ok, Err, refl, sym, ap, ap₂, ◌∙◌, subst, arith}
+use Rattle.std.proofs.Common.{◌≡◌, ◌+◌, ◌≤◌, ◌<◌, ◌-◌, ◌∙◌, ℕ, List, [], ◌∷◌, ◌++◌, cond, length, map, length-append, append_assoc}
+use Rattle.std.proofs.Common.{Option, Some, None, Result, Ok, Err, refl, sym, ap, ap₂, subst, arith}
 use Rattle.std.specs.Prelude.{◌==◌, All, Bool, IfSome, false, true, if◌then◌else◌}
 use Rattle.std.proofs.lemmas.List.{length-map}
 use Rattle.std.proofs.lemmas.List.Elements.{All-append, All-drop, All-map, All-nil, All-cons, All-take, All-weaker}
@@ -12,7 +13,7 @@ use Rattle.sp_base.specs.declared.limits.TheConstants.{MAX_MESSAGES}
 use Rattle.sp_frame.proofs.SectionLemmas.{read_is_spelled}
 use Rattle.sp_frame.specs.Frames.{sections_part, tagged_part}
 use Rattle.sp_frame.specs.Objects.{IsObject, most}
-use Rattle.sp_frame.specs.Ranges.{IsContentsIn, IsNumbered, IsReport}
+use Rattle.sp_frame.specs.Ranges.{IsContentsIn, IsNumbered, IsReport, Later}
 use Rattle.sp_frame.specs.Reliable.{Report}
 use Rattle.sp_frame.specs.Sections.{Contents, sections_of_in}
 use Rattle.sp_frame.specs.Views.{as_list}
@@ -21,9 +22,10 @@ use Rattle.sp_frame.specs.declared.refused.SectionRefused.{SectionRefused}
 use Rattle.sp_msg.specs.Bodies.{HasGoodFieldsIn}
 use Rattle.sp_msg.specs.declared.kept.Kept.{Kept}
 use Rattle.sp_node_format.specs.Format.{format_in, format_of}
-use Rattle.sp_rules.specs.Arrivals.{arrival_at, handled, pieces_in, pieces_where, reply_at, sections_in}
+use Rattle.sp_rules.specs.Arrivals.{arrival_at, handled, parts_met, pieces_in, pieces_where, reply_at, sections_in}
 use Rattle.sp_rules.specs.Node.{NodeState, call_refusal}
-use Rattle.sp_rules.specs.Pieces.{AckPiece, Piece, PrioAckPiece, RelPiece, WeightPiece, pieces_of, prio_piece, slot_pieces}
+use Rattle.sp_rules.specs.Parts.{Fixed}
+use Rattle.sp_rules.specs.Pieces.{AckPiece, EpochPiece, Piece, PrioAckPiece, RelPiece, WeightPiece, pieces_of, prio_piece, slot_pieces}
 use Rattle.sp_rules.specs.Steps.{Arrived, Output, Reply, arrived, refused_call}
 use Rattle.sp_rules.specs.declared.answers.Item.{Item}
 use Rattle.sp_rules.specs.declared.node.LinkReply.{LinkReply}
@@ -58,11 +60,15 @@ of_slot (Some r) =
     objects_both (map (AckPiece r.flow) (as_list r.ack)) (map (RelPiece r.flow) r.rels)
     ∙ ap₂ (λ (xs ys : List Kept). xs ++ ys) (of_each (AckPiece r.flow) (λ o. refl) (as_list r.ack)) (of_each (RelPiece r.flow) (λ o. refl) r.rels)
 
-of_contents : (s : Contents) → objects_in (pieces_of s) ≡ s.weights ++ (map (λ m. m.1) s.prios ++ slot_objects s.slot)
+of_contents : (s : Contents) → objects_in (pieces_of s) ≡ s.weights ++ (map (λ m. m.1) s.prios ++ (slot_objects s.slot ++ as_list s.epoch))
 of_contents s =
-    objects_both (map WeightPiece s.weights) (PrioAckPiece s.prio_ack ∷ (map prio_piece s.prios ++ slot_pieces s.slot))
+    let epoch = map EpochPiece (as_list s.epoch) in
+    objects_both (map WeightPiece s.weights) (PrioAckPiece s.prio_ack ∷ (map prio_piece s.prios ++ (slot_pieces s.slot ++ epoch)))
     ∙ ap₂ (λ (xs ys : List Kept). xs ++ ys) (of_each WeightPiece (λ o. refl) s.weights)
-    (objects_both (map prio_piece s.prios) (slot_pieces s.slot) ∙ ap₂ (λ (xs ys : List Kept). xs ++ ys) (of_numbered s.prios) (of_slot s.slot))
+    (objects_both (map prio_piece s.prios) (slot_pieces s.slot ++ epoch)
+    ∙ ap₂ (λ (xs ys : List Kept). xs ++ ys) (of_numbered s.prios)
+    (objects_both (slot_pieces s.slot) epoch
+    ∙ ap₂ (λ (xs ys : List Kept). xs ++ ys) (of_slot s.slot) (of_each EpochPiece (λ o. refl) (as_list s.epoch))))
 
 -- ---- they are few, and good
 
@@ -99,36 +105,55 @@ slot_is format len (Some r) is =
       All-append (IsGood format) (as_list r.ack) r.rels ack.1 rels,
     )
 
-contents_are : (format len : ℕ) (s : Contents) → IsContentsIn format len s → AreObjects format (objects_in (pieces_of s))
-contents_are format len s is =
+epoch_is : (format len : ℕ) (o : Option Kept) → IfSome o (Later format (IsObject format kinds.Epoch len))
+    → (length (as_list o) ≤ 1) × All (IsGood format) (as_list o)
+epoch_is format len None is = (omega arith, All-nil (IsGood format))
+epoch_is format len (Some o) is = (omega arith, All-cons (IsGood format) o [] is.1.fields (All-nil (IsGood format)))
+
+-- also where they have another Epoch object, or none
+contents_are : (format len : ℕ) (s : Contents) (o : Option Kept) → IsContentsIn format len s → IfSome o (Later format (IsObject format kinds.Epoch len))
+    → AreObjects format (objects_in (pieces_of (record s { epoch = o })))
+contents_are format len s o is last =
     let P = IsGood format in
     let slot = slot_is format len s.slot is.slot in
+    let epoch = epoch_is format len o last in
+    let ends = slot_objects s.slot ++ as_list o in
     let weights = All-weaker (IsObject format kinds.Weight len) P (λ o h. h.fields) s.weights is.weights in
     let prios = All-map P (λ m. m.1) s.prios (All-weaker (IsNumbered format len) (λ (m : ℕ × Kept). P m.1) (λ m h. h.object.fields) s.prios is.prios) in
-    let rest = map (λ (m : ℕ × Kept). m.1) s.prios ++ slot_objects s.slot in
-    subst (AreObjects format) (sym (of_contents s)) (record {
+    let rest = map (λ (m : ℕ × Kept). m.1) s.prios ++ ends in
+    subst (AreObjects format) (sym (of_contents (record s { epoch = o }))) (record {
       few = omega (
         arith,
         slot.0,
+        epoch.0,
         is.few_weights,
         is.few_prios,
         length-append s.weights rest,
-        length-append (map (λ (m : ℕ × Kept). m.1) s.prios) (slot_objects s.slot),
+        length-append (map (λ (m : ℕ × Kept). m.1) s.prios) ends,
+        length-append (slot_objects s.slot) (as_list o),
         length-map s.prios (λ (m : ℕ × Kept). m.1),
       );
-      good = All-append P s.weights rest weights (All-append P (map (λ (m : ℕ × Kept). m.1) s.prios) (slot_objects s.slot) prios slot.1);
+      good =
+          All-append P s.weights rest weights
+          (All-append P (map (λ (m : ℕ × Kept). m.1) s.prios) ends prios (All-append P (slot_objects s.slot) (as_list o) slot.1 epoch.1));
     })
+
+-- what is heeded of them
+heeded_are : (format len : ℕ) (epochs : Bool) (s : Contents) → IsContentsIn format len s
+    → AreObjects format (objects_in (pieces_of (cond epochs s (record s { epoch = None }))))
+heeded_are format len true s is = contents_are format len s s.epoch is is.epoch
+heeded_are format len false s is = contents_are format len s None is tt
 
 -- ---- of whatever bytes come
 
 part_are : (bytes : List ℕ) → AreBytes bytes → AreBytes (sections_part bytes)
 part_are bytes are = All-drop (λ (b : ℕ). b < 256) 33 (tagged_part bytes) (All-take (λ (b : ℕ). b < 256) (length bytes - 32) bytes are)
 
-sections_are : (format len : ℕ) (bytes : List ℕ) (r : Result Contents SectionRefused) → AreBytes bytes
-    → sections_of_in format len (sections_part bytes) ≡ r → AreObjects format (objects_in (pieces_in r))
-sections_are format len bytes (Ok s) are is =
-    contents_are format len s (read_is_spelled format len (sections_part bytes) s (part_are bytes are) is).1
-sections_are format len bytes (Err refused) are is = none_are format
+sections_are : (format len : ℕ) (f : Fixed) (bytes : List ℕ) (r : Result Contents SectionRefused) → AreBytes bytes
+    → sections_of_in format len (sections_part bytes) ≡ r → AreObjects format (objects_in (pieces_in f r))
+sections_are format len f bytes (Ok s) are is =
+    heeded_are format len f.epochs s (read_is_spelled format len (sections_part bytes) s (part_are bytes are) is).1
+sections_are format len f bytes (Err refused) are is = none_are format
 
 where_are : (format : ℕ) (pieces : List Piece) (reply : LinkReply) → AreObjects format (objects_in pieces)
     → AreObjects format (objects_in (pieces_where reply pieces))
@@ -149,8 +174,9 @@ pub handled_are : (format : ℕ) (n : NodeState) (u : NodeId) (bytes : List ℕ)
 handled_are format n u bytes are =
     let arts = format_in format in
     let sections = sections_in arts n.fixed bytes in
-    subst (AreObjects format) (sym (objects_are_answered arts (arrival_at n u) n.parts (pieces_where (reply_at arts n u bytes) (pieces_in sections))))
-    (where_are format (pieces_in sections) (reply_at arts n u bytes) (sections_are format n.fixed.signature_len bytes sections are refl))
+    let pieces = pieces_where (reply_at arts n u bytes) (pieces_in n.fixed sections) in
+    subst (AreObjects format) (sym (objects_are_answered arts (arrival_at n u) (parts_met arts n u bytes) pieces))
+    (where_are format (pieces_in n.fixed sections) (reply_at arts n u bytes) (sections_are format n.fixed.signature_len n.fixed bytes sections are refl))
 
 -- ---- as many answers
 

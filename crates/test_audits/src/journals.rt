@@ -31,6 +31,7 @@ const ROWS: &str = "\
 11 2 0;10 delivered rel 1 1 6869;11 delivered rel 1 1 6869
 10 2 0;10 delivered rel 1 1 6869;10 delivered rel 1 1 6869
 5 2 0;5 delivered rel 3 1 6869;10 delivered rel 1 1 6869
+0 1 0;5 ended 1 3;5 ended 3 1;10 ended 1 3;10 delivered rel 1 1 6869
 0 0 2;5 delivered prio 1 1 00;10 delivered prio 1 1 00
 0 0 2;5 delivered prio 1 1 00;7 delivered prio 3 1 00
 0 0 3;5 delivered prio 1 2 00;7 delivered prio 1 1 00;9 delivered prio 1 3 00

@@ -9,7 +9,8 @@ use Rattle.sp_link.specs.Work.{tags_after}
 use Rattle.sp_rules.specs.declared.node.LinkReply.{LinkReply}
 use Rattle.sp_node.specs.Arrived.{pieces_with}
 use Rattle.sp_node.specs.Life.{reply_tags}
-use Rattle.sp_node.proofs.Passed.{no_pieces, no_reply, passed_link, passed_pieces, passed_reply, same_link, tag_is_counted}
+use Rattle.sp_node.proofs.Passed.{no_pieces, no_reply, none_rises, passed_link, passed_pieces, passed_reply, passed_risen, same_link}
+use Rattle.sp_node.proofs.Passed.{tag_is_counted}
 use Rattle.sp_node_format.specs.Format.{format_of}
 use Rattle.sp_node.proofs.datagram.passed.Goals as goal
 
@@ -31,7 +32,12 @@ returns-in-Err-clause-link c =
 pub returns-in-Err-clause-pieces : goal.returns-in-Err-clause-pieces
 returns-in-Err-clause-pieces c =
     let n = c.args.state.now in
-    no_pieces n c.args.from c.args.bytes.now c.in-Err.refused (pieces_in (sections_in (format_of n.fixed) n.fixed c.args.bytes.now))
+    no_pieces n c.args.from c.args.bytes.now c.in-Err.refused (pieces_in n.fixed (sections_in (format_of n.fixed) n.fixed c.args.bytes.now))
+    (ap (λ (m : NodeState). opened_in m.fixed.topology.format c.args.bytes.now) (sym c.state.view_is) ∙ c.in-Err.ensures.opened)
+
+pub returns-in-Err-clause-risen : goal.returns-in-Err-clause-risen
+returns-in-Err-clause-risen c =
+    none_rises c.args.state.now c.args.from c.args.bytes.now c.in-Err.refused
     (ap (λ (m : NodeState). opened_in m.fixed.topology.format c.args.bytes.now) (sym c.state.view_is) ∙ c.in-Err.ensures.opened)
 
 -- ---- a frame of the node's format
@@ -50,6 +56,10 @@ returns-clause-link c =
     passed_link c.args.state.now c.args.from c.args.bytes.now c.in-Ok.frame c.link_at-link.result c.accept-answer.new.self
     (ap (λ (m : NodeState). opened_in m.fixed.topology.format c.args.bytes.now) (sym c.state.view_is) ∙ c.in-Ok.ensures.opened)
     c.link_at-link.ensures c.accept-answer.ensures.link
+
+pub returns-clause-risen : goal.returns-clause-risen
+returns-clause-risen c =
+    passed_risen c.args.state.now c.args.from c.args.bytes.now c.link_at-link.result c.accept-answer.new.self c.has_risen-risen.result c.link_at-link.ensures (returns-clause-link c) c.has_risen-risen.ensures
 
 pub returns-clause-pieces : goal.returns-clause-pieces
 returns-clause-pieces c =

@@ -60,8 +60,8 @@ admit_from-rels-requires-clause-ready c =
     c.requires.ready.messages))
 
 -- all that was done of the row's flow was done of the slot's
-pub returns : goal.returns
-returns c =
+pub returns-clause-done : goal.returns-clause-done
+returns-clause-done c =
     let at = as_arrival c.args.at.now in
     let arts = format_of c.args.at.now.fixed.now in
     let s = c.args.slot.now in

@@ -6,8 +6,8 @@ use Rattle.sp_sign.specs.Checker.{Checking}
 use Rattle.sp_node.proofs.Starts.{kept_at_start}
 use Rattle.sp_node.proofs.node.Node.boot.Goals as goal
 
-pub invariant_of-result : goal.invariant_of-result
-invariant_of-result c =
+pub invariant_of-node : goal.invariant_of-node
+invariant_of-node c =
     let is = c.in_ok-state.ensures.state in
     record {
       kept = subst (λ (n : NodeState). IsKept (format_of n.fixed) n) (sym is)

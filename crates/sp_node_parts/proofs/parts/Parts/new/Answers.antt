@@ -1,4 +1,5 @@
-use Rattle.std.proofs.Common.{◌≡◌, List, map, ap, ◌∙◌, arith}
+use Rattle.std.proofs.Common.{◌≡◌, ℕ, List, None, length, map, replicate, ap, ◌∙◌, arith}
+use Rattle.std.proofs.lemmas.List.{length-map}
 use Rattle.std.proofs.lemmas.Result.{IfOk-weaker}
 use Rattle.sp_base.proofs.FormatLemmas.{few_edges}
 use Rattle.sp_base.specs.declared.id.EdgeId.{EdgeId}
@@ -45,17 +46,27 @@ returns c =
       prio = p;
       rel = rel.start c.args.me c.deref-3.result.now c.deref-5.result.now c.args.limits.buffer;
       lives = lives.start c.deref-3.result.now;
+      origins = replicate (length c.deref-3.result.now) None;
     }) prios
     ∙ ap (λ (r : RelState). record {
       weights = weights.start t;
       prio = prio.start c.args.me.0 (nodes_of t) (map as_neighbour (neighbours_from c.args.me.0 0 t.edges)) c.args.limits.store;
       rel = r;
       lives = lives.start c.deref-3.result.now;
+      origins = replicate (length c.deref-3.result.now) None;
     }) rels
     ∙ ap (λ (ls : List Life). record {
       weights = weights.start t;
       prio = prio.start c.args.me.0 (nodes_of t) (map as_neighbour (neighbours_from c.args.me.0 0 t.edges)) c.args.limits.store;
       rel = rel.start c.args.me (nodes_of t) (map (λ n. n.0) (neighbours_from c.args.me.0 0 t.edges)) c.args.limits.buffer;
       lives = ls;
-    }) (ap lives.start nodes))
+      origins = replicate (length c.deref-3.result.now) None;
+    }) (ap lives.start nodes)
+    ∙ ap (λ (count : ℕ). record {
+      weights = weights.start t;
+      prio = prio.start c.args.me.0 (nodes_of t) (map as_neighbour (neighbours_from c.args.me.0 0 t.edges)) c.args.limits.store;
+      rel = rel.start c.args.me (nodes_of t) (map (λ n. n.0) (neighbours_from c.args.me.0 0 t.edges)) c.args.limits.buffer;
+      lives = lives.start (nodes_of t);
+      origins = replicate count None;
+    }) (ap (λ (xs : List NodeId). length xs) nodes ∙ length-map t.nodes (λ (n : NodeKey). n.id)))
     c.tables_of.ensures

@@ -1,0 +1,106 @@
+-- Effects that tell no weight.
+use Rattle.std.proofs.Common.{◌≡◌, ℕ, ◌+◌, ◌&&◌, Bool, true, false, cond, List, [], ◌∷◌, ◌++◌, map, Option, Some, None, refl, ap, ◌∙◌, inl, inr}
+use Rattle.std.specs.List.{flat_map}
+use Rattle.std.proofs.lemmas.Bool.{cases_Bool}
+use Rattle.sp_base.specs.declared.id.NodeId.{NodeId}
+use Rattle.sp_msg.specs.declared.body.Body.{Body}
+use Rattle.sp_msg.specs.declared.body.Body.TheVariants as bodies
+use Rattle.sp_msg.specs.declared.effect.Effect.{Effect}
+use Rattle.sp_msg.specs.declared.effect.Effect.TheVariants as effects
+use Rattle.sp_msg.specs.declared.effect.Why.{Why}
+use Rattle.sp_msg.specs.declared.effect.Why.TheVariants as whys
+use Rattle.sp_msg.specs.declared.kept.Kept.{Kept}
+use Rattle.sp_rules.specs.Flow.{FlowState, ends}
+use Rattle.sp_rules.specs.Prio as prio
+use Rattle.sp_rules.specs.Prio.{PrioState, prio_effects}
+use Rattle.sp_rules.specs.PrioPeer as rows
+use Rattle.sp_rules.specs.PrioPeer.{PrioPeer}
+use Rattle.sp_rules.specs.Rel.{RelState, delivery, ended_by, is_end, restart_effects}
+use Rattle.sp_rules.specs.Store.{Store, entry_in, evicted, expired_entries, removed}
+use Rattle.sp_rules.specs.declared.store.Entry.{Entry}
+use Rattle.laws_node.specs.Lives.{last_told, weight_told}
+
+-- ---- effects without an update
+
+-- no weight is told by these
+abbrev pub Silent : List Effect → Type 0
+Silent es = (edge end w : ℕ) → last_told edge end w es ≡ w
+
+pub last_both : (edge end : ℕ) (xs ys : List Effect) (w : ℕ) → last_told edge end w (xs ++ ys) ≡ last_told edge end (last_told edge end w xs) ys
+last_both edge end [] ys w = refl
+last_both edge end (e ∷ xs) ys w = last_both edge end xs ys (weight_told edge end w e)
+
+pub silent_both : (xs ys : List Effect) → Silent xs → Silent ys → Silent (xs ++ ys)
+silent_both xs ys h k = λ edge end w. last_both edge end xs ys w ∙ ap (λ (v : ℕ). last_told edge end v ys) (h edge end w) ∙ k edge end w
+
+pub silent_either : (t : Bool) (es : List Effect) → Silent es → Silent (cond t es [])
+silent_either true es h = h
+silent_either false es h = λ edge end w. refl
+
+pub silent_flat : {X : Type 0} (f : X → List Effect) → ((x : X) → Silent (f x)) → (xs : List X) → Silent (flat_map f xs)
+silent_flat f each [] = λ edge end w. refl
+silent_flat f each (x ∷ xs) = silent_both (f x) (flat_map f xs) (each x) (silent_flat f each xs)
+
+pub silent_gone : (place : ℕ) (why : Why) (e : Option Entry) → Silent (rows.gone place why e)
+silent_gone place why None = λ edge end w. refl
+silent_gone place why (Some e) = λ edge end w. refl
+
+pub silent_left : (place : ℕ) (s : Store) (pairs : List (ℕ × ℕ)) → Silent (rows.left_effects place s pairs)
+silent_left place s [] = λ edge end w. refl
+silent_left place s (pair ∷ pairs) =
+    silent_both (rows.gone place whys.Acked (entry_in s pair.1)) (rows.left_effects place (removed s pair.1) pairs)
+    (silent_gone place whys.Acked (entry_in s pair.1)) (silent_left place (removed s pair.1) pairs)
+
+pub silent_stored : (place id : ℕ) (body : Body) → Silent (rows.stored place id body)
+silent_stored place id (bodies.Prio p) = λ edge end w. refl
+silent_stored place id (bodies.Rel r) = λ edge end w. refl
+silent_stored place id (bodies.Ack a) = λ edge end w. refl
+silent_stored place id (bodies.Weight u) = λ edge end w. refl
+silent_stored place id (bodies.Krel u) = λ edge end w. refl
+silent_stored place id (bodies.Kack u) = λ edge end w. refl
+silent_stored place id (bodies.Epoch u) = λ edge end w. refl
+
+pub silent_put : (place : ℕ) (s : Store) (o : Kept) → Silent (rows.put_effects place s o)
+silent_put place s o =
+    silent_both (rows.stored place (s.last + 1) o.body) (rows.gone place whys.Evicted (evicted s o)) (silent_stored place (s.last + 1) o.body)
+    (silent_gone place whys.Evicted (evicted s o))
+
+pub silent_delivered : (body : Body) → Silent (prio.delivered body)
+silent_delivered (bodies.Prio p) = λ edge end w. refl
+silent_delivered (bodies.Rel r) = λ edge end w. refl
+silent_delivered (bodies.Ack a) = λ edge end w. refl
+silent_delivered (bodies.Weight u) = λ edge end w. refl
+silent_delivered (bodies.Krel u) = λ edge end w. refl
+silent_delivered (bodies.Kack u) = λ edge end w. refl
+silent_delivered (bodies.Epoch u) = λ edge end w. refl
+
+pub silent_prio : (p : PrioState) (o : Kept) (came : Option NodeId) → Silent (prio_effects p o came)
+silent_prio p o came = elim (cases_Bool (prio.is_here p o.body)) [
+  | inl t ↦
+      let all = silent_both (prio.delivered o.body) (rows.put_effects 0 p.inbox o) (silent_delivered o.body) (silent_put 0 p.inbox o) in
+      rw t all
+  | inr t ↦
+      let all = silent_flat (rows.given_effects o came)
+      (λ q. silent_either (rows.goes_to o.body came q) (rows.put_effects q.peer q.store o) (silent_put q.peer q.store o)) p.peers in
+      rw t all
+]
+
+pub silent_expiring : (place : ℕ) (es : List Entry) → Silent (map (λ e. effects.Gone place e.id whys.Expired) es)
+silent_expiring place [] = λ edge end w. refl
+silent_expiring place (e ∷ es) = λ edge end w. silent_expiring place es edge end w
+
+pub silent_expired : (p : PrioState) (now : ℕ) → Silent (prio.expired_effects p now)
+silent_expired p now =
+    silent_both (rows.expired_effects 0 p.inbox now) (flat_map (λ (q : PrioPeer). rows.expired_effects q.peer q.store now) p.peers)
+    (silent_expiring 0 (expired_entries p.inbox now))
+    (silent_flat (λ (q : PrioPeer). rows.expired_effects q.peer q.store now) (λ q. silent_expiring q.peer (expired_entries q.store now)) p.peers)
+
+pub silent_rel : (t : Bool) (body : Body) → Silent (cond t (delivery body ∷ []) [])
+silent_rel true body = λ edge end w. refl
+silent_rel false body = λ edge end w. refl
+
+pub silent_ended : (v : NodeId) (f : FlowState) → Silent (ended_by v f)
+silent_ended v f = silent_either (is_end v (ends f) && f.active) (effects.Ended (ends f) ∷ []) (λ edge end w. refl)
+
+pub silent_restart : (r : RelState) (v : NodeId) → Silent (restart_effects r v)
+silent_restart r v = silent_flat (ended_by v) (silent_ended v) r.flows

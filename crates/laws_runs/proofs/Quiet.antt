@@ -1,0 +1,99 @@
+-- Effects that say nothing of reliable messages and signatures.
+use Rattle.std.proofs.Common.{◌≡◌, ℕ, ◌+◌, Bool, true, false, cond, List, [], ◌∷◌, ◌++◌, map, Option, Some, None, refl, ◌∙◌}
+use Rattle.std.specs.List.{flat_map}
+use Rattle.std.proofs.lemmas.List.Concat.{flat_map-append}
+use Rattle.sp_base.specs.declared.id.NodeId.{NodeId}
+use Rattle.sp_msg.specs.declared.body.Body.{Body}
+use Rattle.sp_msg.specs.declared.body.Body.TheVariants as bodies
+use Rattle.sp_msg.specs.declared.effect.Effect.{Effect}
+use Rattle.sp_msg.specs.declared.effect.Effect.TheVariants as effects
+use Rattle.sp_msg.specs.declared.effect.Why.{Why}
+use Rattle.sp_msg.specs.declared.effect.Why.TheVariants.{Acked, Evicted, Expired}
+use Rattle.sp_msg.specs.declared.kept.Kept.{Kept}
+use Rattle.sp_rules.specs.Handle.{weight_effects}
+use Rattle.sp_rules.specs.Prio as prio
+use Rattle.sp_rules.specs.Prio.{PrioState, acked_effects, prio_effects, expired_effects}
+use Rattle.sp_rules.specs.PrioPeer as rows
+use Rattle.sp_rules.specs.PrioPeer.{PrioPeer}
+use Rattle.sp_rules.specs.Store.{Store, entry_in, expired_entries, removed}
+use Rattle.sp_rules.specs.declared.store.Entry.{Entry}
+use Rattle.sp_runs.specs.Told.{delivered_by, signed_by}
+
+pub record Quiet (es : List Effect) : Type 0 where
+  pub no_delivery : (a : NodeId) → flat_map (delivered_by a) es ≡ []
+  pub no_signature : flat_map signed_by es ≡ []
+
+pub quiet_none : Quiet []
+quiet_none = record { no_delivery = λ a. refl; no_signature = refl }
+
+pub quiet_append : (xs ys : List Effect) → Quiet xs → Quiet ys → Quiet (xs ++ ys)
+quiet_append xs ys h k = record {
+  no_delivery = λ a. flat_map-append (delivered_by a) xs ys ∙ rw (h.no_delivery a, k.no_delivery a) refl;
+  no_signature = flat_map-append signed_by xs ys ∙ rw (h.no_signature, k.no_signature) refl;
+}
+
+pub quiet_either : (t : Bool) (xs ys : List Effect) → Quiet xs → Quiet ys → Quiet (cond t xs ys)
+quiet_either true xs ys h k = h
+quiet_either false xs ys h k = k
+
+pub quiet_flat : {X : Type 0} (f : X → List Effect) → ((x : X) → Quiet (f x)) → (xs : List X) → Quiet (flat_map f xs)
+quiet_flat f each [] = quiet_none
+quiet_flat f each (x ∷ xs) = quiet_append (f x) (flat_map f xs) (each x) (quiet_flat f each xs)
+
+pub quiet_weight : (body : Body) → Quiet (weight_effects body)
+quiet_weight (bodies.Prio p) = quiet_none
+quiet_weight (bodies.Rel r) = quiet_none
+quiet_weight (bodies.Ack a) = quiet_none
+quiet_weight (bodies.Weight u) = record { no_delivery = λ a. refl; no_signature = refl }
+quiet_weight (bodies.Krel a) = quiet_none
+quiet_weight (bodies.Kack a) = quiet_none
+quiet_weight (bodies.Epoch a) = quiet_none
+
+pub quiet_gone : (place : ℕ) (why : Why) (e : Option Entry) → Quiet (rows.gone place why e)
+quiet_gone place why None = quiet_none
+quiet_gone place why (Some e) = record { no_delivery = λ a. refl; no_signature = refl }
+
+quiet_stored : (place id : ℕ) (body : Body) → Quiet (rows.stored place id body)
+quiet_stored place id (bodies.Prio p) = record { no_delivery = λ a. refl; no_signature = refl }
+quiet_stored place id (bodies.Rel r) = quiet_none
+quiet_stored place id (bodies.Ack a) = quiet_none
+quiet_stored place id (bodies.Weight u) = quiet_none
+quiet_stored place id (bodies.Krel u) = quiet_none
+quiet_stored place id (bodies.Kack u) = quiet_none
+quiet_stored place id (bodies.Epoch u) = quiet_none
+
+quiet_put : (place : ℕ) (s : Store) (o : Kept) → Quiet (rows.put_effects place s o)
+quiet_put place s o = quiet_append (rows.stored place (s.last + 1) o.body) _ (quiet_stored place (s.last + 1) o.body) (quiet_gone place Evicted _)
+
+quiet_delivered : (body : Body) → Quiet (prio.delivered body)
+quiet_delivered (bodies.Prio p) = record { no_delivery = λ a. refl; no_signature = refl }
+quiet_delivered (bodies.Rel r) = quiet_none
+quiet_delivered (bodies.Ack a) = quiet_none
+quiet_delivered (bodies.Weight u) = quiet_none
+quiet_delivered (bodies.Krel u) = quiet_none
+quiet_delivered (bodies.Kack u) = quiet_none
+quiet_delivered (bodies.Epoch u) = quiet_none
+
+pub quiet_prio : (p : PrioState) (o : Kept) (came : Option NodeId) → Quiet (prio_effects p o came)
+quiet_prio p o came =
+    quiet_either (prio.is_here p o.body) (prio.delivered o.body ++ rows.put_effects 0 p.inbox o) (flat_map (rows.given_effects o came) p.peers)
+    (quiet_append (prio.delivered o.body) (rows.put_effects 0 p.inbox o) (quiet_delivered o.body) (quiet_put 0 p.inbox o))
+    (quiet_flat (rows.given_effects o came) (λ q. quiet_either (rows.goes_to o.body came q) (rows.put_effects q.peer q.store o) [] (quiet_put q.peer q.store o) quiet_none) p.peers)
+
+quiet_left : (place : ℕ) (s : Store) (pairs : List (ℕ × ℕ)) → Quiet (rows.left_effects place s pairs)
+quiet_left place s [] = quiet_none
+quiet_left place s (pair ∷ pairs) =
+    quiet_append (rows.gone place Acked (entry_in s pair.1)) (rows.left_effects place (removed s pair.1) pairs)
+    (quiet_gone place Acked (entry_in s pair.1)) (quiet_left place (removed s pair.1) pairs)
+
+pub quiet_acked : (p : PrioState) (v number : ℕ) → Quiet (acked_effects p v number)
+quiet_acked p v number = let q = prio.peer_in p v in quiet_left q.peer q.store (rows.landed q number)
+
+quiet_expiring : (place : ℕ) (es : List Entry) → Quiet (map (λ e. effects.Gone place e.id Expired) es)
+quiet_expiring place [] = quiet_none
+quiet_expiring place (e ∷ es) = let rest = quiet_expiring place es in record { no_delivery = λ a. rest.no_delivery a; no_signature = rest.no_signature }
+
+pub quiet_expired : (p : PrioState) (now : ℕ) → Quiet (expired_effects p now)
+quiet_expired p now =
+    quiet_append (rows.expired_effects 0 p.inbox now) _ (quiet_expiring 0 (expired_entries p.inbox now))
+    (quiet_flat (λ (q : PrioPeer). rows.expired_effects q.peer q.store now) (λ q. quiet_expiring q.peer (expired_entries q.store now)) p.peers)
