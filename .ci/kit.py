@@ -1,7 +1,7 @@
 """Tries each script of the operator's kit: python3 .ci/kit.py PATH/TO/spinesd
 
-What a script must say stands here and in kit_recording.py, kit_house.py, kit_next.py, kit_daemons.py, kit_busy.py and
-kit_second.py, by hand. Keys, a status and a page are also made of daemons that run, of each format. What needs chromium, mandoc, shellcheck or
+What a script must say stands here and in kit_recording.py, kit_house.py, kit_next.py, kit_daemons.py, kit_client.py, kit_busy.py
+and kit_second.py, by hand. Keys, a status and a page are also made of daemons that run, of each format. What needs chromium, mandoc, shellcheck or
 systemd-analyze is tried where that is installed, and left out with a word where not. Each difference is told, and the status is then 1.
 """
 
@@ -23,6 +23,7 @@ KIT = os.path.join(ROOT, "kit")
 sys.path[:0] = [os.path.join(ROOT, "examples", "overlay"), os.path.dirname(os.path.abspath(__file__))]
 
 import kit_busy  # noqa: E402
+import kit_client  # noqa: E402
 import kit_daemons  # noqa: E402
 import kit_house  # noqa: E402
 import kit_next  # noqa: E402
@@ -347,7 +348,7 @@ def main():
     with tempfile.TemporaryDirectory() as folder:
         kit = Kit(os.path.abspath(sys.argv[1]), folder)
         for look in (explains, endings_of_conformance, statuses, several_messages, many_folders, cut_recordings, follows, broken_off, views, keys,
-                     kit_next.look, kit_house.look, kit_daemons.daemons, kit_busy.look, kit_second.look):
+                     kit_next.look, kit_house.look, kit_daemons.daemons, kit_client.look, kit_busy.look, kit_second.look):
             look(kit)
     print(f"{kit.looks - kit.wrong} looks at the operator's kit as wanted, {kit.wrong} not")
     sys.exit(1 if kit.wrong else 0)

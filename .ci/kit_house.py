@@ -9,19 +9,20 @@ import time
 
 ROOT = os.path.dirname(os.path.dirname(os.path.abspath(__file__)))
 KIT = os.path.join(ROOT, "kit")
-SCRIPTS = ("spinesd-keys", "spinesd-status", "spinesd-sessions", "spinesd-explain", "spinesd-view", "spinesd-node")
+SCRIPTS = ("spinesd-keys", "spinesd-status", "spinesd-sessions", "spinesd-client", "spinesd-explain", "spinesd-view", "spinesd-node")
 EXPOSURE = 2.0
 COMPLETED = [
     ("_spinesd", ["spinesd", "v"], ["verify"]), ("_spinesd", ["spinesd", "ask", "--p"], ["--port"]), ("_spinesd", ["spinesd", "daemon", "--turns", ""], []),
     ("_spinesd", ["spinesd", "paths", ""], ["--from", "--to", "--paths"]), ("_spinesd_kit", ["spinesd-status", "--pr"], ["--prometheus"]),
-    ("_spinesd_kit", ["spinesd-keys", "--fo"], ["--format"]),
+    ("_spinesd_kit", ["spinesd-keys", "--fo"], ["--format"]), ("_spinesd_kit", ["spinesd-client", "li"], ["listen"]),
+    ("_spinesd_kit", ["spinesd-client", "bench", "--si"], ["--size"]), ("_spinesd_kit", ["spinesd-client", "close", "--p"], []),
 ]
 INSTALLED = sorted([
     "bin/spinesd", *("bin/" + name for name in SCRIPTS), *("lib/spinesd/kit/" + name for name in SCRIPTS), "lib/spinesd/kit/endings.md",
     "lib/spinesd/kit/page.html", *(f"lib/spinesd/kit/lib/{name}.py" for name in (
-        "clients", "configurations", "endings", "films", "frames", "holders", "journals", "metrics", "overlays", "paths", "pruning", "readings", "recordings",
-        "renewals", "scripts", "stores", "tables", "tellings", "watching")),
-    "share/man/man1/spinesd.1", "share/man/man5/spinesd-recording.5", "share/man/man5/spinesd-schedule.5", "share/man/man5/spinesd.conf.5",
+        "clients", "configurations", "dialogues", "endings", "films", "frames", "holders", "journals", "metrics", "overlays", "paths", "pruning", "readings", "recordings",
+        "renewals", "scripts", "sessions", "stores", "tables", "tellings", "watching")),
+    "share/man/man1/spinesd-client.1", "share/man/man1/spinesd.1", "share/man/man5/spinesd-recording.5", "share/man/man5/spinesd-schedule.5", "share/man/man5/spinesd.conf.5",
     "share/bash-completion/completions/spinesd", "share/spinesd/spinesd.default", "lib/systemd/system/spinesd@.service",
 ])
 RESTART = "RestartPreventExitStatus=2 3 8 13"
@@ -35,11 +36,14 @@ def tool(*words, **more):
 
 def man_pages(kit):
     pages = sorted(glob.glob(KIT + "/man/*"))
-    kit.equal("man pages", [os.path.basename(page) for page in pages], ["spinesd-recording.5", "spinesd-schedule.5", "spinesd.1", "spinesd.conf.5"])
-    text = open(pages[2], encoding="utf-8").read()
+    kit.equal("man pages", [os.path.basename(page) for page in pages], ["spinesd-client.1", "spinesd-recording.5", "spinesd-schedule.5", "spinesd.1", "spinesd.conf.5"])
+    text = open(pages[3], encoding="utf-8").read()
     kit.equal("spinesd(1): the statuses", re.findall(r"^\.It (\d+)$", text, re.MULTILINE), ["0", *map(str, range(2, 14))])
-    keys = re.findall(r"^\.It Ic (\w+)$", open(pages[3], encoding="utf-8").read(), re.MULTILINE)
+    keys = re.findall(r"^\.It Ic (\w+)$", open(pages[4], encoding="utf-8").read(), re.MULTILINE)
     kit.equal("spinesd.conf(5): the keys", keys, ["node", "seed", "admin", "topology", "port", "client_port", "buffer", "store", "peer"])
+    statuses = re.findall(r"^\.It (\d+)$", open(pages[0], encoding="utf-8").read(), re.MULTILINE)
+    said = tool(os.path.join(KIT, "spinesd-client"), "--help")[1].partition("Exit status: ")[2]
+    kit.equal("spinesd-client(1): the statuses", statuses, re.findall(r"(?:^|, )(\d+)\s", said.replace("\n", " ")))
     if not kit.missing("mandoc"):
         kit.equal("man pages: mandoc's lint", tool("mandoc", "-T", "lint", "-W", "warning", *pages), (0, ""))
 

@@ -22,6 +22,18 @@ _spinesd() {
     fi
 }
 
+_spinesd_client() {
+    local always="--session --wait --help"
+    case ${COMP_WORDS[1]} in
+        send) echo "$always --priority --expiry --paths --file --hex --once" ;;
+        take) echo "$always --priority --messages --hex" ;;
+        listen) echo "$always --priority --messages --seconds --hex" ;;
+        bench) echo "$always --priority --expiry --paths --messages --size --seconds" ;;
+        close) echo "$always --hex" ;;
+        *) echo "send take listen bench close --help" ;;
+    esac
+}
+
 _spinesd_kit() {
     local now=${COMP_WORDS[COMP_CWORD]} options
     case $1 in
@@ -30,6 +42,7 @@ _spinesd_kit() {
         *-explain) options="--command --help" ;;
         *-view) options="--title --idle --most --program --help" ;;
         *-sessions) options="close --program --help" ;;
+        *-client) options="$(_spinesd_client)" ;;
         *-node) options="judge run wait prune --help" ;;
     esac
     mapfile -t COMPREPLY < <(compgen -W "$options" -- "$now")
@@ -37,4 +50,4 @@ _spinesd_kit() {
 }
 
 complete -F _spinesd spinesd
-complete -F _spinesd_kit -o filenames spinesd-keys spinesd-status spinesd-sessions spinesd-explain spinesd-view spinesd-node
+complete -F _spinesd_kit -o filenames spinesd-keys spinesd-status spinesd-sessions spinesd-client spinesd-explain spinesd-view spinesd-node

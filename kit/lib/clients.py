@@ -1,4 +1,4 @@
-"""What a daemon's clients were answered, as far as the digests of a recording tell it.
+"""What clients ask a daemon, and what they were answered, as far as the digests of a recording tell it.
 
 A recording has a request and the SHA-256 of its reply. There are few replies that a request can have: each is tried, and the one with that digest
 is the reply. A payload is found only where the recording has the message that brought it.
@@ -6,6 +6,7 @@ is the reply. A payload is found only where the recording has the message that b
 
 import collections
 import hashlib
+import re
 
 import stores
 from frames import Item
@@ -16,8 +17,35 @@ MOST = 4_096
 MOST_SESSIONS = 8
 # what is answered where nothing ran
 NOT_RUN = ("badnumber", "nosession", "sessionsfull")
+# which of these a session is answered that the daemon doesn't have, or not with these numbers
+BEGUN_ANEW = ("badnumber", "nosession")
+# how many bytes a payload has at most, and the greatest number of a request
+MOST_PAYLOAD, MOST_NUMBER = 1_024, 2 ** 63 - 1
+# the numbers that the words of a command may be; None stands for a payload
+NODES, PRIORITIES, EXPIRIES, PATHS, WEIGHTS = range(256), range(1, 11), range(2 ** 64), range(9), range(1, 1_000_001)
+COMMANDS = {
+    "open": (), "listen": (), "send": (NODES, None), "sendprio": (NODES, PRIORITIES, EXPIRIES, PATHS, None), "take": (NODES,), "takeprio": (),
+    "weight": (NODES, WEIGHTS), "close": (),
+}
+DECIMAL, HEX = re.compile(r"0|[1-9][0-9]*"), re.compile(r"-|(?:[0-9a-f]{2})+")
 
 Reply = collections.namedtuple("Reply", "words is_repeat")
+
+
+def is_number(word, numbers):
+    """Whether a word is one of these numbers, in its one spelling."""
+    return DECIMAL.fullmatch(word) is not None and len(word) <= 20 and int(word) in numbers
+
+
+def is_payload(word):
+    return HEX.fullmatch(word) is not None and len(word) <= 2 * MOST_PAYLOAD
+
+
+def is_command(words):
+    """Whether these words are a command of a client, with its words."""
+    fields = COMMANDS.get(words[0])
+    return fields is not None and len(fields) == len(words) - 1 and all(
+        is_payload(word) if numbers is None else is_number(word, numbers) for word, numbers in zip(words[1:], fields))
 
 
 def digest_of(text):

@@ -47,3 +47,13 @@ def values_in(ending, line):
 def is_of_status(ending, status):
     low, _, high = ending.status.partition(" to ")
     return int(low) <= status <= int(high or low)
+
+
+def of_line(rows, line):
+    """The rows that have this last line, each with what its words in capitals stand for."""
+    return [(row, values) for row in rows for values in [values_in(row, line)] if values is not None]
+
+
+def filled(text, values):
+    """A sentence with the values in the places of their names."""
+    return re.sub(r"\b[A-Z][A-Z0-9]*\b", lambda name: values.get(name.group(0), name.group(0)), text)

@@ -8,7 +8,11 @@ HERE = os.path.dirname(os.path.abspath(__file__))
 
 
 class Refused(Exception):
-    """What was asked for isn't done; the text is a sentence for who asked."""
+    """What was asked for isn't done; the text is a sentence for who asked, and the status is what the script ends with."""
+
+    def __init__(self, text, status=1):
+        super().__init__(text)
+        self.status = status
 
 
 def program_of(named):
@@ -22,13 +26,13 @@ def program_of(named):
     raise Refused("no program spinesd is installed or built; name it by --program or SPINESD")
 
 
-def read(path):
-    """The bytes of a file, or of standard input where it is named by a dash."""
+def read(path, most=-1):
+    """The bytes of a file, or of standard input where it is named by a dash; no more than so many."""
     try:
         if path == "-":
-            return sys.stdin.buffer.read()
+            return sys.stdin.buffer.read(most)
         with open(path, "rb") as file:
-            return file.read()
+            return file.read(most)
     except OSError as fault:
         raise Refused(f"{path}: {fault.strerror}") from fault
 
@@ -38,7 +42,8 @@ def ends(name, run):
     try:
         run()
     except Refused as refused:
-        sys.exit(f"{name}: {refused}")
+        print(f"{name}: {refused}", file=sys.stderr)
+        sys.exit(refused.status)
     except BrokenPipeError:
         os.dup2(os.open(os.devnull, os.O_WRONLY), sys.stdout.fileno())
         sys.exit(1)
