@@ -1,13 +1,14 @@
 """Looks at when a daemon rests, waits and sends: python3 .ci/paces.py PATH/TO/spinesd
 
 A hub runs under the library of system_calls.c, and the script plays its three neighbours and a client, so its calls follow from what these send. Without
-news it rests, for 100 ms at a time, and each frame goes. News and requests wake it, and what says nothing new doesn't. Awake it waits for its neighbours, each
+news it rests, for 100 ms at a time, and each frame goes. News, new starts and requests wake it, and what says nothing new doesn't. Awake it waits for its neighbours, each
 of which is sent no frame while it has one to answer, but for one of 32; who lets three waits pass is waited for no more, and a stranger answers for nobody.
 Of a neighbour that floods it a bounded number is taken in a turn, and the newest few are heard; strays that aren't taken end no wait, and one is heard in every
 second cycle at most while neighbours wait.
 Each difference is told, and the status is then 1. It needs a C compiler, `cc`.
 """
 
+import hashlib
 import os
 import signal
 import socket
@@ -25,6 +26,8 @@ NEIGHBOURS = 1, 3, 4
 HOLD, REST = 40, 100
 # what carries a message is longer than 1,000 bytes; what says nothing new is short. Each length stands in the log
 NEWS, WORD, REQUEST = 1_201, 41, b"2 listen"
+# what starts an overlay has, and how long a signature of height 5 is
+STARTS, SIGNATURE = 32, 4_756
 # a neighbour that answers so often; of one that owes an answer meanwhile one frame of 32 goes
 ANSWERS, UNSENT = 100, 32
 # so many datagrams come at once; so many are taken in a turn, and so many of them wait
@@ -95,9 +98,23 @@ class Hub(Running):
             one.recv(65_535)
 
 
+def start_of(number):
+    """A frame that says nothing but of this start: its Epoch object is the last part, before the tag."""
+    signature = hashlib.sha256(b"%d" % number).digest() * (SIGNATURE // 32 + 1)
+    body = b"\x07" + (number % 32 + 1).to_bytes(1, "big") + (number + 1).to_bytes(8, "big")
+    sections = bytes(13) + b"\x01" + len(body).to_bytes(2, "big") + body + SIGNATURE.to_bytes(2, "big") + signature[:SIGNATURE]
+    return os.urandom(33) + sections + os.urandom(32)
+
+
 def is_wait(call):
     """A look at what came, for 0 milliseconds, is none."""
     return call.name == "epoll_wait" and 0 < int(call.said)
+
+
+def unwaited(looks, hub, place):
+    """The frames since then that went right after another one."""
+    frames = [call for call in looks.calls()[place:] if is_wait(call) or hub.sent([call])]
+    return [call for before, call in zip(frames, frames[1:]) if before.name == call.name == "sendto"]
 
 
 def holds_of(calls):
@@ -135,15 +152,28 @@ def news(looks, hub):
         looks.equal(f"frames to the neighbour that had news, {name}", hub.sent(calls).count(1), 4)
 
 
+def starts(looks, hub):
+    """Frames that tell of starts wake it once for each start, in whatever order they come again."""
+    for number in range(STARTS):
+        hub.sockets[1].sendto(start_of(number), hub.target)
+        time.sleep(0.02)
+    for number, is_new in ((0, False), (STARTS - 1, False), (STARTS, True), (7, False), (STARTS, False)):
+        hub.until_rest(len(looks.calls()), QUIET * len(NEIGHBOURS))
+        place = hub.after(1, start_of(number))
+        if is_new:
+            looks.equal("waits after a new start", holds_of(hub.until_rest(place)), 3 * len(NEIGHBOURS))
+        else:
+            time.sleep(0.5)
+            looks.equal(f"frames without a wait, after start {number} came again", unwaited(looks, hub, place), [])
+
+
 def words(looks, hub):
     """What says nothing new doesn't wake it, once it has rested for so long, and neither does who has no session: after each wait one frame goes."""
     hub.until_rest(len(looks.calls()), QUIET * len(NEIGHBOURS))
     for node, to in ((1, hub.target), ("stranger", hub.client)):
         place = hub.after(node, bytes(WORD), to)
         time.sleep(0.5)
-        frames = [call for call in looks.calls()[place:] if is_wait(call) or hub.sent([call])]
-        twice = [call for before, call in zip(frames, frames[1:]) if before.name == call.name == "sendto"]
-        looks.equal(f"frames without a wait, after a word of {node}", twice, [])
+        looks.equal(f"frames without a wait, after a word of {node}", unwaited(looks, hub, place), [])
 
 
 def requests(looks, hub):
@@ -231,7 +261,7 @@ def main():
     with tempfile.TemporaryDirectory() as folder:
         looks = Calls(os.path.abspath(sys.argv[1]), folder, HUB)
         with Hub(looks) as hub:
-            for look in (rests, news, words, requests, owed, bursts, strays, turns, turns):
+            for look in (rests, news, starts, words, requests, owed, bursts, strays, turns, turns):
                 looks.guarded(look, hub)
     print(f"{looks.looks - looks.wrong} looks at the pace of a daemon as wanted, {looks.wrong} not")
     sys.exit(1 if looks.wrong else 0)
