@@ -74,7 +74,7 @@ class Kit:
     def run(self, script, *words, given=b"", env=(), **more):
         """The status, the output and what was said of a script's run, with more in its environment."""
         path = script if os.path.isabs(script) else os.path.join(KIT, script)
-        ended = subprocess.run([path, *words], input=given, stdout=subprocess.PIPE, stderr=subprocess.PIPE, check=False, timeout=60,
+        ended = subprocess.run([path, *words], input=given, stdout=subprocess.PIPE, stderr=subprocess.PIPE, check=False, timeout=300,
                                env={**os.environ, "SPINESD": self.program, **dict(env)}, **more)
         return ended.returncode, ended.stdout.decode(), ended.stderr.decode()
 

@@ -5,6 +5,7 @@ import json
 import os
 import re
 import subprocess
+import time
 
 import kit_busy
 import kit_recording
@@ -114,7 +115,7 @@ def daemons(kit, overlay, first):
         told = json.loads(kit.run("spinesd-status", "--json", *places)[1])
         kit.equal("format 2: they run", [(each["node"], each["state"], each["topology_format"]) for each in told], [(node, "running", 2) for node in range(1, NODES + 1)])
         status, said, _ = kit.run("spinesd-sessions", places[WAY[0] - 1])
-        kit.holds("format 2: sessions are listed", status == 0 and said.startswith(f"port {locals_[0]}, last number 4\n1 of 8"), said)
+        kit.holds("format 2: sessions are listed", status == 0 and re.match(rf"port {locals_[0]}, last number \d+\n1 of 8", said) is not None, said)
     finally:
         for child in children:
             child.terminate()
@@ -122,15 +123,25 @@ def daemons(kit, overlay, first):
     told_of(kit, places)
 
 
+def met(kit, port, local, command):
+    """What a client is answered once its node knows a life of the destination: until then it is `badend`."""
+    for _ in range(100):
+        answer = awaited(kit, port, local, command)
+        if answer != "badend":
+            return answer
+        time.sleep(0.05)
+    return None
+
+
 def talk(kit, source, target, locals_):
     """The clients of the two ends, whose daemons have these ports."""
     replies = [ask(kit, target, locals_[1], "1 open"), ask(kit, target, locals_[1], "2 listen"), ask(kit, source, locals_[0], "1 open")]
-    replies += [ask(kit, source, locals_[0], "2 send 1 6869"), awaited(kit, target, locals_[1], "take 24")]
-    for number, paths, payload in ((3, 0, "6a"), (4, 1, "6b")):
-        replies.append(ask(kit, source, locals_[0], f"{number} sendprio 1 5 {NEVER} {paths} {payload}"))
+    replies += [met(kit, source, locals_[0], "send 1 6869"), awaited(kit, target, locals_[1], "take 24")]
+    for paths, payload in ((0, "6a"), (1, "6b")):
+        replies.append(met(kit, source, locals_[0], f"sendprio 1 5 {NEVER} {paths} {payload}"))
         replies.append(awaited(kit, target, locals_[1], "takeprio"))
-    kit.equal("format 2: messages arrive", replies, ["1 opened", "2 listening", "1 opened", "2 accepted 1", "payload 6869", "3 accepted 1", "payload 24 1 6a",
-                                                      "4 accepted 2", "payload 24 2 6b"])
+    kit.equal("format 2: messages arrive", replies, ["1 opened", "2 listening", "1 opened", "accepted 1", "payload 6869", "accepted 1", "payload 24 1 6a",
+                                                      "accepted 2", "payload 24 2 6b"])
 
 
 def told_of(kit, places):
@@ -144,14 +155,15 @@ def told_of(kit, places):
     lines = kit.run("spinesd-status", "--prometheus", *places)[1].split("\n")
     wanted = ['spinesd_flow_sent_total{node="24",source="24",destination="1"} 1', 'spinesd_flow_delivered_total{node="1",source="24",destination="1"} 1']
     kit.equal("format 2: metrics that lack", [line for line in wanted if line not in lines], [])
-    status, page, said = kit.run("spinesd-view", *places)
+    # their starts go round first: some 20,000 turns of all daemons
+    status, page, said = kit.run("spinesd-view", "--most", "1000000", *places)
     kit.equal("format 2: the page", (status, said), (0, ""))
     film = film_of(page)
     kit.equal("format 2: the overlay on the page", (film["nodes"], len(film["edges"])), ([*range(1, NODES + 1)], len(RING)))
     flows = [(step[0], *change) for step in film["steps"] for change in step[5] if change[3] != "acknowledged"]
     kit.equal("format 2: flows on the page", sorted(flows), sorted(
         (node, kind, 24, 1, what, number) for kind, count in (("rel", 1), ("prio", 2)) for number in range(1, count + 1) for node, what in ((24, "sent"), (1, "delivered"))))
-    signed = "+ signed 031801" + 32 * "0" + "0000000000000001"
+    signed = "+ signed 031801" + 3 * "0000000000000001"
     kit.equal("format 2: the acknowledgement on the page", [(step[5], step[7]) for step in film["steps"] if signed in step[3]],
               [([["rel", 24, 1, "acknowledged", 1]], "acknowledged")])
     kit.holds("format 2: a page tells no arrival before the frame was made", is_in_order(film["steps"]), "")
@@ -180,11 +192,12 @@ def views(kit):
 
 def of_conformance(kit):
     """What the kit computes of the answers in recordings of another program."""
-    paths = sorted(glob.glob(os.path.join(kit_busy.ROOT, "conformance", "recordings_format_2", "whole_*.recording")))
+    folder = os.path.join(kit_busy.ROOT, "conformance", "recordings_format_2")
+    paths = [path for name in ("whole", "short") for path in sorted(glob.glob(os.path.join(folder, name + "_*.recording")))]
     kit.holds("format 2: there are recordings in conformance/", len(paths) > 3, paths)
     for path in paths:
         watch = kit_busy.watch_of(*recordings.split(read(path)))
-        kit.equal(f"format 2: the answers of {os.path.basename(path)}", (kit_busy.untold(watch), watch.right > 3), ((0, 0, 0, 0), True))
+        kit.equal(f"format 2: the answers of {os.path.basename(path)}", (kit_busy.untold(watch), watch.right > 1), ((0, 0, 0, 0), True))
 
 
 def bodies(kit):

@@ -14,9 +14,11 @@ DOCUMENT = (b"MTMW\x02" + struct.pack(">IBB", 7, 5, 3) + b"".join(bytes([node]) 
 CONFIGURATION = (f'node = 17\nseed = "{"22" * 32}"\nadmin = "{"00" * 60}"\ntopology = "{(DOCUMENT + SIGNATURE).hex()}"\nport = 7017\nclient_port = 7117\n'
                  f'\n[[peer]]\nid = 16\nport = 7016\nkey = "{KEY_1.hex()}"\n\n[[peer]]\nid = 32\nport = 7032\nkey = "{KEY_3.hex()}"\n').encode()
 NOTHING = b"\0"
+# the boots that node 17 holds of the flow's ends, once it has the Epoch object of node 16; its own is 4
+BOOTS, UNMET, AGAIN = (9, 4), (0, 4), (10, 4)
 
 
-def slot(base, have, acknowledgement=NOTHING, messages=NOTHING, boots=(0, 0)):
+def slot(base, have, acknowledgement=NOTHING, messages=NOTHING, boots=BOOTS):
     """The slot of the flow from 16 to 17, or its part of K paths."""
     return b"\1" + struct.pack(">BBQQQQ", 16, 17, *boots, base, have) + acknowledgement + messages
 
@@ -28,7 +30,7 @@ def frame(counter, urgent=NOTHING, reliable=NOTHING, paths=NOTHING, probe=NOTHIN
     return text + hmac.new(KEY_1, text, hashlib.sha256).digest()
 
 
-def rel(number, boots=(0, 0)):
+def rel(number, boots=BOOTS):
     return signed(b"\x02\x10\x11" + struct.pack(">QQQH", *boots, number, 2) + b"hi")
 
 
@@ -36,27 +38,40 @@ def prio(number, boot, mask):
     return struct.pack(">Q", number) + signed(b"\x01\x10\x20" + struct.pack(">QQBQ", boot, number, 5, 2 ** 63) + mask + struct.pack(">H", 1) + b"x")
 
 
-ACK = signed(b"\x03\x10\x11" + struct.pack(">QQQ", 0, 0, 1))
-KREL = signed(b"\x05\x10\x11" + struct.pack(">QQQ", 0, 0, 1) + bytes(32) + struct.pack(">H", 0))
-EPOCH = signed(b"\x07\x10" + struct.pack(">Q", 3))
+def start(origin, boot):
+    """What a node says of its start."""
+    return b"\1" + signed(b"\x07" + struct.pack(">BQ", origin, boot))
+
+
+ACK = signed(b"\x03\x10\x11" + struct.pack(">QQQ", *BOOTS, 1))
+KREL = signed(b"\x05\x10\x11" + struct.pack(">QQQ", *BOOTS, 1) + bytes(32) + struct.pack(">H", 0))
 ALL, SECOND = b"\xff" * 32, bytes(31) + b"\2"
 # frames of node 16 and what node 17 answers; the second of the edges leads to node 32
 ROWS = [
     (frame(1), "fresh\n"),
     (frame(2, version=1), "version\n"),
-    (frame(3, reliable=slot(0, 1, messages=b"\1" + rel(1))), "fresh rel:new\n+ delivered rel 16 1 6869\n"),
-    (frame(4, reliable=slot(0, 2, messages=b"\1" + rel(2, boots=(1, 0)))), "fresh rel:epoch\n"),
-    (frame(5, reliable=slot(0, 2, messages=b"\1" + rel(2, boots=(0, 9)))), "fresh rel:epoch\n"),
+    (frame(3, reliable=slot(0, 1, messages=b"\1" + rel(1)), epoch=start(16, 9)), "fresh rel:epoch epoch:new\n"),
+    (frame(4, reliable=slot(0, 1, messages=b"\1" + rel(1))), "fresh rel:new\n+ delivered rel 16 1 6869\n"),
+    (frame(5, reliable=slot(0, 2, messages=b"\1" + rel(2, boots=(8, 4)))), "fresh rel:epoch\n"),
+    (frame(6, reliable=slot(0, 2, messages=b"\1" + rel(2, boots=(9, 3)))), "fresh rel:epoch\n"),
     (frame(7, reliable=slot(0, 1, b"\1" + ACK)), "fresh ack:old\n"),
-    (frame(8, urgent=b"\2" + prio(1, 1, ALL) + prio(1, 0, SECOND)), "fresh prio:epoch prio:new\n+ stored 32 1 16 1 5\n"),
+    (frame(8, urgent=b"\2" + prio(1, 1, ALL) + prio(1, 9, SECOND)), "fresh prio:epoch prio:new\n+ stored 32 1 16 1 5\n"),
     (frame(9, reliable=slot(0, 1, messages=b"\3" + 3 * rel(1))), "section count\n"),
-    (frame(10, paths=slot(0, 1, messages=b"\1" + KREL), probe=b"\1" + bytes(56), epoch=b"\1" + EPOCH), "fresh\n"),
+    (frame(10, paths=slot(0, 1, messages=b"\1" + KREL), probe=b"\1" + bytes(56), epoch=start(16, 9)), "fresh epoch:old\n"),
     (frame(11, sections=b"\x80" + struct.pack(">H", len(DOCUMENT)) + DOCUMENT + bytes(13)), "fresh\n"),
     (frame(12, sections=b"\x80" + struct.pack(">H", len(DOCUMENT)) + DOCUMENT + bytes(12) + b"\1"), "section count\n"),
-    (frame(13, reliable=slot(7, 8, boots=(0, 9))), "fresh\n"),
+    (frame(13, reliable=slot(7, 8, boots=UNMET)), "fresh\n"),
+    (frame(14, epoch=start(17, 5)), "fresh epoch:badend\n"),
+    (frame(15, epoch=start(33, 5)), "fresh epoch:badend\n"),
+    # node 32 started: no flow of it is active. Then node 16 started again: its flow ends, and what it sends counts from 1 again
+    (frame(16, epoch=start(32, 2)), "fresh epoch:new\n"),
+    (frame(17, urgent=b"\1" + prio(1, 9, SECOND), epoch=start(16, 10)), "fresh prio:seen epoch:new\n+ ended 16 17\n"),
+    (frame(18, urgent=b"\1" + prio(1, 9, SECOND), reliable=slot(0, 2, messages=b"\1" + rel(2))), "fresh prio:epoch rel:epoch\n"),
+    (frame(19, urgent=b"\1" + prio(1, 10, SECOND), reliable=slot(0, 1, messages=b"\1" + rel(1, AGAIN), boots=AGAIN)),
+     "fresh prio:new rel:new\n+ stored 32 2 16 1 5\n+ delivered rel 16 1 6869\n"),
 ]
 # the acknowledgement of what came, which is signed at the tick after it
-TICKS = {4: "ticked\n+ signed 031011" + 32 * "0" + "0000000000000001\n"}
+TICKS = {5: "ticked\n+ signed 031011" + "".join(f"{number:016x}" for number in (*BOOTS, 1)) + "\n"}
 RECORDING = "recording 1 4 32 64\n" + "".join(
     f"tick {1_000 * turn} {digest(TICKS.get(turn, 'ticked' + chr(10)).encode())}\noverlay 16 {datagram.hex()} {digest(answer.encode())}\npoll 32 {digest(b'')}\n"
     for turn, (datagram, answer) in enumerate(ROWS, 1))

@@ -69,12 +69,18 @@ class Clients:
         self.sent = collections.Counter()               # reliable messages accepted, by destination
         self.taken = collections.Counter()              # reliable messages taken, by source
         self.own = collections.Counter()                # own numbers of priority messages and weights
-        self.arrived = collections.defaultdict(dict)    # payloads by kind and source, then by number
+        self.arrived = collections.defaultdict(dict)    # payloads by kind and source, then by number, which each life of a source gives again
         self.now = 0
 
     def arrives(self, item):
         """A message for this node that a fresh frame brought."""
-        self.arrived[item.kind, item.source].setdefault(item.number, item.payload.hex() or "-")
+        self.arrived[item.kind, item.source].setdefault(item.number, []).append(item.payload.hex() or "-")
+
+    def ended(self, node):
+        """Another life of a node began: its flows count from 1 again, and what waited of them is gone."""
+        self.sent.pop(node, None)
+        self.taken.pop(node, None)
+        self.arrived.pop(("rel", node), None)
 
     def reply(self, port, request, digest):
         """The words of a reply without its number, and whether it was given before; None where no reply that fits was found."""
@@ -109,8 +115,15 @@ class Clients:
             self.arrived["rel", source].pop(self.taken[source], None)
             self.rules.took(source)
         elif name == "payload":
-            self.arrived["prio", int(words.split(" ")[1])].pop(int(words.split(" ")[2]), None)
-            self.rules.took_prio()
+            _, source, number, payload = words.split(" ")
+            self.took_prio(int(source), int(number), payload)
+
+    def took_prio(self, source, number, payload):
+        waiting = self.arrived["prio", source]
+        waiting[number].remove(payload)
+        if not waiting[number]:
+            del waiting[number]
+        self.rules.took_prio()
 
     def accepted(self, command):
         """A message or a weight was taken."""
@@ -161,9 +174,7 @@ class Clients:
         yield "notlistening"
         if name == "take" and len(command) == 2 and command[1].isdecimal():
             source = int(command[1])
-            if payload := self.arrived["rel", source].get(self.taken[source] + 1):
-                yield f"payload {payload}"
+            yield from (f"payload {payload}" for payload in self.arrived["rel", source].get(self.taken[source] + 1, ()))
         elif name == "takeprio":
             for entry in self.rules.guesses[0][stores.INBOX].entries[:1]:
-                if payload := self.arrived["prio", entry.source].get(entry.number):
-                    yield f"payload {entry.source} {entry.number} {payload}"
+                yield from (f"payload {entry.source} {entry.number} {payload}" for payload in self.arrived["prio", entry.source].get(entry.number, ()))

@@ -14,8 +14,6 @@ from configurations import TOTALS
 
 # how many numbers below the greatest a window knows one by one; own updates above it are none; how many guesses are kept of what the stores hold
 WINDOW, MOST_OWN, MOST_GUESSES = 1_024, 2 ** 62, 32
-# the boots that a node holds for the two ends of a message
-HELD = (0, 0)
 
 Flow = collections.namedtuple("Flow", "base have inbox", defaults=(0, 0, 0))
 
@@ -34,7 +32,23 @@ class Rules:
         self.edge_to = {peer.node: ends.index(pair) for peer in configuration.peers
                         if (pair := tuple(sorted((self.me, peer.node)))) in ends}
         self.flows, self.weights, self.marks = {}, {}, {}
+        self.lives = {}                                 # the boots that are held of nodes; none where nodes run without epochs
         self.guesses = [stores.empty_places(configuration)]
+
+    # ---- lives
+
+    def begins(self, boot):
+        """The node holds its own boot, where nodes run with epochs: under a document of format 2."""
+        if self.format > 1:
+            self.lives[self.me] = boot
+
+    def held(self, source, destination):
+        """The boots that are held of two nodes, 0 where none is."""
+        return self.lives.get(source, 0), self.lives.get(destination, 0)
+
+    def greeted(self, peer):
+        """Another life of a neighbour began: nothing is in flight to it."""
+        self.guesses = [{**guess, peer: guess[peer]._replace(flight=())} for guess in self.guesses]
 
     # ---- what clients do
 
@@ -85,7 +99,7 @@ class Rules:
 
     def acknowledgement(self, flow):
         """The line that tells the acknowledgement of all that came of a flow."""
-        boots = "".join(f"{boot:016x}" for boot in HELD) if self.format > 1 else ""
+        boots = "".join(f"{boot:016x}" for boot in self.held(*flow)) if self.format > 1 else ""
         return f"+ signed 03{flow[0]:02x}{flow[1]:02x}{boots}{self.flows[flow].have:016x}\n"
 
     def expired(self, guess):
@@ -123,7 +137,13 @@ class Rules:
         self.guesses = guesses
         self.flows.update(trial.flows)
         self.weights.update(trial.weights)
+        if trial.started:
+            self.lives[trial.started.source] = trial.started.number
+            self.marks.pop(trial.started.source, None)
+            self.flows = {flow: row for flow, row in self.flows.items() if trial.started.source not in flow}
         for source, number in trial.marks:
+            if trial.started and source == trial.started.source:
+                continue
             marks = self.marks.setdefault(source, set())
             marks.add(number)
             if len(marks) > 2 * WINDOW:
@@ -135,7 +155,7 @@ class Trial:
 
     def __init__(self, rules, sender, sections, bad):
         self.rules, self.sender, self.sections, self.bad = rules, sender, sections, set()
-        self.flows, self.weights, self.marks, self.stored = {}, {}, [], []
+        self.flows, self.weights, self.marks, self.stored, self.started = {}, {}, [], [], None
         self.front = self.back = ""
         self.words = [self.word_of(item, place in bad, place) for place, item in enumerate(sections.items)]
         self.reply = "fresh" + "".join(f" {item.kind}:{word}" for item, word in zip(sections.items, self.words)) + "\n"
@@ -167,7 +187,7 @@ class Trial:
     def of_prio(self, item):
         if item.source == item.destination or not {item.source, item.destination} <= self.rules.nodes:
             return "badend"
-        if item.boots != HELD:
+        if item.boots[0] != self.rules.held(item.source, item.destination)[0]:
             return "epoch"
         if item.expiry < self.rules.now:
             return "expired"
@@ -188,7 +208,7 @@ class Trial:
         flow = self.flow((item.source, item.destination))
         if not self.is_of_slot(item):
             return "badend"
-        if item.boots != HELD:
+        if item.boots != self.rules.held(item.source, item.destination):
             return "epoch"
         if item.number <= flow.base:
             return "old"
@@ -202,7 +222,7 @@ class Trial:
         flow = self.flow((item.source, item.destination))
         if not self.is_of_slot(item):
             return "badend"
-        if item.boots != HELD:
+        if item.boots != self.rules.held(item.source, item.destination):
             return "epoch"
         if item.number <= flow.have:
             return "old"
@@ -219,6 +239,16 @@ class Trial:
         flow, is_here = self.flow(ends), item.destination == self.rules.me
         self.flows[ends] = flow._replace(have=item.number, inbox=flow.inbox + is_here)
         self.back += f"+ delivered rel {item.source} {item.number} {item.payload.hex() or '-'}\n" if is_here else ""
+
+    def of_epoch(self, item):
+        if item.source == self.rules.me or item.source not in self.rules.nodes:
+            return "badend"
+        return "old" if item.number <= self.rules.lives.get(item.source, 0) else "new"
+
+    def keep_epoch(self, item):
+        """Another life of a node began: its flows end, in order. It is the last object of its frame."""
+        self.started = item
+        self.back += "".join(f"+ ended {flow[0]} {flow[1]}\n" for flow in sorted({*self.rules.flows, *self.flows}) if item.source in flow)
 
     def of_places(self, guess):
         """What a guess of the stores becomes, and the lines that tell it: what the neighbour acknowledged leaves, and then the new messages come."""

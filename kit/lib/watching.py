@@ -12,7 +12,6 @@ import frames
 import tellings
 from clients import Clients
 from configurations import SIGNATURES, TOTALS
-from tellings import HELD
 
 ANSWERS = ("fresh", "learned", "stale", "badtag", "notforme", "malformed", "topology", "section")
 NO_FRAME = ("toolong", "short", "magic", "version")
@@ -69,6 +68,7 @@ class Watch:
 
     def feed_recording(self, line):
         self.boot, self.index, self.bound = line.numbers
+        self.rules.begins(self.boot)
         for peer in self.configuration.peers:
             self.neighbours[peer.node] = Neighbour(frames.Link(self.configuration.node, peer.node, self.boot, peer.key), peer.port)
 
@@ -106,8 +106,11 @@ class Watch:
         neighbour = self.neighbours.get(line.numbers[0])
         if neighbour is None:
             return
-        before = neighbour.link.seen
+        before, known = neighbour.link.seen, neighbour.link.peer_boot
         answer = frames.fault_of(line.data, self.format) or neighbour.link.answer(line.data)
+        if self.format > 1 and neighbour.link.peer_boot > known:
+            neighbour.reports.clear()
+            self.rules.greeted(neighbour.link.peer)
         if answer == "fresh":
             neighbour.fresh(self.now, before, frames.head_of(line.data))
             answer, sections = self.of_fresh(neighbour, line.data)
@@ -129,7 +132,7 @@ class Watch:
             sections = frames.sections_of(frame, self.signature)
         except frames.Bad as bad:
             return f"section {bad}", None
-        if sections.slot and sections.slot.boots == HELD:
+        if sections.slot and sections.slot.boots == self.rules.held(*sections.slot[:2]):
             neighbour.reports[sections.slot[:2]] = sections.slot[2:4]
         return "fresh", sections
 
@@ -159,11 +162,20 @@ class Watch:
         if word != "new":
             return
         flow = (item.source, item.destination)
-        if item.kind == "ack":
+        if item.kind == "epoch":
+            self.began(item.source)
+        elif item.kind == "ack":
             self.acknowledged[flow] = item.number
         elif item.kind in ("rel", "prio") and item.destination == self.configuration.node:
             self.clients.arrives(item)
             self.delivered[flow] += item.kind == "rel"
+
+    def began(self, node):
+        """Another life of a node began: its flows count from 1 again, and nothing is reported of them."""
+        self.clients.ended(node)
+        for counts in (self.acknowledged, self.delivered, self.moved, *(neighbour.reports for neighbour in self.neighbours.values())):
+            for flow in [flow for flow in counts if node in flow]:
+                del counts[flow]
 
     # ---- what is asked of all lines together
 

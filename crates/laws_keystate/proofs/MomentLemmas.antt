@@ -25,9 +25,9 @@ use Rattle.sp_service_turns.specs.declared.peer.Peer.{Peer}
 use Rattle.sp_service_turns.specs.declared.served.Served.{Served}
 use Rattle.sp_lms.specs.declared.param.LmsParam.TheVariants.{H5}
 use Rattle.laws_keystate.specs.Histories.{IsSomeSound}
-use Rattle.laws_keystate.specs.RunLaws.{EachMomentIsOfARun}
+use Rattle.laws_keystate.specs.RunLaws.{EachMomentIsOfARun, StartsSign}
 use Rattle.laws_keystate.specs.RunMoments.{LeavesAfter, LeavesBetween, LeavesOn, LeavesTurns}
-use Rattle.laws_keystate.specs.Runs.{At_start, HasRun, In_its_reserve, In_turns, IsStopped, MayBeLeft, Nothing_signed, One_signed, SignsInOrder, SignsInTurn, SignsOn, SignsOne, TakesNext, TurnLeaves, Without_reserve}
+use Rattle.laws_keystate.specs.Runs.{At_start, HasRun, In_its_reserve, In_turns, IsStopped, MayBeLeft, Nothing_signed, One_signed, SignsInOrder, SignsInTurn, SignsOn, SignsOne, TakesNext, TurnLeaves, Without_reserve, indexes_at}
 use Rattle.laws_keystate.proofs.RunLemmas.{heard, polled_next, replied, serials}
 use Rattle.laws_keystate.proofs.StoppedLemmas.{run_sound}
 
@@ -64,6 +64,15 @@ since_may : (past now : Option (List Disk)) (P : List ℕ → Type 0) → AllSin
 since_may None now P all = tt
 since_may (Some old) None P all = all
 since_may (Some old) (Some new) P all = (all.0, all.1, may_be old [] all.0 new (all.1 ∙ ap (λ (l : List Disk). l ++ all.0) (sym (append-nil old))))
+
+-- ---- something is signed, or nothing
+
+signs_some : (i j : Indexes) → TakesNext i j → (signed : List Signing) × SignsOne i j signed
+signs_some i j (inl same) = ([], Nothing_signed (ap (λ (x : Indexes). x.index) same))
+signs_some i j (inr took) = (record { index = i.index; message = [] } ∷ [], One_signed [] (ap (λ (x : Indexes). x.index) took.1))
+
+pub starts_sign : StartsSign
+starts_sign total started start takes = signs_some (indexes_at total started) start takes
 
 -- ---- a turn more
 
@@ -102,11 +111,6 @@ module _ {N : Type 0} (steps : Steps N) (indexes : N → Indexes) where
   files_more keys (x ∷ ts) t a b c on move = (on.0, on.1, files_more (keys_after keys x.reserved) ts t on.0 b c on.2 move)
 
   module _ (orderly : SignsInOrder steps indexes) where
-    -- something is signed between two states
-    signs_some : (i j : Indexes) → TakesNext i j → (signed : List Signing) × SignsOne i j signed
-    signs_some i j (inl same) = ([], Nothing_signed (ap (λ (x : Indexes). x.index) same))
-    signs_some i j (inr took) = (record { index = i.index; message = [] } ∷ [], One_signed [] (ap (λ (x : Indexes). x.index) took.1))
-
     pub turns_sign : (peers : List Peer) (polled : Option Peer) (t : Turn) (old new : N) (m : Moves steps indexes peers polled t old new)
         → (signed : List Signing) × SignsInTurn steps indexes peers polled t old new m signed
     turns_sign peers polled t old new m =
@@ -118,15 +122,17 @@ module _ {N : Type 0} (steps : Steps N) (indexes : N → Indexes) where
           record { at_tick = a.0; at_overlay = b.0; at_client = c.0; at_poll = d.0; tick = a.1; overlay = b.1; client = c.1; poll = d.1; together = refl },
         )
 
-    -- from this start on
+    -- from this start on, at which this was signed
     module _ (total : ℕ) (few : total < 2 ^ 64) (found : List ℕ) (sound : IsSomeSound found) (started : Started) (between : Outside)
-        (starts : Starts (Some (still found)) between.file.disk RESERVED total started) (start : N)
-        (begins : indexes start ≡ record { index = started.first; bound = started.state.bound; total = total }) (peers : List Peer) where
+        (starts : Starts (Some (still found)) between.file.disk RESERVED total started) (start : N) (begins : TakesNext (indexes_at total started) (indexes start)) (peers : List Peer)
+        (at_start : List Signing) (announces : SignsOne (indexes_at total started) (indexes start) at_start) where
       -- these turns were made, led here, and this was signed in them
       record SoFar (signed : List Signing) (last : N) (keys : KeyState) (now : KeptFile) : Type 0 where
         pub turns : List Turn
         pub moves : MovesOn steps indexes peers 0 turns start last
-        pub signs : SignsOn steps indexes peers 0 turns start last moves signed
+        pub in_turns : List Signing
+        pub signs : SignsOn steps indexes peers 0 turns start last moves in_turns
+        pub together : signed ≡ at_start ++ in_turns
         pub file : FileMovesOn started.state turns between.file now
         pub keys_are : keys ≡ keys_on started.state turns
 
@@ -139,10 +145,14 @@ module _ {N : Type 0} (steps : Steps N) (indexes : N → Indexes) where
         starts = starts;
         start = start;
         begins = begins;
+        at_start = at_start;
+        announces = announces;
         peers = peers;
         turns = so_far.turns;
         moves = so_far.moves;
+        in_turns = so_far.in_turns;
         signs = so_far.signs;
+        together = so_far.together;
         file = so_far.file;
         keys_are = so_far.keys_are;
         serial = serial;
@@ -174,11 +184,13 @@ module _ {N : Type 0} (steps : Steps N) (indexes : N → Indexes) where
       one_more t signed more old new keys now after so_far turn place m signs moves =
           let ts = so_far.turns in
           let here = shift turn (0 + length ts) (let e : turn ≡ 0 + length ts = omega (arith, place) in e) t old new m more signs in
-          let on = moves_more peers 0 ts t start old new so_far.moves here.0 signed more so_far.signs here.1 in (
+          let on = moves_more peers 0 ts t start old new so_far.moves here.0 so_far.in_turns more so_far.signs here.1 in (
             record {
               turns = ts ++ t ∷ [];
               moves = on.0;
+              in_turns = so_far.in_turns ++ more;
               signs = on.1;
+              together = ap (λ (l : List Signing). l ++ more) so_far.together ∙ append_assoc at_start so_far.in_turns more;
               file = files_more started.state ts t between.file now after so_far.file (subst (λ (k : KeyState). FileMoves t.reserved k now after) so_far.keys_are moves);
               keys_are = ap (λ (k : KeyState). keys_after k t.reserved) so_far.keys_are ∙ sym (keys_more started.state ts t);
             },
@@ -209,10 +221,10 @@ module _ {N : Type 0} (steps : Steps N) (indexes : N → Indexes) where
       -- all turns, and what comes after them
       ran_of : (ts : List Turn) (last : N) (text : Text) (mid after : Outside) (ran : Ran steps indexes peers ts start last started.state (record between { text = text }) mid)
           → ((all : List Signing) → SoFar all last (keys_on started.state ts) mid.file → LeavesBetween steps indexes found all mid.file after.file)
-          → LeavesOn steps indexes found peers 0 ts start last ran.moves started.state between.file mid.file after.file ran.file []
+          → LeavesOn steps indexes found peers 0 ts start last ran.moves started.state between.file mid.file after.file ran.file at_start
       ran_of ts last text mid after ran =
-          turns_of ts start last started.state between.file mid.file after.file [] 0 (record { turns = []; moves = refl; signs = refl; file = refl; keys_are = refl }) refl ran.held.serial
-          ran.moves ran.file
+          turns_of ts start last started.state between.file mid.file after.file at_start 0
+          (record { turns = []; moves = refl; in_turns = []; signs = refl; together = sym (append-nil at_start); file = refl; keys_are = refl }) refl ran.held.serial ran.moves ran.file
 
       last_of : (signed : List Signing) (polled : Option Peer) (last : N) (keys : KeyState) (before after : Outside) (ended : Served) → keys.serial < 2 ^ 64 → SoFar signed last keys before.file
           → EndsTurn steps indexes peers polled last keys before after ended → LeavesBetween steps indexes found signed before.file after.file
@@ -222,7 +234,7 @@ module _ {N : Type 0} (steps : Steps N) (indexes : N → Indexes) where
           turn_of early.t.reserved signed last keys before.file after.file serial so_far early.due early.file
 
       after_of : (count : ℕ) (text : Text) (after : Outside) (ended : Served) (ends : EndsAfter steps indexes peers count start started.state (record between { text = text }) after ended)
-          → LeavesAfter steps indexes found peers count start started.state (record between { text = text }) after ended ends
+          → LeavesAfter steps indexes found at_start peers count start started.state (record between { text = text }) after ended ends
       after_of count text after ended (Whole turns last mid made ran quiet finishes) =
           ran_of turns last text mid after ran (λ all so_far. none_of all mid.file after.file quiet.2)
       after_of count text after ended (Stopped turns last mid made ran ends) =
@@ -230,8 +242,8 @@ module _ {N : Type 0} (steps : Steps N) (indexes : N → Indexes) where
           (λ all so_far. last_of all (polled_by peers (length turns)) last (keys_on started.state turns) mid after ended ran.held.serial so_far ends)
 
       turns_end : (count : ℕ) (after : Outside) (ended : Served) (ends : EndsTurns steps indexes peers (opening_of started) count start started.state between after ended)
-          → LeavesTurns steps indexes found peers (opening_of started) count start started.state between after ended ends
-      turns_end count after ended (Unbegun quiet fails) = none_of [] between.file after.file quiet.2
+          → LeavesTurns steps indexes found at_start peers (opening_of started) count start started.state between after ended ends
+      turns_end count after ended (Unbegun quiet fails) = none_of at_start between.file after.file quiet.2
       turns_end count after ended (Is_begun text first ends) = after_of count text after ended ends
 
 -- the moments of a start, or of one that the file didn't give
@@ -248,5 +260,5 @@ each_moment steps indexes orderly ports total found started peers count start en
     subst (λ (d : Option Disk). Starts d between.file.disk RESERVED total started) still_found opened.starts in
     let kept : KeepsAll (Some (still found)) before.file.past between.file.past = subst (λ (d : Option Disk). KeepsAll d before.file.past between.file.past) still_found opened.kept in (
       start_moments steps indexes found before.file between.file sound kept,
-      turns_end steps indexes orderly total few found sound started between starts start begins peers count after ended ends,
+      λ signed announces. turns_end steps indexes orderly total few found sound started between starts start begins peers signed announces count after ended ends,
     )

@@ -109,7 +109,7 @@ signs_next s told keys i j message fits apart is =
         go false is = absurd (apart (let high : b ≤ a = grind (arith, nat_tests) in omega (arith, order, high)))
 
 -- a step that takes the next index or none, with what was signed in it
-signs_one : (s : Standing) (told : Option Disk) (keys : KeyState) (i j : Indexes) (signed : List Signing) → Fits s told keys i → TakesNext i j → SignsOne i j signed
+pub signs_one : (s : Standing) (told : Option Disk) (keys : KeyState) (i j : Indexes) (signed : List Signing) → Fits s told keys i → TakesNext i j → SignsOne i j signed
     → Went s told keys j signed
 signs_one s told keys i j signed fits (inl same) (Nothing_signed is) = went_none s told keys j (subst (Fits s told keys) (sym same) fits)
 signs_one s told keys i j signed fits (inl same) (One_signed message is) = absurd (omega (arith, is, ap (λ (x : Indexes). x.index) same))

@@ -24,11 +24,11 @@ use Rattle.sp_service_turns.specs.Runs.{keys_on}
 use Rattle.sp_service_turns.specs.declared.indexes.Indexes.{Indexes}
 use Rattle.laws_keystate.specs.Histories.{FollowOn, IsSomeSound, IsStart, Start, formatted, signings_in}
 use Rattle.laws_keystate.specs.RunLaws.{ARunIsAStart, NoRunSignsAgain, RunsAreAHistory}
-use Rattle.laws_keystate.specs.Runs.{After_its_reserve, As_it_stands, At_start, HasRun, In_its_reserve, In_turns, IsLeftNow, IsStopped, MayBeLeft, Run, RunsFollow, SignsInOrder, TurnLeaves, Without_reserve, signed_in}
+use Rattle.laws_keystate.specs.Runs.{After_its_reserve, As_it_stands, At_start, HasRun, In_its_reserve, In_turns, IsLeftNow, IsStopped, MayBeLeft, Run, RunsFollow, SignsInOrder, TurnLeaves, Without_reserve, indexes_at, signed_in}
 use Rattle.laws_keystate.specs.Starts.{Between, Kept, Leaves, Nothing_more, Standing, signings_of}
 use Rattle.laws_keystate.proofs.Elements.{once}
 use Rattle.laws_keystate.proofs.HistoryLemmas.{indexes_rise, left_keeps}
-use Rattle.laws_keystate.proofs.RunLemmas.{Fits, due_bound, turns_go, went_on}
+use Rattle.laws_keystate.proofs.RunLemmas.{Fits, due_bound, signs_one, turns_go, went_on}
 use Rattle.laws_keystate.proofs.StartLemmas.{IsWell, all_well, begins_well}
 use Rattle.laws_keystate.proofs.TakenStart.{Begun, start_goes}
 
@@ -95,15 +95,21 @@ module _ {N : Type 0} (steps : Steps N) (indexes : N → Indexes) (orderly : Sig
   run_goes : (found : List ℕ) (signed : List Signing) (last : N) (keys : KeyState) (now : KeptFile) → HasRun steps indexes found signed last keys now
       → Begun height seed found now.disk keys (indexes last) signed
   run_goes found signed last keys now run =
-      let from = start_goes height seed found run.begun.disk run.started run.total run.few run.starts (indexes run.start) run.begins in
+      let given : Indexes = indexes_at run.total run.started in
+      let from = start_goes height seed found run.begun.disk run.started run.total run.few run.starts given refl in
       let serial = subst (λ (k : KeyState). k.serial < 2 ^ 64) run.keys_are run.serial in
-      let on = turns_go steps indexes orderly run.peers 0 run.turns from.went.next run.started.state run.begun now run.start last signed from.went.fits serial run.file run.moves run.signs in
+      let taken = run.started.state in
+      let first = signs_one from.went.next run.begun.disk taken given (indexes run.start) run.at_start from.went.fits run.begins run.announces in
+      let on = turns_go steps indexes orderly run.peers 0 run.turns first.next taken run.begun now run.start last run.in_turns first.fits serial run.file run.moves run.signs in
+      let keys = keys_on taken run.turns in
+      let all = went_on from.went.next run.begun.disk now.disk taken keys (indexes run.start) (indexes last) run.at_start run.in_turns first on in
       subst (λ (k : KeyState). Begun height seed found now.disk k (indexes last) signed) (sym run.keys_are)
+      (subst (λ (l : List Signing). Begun height seed found now.disk keys (indexes last) l) (sym run.together)
       (record {
         begin = from.begin;
         begins = from.begins;
-        went = went_on from.begin run.begun.disk now.disk run.started.state (keys_on run.started.state run.turns) (indexes run.start) (indexes last) [] signed from.went on;
-      })
+        went = went_on from.begin run.begun.disk now.disk taken keys given (indexes last) [] (run.at_start ++ run.in_turns) from.went all;
+      }))
 
   -- its file is sound now
   pub run_sound : (found : List ℕ) (signed : List Signing) (last : N) (keys : KeyState) (now : KeptFile) → IsSomeSound found

@@ -16,6 +16,7 @@ use Rattle.sp_keystate.specs.declared.starts.TheConstants.{RESERVED}
 use Rattle.sp_outside.specs.Disk.{Disk, bytes_of, still}
 use Rattle.sp_outside.proofs.DiskLemmas.{bytes_of-still}
 use Rattle.sp_service_turns.specs.declared.indexes.Indexes.{Indexes}
+use Rattle.laws_keystate.specs.Runs.{indexes_at}
 use Rattle.laws_keystate.specs.Starts.{And_then, Begins, Boots, Extends, IsChange, Nothing_more, Reserves, Standing, with_boot, with_bound, written}
 use Rattle.laws_keystate.proofs.RunLemmas.{Fits, Went}
 
@@ -112,8 +113,7 @@ module _ (height : LmsParam) (seed found : List ℕ) (slot : Slot) (numbers : Nu
 
 -- what a start promises of a file that is all on the disk
 pub start_goes : (height : LmsParam) (seed found : List ℕ) (after : Option Disk) (started : Started) (total : ℕ) → total < 2 ^ 64
-    → Starts (Some (still found)) after RESERVED total started → (i : Indexes) → i ≡ record { index = started.first; bound = started.state.bound; total = total }
-    → Begun height seed found after started.state i []
+    → Starts (Some (still found)) after RESERVED total started → (i : Indexes) → i ≡ indexes_at total started → Begun height seed found after started.state i []
 start_goes height seed found after started total few starts i i_is =
     let at : BeginsAt after started (still found) = starts.begins in
     let up = no_lower started.first started.state.bound total starts.some starts.bound in

@@ -15,7 +15,7 @@ use Rattle.sp_service_turns.specs.declared.peer.Peer.{Peer}
 use Rattle.sp_service_turns.specs.declared.served.Served.{Served}
 use Rattle.laws_keystate.specs.Histories.{IsHistory, IsSomeSound, IsStart, Start, formatted, signings_in}
 use Rattle.laws_keystate.specs.RunMoments.{LeavesBetween, LeavesTurns}
-use Rattle.laws_keystate.specs.Runs.{IsStopped, Run, RunsFollow, SignsInOrder, SignsInTurn, TakesNext, signed_in}
+use Rattle.laws_keystate.specs.Runs.{IsStopped, Run, RunsFollow, SignsInOrder, SignsInTurn, SignsOne, TakesNext, indexes_at, signed_in}
 use Rattle.laws_keystate.specs.Starts.{signings_of}
 
 -- a run on a sound file, stopped at any moment, is one start of a history: its node signed what the start signs, and it left what the start leaves
@@ -44,25 +44,35 @@ sign_at_ticks old _ answer new = new ≡ old
 abbrev pub indexes_of : Indexes → Indexes
 indexes_of i = i
 
--- there are runs that sign: with such a node, of each message one on a file that was formatted, which signs it with index 0
+-- there are runs that sign: with such a node, of each message one on a file that was formatted, which signs it with index 0; and of each two one that signs
+-- the first at its start and the other in its turn
 abbrev pub ARunSigns : Type 0
 ARunSigns = SignsInOrder sign_at_ticks indexes_of
     × ((message : List ℕ) → (left : List ℕ) × IsStopped sign_at_ticks indexes_of formatted (record { index = 0; message = message } ∷ []) left)
+    × ((first second : List ℕ) → (left : List ℕ) × IsStopped sign_at_ticks indexes_of formatted
+    (record { index = 0; message = first } ∷ record { index = 1; message = second } ∷ []) left)
 
 -- ---- what a daemon promises
 
--- A daemon whose node signs in order, on a sound file that is all on the disk. Whatever a crash may leave until its start is taken, a run leaves that signed
--- nothing; and at each later moment to its end, one that signed what its node had signed in its whole turns
+-- A daemon whose node signs in order, on a sound file that is all on the disk, and took the next of its start's indexes, or none. Whatever a crash may leave
+-- until its start is taken, a run leaves that signed nothing; and at each later moment to its end, one that signed what its node had signed at its start, with
+-- whatever message, and in its whole turns
 abbrev pub EachMomentIsOfARun : {N : Type 0} → Steps N → (N → Indexes) → Type 0
 EachMomentIsOfARun {N} steps indexes =
     SignsInOrder steps indexes → (ports : Ports) (total : ℕ) (found : List ℕ) (started : Started) (peers : List Peer) (count : ℕ) (start : N) (ended : Served)
     (before between after : Outside) → total < 2 ^ 64 → before.file.disk ≡ Some (still found) → IsSomeSound found → IsOpened ports total started before between
-    → indexes start ≡ record { index = started.first; bound = started.state.bound; total = total }
+    → TakesNext (indexes_at total started) (indexes start)
     → (ends : EndsTurns steps indexes peers (opening_of started) count start started.state between after ended)
     → LeavesBetween steps indexes found [] before.file between.file
-    × LeavesTurns steps indexes found peers (opening_of started) count start started.state between after ended ends
+    × ((signed : List Signing) → SignsOne (indexes_at total started) (indexes start) signed
+    → LeavesTurns steps indexes found signed peers (opening_of started) count start started.state between after ended ends)
 
--- in each turn of such a node something is signed, or nothing
+-- at the start of such a node something is signed, or nothing
+abbrev pub StartsSign : Type 0
+StartsSign = (total : ℕ) (started : Started) (start : Indexes) → TakesNext (indexes_at total started) start
+    → (signed : List Signing) × SignsOne (indexes_at total started) start signed
+
+-- and so in each of its turns
 abbrev pub TurnsSign : {N : Type 0} → Steps N → (N → Indexes) → Type 0
 TurnsSign {N} steps indexes = SignsInOrder steps indexes → (peers : List Peer) (polled : Option Peer) (t : Turn) (old new : N)
     (moves : Moves steps indexes peers polled t old new) → (signed : List Signing) × SignsInTurn steps indexes peers polled t old new moves signed

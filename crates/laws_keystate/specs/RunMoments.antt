@@ -1,4 +1,4 @@
--- What a crash may leave at each moment of a daemon: a run so far leaves it, which signed what the daemon's node had signed in its whole turns.
+-- What a crash may leave at each moment of a daemon: a run so far leaves it, which signed what the daemon's node had signed at its start and in whole turns.
 use Rattle.std.specs.Prelude.{ℕ, ◌+◌, List, [], ◌∷◌, ◌++◌}
 use Rattle.sp_hss.specs.Uses.{Signing}
 use Rattle.sp_keystate.specs.declared.key_state.KeyState.{KeyState}
@@ -30,17 +30,19 @@ LeavesOn steps indexes found peers turn (t ∷ ts) old new moves keys now last a
     × ((more : List Signing) → SignsInTurn steps indexes peers (polled_by peers turn) t old moves.0 moves.1 more
     → LeavesOn steps indexes found peers (turn + 1) ts moves.0 new moves.2 (keys_after keys t.reserved) file.0 last after file.2 (signed ++ more))
 
--- from its first line on
-abbrev pub LeavesAfter : {N : Type 0} (steps : Steps N) (indexes : N → Indexes) (found : List ℕ) (peers : List Peer) (count : ℕ) (start : N) (keys : KeyState)
-    (before after : Outside) (ended : Served) → EndsAfter steps indexes peers count start keys before after ended → Type 0
-LeavesAfter steps indexes found peers count start keys before after ended (Whole turns last between made ran quiet finishes) =
-    LeavesOn steps indexes found peers 0 turns start last ran.moves keys before.file between.file after.file ran.file []
-LeavesAfter steps indexes found peers count start keys before after ended (Stopped turns last between made ran ends) =
-    LeavesOn steps indexes found peers 0 turns start last ran.moves keys before.file between.file after.file ran.file []
+-- from its first line on, where this was signed at its start
+abbrev pub LeavesAfter : {N : Type 0} (steps : Steps N) (indexes : N → Indexes) (found : List ℕ) (signed : List Signing) (peers : List Peer) (count : ℕ)
+    (start : N) (keys : KeyState) (before after : Outside) (ended : Served) → EndsAfter steps indexes peers count start keys before after ended → Type 0
+LeavesAfter steps indexes found signed peers count start keys before after ended (Whole turns last between made ran quiet finishes) =
+    LeavesOn steps indexes found peers 0 turns start last ran.moves keys before.file between.file after.file ran.file signed
+LeavesAfter steps indexes found signed peers count start keys before after ended (Stopped turns last between made ran ends) =
+    LeavesOn steps indexes found peers 0 turns start last ran.moves keys before.file between.file after.file ran.file signed
 
 -- and from its start on
-abbrev pub LeavesTurns : {N : Type 0} (steps : Steps N) (indexes : N → Indexes) (found : List ℕ) (peers : List Peer) (o : Opening) (count : ℕ) (start : N)
-    (keys : KeyState) (before after : Outside) (ended : Served) → EndsTurns steps indexes peers o count start keys before after ended → Type 0
-LeavesTurns steps indexes found peers o count start keys before after ended (Unbegun quiet fails) = LeavesBetween steps indexes found [] before.file after.file
-LeavesTurns steps indexes found peers o count start keys before after ended (Begun text first ends) =
-    LeavesAfter steps indexes found peers count start keys (record before { text = text }) after ended ends
+abbrev pub LeavesTurns : {N : Type 0} (steps : Steps N) (indexes : N → Indexes) (found : List ℕ) (signed : List Signing) (peers : List Peer) (o : Opening)
+    (count : ℕ) (start : N) (keys : KeyState) (before after : Outside) (ended : Served) → EndsTurns steps indexes peers o count start keys before after ended
+    → Type 0
+LeavesTurns steps indexes found signed peers o count start keys before after ended (Unbegun quiet fails) =
+    LeavesBetween steps indexes found signed before.file after.file
+LeavesTurns steps indexes found signed peers o count start keys before after ended (Begun text first ends) =
+    LeavesAfter steps indexes found signed peers count start keys (record before { text = text }) after ended ends

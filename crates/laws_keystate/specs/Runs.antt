@@ -1,5 +1,5 @@
--- Runs of daemons on one key file, as their clauses tell them: a start is taken from the file, and turns are made, of which each reserves first where few
--- indexes are left. The node signs meanwhile, and a crash at any moment may end it.
+-- Runs of daemons on one key file, as their clauses tell them: a start is taken from the file, with whose first index the node may sign, and turns are made,
+-- of which each reserves first where few indexes are left. The node signs meanwhile, and a crash at any moment may end it.
 use Rattle.std.specs.Prelude.{ℕ, ◌≡◌, ◌≢◌, ◌+◌, ◌<◌, ◌≤◌, ◌^◌, ◌⊎◌, List, [], ◌∷◌, ◌++◌, length, slice_get, Option, None, Some}
 use Rattle.sp_hss.specs.Uses.{Signing}
 use Rattle.sp_keystate.specs.Starting.{KeepsAll, Starts}
@@ -37,7 +37,11 @@ pub data SignsOne (old new : Indexes) : List Signing → Type 0 where
   Nothing_signed : new.index ≡ old.index → SignsOne old new []
   One_signed : (message : List ℕ) → new.index ≡ old.index + 1 → SignsOne old new (record { index = old.index; message = message } ∷ [])
 
--- and in a turn: at its tick, for a neighbour, for a client and at its poll
+-- the indexes that a start gives
+abbrev pub indexes_at : ℕ → Started → Indexes
+indexes_at total started = record { index = started.first; bound = started.state.bound; total = total }
+
+-- what is signed in a turn: at its tick, for a neighbour, for a client and at its poll
 pub record SignsInTurn {N : Type 0} (steps : Steps N) (indexes : N → Indexes) (peers : List Peer) (polled : Option Peer) (t : Turn) (old new : N)
     (moves : Moves steps indexes peers polled t old new) (signed : List Signing) : Type 0 where
   pub at_tick : List Signing
@@ -60,7 +64,8 @@ SignsOn steps indexes peers turn (t ∷ ts) old new moves signed =
 
 -- ---- a run so far
 
--- From a key file of these bytes, all on the disk, a daemon took a start, and made these turns, of which its node signed this. The file stands for these keys
+-- From a key file of these bytes, all on the disk, a daemon took a start, and made these turns. Its node signed this, at its start and then in the turns. The
+-- file stands for these keys
 pub record HasRun {N : Type 0} (steps : Steps N) (indexes : N → Indexes) (found : List ℕ) (signed : List Signing) (last : N) (keys : KeyState) (now : KeptFile)
     : Type 0 where
   pub total : ℕ
@@ -69,11 +74,15 @@ pub record HasRun {N : Type 0} (steps : Steps N) (indexes : N → Indexes) (foun
   pub begun : KeptFile
   pub starts : Starts (Some (still found)) begun.disk RESERVED total started
   pub start : N
-  pub begins : indexes start ≡ record { index = started.first; bound = started.state.bound; total = total }
+  pub begins : TakesNext (indexes_at total started) (indexes start)
+  pub at_start : List Signing
+  pub announces : SignsOne (indexes_at total started) (indexes start) at_start
   pub peers : List Peer
   pub turns : List Turn
   pub moves : MovesOn steps indexes peers 0 turns start last
-  pub signs : SignsOn steps indexes peers 0 turns start last moves signed
+  pub in_turns : List Signing
+  pub signs : SignsOn steps indexes peers 0 turns start last moves in_turns
+  pub together : signed ≡ at_start ++ in_turns
   pub file : FileMovesOn started.state turns begun now
   pub keys_are : keys ≡ keys_on started.state turns
   pub serial : keys.serial < 2 ^ 64
@@ -108,10 +117,10 @@ pub data TurnLeaves (indexes : Indexes) (keys : KeyState) (now : KeptFile) (imag
   Without_reserve : (refused : KeyRefused) (after : KeptFile) → NoMore indexes keys refused now after → MayBeLeft now.past after.past image
       → TurnLeaves indexes keys now image
 
--- A run on a file of these bytes, all on the disk, was stopped: its node had signed this in its whole turns, and this is left. What it signed in a turn that
--- broke off was never sent
+-- A run on a file of these bytes, all on the disk, was stopped: its node had signed this at its start and in its whole turns, and this is left. What it signed
+-- in a turn that broke off was never sent
 pub data IsStopped {N : Type 0} (steps : Steps N) (indexes : N → Indexes) (found : List ℕ) : (signed : List Signing) (left : List ℕ) → Type 0 where
-  -- while its start was taken
+  -- while its start was taken: no node had begun
   At_start : (left : List ℕ) (past now : Option (List Disk)) → KeepsAll (Some (still found)) past now → MayBeLeft past now left
       → IsStopped steps indexes found [] left
   -- in a turn, or after the last
@@ -120,7 +129,7 @@ pub data IsStopped {N : Type 0} (steps : Steps N) (indexes : N → Indexes) (fou
 
 -- ---- runs one after another
 
--- what the node of a run signed, and the file that it left
+-- what the node of a run signed, at its start too, and the file that it left
 pub record Run : Type 0 where
   pub signed : List Signing
   pub left : List ℕ

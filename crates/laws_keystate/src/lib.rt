@@ -5,7 +5,8 @@ ghost use Rattle.laws_keystate.specs.Calls.{ABootIsAnAct, ACrashLeavesWhatAStart
 ghost use Rattle.laws_keystate.specs.Disks.{AReadGivesAnImage, ASyncLeavesOneImage, AWriteTakesNoImage, AnyBytesMayStand};
 ghost use Rattle.laws_keystate.specs.Laws.{AStartSignsWhatItReserved, AnUpperLeafSignsOneKey, BootsRise, EveryFileIsSound};
 ghost use Rattle.laws_keystate.specs.Laws.{AHistorySigns, IndexesRise, NoIndexSignsTwoMessages, NoKeySignsTwoMessages};
-ghost use Rattle.laws_keystate.specs.RunLaws.{ARunIsAStart, ARunSigns, EachMomentIsOfARun, NoRunSignsAgain, RunsAreAHistory, TurnsSign};
+ghost use Rattle.laws_keystate.specs.RunLaws.{ARunIsAStart, ARunSigns, EachMomentIsOfARun, NoRunSignsAgain, RunsAreAHistory};
+ghost use Rattle.laws_keystate.specs.RunLaws.{StartsSign, TurnsSign};
 
 use sp_service_turns::Core;
 
@@ -84,9 +85,15 @@ pub fn no_run_signs_again<N: Core>()
     ensures { NoRunSignsAgain N.steps N.indexes }
 {}
 
-/// A law: whatever a crash leaves at any moment of a daemon, a run so far leaves that signed what the daemon's node had signed in its whole turns.
+/// A law: whatever a crash leaves at any moment of a daemon, a run so far leaves that signed what the daemon's node had signed at its start and in its whole
+/// turns.
 pub fn each_moment_is_of_a_run<N: Core>()
     ensures { EachMomentIsOfARun N.steps N.indexes }
+{}
+
+/// A law: of each start there is something that was signed at it, or nothing.
+pub fn starts_sign()
+    ensures { StartsSign }
 {}
 
 /// A law: of each turn there is something that was signed in it, or nothing.

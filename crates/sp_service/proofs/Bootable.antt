@@ -1,9 +1,10 @@
 -- A configuration that fits its topology makes a node that may boot.
-use Rattle.std.proofs.Common.{◌≡◌, ◌≤◌, ℕ, true, false, eqb, List, [], ◌∷◌, map, refl, sym, ap, inl, inr, arith}
+use Rattle.std.proofs.Common.{◌≡◌, ◌≤◌, ℕ, true, false, eqb, List, [], ◌∷◌, map, refl, ap, inl, inr, arith}
 use Rattle.std.specs.List.{All}
-use Rattle.std.proofs.lemmas.Bool.{cases_Bool, eqb-false}
+use Rattle.std.proofs.lemmas.Bool.{cases_Bool, eqb-false, eqb-true}
 use Rattle.std.proofs.lemmas.List.Elements.{All-cons, All-nil}
 use Rattle.std.specs.Prelude.{zip}
+use Rattle.sp_base.specs.declared.format.TheConstants.{FORMAT_2}
 use Rattle.sp_base.specs.declared.id.EdgeId.{EdgeId}
 use Rattle.sp_base.specs.declared.id.NodeId.{NodeId}
 use Rattle.sp_config.specs.declared.config.Config.{Config}
@@ -44,5 +45,7 @@ bootable c t o fits topology opening = record {
   is_mine = fits.own;
   keys = edges_of (neighbours_from c.node.0 0 t.edges) c.peers fits.peers.neighbours_are;
   life = opening.boot;
-  announces = λ on. absurd (let wrong : true ≡ false = sym on in cc);
+  announces = λ on.
+      let format : t.format ≡ FORMAT_2 = eqb-true t.format FORMAT_2 on in
+      record { format = format; index = opening.announces format };
 }

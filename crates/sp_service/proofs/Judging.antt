@@ -19,8 +19,8 @@ use Rattle.sp_service_turns.specs.declared.compared.VerifyRefused.{VerifyRefused
 use Rattle.sp_service_turns.specs.declared.compared.VerifyRefused.TheVariants as refusals
 use Rattle.sp_topology.specs.declared.topology.Topology.{Topology}
 use Rattle.sp_service.specs.Parts.{ComeTo, ComesFrom, TellsVerified}
-use Rattle.sp_service.specs.Starts.{IsOpening, IsStarted, total_of}
-use Rattle.sp_service.specs.Verdicts.{All_agree, Bad_line, IsPlayed, IsVerdict, No_first_line, One_differs, Reads, form_line}
+use Rattle.sp_service.specs.Starts.{CanAnnounce, IsOpening, IsStarted, total_of}
+use Rattle.sp_service.specs.Verdicts.{All_agree, Bad_line, IsPlayed, IsVerdict, No_first_index, No_first_line, One_differs, Reads, form_line}
 use Rattle.sp_service.specs.declared.verdict.Judged.{Judged}
 use Rattle.sp_service.specs.declared.verdict.Verdict.{Verdict}
 use Rattle.sp_service.specs.declared.verdict.Verdict.TheVariants as verdicts
@@ -31,10 +31,23 @@ may_open_of t near stages.Start o good is = absurd (cc)
 may_open_of t near (stages.Lines p ls held) o good is = subst (rows.IsOpening (total_of t)) (let e : p ≡ o = cc in e) good.0.opening
 may_open_of t near (stages.End p ls c) o good is = subst (rows.IsOpening (total_of t)) (let e : p ≡ o = cc in e) good.opening
 
-pub may_open : (t : Topology) (near : List _) (stage : Stage) (o : Opening) → IsGoodStage (total_of t) near stage → opening_in stage ≡ Some o → IsOpening t o
-may_open t near stage o good is =
+pub may_open : (t : Topology) (near : List _) (stage : Stage) (o : Opening) → IsGoodStage (total_of t) near stage → opening_in stage ≡ Some o → CanAnnounce t o → IsOpening t o
+may_open t near stage o good is announces =
     let opens = may_open_of t near stage o good is in
-    record { boot = opens.boot.0; index = opens.index; bound = opens.bound }
+    record { boot = opens.boot.0; index = opens.index; bound = opens.bound; announces = announces }
+
+-- nor is a first line that leaves no index a good one
+pub unindexed : (c : Config) (t : Topology) (before : ℕ) (text out : List ℕ) (reading : Reading) (o : Opening) → Reads c t before text reading
+    → opening_in reading.stage ≡ Some o → ¬ CanAnnounce t o → out ≡ form_line (before + 1) → IsVerdict c t before text verdicts.Refused out
+unindexed c t before text out reading o reads opens none is =
+    subst (λ (x : List ℕ). IsVerdict c t before text verdicts.Refused x) (sym is) (No_first_index reading o reads opens none)
+
+pub all_unindexed : {E : Type 0} (c : Config) (t : Topology) (before : ℕ) (text : List ℕ) (reading : Reading) (o : Opening) (r : Result Judged E)
+    → Reads c t before text reading → opening_in reading.stage ≡ Some o → ¬ CanAnnounce t o → IfOk r (λ j. j.verdict ≡ verdicts.Refused)
+    → IfOk r (λ j. j.line ≡ form_line (before + 1)) → IfOk r (λ j. IsVerdict c t before text j.verdict j.line)
+all_unindexed c t before text reading o (Ok j) reads opens none verdict line =
+    subst (λ (v : Verdict). IsVerdict c t before text v j.line) (sym verdict) (unindexed c t before text j.line reading o reads opens none line)
+all_unindexed c t before text reading o (Err e) reads opens none verdict line = tt
 
 -- a text that isn't begun as a recording has a bad line
 not_whole : (stage : Stage) (line : ℕ) (stop : Stop _) → opening_in stage ≡ None → ending_of stage line stop ≡ endings.Whole → ⊥
@@ -85,20 +98,20 @@ come c t before text out reading start verdicts.Refused reads plays comes =
     subst (λ (x : List ℕ). IsVerdict c t before text verdicts.Refused x) (sym comes.2) (Bad_line reading start comes.0 reads plays comes.1)
 
 played : (c : Config) (t : Topology) (before : ℕ) (text out : List ℕ) (reading : Reading) (o : Opening) (verdict : Verdict)
-    → Reads c t before text reading → opening_in reading.stage ≡ Some o → ComesFrom c t o before reading verdict out → IsVerdict c t before text verdict out
-played c t before text out reading o verdict reads opens from =
-    come c t before text out reading from.start verdict reads (record { opening = o; opens = opens; started = from.started }) from.comes
+    → Reads c t before text reading → opening_in reading.stage ≡ Some o → CanAnnounce t o → ComesFrom c t o before reading verdict out → IsVerdict c t before text verdict out
+played c t before text out reading o verdict reads opens announces from =
+    come c t before text out reading from.start verdict reads (record { opening = o; opens = opens; announces = announces; started = from.started }) from.comes
 
 if_ok : {X E : Type 0} (P Q : X → Type 0) (r : Result X E) → ((v : X) → P v → Q v) → IfOk r P → IfOk r Q
 if_ok P Q (Ok v) go has = go v has
 if_ok P Q (Err e) go has = tt
 
 pub all_played : {E : Type 0} (c : Config) (t : Topology) (before : ℕ) (text : List ℕ) (reading : Reading) (o : Opening) (r : Result Judged E)
-    → Reads c t before text reading → opening_in reading.stage ≡ Some o → IfOk r (λ j. ComesFrom c t o before reading j.verdict j.line)
+    → Reads c t before text reading → opening_in reading.stage ≡ Some o → CanAnnounce t o → IfOk r (λ j. ComesFrom c t o before reading j.verdict j.line)
     → IfOk r (λ j. IsVerdict c t before text j.verdict j.line)
-all_played c t before text reading o r reads opens =
+all_played c t before text reading o r reads opens announces =
     if_ok (λ j. ComesFrom c t o before reading j.verdict j.line) (λ j. IsVerdict c t before text j.verdict j.line) r
-    (λ j. played c t before text j.line reading o j.verdict reads opens)
+    (λ j. played c t before text j.line reading o j.verdict reads opens announces)
 
 -- the ids of the peers are those of the neighbours
 pub near_list : (c : Config) (t : Topology) (ids : List NodeId) (peers : List Peer) → Fits c t → peers ≡ c.peers → ids ≡ map (λ p. p.id) peers → ids ≡ neighbours c t

@@ -6,7 +6,7 @@ use Rattle.sp_base.proofs.FormatLemmas.{few_edges}
 use Rattle.sp_config.specs.declared.config.Config.{Config}
 use Rattle.sp_config.specs.declared.config.Peer.{Peer}
 use Rattle.sp_service.specs.Fits.{Fits, neighbours}
-use Rattle.sp_service.specs.NodeParts.{peers_of}
+use Rattle.sp_service.specs.NodeParts.{node_signer, peers_of}
 use Rattle.sp_service_turns.specs.declared.peer.Peer as near
 use Rattle.sp_topology.specs.Neighbours.{neighbour, neighbours_from, other_end}
 use Rattle.sp_topology.specs.Ranges.{IsTopology}
@@ -17,24 +17,29 @@ use Rattle.sp_keystate.specs.States.{StandsFor}
 use Rattle.sp_keystate.specs.declared.starts.Started.{Started}
 use Rattle.sp_keystate.specs.declared.starts.TheConstants.{RESERVED}
 use Rattle.sp_outside.specs.Disk.{Disk}
-use Rattle.sp_service_station.specs.Stations.{Station, indexes_in}
+use Rattle.sp_service_station.proofs.Boots.{bound_at_start}
+use Rattle.sp_service_station.specs.Stations.{Station, indexes_in, node_of}
 use Rattle.sp_service_turns.specs.Keys.{HoldsKeys}
 use Rattle.sp_service_turns.specs.Served.{opening_of}
-use Rattle.sp_service.specs.Starts.{IsOpening, IsStarted, total_of}
+use Rattle.sp_service.specs.Starts.{IsOpening, IsStarted, node_config, total_of}
 
 -- a list keeps its length
 mapped : {A B : Type 0} (f : A → B) (xs : List A) → length (map f xs) ≡ length xs
 mapped f [] = refl
 mapped f (x ∷ xs) = let rest = mapped f xs in omega (arith, rest)
 
--- a start's indexes are those of the key
+-- a start's indexes are those of the key, and there is one
 pub is_opening : (t : Topology) (told now : Option Disk) (started : Started) → Starts told now RESERVED (total_of t) started → IsOpening t (opening_of started)
 is_opening t told now started starts = record {
   boot = starts.boot.0;
   index = omega (arith, forward started.first (total_of t) starts.some, starts.bound);
   bound = omega (arith, capped started.first (total_of t), starts.bound);
+  announces = λ two. omega (arith, before started.first (total_of t) starts.some, starts.bound);
 }
   where
+    before : (first total : ℕ) → first < total → first < min (first + RESERVED) total
+    before first total less = grind (arith, less)
+
     forward : (first total : ℕ) → first < total → first ≤ min (first + RESERVED) total
     forward first total less = grind (arith, less)
 
@@ -46,7 +51,8 @@ pub held_at_start : (c : Config) (t : Topology) (started : Started) (told : Opti
     → IsStarted c t (opening_of started) start
     → HoldsKeys told started.state (indexes_in start)
 held_at_start c t started told start stands numbered begun =
-    record { stands = stands; bound = sym (ap (λ (n : _). n.signer.bound) begun.node); serial = numbered }
+    let own = node_signer c t.height started.first started.state.bound in
+    record { stands = stands; bound = sym (bound_at_start (node_config c t) own started.state.boot (node_of start) begun.node); serial = numbered }
 
 one : (place : ℕ) (o : Option NodeId) → length (neighbour place o) ≤ 1
 one place None = omega arith

@@ -1,10 +1,11 @@
 -- How a daemon's node starts: nothing was sent, heard or kept, no client has a session, and the signer has the indexes that the first line of the
--- recording says.
-use Rattle.std.specs.Prelude.{ℕ, ◌≡◌, ◌≤◌, false}
+-- recording says. Under a document of format 2 it has signed its boot with the first of them, and holds it.
+use Rattle.std.specs.Prelude.{ℕ, ◌≡◌, ◌≤◌, ◌<◌, ◌==◌}
+use Rattle.sp_base.specs.declared.format.TheConstants.{FORMAT_2}
 use Rattle.sp_client.specs.Tables.{no_sessions}
 use Rattle.sp_config.specs.declared.config.Config.{Config}
 use Rattle.sp_hss.specs.KeyTree.{total}
-use Rattle.sp_node_state.specs.Boots.{booted_of}
+use Rattle.sp_node_state.specs.Boots.{started_of}
 use Rattle.sp_node_state.specs.declared.boot.NodeConfig.{NodeConfig}
 use Rattle.sp_recording.specs.declared.line.Opening.{Opening}
 use Rattle.sp_service.specs.NodeParts.{link_keys, node_signer}
@@ -12,20 +13,31 @@ use Rattle.sp_service_station.specs.Stations.{Station, node_of}
 use Rattle.sp_sign.specs.Heights.{param_of}
 use Rattle.sp_topology.specs.declared.topology.Topology.{Topology}
 
--- it runs without epochs
+-- it runs with epochs under a document of format 2, and without under one of format 1
 abbrev pub node_config : Config → Topology → NodeConfig
-node_config c t = record { me = c.node; topology = t; limits = record { buffer = c.buffer; store = c.store }; keys = link_keys c t; epochs = false }
+node_config c t = record {
+  me = c.node;
+  topology = t;
+  limits = record { buffer = c.buffer; store = c.store };
+  keys = link_keys c t;
+  epochs = t.format == FORMAT_2;
+}
 
 -- how many messages the node's key signs
 abbrev pub total_of : Topology → ℕ
 total_of t = total (param_of t.height)
+
+-- a start under a document of format 2 has an index, with which its node signs its boot
+abbrev pub CanAnnounce : Topology → Opening → Type 0
+CanAnnounce t o = t.format ≡ FORMAT_2 → o.index < o.bound
 
 -- the number of the start is one, and its indexes are those of the key
 pub record IsOpening (t : Topology) (o : Opening) : Type 0 where
   pub boot : 1 ≤ o.boot
   pub index : o.index ≤ o.bound
   pub bound : o.bound ≤ total_of t
+  pub announces : CanAnnounce t o
 
 pub record IsStarted (c : Config) (t : Topology) (o : Opening) (s : Station) : Type 0 where
-  pub node : node_of s ≡ booted_of (node_config c t) (node_signer c t.height o.index o.bound) o.boot
+  pub node : node_of s ≡ started_of (node_config c t) (node_signer c t.height o.index o.bound) o.boot
   pub clients : s.clients ≡ no_sessions

@@ -2,9 +2,10 @@
 --
 --     verified N                          all digests of the recording, so many, are those of the node's answers
 --     mismatch LINE RECORDED COMPUTED     the first digest that isn't, with no bad line before it
---     refused LINE Form                   the first bad line of the recording, where no digest before it differs
+--     refused LINE Form                   the first bad line of the recording, where no digest before it differs. Under a document of format 2 a
+--                                         first line whose INDEX isn't below its BOUND is one, since the node signs its boot with that index
 --     refused 0 ..                        the input is no configuration that fits; this comes before all else
-use Rattle.std.specs.Prelude.{ℕ, ◌≡◌, ◌⊎◌, Bool, true, false, List, [], ◌∷◌, take, drop, None, Some, codes}
+use Rattle.std.specs.Prelude.{ℕ, ◌≡◌, ◌+◌, ◌⊎◌, Bool, true, false, List, [], ◌∷◌, take, drop, None, Some, codes}
 use Rattle.std.specs.Fmt.{decimal}
 use Rattle.sp_config.specs.RefusedLines.{too_big_line}
 use Rattle.sp_config.specs.declared.config.Config.{Config}
@@ -21,7 +22,7 @@ use Rattle.sp_text.specs.Spelling.{hex_word}
 use Rattle.sp_topology.specs.declared.topology.Topology.{Topology}
 use Rattle.sp_service.specs.Configured.{IsConfigured, IsRefused}
 use Rattle.sp_service.specs.Splits.{IsSplit, line_count}
-use Rattle.sp_service.specs.Starts.{IsStarted, total_of}
+use Rattle.sp_service.specs.Starts.{CanAnnounce, IsStarted, total_of}
 use Rattle.sp_service.specs.declared.verdict.Verdict.{Verdict}
 use Rattle.sp_service.specs.declared.verdict.Verdict.TheVariants as verdicts
 
@@ -42,10 +43,11 @@ form_line line = line_text (codes "refused" ∷ decimal line ∷ codes "Form" �
 abbrev pub Reads : Config → Topology → ℕ → List ℕ → Reading → Type 0
 Reads c t before text reading = IsReading (total_of t) (neighbours c t) before text reading
 
--- the node at the start that the recording's first line says
+-- the node at the start that the recording's first line says, which has an index where the node signs its boot
 pub record IsPlayed (c : Config) (t : Topology) (reading : Reading) (start : Station) : Type 0 where
   pub opening : Opening
   pub opens : opening_in reading.stage ≡ Some opening
+  pub announces : CanAnnounce t opening
   pub started : IsStarted c t opening start
 
 -- ---- verdicts
@@ -59,6 +61,8 @@ pub data IsVerdict (c : Config) (t : Topology) (before : ℕ) (text : List ℕ) 
       → IsVerdict c t before text verdicts.Mismatch (mismatch_line line recorded computed)
   Bad_line : (reading : Reading) (start : Station) (line : ℕ) → Reads c t before text reading → IsPlayed c t reading start
       → IsBadAfter StationStep start reading line → IsVerdict c t before text verdicts.Refused (form_line line)
+  No_first_index : (reading : Reading) (opening : Opening) → Reads c t before text reading → opening_in reading.stage ≡ Some opening → ¬ CanAnnounce t opening
+      → IsVerdict c t before text verdicts.Refused (form_line (before + 1))
   No_first_line : (reading : Reading) (line : ℕ) → Reads c t before text reading → opening_in reading.stage ≡ None → reading.ending ≡ endings.Form line
       → IsVerdict c t before text verdicts.Refused (form_line line)
 

@@ -13,7 +13,7 @@ use crate::configured::{Configured, configure};
 use crate::fitting::Fitted;
 use crate::ready::total;
 use crate::split::{line_count, split};
-use crate::starts::station_at;
+use crate::starts::{can_announce, station_at};
 use crate::verdict::{Judged, Verdict};
 use crate::verdict_lines::{form_line, mismatch_line, verified_line};
 use sp_base::{Memory, NodeId};
@@ -61,7 +61,7 @@ fn parts(text: &[u8], place: usize) -> (&[u8], &[u8])
 }
 
 /// Verifies the text of a recording, before which so many lines stand.
-#[tactic(auto, using(crate::proofs::Judging::all_played, crate::proofs::Judging::unopened, crate::proofs::Judging::may_open))]
+#[tactic(auto, using(crate::proofs::Judging::unindexed, crate::proofs::Judging::unopened, crate::proofs::Judging::may_open))]
 fn verify_text(
     alloc: Global,
     config: &Config,
@@ -77,10 +77,13 @@ fn verify_text(
 {
     let near = neighbours(alloc, config, &fitted.topology)?;
     let reading = read(alloc, total(fitted.topology.height), &near, before, text)?;
-    match opening_in(&reading.stage) {
-        Some(opening) => verify_opened(alloc, config, fitted, opening, before, &reading),
-        None => no_first_line(alloc, &reading),
+    let Some(opening) = opening_in(&reading.stage) else {
+        return no_first_line(alloc, &reading);
+    };
+    if !can_announce(&fitted.topology, opening) {
+        return no_first_index(alloc, before);
     }
+    verify_opened(alloc, config, fitted, opening, before, &reading)
 }
 
 /// Verifies what was read after the first line: the node starts as the line says, and is asked the others.
@@ -146,6 +149,18 @@ fn no_first_line(alloc: Global, reading: &Reading) -> Result<Judged, Memory>
             line: form_line(alloc, line)?,
         }),
     }
+}
+
+/// The refusal of a recording whose first line leaves its node no index to sign its boot with.
+fn no_first_index(alloc: Global, before: u32) -> Result<Judged, Memory>
+    requires { before ≤ MAX_INPUT_BYTES }
+    ensures verdict { IfOk result (λ judged. judged.verdict ≡ Verdict.Refused) }
+    ensures line { IfOk result (λ judged. judged.line ≡ form_line (before + 1)) }
+{
+    Ok(Judged {
+        verdict: Verdict::Refused,
+        line: form_line(alloc, before + 1)?,
+    })
 }
 
 /// Asks the lines of the node again.
