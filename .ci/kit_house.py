@@ -10,6 +10,7 @@ import time
 ROOT = os.path.dirname(os.path.dirname(os.path.abspath(__file__)))
 KIT = os.path.join(ROOT, "kit")
 SCRIPTS = ("spinesd-keys", "spinesd-status", "spinesd-sessions", "spinesd-client", "spinesd-explain", "spinesd-view", "spinesd-node")
+PAGES = ["spinesd-client.1", "spinesd-recording.5", "spinesd-schedule.5", "spinesd.1", "spinesd.conf.5"]
 EXPOSURE = 2.0
 COMPLETED = [
     ("_spinesd", ["spinesd", "v"], ["verify"]), ("_spinesd", ["spinesd", "ask", "--p"], ["--port"]), ("_spinesd", ["spinesd", "daemon", "--turns", ""], []),
@@ -20,9 +21,9 @@ COMPLETED = [
 INSTALLED = sorted([
     "bin/spinesd", *("bin/" + name for name in SCRIPTS), *("lib/spinesd/kit/" + name for name in SCRIPTS), "lib/spinesd/kit/endings.md",
     "lib/spinesd/kit/page.html", *(f"lib/spinesd/kit/lib/{name}.py" for name in (
-        "clients", "configurations", "dialogues", "endings", "films", "frames", "holders", "journals", "metrics", "overlays", "paths", "pruning", "readings", "recordings",
-        "renewals", "scripts", "sessions", "stores", "tables", "tellings", "watching")),
-    "share/man/man1/spinesd-client.1", "share/man/man1/spinesd.1", "share/man/man5/spinesd-recording.5", "share/man/man5/spinesd-schedule.5", "share/man/man5/spinesd.conf.5",
+        "clients", "configurations", "dialogues", "endings", "films", "frames", "holders", "journals", "metrics", "overlays", "paths", "pruning", "readings",
+        "recordings", "renewals", "scripts", "sessions", "stores", "tables", "tellings", "watching")),
+    *(f"share/man/man{page[-1]}/{page}" for page in PAGES),
     "share/bash-completion/completions/spinesd", "share/spinesd/spinesd.default", "lib/systemd/system/spinesd@.service",
 ])
 RESTART = "RestartPreventExitStatus=2 3 8 13"
@@ -36,7 +37,7 @@ def tool(*words, **more):
 
 def man_pages(kit):
     pages = sorted(glob.glob(KIT + "/man/*"))
-    kit.equal("man pages", [os.path.basename(page) for page in pages], ["spinesd-client.1", "spinesd-recording.5", "spinesd-schedule.5", "spinesd.1", "spinesd.conf.5"])
+    kit.equal("man pages", [os.path.basename(page) for page in pages], PAGES)
     text = open(pages[3], encoding="utf-8").read()
     kit.equal("spinesd(1): the statuses", re.findall(r"^\.It (\d+)$", text, re.MULTILINE), ["0", *map(str, range(2, 14))])
     keys = re.findall(r"^\.It Ic (\w+)$", open(pages[4], encoding="utf-8").read(), re.MULTILINE)

@@ -50,6 +50,26 @@ STARTS = b"""journal 1
 6 ticked
 summary events 6 sent 0 delivered 0 priority 0 frames 2
 """
+# a schedule whose nodes start and stop, and its journal: a frame comes to a node that doesn't run, and again when it does
+LIVES = SCHEDULE.replace(b"bad 1\n", b"bad 1\nepochs\n").split(b"rel ")[0] + b"""start 31
+poll 31 32
+pass 31 32 1
+start 32
+pass 31 32 1
+stop 32
+end
+"""
+LIVED = b"""journal 1
+1 started 1 0
++ signed 071f0000000000000001
+2 frame 1 76 00
+3 down
+4 started 1 0
++ signed 07200000000000000001
+5 learned 1
+6 stopped
+summary events 6 sent 0 delivered 0 priority 0 frames 1
+"""
 
 
 def graph_of(first, nodes, edges):
@@ -186,6 +206,9 @@ def views(kit):
     page = kit.run("spinesd-view", kit.write("starts.schedule", SCHEDULE), kit.write("starts.journal", STARTS))[1]
     kit.equal("format 2: starts in a journal", [(step[4][4], step[5], step[7]) for step in film_of(page)["steps"][2:5:2]],
               [(["epoch"], [["rel", 31, 32, "ended", 0]], "ended"), (["rel", "epoch"], [], "ended")])
+    film = film_of(kit.run("spinesd-view", kit.write("lives.schedule", LIVES), kit.write("lives.journal", LIVED))[1])
+    kit.equal("format 2: nodes that start and stop", [(step[0], step[4] and step[4][0], step[7]) for step in film["steps"]],
+              [(31, None, ""), (31, "made", ""), (32, None, "refused"), (32, None, ""), (32, "arrives", ""), (32, None, "")])
     status, _, why = kit.run("spinesd-view", kit.write("third.schedule", SCHEDULE.replace(b"schedule 2", b"schedule 3")), kit.write("no.journal", b"journal 1\n"))
     kit.holds("format 2: no page of a third format", status == 1 and "`schedule 1` or `schedule 2`" in why, why)
 

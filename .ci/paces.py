@@ -1,11 +1,10 @@
 """Looks at when a daemon rests, waits and sends: python3 .ci/paces.py PATH/TO/spinesd
 
-A hub runs under the library of system_calls.c, and the script plays its three neighbours and a client, so its calls follow from what these send. Without
-news it rests, for 100 ms at a time, and each frame goes. News, new starts and requests wake it, and what says nothing new doesn't. Awake it waits for its neighbours, each
-of which is sent no frame while it has one to answer, but for one of 32; who lets three waits pass is waited for no more, and a stranger answers for nobody.
-Of a neighbour that floods it a bounded number is taken in a turn, and the newest few are heard; strays that aren't taken end no wait, and one is heard in every
-second cycle at most while neighbours wait.
-Each difference is told, and the status is then 1. It needs a C compiler, `cc`.
+A hub runs under the library of system_calls.c, and the script plays its three neighbours and a client, so its calls follow from what these send. Without news
+it rests, for 100 ms at a time, and each frame goes. News, new starts and requests wake it, and what says nothing new doesn't. Awake it waits for its
+neighbours, each of which is sent no frame while it has one to answer, but for one of 32; who lets three waits pass is waited for no more, and a stranger
+answers for nobody. Of a neighbour that floods it a bounded number is taken in a turn, and the newest few are heard; strays that aren't taken end no wait, and
+one is heard in every second cycle at most while neighbours wait. Each difference is told, and the status is then 1. It needs a C compiler, `cc`.
 """
 
 import hashlib

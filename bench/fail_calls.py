@@ -1,11 +1,11 @@
 """Runs each command once for each of its allocations, reads and writes, which then fails: python3 bench/fail_calls.py PATH/TO/spinesd [--all]
 
-Where an allocation fails a run must end with status 0 and its output, or with status 9 and nothing written; a second round lets each later
-allocation fail too. Where one read of the input fails, and the next would go well, it must end with status 5 and nothing written; where one
-write fails, with status 6 and a beginning of the output. A replay writes while it reads, so on 9 and 5 too it may have written a beginning. A command
-of which no allocation, read or write is counted is a fault of its own: then nothing was tried. `generate` reads nothing, so there no read may be counted. Each allocation fails in a copy of the run that is made at it
-(`fail_calls.c`), so that no run begins anew for it. Of more than MOST allocations so many are tried, evenly apart; with --all each is. It needs a C
-compiler, `cc`.
+Where an allocation fails a run must end with status 0 and its output, or with status 9 and nothing written; a second round lets each later allocation fail too.
+Where one read of the input fails, and the next would go well, it must end with status 5 and nothing written; where one write fails, with status 6 and a
+beginning of the output. A replay writes while it reads, so on 9 and 5 too it may have written a beginning. A command of which no allocation, read or write is
+counted is a fault of its own: then nothing was tried. `generate` reads nothing, so there no read may be counted. Each allocation fails in a copy of the run
+that is made at it (`fail_calls.c`), so that no run begins anew for it. Of more than MOST allocations so many are tried, evenly apart; with --all each is. It
+needs a C compiler, `cc`.
 """
 
 import functools
@@ -24,6 +24,8 @@ RUNS = [
     (["replay"], "crates/spinesd/stdin", "crates/spinesd/stdout"),
     (["replay"], "conformance/schedules/acknowledgement.schedule", "conformance/schedules/acknowledgement.out"),
     (["replay"], "conformance/schedules/expiry.schedule", "conformance/schedules/expiry.out"),
+    (["replay"], "conformance/restarts/frames_of_an_earlier_life.schedule", "conformance/restarts/frames_of_an_earlier_life.out"),
+    (["replay"], "conformance/restarts/reserve_at_the_border.schedule", "conformance/restarts/reserve_at_the_border.out"),
     (["replay"], "conformance/schedules/generated_7.schedule", "conformance/schedules/generated_7.out"),
     (["generate", "--seed", "7"], None, "conformance/generated/seed_7.summary"),
     (["paths", "--from", "1", "--to", "4", "--paths", "2"], "examples/trap.graph", b"path 1 2 4\npath 1 3 4\ncost 10\n"),

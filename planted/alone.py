@@ -1,8 +1,9 @@
 """Tries planted bugs by their functions alone: python3 planted/alone.py CRATE/NAME .. or CRATE ..
 
-CRATE/NAME is the bug of planted/CRATE/NAME.edit, CRATE all of a crate. Each is put into a copy of its crate, of which only the function is checked where it stands, over the libraries that
-a gate left in crates/: some twenty seconds, where a check of the crate takes minutes. So `.ci/run` tries a few. A bug is refused where all else is read and that
-function isn't proved. The status is 1 where one isn't refused or can't be planted.
+CRATE/NAME is the bug of planted/CRATE/NAME.edit, CRATE all of a crate. Each is put into a copy of its crate, of which only the function is checked where it
+stands, over the libraries that a gate left in crates/: some twenty seconds, where a check of the crate takes minutes. So `.ci/run` tries a few. A bug is
+refused where all else is read and that function isn't proved, and NOT REFUSED where the checker proves it. Where the checker stops before it judges the
+function, as over libraries of two builds, the bug is NOT CHECKED, with the cause. The status is 1 where one isn't refused, isn't checked or can't be planted.
 """
 
 import os
@@ -62,6 +63,20 @@ def function_of(text, file, place):
     return found
 
 
+def judged(crate, function, said):
+    """What the checker's text says of this function, and whether it refuses it. Where a module of another crate has an error nothing here was judged, though
+    the checker says then that the function isn't proved."""
+    lines = [line for line in said.split("\n") if line.strip()]
+    below = [line for line in lines if re.match(rf"the module `Rattle\.(?!{crate}\b).*: error: ", line)]
+    answers = [line for line in lines if re.match(rf"fn [\w:+]*\b{re.escape(function)}: ", line)]
+    if not below and any(re.search(": (no proof(?!: it calls)|not proved)", line) for line in answers):
+        return f"refused at {function}", True
+    if not below and any(line.endswith(": proved") for line in answers):
+        return f"NOT REFUSED at {function}", False
+    causes = below + answers + [line for line in lines if line.startswith("rattle: ") or re.search(r"\berror\b", line)] + lines[-1:]
+    return f"NOT CHECKED: {causes[0] if causes else 'the checker said nothing'}", False
+
+
 def answer_to(uses, crate, name):
     """What became of a bug, and whether it was refused."""
     file, pairs = read_edit(os.path.join(ROOT, "planted", crate, f"{name}.edit"))
@@ -79,8 +94,7 @@ def answer_to(uses, crate, name):
         ended = subprocess.run(words, cwd=folder, stdout=subprocess.PIPE, stderr=subprocess.STDOUT, text=True, check=False)
     if os.environ.get("SHOW"):
         print(ended.stdout)
-    is_refused = re.search(rf"^fn [\w:+]*\b{re.escape(function)}: (no proof(?!: it calls)|not proved)", ended.stdout, re.M)
-    return (f"refused at {function}", True) if is_refused else (f"NOT REFUSED at {function}", False)
+    return judged(crate, function, ended.stdout)
 
 
 def bugs(words):
@@ -100,7 +114,7 @@ def main():
         count += 1
         wrong += not is_refused
         print(f"{crate}/{name}: {said}", flush=True)
-    print(f"{count} planted bugs tried alone, {wrong} not refused")
+    print(f"{count} planted bugs tried alone, {wrong} not refused, not checked or not planted")
     sys.exit(1 if wrong else 0)
 
 

@@ -12,7 +12,7 @@ import frames
 STEP = ("node", "kind", "line", "said", "frame", "flows", "seen", "mark")
 REFUSED = {
     "full", "spent", "expired", "nopaths", "tickspent", "ticknotreserved", "low", "toolong", "short", "magic", "version", "notforme", "badtag",
-    "stale", "topology", "section", "badend", "notreserved", "badrequest", "sessionsfull",
+    "stale", "topology", "section", "exhausted", "down", "badend", "notreserved", "badrequest", "sessionsfull",
 }
 REFUSED_OBJECTS = {"badsig", "badend", "epoch", "foreign", "low", "ahead", "gap", "full", "inboxfull", "expired"}
 OBJECT = re.compile(r"(weight|prio|ack|rel|epoch):(\w+|\?)")

@@ -45,12 +45,17 @@ def entries_of(text):
     return entries, last
 
 
+def is_down(entry):
+    """Whether the node that was to act didn't run, or the frame that was to arrive wasn't made: then nothing arrived."""
+    return entry[0].endswith(" down")
+
+
 def first_words(events, entries):
     """What is answered to each frame when it first arrives, by direction and number."""
     words = {}
     for event, entry in zip(events, entries):
         name, *rest = event.split(" ")
-        if name in ("pass", "flip"):
+        if name in ("pass", "flip") and not is_down(entry):
             words.setdefault((rest[0], rest[1], rest[2]), entry[0].split(" ", 1)[1])
     return words
 
@@ -59,6 +64,8 @@ def frame_of(event, entry, words):
     """The frame that an event makes or brings: how, from, to, its name, and what it carries."""
     name, *rest = event.split(" ")
     reply = entry[0].split(" ", 1)[1]
+    if is_down(entry):
+        return None
     if name == "poll" and reply.startswith("frame "):
         number = reply.split(" ")[1]
         answer = words.get((rest[0], rest[1], number))

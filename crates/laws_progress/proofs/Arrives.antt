@@ -21,12 +21,14 @@ use Rattle.sp_rules.specs.declared.node.LinkReply.{LinkReply}
 use Rattle.sp_rules.specs.declared.node.LinkReply.TheVariants as replies
 use Rattle.laws_runs.proofs.Lives.{step_stays}
 use Rattle.laws_runs.proofs.Goods.{unforged_tag}
+use Rattle.laws_runs.proofs.Plain as turns
+use Rattle.laws_runs.proofs.Plain.{Plain, plain_turn}
 use Rattle.laws_runs.proofs.Signed.{signs}
 use Rattle.laws_runs.proofs.Tables.{node_put}
 use Rattle.sp_runs.specs.Forgery.{forged_object, has_forged_tag, is_tagged}
 use Rattle.sp_runs.specs.Inputs.{acting}
-use Rattle.sp_runs.specs.Runs.{Clean, Starts, Turned, Moves, Stays, next_frame}
-use Rattle.sp_runs.specs.Settings.{Setting, SettingFits}
+use Rattle.sp_runs.specs.Runs.{Clean, Starts, Turned, next_frame}
+use Rattle.sp_runs.specs.Settings.{Setting, StaysUp}
 use Rattle.sp_runs.specs.Worlds.{World, frames_in, node_in}
 use Rattle.sp_journal.specs.declared.entry.Entry.{Entry}
 use Rattle.sp_schedule_events.specs.declared.event.Event.{Event}
@@ -76,20 +78,20 @@ untold arts n u bytes off = let g = go (arts.opened bytes) off in record { link 
 
 -- frame k + 1 of u came to v
 pub record Arrived (arts : Arts) (x : Setting) (w : World) (u v : NodeId) (n : NodeState) (bytes : List ℕ) (k : ℕ) : Type 0 where
-  pub there : slice_get (frames_in w.directions u v) k ≡ Some bytes
+  pub there : slice_get (frames_in w.directions u v) k ≡ Some (Some bytes)
   pub from : Origin arts x u v (k + 1) bytes
   pub framed : Framed arts x u v (k + 1) from.node bytes
   pub came : Came arts n u (k + 1) bytes
 
-pub frame_arrived : (arts : Arts) (x : Setting) (es : List Event) (js : List Entry) (w : World) → SettingFits arts x
+pub frame_arrived : (arts : Arts) (x : Setting) (es : List Event) (js : List Entry) (w : World) → StaysUp arts x
     → ComesThrough x.topology.format arts x.signature_len → Clean arts x es js w
-    → (u v : NodeId) → IsHop x u v → (n : NodeState) → node_in w.nodes v ≡ Some n → (k : ℕ) (bytes : List ℕ) → slice_get (frames_in w.directions u v) k ≡ Some bytes → Arrived arts x w u v n bytes k
+    → (u v : NodeId) → IsHop x u v → (n : NodeState) → node_in w.nodes v ≡ Some n → (k : ℕ) (bytes : List ℕ) → slice_get (frames_in w.directions u v) k ≡ Some (Some bytes) → Arrived arts x w u v n bytes k
 frame_arrived arts x es js w fits reads run u v hop n at k bytes there =
-    let o = origin arts x es js w run u v k bytes there in
+    let o = origin arts x es js w fits.plain run u v k bytes there in
     let f = framed arts x fits reads u v (k + 1) hop.joined bytes o in
     record { there = there; from = o; framed = f; came = came arts x es js w fits reads run u v (k + 1) hop n at o.node bytes f }
 
-pub arrives : (arts : Arts) (x : Setting) (es : List Event) (js : List Entry) (w : World) → SettingFits arts x
+pub arrives : (arts : Arts) (x : Setting) (es : List Event) (js : List Entry) (w : World) → StaysUp arts x
     → ComesThrough x.topology.format arts x.signature_len → Clean arts x es js w
     → (u v : NodeId) → IsHop x u v → (n : NodeState) → node_in w.nodes v ≡ Some n → (bytes : List ℕ) → has_forged_tag arts x w n (Datagram u bytes) ≡ false
     → Untold arts n u bytes ⊎ ((k : ℕ) × Arrived arts x w u v n bytes k)
@@ -97,8 +99,8 @@ arrives arts x es js w fits reads run u v hop n at bytes none = elim (cases_Bool
   | inr off ↦ inl (untold arts n u bytes off)
   | inl on ↦
       let made = is_made arts x w n u bytes hop.first none on in
-      let me : n.fixed.me ≡ v = ap (λ (f : Fixed). f.me) ((signs arts x es js w fits reads.carries run).nodes v n at).fixed in
-      inr (made.0, frame_arrived arts x es js w fits reads run u v hop n at made.0 bytes (subst (λ z. slice_get (frames_in w.directions u z) made.0 ≡ Some bytes) me made.1))
+      let me : n.fixed.me ≡ v = ap (λ (f : Fixed). f.me) ((signs arts x es js w fits.fits reads.carries run).nodes v n at).fixed in
+      inr (made.0, frame_arrived arts x es js w fits reads run u v hop n at made.0 bytes (subst (λ z. slice_get (frames_in w.directions u z) made.0 ≡ Some (Some bytes)) me made.1))
 ]
 
 -- ---- what a link saw last
@@ -122,7 +124,7 @@ came_seen arts n u v number bytes head low s (Learns off link reply) = subst See
 came_seen arts n u v number bytes head low s (Too_late on below link reply) = subst SeenIs (sym link) s
 came_seen arts n u v number bytes head low s (Taken on above link reply) = subst SeenIs (sym link) (inr (head.boot, head.boot))
 
-seen_after : (arts : Arts) (x : Setting) (es : List Event) (js : List Entry) (w : World) → SettingFits arts x
+seen_after : (arts : Arts) (x : Setting) (es : List Event) (js : List Entry) (w : World) → StaysUp arts x
     → ComesThrough x.topology.format arts x.signature_len → Clean arts x es js w
     → (u v : NodeId) → IsHop x u v → (n m : NodeState) → node_in w.nodes v ≡ Some n → (i : Input) → has_forged_tag arts x w n i ≡ false → LinkAfter arts n i m u
     → SeenIs (link_in n u) → SeenIs (link_in m u)
@@ -135,27 +137,35 @@ seen_after arts x es js w fits reads run u v hop n m at i none (Hears bytes is s
     ]
 
 -- v's link to u
-pub seen_is : (arts : Arts) (x : Setting) (es : List Event) (js : List Entry) (w : World) → SettingFits arts x
-    → ComesThrough x.topology.format arts x.signature_len → Clean arts x es js w
-    → (u v : NodeId) → IsHop x u v → (n : NodeState) → node_in w.nodes v ≡ Some n → SeenIs (link_in n u)
-seen_is arts x es js w fits reads Starts u v hop n at = inl (boot_seen x v u n at)
-seen_is arts x es js w fits reads (Turned {es = es'} {js = js'} {old = old} {e = e} {j = j} run range (Moves m) unforged) u v hop n at =
-    let is = (signs arts x es' js' old fits reads.carries run).nodes (acting e) m.node m.is_there in
+seen_more : (arts : Arts) (x : Setting) (es : List Event) (js : List Entry) (old new : World) (e : Event) (j : Entry) → StaysUp arts x
+    → ComesThrough x.topology.format arts x.signature_len → Clean arts x es js old
+    → (u v : NodeId) → IsHop x u v → ((n : NodeState) → node_in old.nodes v ≡ Some n → SeenIs (link_in n u))
+    → (n : NodeState) → node_in new.nodes v ≡ Some n → Plain arts x es js old e j new → SeenIs (link_in n u)
+seen_more arts x es js old new e j fits reads run u v hop holds n at (turns.Goes m unforged) =
+    let is = (signs arts x es js old fits.fits reads.carries run).nodes (acting e) m.node m.is_there in
     let me : m.after.fixed.me ≡ acting e = ap (λ (f : Fixed). f.me) ((step_stays arts m.node m.input m.output m.after m.step).fixed ∙ is.fixed) in
     elim (node_put v (acting e) m.after n old.nodes me (ap (λ (z : World). node_in z.nodes v) (sym m.world) ∙ at)) [
       | inl here ↦
           let node_there : node_in old.nodes v ≡ Some m.node = ap (node_in old.nodes) here.0 ∙ m.is_there in
-          let before = seen_is arts x es' js' old fits reads run u v hop m.node node_there in
-          let there = link_there x v u m.node (rows_are arts x es' js' old fits reads.carries run v m.node node_there) (both_ways x u v hop).joined in
+          let before = holds m.node node_there in
+          let there = link_there x v u m.node (rows_are arts x es js old fits reads.carries run v m.node node_there) (both_ways x u v hop).joined in
           let step = link_step arts x m.node m.input m.output m.after u (next_frame old e) j.reply there m.step m.journal.reply in
-          let none = (unforged_tag (has_forged_tag arts x old m.node m.input) (forged_object arts x es' js' m.output.answered) unforged).0 in
-          subst (λ (q : NodeState). SeenIs (link_in q u)) (sym here.1) (seen_after arts x es' js' old fits reads run u v hop m.node m.after node_there m.input none step before)
-      | inr other ↦ seen_is arts x es' js' old fits reads run u v hop n other.1
+          let none = (unforged_tag (has_forged_tag arts x old m.node m.input) (forged_object arts x es js m.output.answered) unforged).0 in
+          subst (λ (q : NodeState). SeenIs (link_in q u)) (sym here.1) (seen_after arts x es js old fits reads run u v hop m.node m.after node_there m.input none step before)
+      | inr other ↦ holds n other.1
     ]
-seen_is arts x es js w fits reads (Turned {es = es'} {js = js'} {old = old} {e = e} {j = j} run range (Stays s) unforged) u v hop n at =
-    seen_is arts x es' js' old fits reads run u v hop n (ap (λ (z : World). node_in z.nodes v) (sym s.world) ∙ at)
+seen_more arts x es js old new e j fits reads run u v hop holds n at (turns.Rests s) =
+    holds n (ap (λ (z : World). node_in z.nodes v) (sym s.world) ∙ at)
 
-pub seen_known : (arts : Arts) (x : Setting) (all : List Event) (flow : Flow) → SettingFits arts x → ComesThrough x.topology.format arts x.signature_len
+pub seen_is : (arts : Arts) (x : Setting) (es : List Event) (js : List Entry) (w : World) → StaysUp arts x
+    → ComesThrough x.topology.format arts x.signature_len → Clean arts x es js w
+    → (u v : NodeId) → IsHop x u v → (n : NodeState) → node_in w.nodes v ≡ Some n → SeenIs (link_in n u)
+seen_is arts x es js w fits reads Starts u v hop n at = inl (boot_seen x v u n at)
+seen_is arts x es js w fits reads (Turned {es = es'} {js = js'} {old = old} {e = e} {j = j} run range turn unforged) u v hop n at =
+    seen_more arts x es' js' old w e j fits reads run u v hop (λ m was. seen_is arts x es' js' old fits reads run u v hop m was) n at
+    (plain_turn arts x es' js' old w e j fits.plain turn unforged)
+
+pub seen_known : (arts : Arts) (x : Setting) (all : List Event) (flow : Flow) → StaysUp arts x → ComesThrough x.topology.format arts x.signature_len
     → (w : State arts x all) (u v : NodeId) → IsHop x u v
     → 1 ≤ (wires arts x all flow).seen w v u → (sight arts x all flow).knows w v u ≡ true
 seen_known arts x all flow fits reads w u v hop some = go (node_in w.world.nodes v) refl some

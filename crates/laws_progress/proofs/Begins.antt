@@ -12,7 +12,7 @@ use Rattle.sp_rules.specs.Node.{NodeState, is_link, link_in, link_of}
 use Rattle.sp_rules.specs.Parts.{Fixed, neighbours_of, nodes_of}
 use Rattle.sp_rules.specs.Rel.{is_peer, is_view, new_peer, no_view, pairs_of, peer_in, view_in}
 use Rattle.sp_runs.specs.Runs.{Clean, Starts, Turned}
-use Rattle.sp_runs.specs.Settings.{Setting, correct_nodes, fixed_of, link_keys}
+use Rattle.sp_runs.specs.Settings.{Setting, fixed_of, link_keys}
 use Rattle.sp_runs.specs.Worlds.{World, at_start, node_in}
 use Rattle.sp_journal.specs.declared.entry.Entry.{Entry}
 use Rattle.sp_schedule_events.specs.declared.event.Event.{Event}
@@ -33,7 +33,7 @@ none_seen f u v (z ∷ zs) = elim (cases_Bool (is_link v (link_of f z))) [
 
 pub boot_seen : (x : Setting) (u v : NodeId) (n : NodeState) → node_in (at_start x).nodes u ≡ Some n → (link_in n v).seen ≡ (0, 0)
 boot_seen x u v n at =
-    let is = at_boot x u (correct_nodes x) n at in
+    let is = at_boot x u n at in
     ap (λ (m : NodeState). (link_in m v).seen) is ∙ none_seen (fixed_of x u) u v (zip (neighbours_of (fixed_of x u)) (link_keys x u))
 
 none_view : (flows : List Flow) (flow : Flow) → ((view_in (map no_view flows) flow).base ≡ 0) × ((view_in (map no_view flows) flow).have ≡ 0)
@@ -54,7 +54,7 @@ none_peer flows v flow (u ∷ us) = elim (cases_Bool (is_peer v (new_peer flows 
 boot_view : (x : Setting) (u v : NodeId) (flow : Flow) (n : NodeState) → node_in (at_start x).nodes u ≡ Some n
     → ((view_in (peer_in n.parts.rel.peers v).views flow).base ≡ 0) × ((view_in (peer_in n.parts.rel.peers v).views flow).have ≡ 0)
 boot_view x u v flow n at =
-    let is = at_boot x u (correct_nodes x) n at in
+    let is = at_boot x u n at in
     subst (λ (m : NodeState). ((view_in (peer_in m.parts.rel.peers v).views flow).base ≡ 0) × ((view_in (peer_in m.parts.rel.peers v).views flow).have ≡ 0)) (sym is)
     (none_peer (pairs_of (nodes_of x.topology)) v flow (near x u))
 

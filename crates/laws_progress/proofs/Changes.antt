@@ -11,11 +11,13 @@ use Rattle.sp_rules.specs.Parts.{Fixed}
 use Rattle.sp_rules.specs.Rel.{flow_in}
 use Rattle.sp_rules.specs.Steps.{Input, NodeStep, Output}
 use Rattle.laws_runs.proofs.Lives.{step_stays}
+use Rattle.laws_runs.proofs.Plain as turns
+use Rattle.laws_runs.proofs.Plain.{Plain, plain_turn}
 use Rattle.sp_runs.specs.Forgery.{forged_object, has_forged_tag}
 use Rattle.sp_runs.specs.Inputs.{acting, input_of}
 use Rattle.sp_runs.specs.Journals.{Says}
-use Rattle.sp_runs.specs.Runs.{IsCraftOf, Moves, Stays, next_frame}
-use Rattle.sp_runs.specs.Settings.{Setting, SettingFits}
+use Rattle.sp_runs.specs.Runs.{IsCraftOf, next_frame}
+use Rattle.sp_runs.specs.Settings.{Setting, StaysUp}
 use Rattle.sp_runs.specs.Worlds.{is_me, node_in, with_node}
 use Rattle.sp_journal.specs.declared.entry.Entry.{Entry}
 use Rattle.sp_schedule_events.specs.declared.event.Event.{Event}
@@ -56,7 +58,7 @@ pub record Acted (arts : Arts) (x : Setting) (all : List Event) (w y : State art
   pub node : NodeState
   pub there : node_in w.world.nodes u ≡ Some node
   pub input : Input
-  pub reaches : input_of arts x w.events w.world node e ≡ Some input
+  pub reaches : input_of arts x w.world node e ≡ Some input
   pub output : Output
   pub after : NodeState
   pub step : NodeStep arts node input output after
@@ -70,12 +72,12 @@ pub record Unmoved (arts : Arts) (x : Setting) (all : List Event) (w y : State a
   pub same : node_in y.world.nodes u ≡ node_in w.world.nodes u
   pub why : (acting e ≡ u → ⊥) ⊎ ((key : NodeId) × IsCraftOf key e)
 
-pub change : (arts : Arts) (x : Setting) (all : List Event) → SettingFits arts x → Carries x.topology.format arts → (w y : State arts x all) (e : Event)
-    → Follows arts x all w e y → (u : NodeId)
+changed : (arts : Arts) (x : Setting) (all : List Event) → StaysUp arts x → Carries x.topology.format arts → (w y : State arts x all) (e : Event) (j : Entry)
+    → Plain arts x w.events w.journal w.world e j y.world → (u : NodeId)
     → Unmoved arts x all w y e u ⊎ Acted arts x all w y e u
-change arts x all fits reads w y e (Follow j events journal range (Stays s) unforged) u = inl (record { same = ap (λ z. node_in z.nodes u) s.world; why = inr (s.key, s.is_craft) })
-change arts x all fits reads w y e (Follow j events journal range (Moves m) unforged) u =
-    let is = (signs arts x w.events w.journal w.world fits reads w.run).nodes (acting e) m.node m.is_there in
+changed arts x all fits reads w y e j (turns.Rests s) u = inl (record { same = ap (λ z. node_in z.nodes u) s.world; why = inr (s.key, s.is_craft) })
+changed arts x all fits reads w y e j (turns.Goes m unforged) u =
+    let is = (signs arts x w.events w.journal w.world fits.fits reads w.run).nodes (acting e) m.node m.is_there in
     let me : m.after.fixed.me ≡ acting e = ap (λ (f : Fixed). f.me) ((step_stays arts m.node m.input m.output m.after m.step).fixed ∙ is.fixed) in
     let world = ap (λ z. node_in z.nodes u) m.world in
     elim (node_after u (acting e) m.after m.node w.world.nodes me m.is_there) [
@@ -96,31 +98,37 @@ change arts x all fits reads w y e (Follow j events journal range (Moves m) unfo
       | inr other ↦ inl (record { same = world ∙ other.1; why = inl (λ acts. other.0 (sym acts)) })
     ]
 
+pub change : (arts : Arts) (x : Setting) (all : List Event) → StaysUp arts x → Carries x.topology.format arts → (w y : State arts x all) (e : Event)
+    → Follows arts x all w e y → (u : NodeId)
+    → Unmoved arts x all w y e u ⊎ Acted arts x all w y e u
+change arts x all fits reads w y e (Follow j events journal range turn unforged) u =
+    changed arts x all fits reads w y e j (plain_turn arts x w.events w.journal w.world y.world e j fits.plain turn unforged) u
+
 -- ---- flows only go on
 
-pub flow_later : (arts : Arts) (x : Setting) (all : List Event) (flow : Flow) → SettingFits arts x → Carries x.topology.format arts
+pub flow_later : (arts : Arts) (x : Setting) (all : List Event) (flow : Flow) → StaysUp arts x → Carries x.topology.format arts
     → (w y : State arts x all) (e : Event) → Follows arts x all w e y → (u : NodeId)
     → FlowLater (flow_seen arts x all flow w u) (flow_seen arts x all flow y u)
 flow_later arts x all flow fits reads w y e follows u = elim (change arts x all fits reads w y e follows u) [
   | inl q ↦ subst (λ o. FlowLater (flow_seen arts x all flow w u) (seen_at (no_flow flow) (λ n. flow_in n.parts.rel.flows flow) o)) (sym q.same) (same_later _)
   | inr a ↦
-      let plain = without x (Good arts x w.events w.journal) u a.node ((signs arts x w.events w.journal w.world fits reads w.run).nodes u a.node a.there) in
+      let plain = without x (Good arts x w.events w.journal) u a.node fits.plain ((signs arts x w.events w.journal w.world fits.fits reads w.run).nodes u a.node a.there) in
       let later = step_later arts a.node a.input a.output a.after a.step plain flow in
       subst (λ o. FlowLater (flow_seen arts x all flow w u) (seen_at (no_flow flow) (λ n. flow_in n.parts.rel.flows flow) o)) (sym a.left)
       (subst (λ o. FlowLater (seen_at (no_flow flow) (λ n. flow_in n.parts.rel.flows flow) o) (flow_in a.after.parts.rel.flows flow)) (sym a.there) later)
 ]
 
-pub base_rises : (arts : Arts) (x : Setting) (all : List Event) (flow : Flow) → SettingFits arts x → Carries x.topology.format arts
+pub base_rises : (arts : Arts) (x : Setting) (all : List Event) (flow : Flow) → StaysUp arts x → Carries x.topology.format arts
     → (w y : State arts x all) (e : Event) (u : NodeId) → Follows arts x all w e y
     → (sight arts x all flow).base w u ≤ (sight arts x all flow).base y u
 base_rises arts x all flow fits reads w y e u follows = (flow_later arts x all flow fits reads w y e follows u).base
 
-pub have_rises : (arts : Arts) (x : Setting) (all : List Event) (flow : Flow) → SettingFits arts x → Carries x.topology.format arts
+pub have_rises : (arts : Arts) (x : Setting) (all : List Event) (flow : Flow) → StaysUp arts x → Carries x.topology.format arts
     → (w y : State arts x all) (e : Event) (u : NodeId) → Follows arts x all w e y
     → (sight arts x all flow).have w u ≤ (sight arts x all flow).have y u
 have_rises arts x all flow fits reads w y e u follows = (flow_later arts x all flow fits reads w y e follows u).have
 
-pub taken_rises : (arts : Arts) (x : Setting) (all : List Event) (flow : Flow) → SettingFits arts x → Carries x.topology.format arts
+pub taken_rises : (arts : Arts) (x : Setting) (all : List Event) (flow : Flow) → StaysUp arts x → Carries x.topology.format arts
     → (w y : State arts x all) (e : Event) → Follows arts x all w e y
     → (sight arts x all flow).taken w ≤ (sight arts x all flow).taken y
 taken_rises arts x all flow fits reads w y e follows = (flow_later arts x all flow fits reads w y e follows flow.dst).taken

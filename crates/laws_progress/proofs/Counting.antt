@@ -16,7 +16,7 @@ use Rattle.laws_node.specs.Flows.{FlowHolds}
 use Rattle.laws_node.proofs.Reliable.{found}
 use Rattle.laws_node.proofs.Tables.{all_get}
 use Rattle.sp_runs.specs.Runs.{Clean}
-use Rattle.sp_runs.specs.Settings.{Setting, SettingFits}
+use Rattle.sp_runs.specs.Settings.{Setting, StaysUp}
 use Rattle.sp_runs.specs.Told.{accepted_in, sent}
 use Rattle.sp_runs.specs.Worlds.{World, node_in}
 use Rattle.sp_journal.specs.declared.entry.Entry.{Entry}
@@ -60,6 +60,7 @@ or_true false = refl
 
 silent : (flow : Flow) (e : Event) (r : Reply) → is_send flow e ≡ false → accepted_in flow.src flow.dst e r ≡ []
 silent flow (events.Rel from to payload) (replies.Accepted q) off = rw off refl
+silent flow (events.Rel from to payload) replies.BadEnd off = refl
 silent flow (events.Rel from to payload) (replies.Full q p) off = refl
 silent flow (events.Rel from to payload) (replies.Spent q) off = refl
 silent flow (events.Rel from to payload) (replies.Expired q) off = refl
@@ -73,6 +74,10 @@ silent flow (events.Rel from to payload) (replies.TickNotReserved q) off = refl
 silent flow (events.Rel from to payload) (replies.Low q) off = refl
 silent flow (events.Rel from to payload) (replies.Frame q p t) off = refl
 silent flow (events.Rel from to payload) (replies.Arrived q p) off = refl
+silent flow (events.Rel from to payload) (replies.Started q p) off = refl
+silent flow (events.Rel from to payload) (replies.Exhausted q) off = refl
+silent flow (events.Rel from to payload) replies.Stopped off = refl
+silent flow (events.Rel from to payload) replies.Down off = refl
 silent flow (events.Prio a b c f g h) r off = refl
 silent flow (events.Take a b) r off = refl
 silent flow (events.TakePrio a) r off = refl
@@ -84,6 +89,8 @@ silent flow (events.Flip a b c f g) r off = refl
 silent flow (events.Inject a b c) r off = refl
 silent flow (events.Craft a b c f) r off = refl
 silent flow (events.CraftStatus a b c f g h) r off = refl
+silent flow (events.Start a) r off = refl
+silent flow (events.Stop a) r off = refl
 
 asked_in : (flow : Flow) (es : List Event) (js : List Entry) → 1 ≤ length (sent es js flow.src flow.dst) → list_any (is_send flow) es ≡ true
 asked_in flow [] js some = absurd (omega (arith, some))
@@ -125,12 +132,12 @@ apart_at (g ∷ fs) (suc i) f apart at = apart_at fs i f apart.1 at
 -- ---- the bound
 
 -- a client sent to each active flow between correct nodes
-pub asked_at : (arts : Arts) (x : Setting) (es : List Event) (js : List Entry) (w : World) → SettingFits arts x → Carries x.topology.format arts
+pub asked_at : (arts : Arts) (x : Setting) (es : List Event) (js : List Entry) (w : World) → StaysUp arts x → Carries x.topology.format arts
     → Clean arts x es js w → (u : NodeId) (n : NodeState)
     → node_in w.nodes u ≡ Some n → (i : ℕ) (f : FlowState) → slice_get n.parts.rel.flows i ≡ Some f → f.active ≡ true → has_correct_ends x (ends f) ≡ true
     → list_any (is_send (ends f)) es ≡ true
 asked_at arts x es js w fits reads run u n at i f there on correct =
-    let is = (signs arts x es js w fits reads run).nodes u n at in
+    let is = (signs arts x es js w fits.fits reads run).nodes u n at in
     let rel = is.holds.parts.rel in
     let flows = n.parts.rel.flows in
     let apart = subst AreApart (sym rel.keys) (apart_all (nodes_of x.topology) (nodes_of x.topology)) in
@@ -141,11 +148,11 @@ asked_at arts x es js w fits reads run u n at i f there on correct =
     let same = ap (λ (g : FlowState). g.at.have) (found flows i f rel.once there) in
     asked_in (ends f) es js (omega (arith, busy, have, same))
 
-pub few_at : (arts : Arts) (x : Setting) (all : List Event) → SettingFits arts x → Carries x.topology.format arts
+pub few_at : (arts : Arts) (x : Setting) (all : List Event) → StaysUp arts x → Carries x.topology.format arts
     → (w : State arts x all) (u : NodeId) (n : NodeState) → node_in w.world.nodes u ≡ Some n
     → number_on (map (λ f. f.active) n.parts.rel.flows) ≤ flow_count x all
 few_at arts x all fits reads w u n at =
-    let rel = ((signs arts x w.events w.journal w.world fits reads w.run).nodes u n at).holds.parts.rel in
+    let rel = ((signs arts x w.events w.journal w.world fits.fits reads w.run).nodes u n at).holds.parts.rel in
     let flows = n.parts.rel.flows in
     let p : Flow → Bool = λ flow. has_correct_ends x flow && list_any (is_send flow) all in
     let q : Flow → Bool = λ flow. not (has_correct_ends x flow) in
@@ -161,7 +168,7 @@ few_at arts x all fits reads w u n at =
     subst (λ fs. number_on (map (λ f. f.active) flows) ≤ length (filter p fs) + length (filter q fs)) keys count in
     omega (arith, bound, length-filter p (pairs_of (nodes_of x.topology)), length-filter q (pairs_of (nodes_of x.topology)))
 
-pub few : (arts : Arts) (x : Setting) (all : List Event) (flow : Flow) → SettingFits arts x → Carries x.topology.format arts
+pub few : (arts : Arts) (x : Setting) (all : List Event) (flow : Flow) → StaysUp arts x → Carries x.topology.format arts
     → (w : State arts x all) (u : NodeId)
     → number_on ((sight arts x all flow).actives w u) ≤ flow_count x all
 few arts x all flow fits reads w u = go (node_in w.world.nodes u) refl

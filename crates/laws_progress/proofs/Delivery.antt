@@ -16,7 +16,7 @@ use Rattle.sp_topology.specs.Neighbours.{joins}
 use Rattle.sp_runs.specs.Paths.{IsCorrectPath, graph_in, hops}
 use Rattle.sp_runs.specs.Rounds.{CompleteRounds, flow_count}
 use Rattle.sp_runs.specs.Runs.{Clean, polls}
-use Rattle.sp_runs.specs.Settings.{Setting, SettingFits, is_correct}
+use Rattle.sp_runs.specs.Settings.{Setting, StaysUp, is_correct}
 use Rattle.sp_runs.specs.Told.{Message, delivered, sent, told}
 use Rattle.sp_runs.specs.Worlds.{World, node_in}
 use Rattle.sp_journal.specs.declared.entry.Entry.{Entry}
@@ -73,7 +73,7 @@ record Split (arts : Arts) (x : Setting) (all : List Event) (es : List Event) (j
   world : mid.world ≡ w
   goes : Goes (State arts x all) (Follows arts x all) mid after y
 
-split : (arts : Arts) (x : Setting) (flow : Flow) → SettingFits arts x → ComesThrough x.topology.format arts x.signature_len
+split : (arts : Arts) (x : Setting) (flow : Flow) → StaysUp arts x → ComesThrough x.topology.format arts x.signature_len
     → (es after : List Event) (js more : List Entry) (w v : World)
     → Clean arts x es js w → (run : Clean arts x (es ++ after) (js ++ more) v)
     → Split arts x (es ++ after) es js w after (last_state arts x (es ++ after) (js ++ more) v run)
@@ -188,7 +188,7 @@ is_delivered S T D rest (suc i) same numbered pos sent long =
 
 -- ---- the laws
 
-claims : (arts : Arts) (x : Setting) (s d : NodeId) → SettingFits arts x → ComesThrough x.topology.format arts x.signature_len
+claims : (arts : Arts) (x : Setting) (s d : NodeId) → StaysUp arts x → ComesThrough x.topology.format arts x.signature_len
     → IsRight x (record { src = s; dst = d })
     → (es : List Event) (js : List Entry) (w : World) → Clean arts x es js w → FlowClaims arts x s d es js w
 claims arts x s d fits through right es js w run =
@@ -197,7 +197,7 @@ claims arts x s d fits through right es js w run =
 abbrev FactsOf : Arts → Setting → List Event → Flow → ℕ → Type 0
 FactsOf arts x all flow least = Facts (State arts x all) (Follows arts x all) (IsHop x) (sight arts x all flow) (place_at x flow) x.buffer least flow.src flow.dst
 
-facts : (arts : Arts) (x : Setting) (all : List Event) (flow : Flow) → SettingFits arts x → ComesThrough x.topology.format arts x.signature_len
+facts : (arts : Arts) (x : Setting) (all : List Event) (flow : Flow) → StaysUp arts x → ComesThrough x.topology.format arts x.signature_len
     → 1 ≤ x.buffer → IsRight x flow
     → (least : ℕ) → flow_count x all ≤ least → FactsOf arts x all flow least
 facts arts x all flow fits through one right least enough =
@@ -219,7 +219,7 @@ delivery_is_counted arts x fits through one es js w after more v early run s d p
     let have_is = ap (λ (f : FlowState). f.at.have) source_is in
     let source = (claims arts x s d fits through right es js w early).have_at_source right.from n at in
     let ends = claims arts x s d fits through right all (js ++ more) v run in
-    let to = is_there arts x all (js ++ more) v fits through.carries run d right.to in
+    let to = is_there arts x all (js ++ more) v fits run d right.to in
     let end = ends.have_at_end to.0 to.1 in
     let end_is = ap (λ (f : FlowState). f.at.have) (seen_there flow _ to.0 to.1) in
     let count : hops path + b + 1 ≡ suc (hops path + b) = omega arith in
@@ -241,7 +241,7 @@ acknowledgements_return arts x fits through one es js w after more v early run s
     let y = last_state arts x all (js ++ more) v run in
     let start = split arts x flow fits through es after js more w v early run in
     let seen = sight arts x all flow in
-    let to = is_there arts x es js w fits through.carries early d right.to in
+    let to = is_there arts x es js w fits early d right.to in
     let there : node_in start.mid.world.nodes d ≡ Some to.0 = ap (λ (z : World). node_in z.nodes d) start.world ∙ to.1 in
     let end = (claims arts x s d fits through right es js w early).base_at_end to.0 to.1 in
     let end_is = ap (λ (f : FlowState). f.at.base) (seen_there flow _ to.0 there) in

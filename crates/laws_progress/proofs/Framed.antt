@@ -21,8 +21,9 @@ use Rattle.laws_node.proofs.Frames.{contents_fit}
 use Rattle.laws_runs.specs.Signs.{Good, sizes_at}
 use Rattle.laws_runs.proofs.Goods.{all_of}
 use Rattle.laws_runs.proofs.Signed.{signs}
+use Rattle.laws_runs.proofs.There.{first_life}
 use Rattle.sp_runs.specs.Runs.{Clean, is_hop, polls}
-use Rattle.sp_runs.specs.Settings.{Setting, SettingFits}
+use Rattle.sp_runs.specs.Settings.{Setting, StaysUp}
 use Rattle.sp_runs.specs.Worlds.{World, node_in}
 use Rattle.sp_journal.specs.declared.entry.Entry.{Entry}
 use Rattle.sp_schedule_events.specs.declared.event.Event.{Event}
@@ -45,35 +46,36 @@ pub record Framed (arts : Arts) (x : Setting) (u v : NodeId) (number : ℕ) (nod
   pub opens : arts.opened bytes ≡ Ok bytes
   pub right : is_right arts (x.link_key (first_edge u v 0 x.topology.edges)) bytes ≡ true
 
-pub frame_at : (arts : Arts) (x : Setting) (es : List Event) (js : List Entry) (w : World) → SettingFits arts x
+pub frame_at : (arts : Arts) (x : Setting) (es : List Event) (js : List Entry) (w : World) → StaysUp arts x
     → ComesThrough x.topology.format arts x.signature_len → Clean arts x es js w
     → (u v : NodeId) → is_hop x u v ≡ true → (n : NodeState) → node_in w.nodes u ≡ Some n → Framed arts x u v (polls es u v + 1) n (frame_to arts n v)
 frame_at arts x es js w fits reads run u v hop n at =
-    let is = (signs arts x es js w fits reads.carries run).nodes u n at in
+    let is = (signs arts x es js w fits.fits reads.carries run).nodes u n at in
+    let fixed = first_life x (Good arts x es js) u n fits.plain is in
     let rows = rows_are arts x es js w fits reads.carries run u n at in
     let range = head_range x (Good arts x es js) u n v is.holds (link_there x u v n rows hop) in
     let link = links_at arts x es js w fits reads.carries run u v hop n at in
     let l = link_in n v in
     let version = n.fixed.topology.version in
     let h = next_head l version n.fixed.topology.format in
-    let format : n.fixed.topology.format ≡ x.topology.format = ap (λ (f : Fixed). f.topology.format) is.fixed in
+    let format : n.fixed.topology.format ≡ x.topology.format = ap (λ (f : Fixed). f.topology.format) fixed in
     let s = contents_to n.fixed n.parts v in
     let few : IsContentsIn x.topology.format x.signature_len s =
-    subst (λ (f : Fixed). IsContentsIn f.topology.format f.signature_len s) is.fixed (contents_fit (sizes_at x (Good arts x es js) u) n v is.holds) in
+    subst (λ (f : Fixed). IsContentsIn f.topology.format f.signature_len s) fixed (contents_fit (sizes_at x (Good arts x es js) u) n v is.holds) in
     let kept = contents_kept (sizes_at x (Good arts x es js) u) n v is.holds in
     let goods : HasGoodMessages arts s =
     all_of (λ o. IsTrue (arts.is_good o.body)) (pieces_of s) (all_less (Good arts x es js) (λ o. IsTrue (arts.is_good o.body)) (λ o is_it. is_it.good) (pieces_of s) kept) in
     let read = reads.heads h s l.key range in
     record {
       head = made_head arts n u v es reads.heads range link;
-      topology = ap (λ (g : Head). g.topology) read ∙ ap (λ (f : Fixed). f.topology.version) is.fixed;
+      topology = ap (λ (g : Head). g.topology) read ∙ ap (λ (f : Fixed). f.topology.version) fixed;
       echo = ap (λ (g : Head). g.echo) read;
       sections = reads.carries.back x.signature_len h s l.key format few goods;
       opens = reads.opens h s l.key range format (record { document = refl; paths = refl; probe = refl }) few goods;
       right = subst (λ k. is_right arts k (frame_to arts n v) ≡ true) (keys_are arts x es js w fits reads.carries run u v hop n at) (reads.tags_are_right h s l.key);
     }
 
-pub framed : (arts : Arts) (x : Setting) → SettingFits arts x → ComesThrough x.topology.format arts x.signature_len → (u v : NodeId) (number : ℕ)
+pub framed : (arts : Arts) (x : Setting) → StaysUp arts x → ComesThrough x.topology.format arts x.signature_len → (u v : NodeId) (number : ℕ)
     → is_hop x u v ≡ true → (bytes : List ℕ) → (o : Origin arts x u v number bytes) → Framed arts x u v number o.node bytes
 framed arts x fits reads u v number hop bytes o =
     subst (λ k. Framed arts x u v k o.node bytes) o.number_is
@@ -110,11 +112,12 @@ pub data Came (arts : Arts) (n : NodeState) (u : NodeId) (number : ℕ) (bytes :
   Taken : ((arts.head bytes).echo == 1) ≡ true → is_above (1, number) (link_in n u).seen ≡ true → link_after arts n u bytes ≡ after_answer (link_in n u) (arts.head bytes) answers.Fresh
       → reply_at arts n u bytes ≡ replies.Fresh → Came arts n u number bytes
 
-pub came : (arts : Arts) (x : Setting) (es : List Event) (js : List Entry) (w : World) → SettingFits arts x
+pub came : (arts : Arts) (x : Setting) (es : List Event) (js : List Entry) (w : World) → StaysUp arts x
     → ComesThrough x.topology.format arts x.signature_len → Clean arts x es js w
     → (u v : NodeId) (number : ℕ) → IsHop x u v → (n : NodeState) → node_in w.nodes v ≡ Some n → (node : NodeState) (bytes : List ℕ) → Framed arts x u v number node bytes → Came arts n u number bytes
 came arts x es js w fits reads run u v number hop n at node bytes f =
-    let is = (signs arts x es js w fits reads.carries run).nodes v n at in
+    let is = (signs arts x es js w fits.fits reads.carries run).nodes v n at in
+    let fixed = first_life x (Good arts x es js) v n fits.plain is in
     let back = both_ways x u v hop in
     let link = links_at arts x es js w fits reads.carries run v u back.joined n at in
     let l = link_in n u in
@@ -124,8 +127,8 @@ came arts x es js w fits reads run u v number hop n at node bytes f =
     keys_are arts x es js w fits reads.carries run v u back.joined n at ∙ ap (λ e. x.link_key e) (same_edge v u 0 x.topology.edges) in
     let r : right ≡ true = ap (λ k. is_right arts k bytes) key ∙ f.right in
     let left : link_after arts n u bytes ≡ after_answer l h (link_answer l h right) = ap (link_with arts l bytes) f.opens in
-    let topology : (h.topology == n.fixed.topology.version) ≡ true = eq-eqb _ _ (f.topology ∙ ap (λ (g : Fixed). g.topology.version) (sym is.fixed)) in
-    let sections : sections_in arts n.fixed bytes ≡ Ok (contents_to node.fixed node.parts v) = ap (λ (g : Fixed). sections_in arts g bytes) is.fixed ∙ f.sections in
+    let topology : (h.topology == n.fixed.topology.version) ≡ true = eq-eqb _ _ (f.topology ∙ ap (λ (g : Fixed). g.topology.version) (sym fixed)) in
+    let sections : sections_in arts n.fixed bytes ≡ Ok (contents_to node.fixed node.parts v) = ap (λ (g : Fixed). sections_in arts g bytes) fixed ∙ f.sections in
     let fresh : not_read n.fixed.topology.version h.topology (sections_in arts n.fixed bytes) ≡ None = rw (topology, sections) refl in
     let said : reply_at arts n u bytes ≡ of_link (link_answer l h right) (not_read n.fixed.topology.version h.topology (sections_in arts n.fixed bytes)) = ap (of_frame arts n.fixed l bytes) f.opens in
     elim (answers_for l h right u v number f.head (link_is n u) link.me link.boot r) [

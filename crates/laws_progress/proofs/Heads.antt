@@ -4,6 +4,7 @@ use Rattle.std.specs.Prelude.{All, slice_get}
 use Rattle.std.specs.List.{list_any}
 use Rattle.std.proofs.lemmas.Bool.{cases_Bool}
 use Rattle.std.proofs.lemmas.List.Elements.{All-head, All-tail}
+use Rattle.std.proofs.lemmas.Option.{same_Some}
 use Rattle.sp_base.proofs.ListLemmas.{get_push}
 use Rattle.sp_base.specs.Rows.{first_where}
 use Rattle.sp_base.specs.Formats.{IsFormat}
@@ -19,10 +20,12 @@ use Rattle.sp_rules.specs.Polls.{contents_to, frame_to}
 use Rattle.laws_node.specs.Nodes.{LinkHolds, NodeHolds}
 use Rattle.laws_runs.specs.Premises.{Carries}
 use Rattle.laws_runs.specs.Signs.{Good, sizes_at}
+use Rattle.laws_runs.proofs.Plain as turns
+use Rattle.laws_runs.proofs.Plain.{Plain, plain_turn}
 use Rattle.laws_runs.proofs.Signed.{signs}
 use Rattle.sp_runs.specs.Inputs.{acting}
-use Rattle.sp_runs.specs.Runs.{Clean, Starts, Turned, Moves, Stays, directions_after, is_hop, polls}
-use Rattle.sp_runs.specs.Settings.{Setting, SettingFits}
+use Rattle.sp_runs.specs.Runs.{Clean, Starts, Turned, directions_after, is_hop, polls}
+use Rattle.sp_runs.specs.Settings.{Setting, StaysUp}
 use Rattle.sp_runs.specs.Worlds.{World, frames_in, node_in}
 use Rattle.sp_journal.specs.declared.entry.Entry.{Entry}
 use Rattle.sp_schedule_events.specs.declared.event.Event.{Event}
@@ -82,28 +85,37 @@ head_range x P u n v h there =
 
 -- ---- over a run
 
-pub heads_are : (arts : Arts) (x : Setting) (es : List Event) (js : List Entry) (w : World) → SettingFits arts x → Carries x.topology.format arts
-    → HeadsReadBack arts → Clean arts x es js w
-    → (u v : NodeId) → is_hop x u v ≡ true → (k : ℕ) (bytes : List ℕ) → slice_get (frames_in w.directions u v) k ≡ Some bytes → HeadIs u v (k + 1) (arts.head bytes)
-heads_are arts x es js w fits reads heads Starts u v hop k bytes at = absurd cc
-heads_are arts x es js w fits reads heads (Turned {es = es'} {js = js'} {old = old} {e = e} {j = j} run range (Moves m) unforged) u v hop k bytes at =
-    let before = heads_are arts x es' js' old fits reads heads run u v hop k bytes in
-    let there : slice_get (frames_in (directions_after old.directions e m.output.reply) u v) k ≡ Some bytes = ap (λ (z : World). slice_get (frames_in z.directions u v) k) (sym m.world) ∙ at in
-    elim (frames_step arts x es' old m.node e m.input m.output m.after j u v m.reaches m.step m.journal) [
-      | inl grown ↦ elim (get_push (frames_in old.directions u v) (frame_to arts m.node v) k bytes (ap (λ fs. slice_get fs k) (sym grown.1) ∙ there)) [
+heads_more : (arts : Arts) (x : Setting) (es : List Event) (js : List Entry) (old new : World) (e : Event) (j : Entry) → StaysUp arts x → Carries x.topology.format arts
+    → HeadsReadBack arts → Clean arts x es js old
+    → (u v : NodeId) → is_hop x u v ≡ true
+    → ((k : ℕ) (bytes : List ℕ) → slice_get (frames_in old.directions u v) k ≡ Some (Some bytes) → HeadIs u v (k + 1) (arts.head bytes))
+    → (k : ℕ) (bytes : List ℕ) → slice_get (frames_in new.directions u v) k ≡ Some (Some bytes) → Plain arts x es js old e j new → HeadIs u v (k + 1) (arts.head bytes)
+heads_more arts x es js old new e j fits reads heads run u v hop holds k bytes at (turns.Goes m unforged) =
+    let before = holds k bytes in
+    let there : slice_get (frames_in (directions_after old.directions e m.output.reply) u v) k ≡ Some (Some bytes) = ap (λ (z : World). slice_get (frames_in z.directions u v) k) (sym m.world) ∙ at in
+    elim (frames_step arts x old m.node e m.input m.output m.after j u v m.reaches m.step m.journal) [
+      | inl grown ↦ elim (get_push (frames_in old.directions u v) (Some (frame_to arts m.node v)) k (Some bytes) (ap (λ fs. slice_get fs k) (sym grown.1) ∙ there)) [
         | inl was ↦ before was
         | inr last ↦
             let acts : acting e ≡ u = ap acting (poll_is u v e grown.0) in
             let node_there : node_in old.nodes u ≡ Some m.node = ap (node_in old.nodes) (sym acts) ∙ m.is_there in
-            let is = (signs arts x es' js' old fits reads run).nodes u m.node node_there in
-            let rows = rows_are arts x es' js' old fits reads run u m.node node_there in
-            let range = head_range x (Good arts x es' js') u m.node v is.holds (link_there x u v m.node rows hop) in
-            let link = links_at arts x es' js' old fits reads run u v hop m.node node_there in
-            let head = made_head arts m.node u v es' heads range link in
-            let number : polls es' u v + 1 ≡ k + 1 = let count = frames_count arts x es' js' old run u v in let place = last.0 in omega (arith, count, place) in
-            subst (λ b. HeadIs u v (k + 1) (arts.head b)) (sym last.1) (subst (λ q. HeadIs u v q (arts.head (frame_to arts m.node v))) number head)
+            let is = (signs arts x es js old fits.fits reads run).nodes u m.node node_there in
+            let rows = rows_are arts x es js old fits reads run u m.node node_there in
+            let range = head_range x (Good arts x es js) u m.node v is.holds (link_there x u v m.node rows hop) in
+            let link = links_at arts x es js old fits reads run u v hop m.node node_there in
+            let head = made_head arts m.node u v es heads range link in
+            let number : polls es u v + 1 ≡ k + 1 = let count = frames_count arts x es js old run u v in let place = last.0 in omega (arith, count, place) in
+            subst (λ b. HeadIs u v (k + 1) (arts.head b)) (sym (same_Some bytes (frame_to arts m.node v) last.1)) (subst (λ q. HeadIs u v q (arts.head (frame_to arts m.node v))) number head)
       ]
       | inr same ↦ before (ap (λ fs. slice_get fs k) (sym same.1) ∙ there)
     ]
-heads_are arts x es js w fits reads heads (Turned {es = es'} {js = js'} {old = old} {e = e} {j = j} run range (Stays s) unforged) u v hop k bytes at =
-    heads_are arts x es' js' old fits reads heads run u v hop k bytes (ap (λ (z : World). slice_get (frames_in z.directions u v) k) (sym s.world) ∙ at)
+heads_more arts x es js old new e j fits reads heads run u v hop holds k bytes at (turns.Rests s) =
+    holds k bytes (ap (λ (z : World). slice_get (frames_in z.directions u v) k) (sym s.world) ∙ at)
+
+pub heads_are : (arts : Arts) (x : Setting) (es : List Event) (js : List Entry) (w : World) → StaysUp arts x → Carries x.topology.format arts
+    → HeadsReadBack arts → Clean arts x es js w
+    → (u v : NodeId) → is_hop x u v ≡ true → (k : ℕ) (bytes : List ℕ) → slice_get (frames_in w.directions u v) k ≡ Some (Some bytes) → HeadIs u v (k + 1) (arts.head bytes)
+heads_are arts x es js w fits reads heads Starts u v hop k bytes at = absurd cc
+heads_are arts x es js w fits reads heads (Turned {es = es'} {js = js'} {old = old} {e = e} {j = j} run range turn unforged) u v hop k bytes at =
+    heads_more arts x es' js' old w e j fits reads heads run u v hop (λ i frame was. heads_are arts x es' js' old fits reads heads run u v hop i frame was) k bytes at
+    (plain_turn arts x es' js' old w e j fits.plain turn unforged)

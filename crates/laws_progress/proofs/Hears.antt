@@ -27,10 +27,11 @@ use Rattle.laws_node.proofs.Carried.{AllKeep}
 use Rattle.laws_runs.proofs.NoStarts.{heeded_epoch, heeded_slot, met_as_it_was, pieces_at, without}
 use Rattle.laws_runs.proofs.Signed.{signs}
 use Rattle.laws_runs.specs.Signs.{Good}
+use Rattle.laws_runs.proofs.There.{first_life}
 use Rattle.laws_runs.proofs.Tables.{same_node}
 use Rattle.sp_runs.specs.Forgery.{has_forged_tag}
 use Rattle.sp_runs.specs.Runs.{next_frame}
-use Rattle.sp_runs.specs.Settings.{Setting, SettingFits, fixed_of}
+use Rattle.sp_runs.specs.Settings.{Setting, StaysUp, fixed_of}
 use Rattle.sp_runs.specs.Worlds.{World, frames_in}
 use Rattle.sp_schedule_events.specs.declared.event.Event.{Event}
 use Rattle.laws_runs.specs.Premises.{ComesThrough}
@@ -112,7 +113,7 @@ pub record DeafAt (flow : Flow) (n m : NodeState) (u : NodeId) : Type 0 where
 
 pub record HearingAt (arts : Arts) (x : Setting) (w : World) (n m : NodeState) (u v : NodeId) (k : ℕ) : Type 0 where
   pub bytes : List ℕ
-  pub there : slice_get (frames_in w.directions u v) k ≡ Some bytes
+  pub there : slice_get (frames_in w.directions u v) k ≡ Some (Some bytes)
   pub from : Origin arts x u v (k + 1) bytes
   pub framed : Framed arts x u v (k + 1) from.node bytes
   pub above : (link_in n u).seen.1 < k + 1
@@ -149,7 +150,7 @@ above_seen : (k : ℕ) (l : Link) → is_above (1, k + 1) l.seen ≡ true → Se
 above_seen k l above (inl none) = let z = ap (λ (p : ℕ × ℕ). p.1) none in omega (arith, z)
 above_seen k l above (inr some) = let e : nat_lt l.seen.1 (k + 1) ≡ true = ap (λ z. is_above (1, k + 1) (z, l.seen.1)) (sym some.0) ∙ above in ltb-true l.seen.1 (k + 1) e
 
-pub hearing : (arts : Arts) (x : Setting) (all : List Event) (flow : Flow) → SettingFits arts x → ComesThrough x.topology.format arts x.signature_len
+pub hearing : (arts : Arts) (x : Setting) (all : List Event) (flow : Flow) → StaysUp arts x → ComesThrough x.topology.format arts x.signature_len
     → (w y : State arts x all) (e : Event) (u v : NodeId) → IsHop x u v → (a : Acted arts x all w y e v)
     → DeafAt flow a.node a.after u ⊎ ((k : ℕ) × HearingAt arts x w.world a.node a.after u v k)
 hearing arts x all flow fits reads w y e u v hop a =
@@ -158,8 +159,8 @@ hearing arts x all flow fits reads w y e u v hop a =
     let rows = rows_are arts x w.events w.journal w.world fits reads.carries w.run v n a.there in
     let link_row = link_there x v u n rows back.joined in
     let peer_row = peer_there x v u n rows back.joined in
-    let is = (signs arts x w.events w.journal w.world fits reads.carries w.run).nodes v n a.there in
-    let plain = without x (Good arts x w.events w.journal) v n is in
+    let is = (signs arts x w.events w.journal w.world fits.fits reads.carries w.run).nodes v n a.there in
+    let plain = without x (Good arts x w.events w.journal) v n fits.plain is in
     elim (hears_or u a.input) [
       | inl quiet ↦ inl (record {
         seen = quiet_seen arts n a.after a.input u quiet (link_step arts x n a.input a.output a.after u (next_frame w.world e) a.entry.reply link_row a.step a.journal.reply);
@@ -179,25 +180,24 @@ hearing arts x all flow fits reads w y e u v hop a =
           ∙ met_as_it_was arts n u bytes plain) in
           elim (arrives arts x w.events w.journal w.world fits reads w.run u v hop n a.there bytes (subst (λ i. has_forged_tag arts x w.world n i ≡ false) came.1 a.unforged)) [
             | inl untold ↦ inl (record { seen = ap (λ (l : Link). l.seen.1) (link ∙ untold.link); view = none untold.pieces })
-            | inr it ↦ of_frame n a.after bytes it.0 it.1 link parts s low none is.fixed it.1.came
+            | inr it ↦ of_frame n a.after bytes it.0 it.1 link parts s low none (first_life x (Good arts x w.events w.journal) v n fits.plain is) plain it.1.came
           ]
     ]
   where
     of_frame : (n m : NodeState) (bytes : List ℕ) (k : ℕ) (b : Arrived arts x w.world u v n bytes k) → link_in m u ≡ link_after arts n u bytes → m.parts ≡ (handled arts n u bytes).parts → SeenIs (link_in n u)
-        → (link_in n u).peer_boot ≤ 1 → (((ps : List Piece) → pieces_where (reply_at arts n u bytes) ps ≡ []) → view_of m.parts.rel u flow ≡ view_of n.parts.rel u flow) → n.fixed ≡ fixed_of x v
+        → (link_in n u).peer_boot ≤ 1 → (((ps : List Piece) → pieces_where (reply_at arts n u bytes) ps ≡ []) → view_of m.parts.rel u flow ≡ view_of n.parts.rel u flow) → n.fixed ≡ fixed_of x v → n.fixed.epochs ≡ false
         → Came arts n u (k + 1) bytes → DeafAt flow n m u ⊎ ((k : ℕ) × HearingAt arts x w.world n m u v k)
-    of_frame n m bytes k b link parts s low none fixed (Learns off left reply) = inl (record {
+    of_frame n m bytes k b link parts s low none fixed plain (Learns off left reply) = inl (record {
       seen = ap (λ (l : Link). l.seen.1) (link ∙ left) ∙ learned_same (link_in n u) (arts.head bytes) low s;
       view = none (λ ps. ap (λ z. pieces_where z ps) reply);
     })
-    of_frame n m bytes k b link parts s low none fixed (Too_late on below left reply) = inl (record {
+    of_frame n m bytes k b link parts s low none fixed plain (Too_late on below left reply) = inl (record {
       seen = ap (λ (l : Link). l.seen.1) (link ∙ left);
       view = none (λ ps. ap (λ z. pieces_where z ps) reply);
     })
-    of_frame n m bytes k b link parts s low none fixed (Taken on above left reply) =
+    of_frame n m bytes k b link parts s low none fixed plain (Taken on above left reply) =
         let contents = contents_to b.from.node.fixed b.from.node.parts v in
         let sections : sections_in arts n.fixed bytes ≡ Ok contents = ap (λ (g : Fixed). sections_in arts g bytes) fixed ∙ b.framed.sections in
-        let plain : n.fixed.epochs ≡ false = ap (λ (f : Fixed). f.epochs) fixed in
         let heard = heeded n.fixed contents in
         let pieces : pieces_at arts n u bytes ≡ pieces_of heard =
         ap (λ z. pieces_where z (pieces_in n.fixed (sections_in arts n.fixed bytes))) reply ∙ ap (pieces_in n.fixed) sections in

@@ -1,6 +1,6 @@
 -- What a node has when it heard a frame.
 use Rattle.std.proofs.Common.{◌≡◌, ◌≤◌, ◌⊎◌, ℕ, suc, ◌+◌, ◌-◌, ◌==◌, Bool, true, false, min, max, List, [], ◌∷◌, length, map, Option, Some, None, Ok, refl, sym, ap, subst, ◌∙◌, inl, inr, arith}
-use Rattle.std.specs.Prelude.{slice_get}
+use Rattle.std.specs.Prelude.{option_and_then, slice_get}
 use Rattle.std.proofs.lemmas.Bool.{eqb-true, eq-eqb, ne_eqb}
 use Rattle.std.proofs.lemmas.Option.{slice_get_within}
 use Rattle.sp_base.specs.declared.id.Flow.{Flow}
@@ -25,8 +25,9 @@ use Rattle.laws_runs.specs.Signs.{Good, sizes_at}
 use Rattle.laws_runs.proofs.FlowRuns.{flows_hold}
 use Rattle.laws_runs.proofs.Lists.{both}
 use Rattle.laws_runs.proofs.Signed.{signs}
+use Rattle.laws_runs.proofs.There.{first_life}
 use Rattle.laws_runs.proofs.Tables.{same_node}
-use Rattle.sp_runs.specs.Settings.{Setting, SettingFits, fixed_of}
+use Rattle.sp_runs.specs.Settings.{Setting, StaysUp, fixed_of}
 use Rattle.sp_runs.specs.Worlds.{frame_in, frames_in, node_in}
 use Rattle.sp_schedule_events.specs.declared.event.Event.{Event}
 use Rattle.laws_progress.proofs.Hops.{IsDeaf, IsFit, IsHearing, IsHeeded, Told}
@@ -110,7 +111,7 @@ are_nodes x flow right = record {
   different = ne_eqb _ _ (λ z. right.different (same_node flow.src flow.dst z));
 }
 
-ready_at : (arts : Arts) (x : Setting) (all : List Event) (flow : Flow) → SettingFits arts x → ComesThrough x.topology.format arts x.signature_len
+ready_at : (arts : Arts) (x : Setting) (all : List Event) (flow : Flow) → StaysUp arts x → ComesThrough x.topology.format arts x.signature_len
     → IsRight x flow → (w : State arts x all) (v : NodeId) (n : NodeState) → node_in w.world.nodes v ≡ Some n
     → Ready (nodes_of x.topology) x.buffer v flow n.parts.rel
 ready_at arts x all flow fits reads right w v n at =
@@ -120,24 +121,24 @@ ready_at arts x all flow fits reads right w v n at =
       nodes_are = (views_are arts x w.events w.journal w.world fits reads.carries w.run v n at).nodes_are;
       bound_is = rel.bound;
       row = ((flows_hold arts x w.events w.journal w.world fits reads.carries w.run flow.src flow.dst (both _ _ right.from).0 right.to right.different).nodes v n at).row;
-      acks = ((signs arts x w.events w.journal w.world fits reads.carries w.run).nodes v n at).acks;
+      acks = ((signs arts x w.events w.journal w.world fits.fits reads.carries w.run).nodes v n at).acks;
     }
 
 -- the objects of a frame are signed
-signed_in : (arts : Arts) (x : Setting) (all : List Event) → SettingFits arts x → ComesThrough x.topology.format arts x.signature_len
+signed_in : (arts : Arts) (x : Setting) (all : List Event) → StaysUp arts x → ComesThrough x.topology.format arts x.signature_len
     → (w : State arts x all) (u v : NodeId) (k : ℕ) (bytes : List ℕ) (s : Contents) (fx : Fixed) → fx ≡ fixed_of x v
-    → slice_get (frames_in w.world.directions u v) k ≡ Some bytes → arts.sections x.signature_len bytes ≡ Ok s
+    → slice_get (frames_in w.world.directions u v) k ≡ Some (Some bytes) → arts.sections x.signature_len bytes ≡ Ok s
     → (t : Report) → s.slot ≡ Some t → ((o : Kept) → t.ack ≡ Some o → is_signed arts fx o ≡ true) × ((o : Kept) (os : List Kept) → t.rels ≡ o ∷ os → is_signed arts fx o ≡ true)
 signed_in arts x all fits reads w u v k bytes s fx is there read t slot =
     let P = Good arts x w.events w.journal in
-    let all_keep = of_all P (pieces_of s) ((signs arts x w.events w.journal w.world fits reads.carries w.run).frames u v k bytes s there read) in
+    let all_keep = of_all P (pieces_of s) ((signs arts x w.events w.journal w.world fits.fits reads.carries w.run).frames u v k bytes s there read) in
     let kept_slot = subst (λ z. AllKeep P (slot_pieces z)) slot (slot_keeps P s all_keep) in
     let one : (o : Kept) → P o → is_signed arts fx o ≡ true = λ o g. ap (λ (f : Fixed). is_signed arts f o) is ∙ g.right in (
       λ o e. one o (ack_keeps P t.flow t.ack (map (RelPiece t.flow) t.rels) kept_slot.1 o e),
       λ o os e. one o (rel_keeps P t.flow t.rels (keep_right P (map (AckPiece t.flow) (as_list t.ack)) (map (RelPiece t.flow) t.rels) kept_slot.1) o os e),
     )
 
-heard : (arts : Arts) (x : Setting) (all : List Event) (flow : Flow) → SettingFits arts x → ComesThrough x.topology.format arts x.signature_len
+heard : (arts : Arts) (x : Setting) (all : List Event) (flow : Flow) → StaysUp arts x → ComesThrough x.topology.format arts x.signature_len
     → IsRight x flow → (w y : State arts x all) (e : Event) (u v : NodeId) → IsHop x u v → (a : Acted arts x all w y e v)
     → (k : ℕ) → HearingAt arts x w.world a.node a.after u v k
     → IsHearing (State arts x all) (sight arts x all flow) (wires arts x all flow) (place_at x flow) x.buffer flow.src flow.dst w y u v (k + 1)
@@ -146,15 +147,15 @@ heard arts x all flow fits reads right w y e u v hop a k it =
     let r = n.parts.rel in
     let node = it.from.node in
     let slot = (contents_to node.fixed node.parts v).slot in
-    let at_v = (signs arts x w.events w.journal w.world fits reads.carries w.run).nodes v n a.there in
-    let at_u = (signs arts x it.from.events it.from.journal it.from.world fits reads.carries it.from.run).nodes u node it.from.there in
-    let none : HoldNone n.parts.lives = at_v.unborn.lives in
-    let unborn : (t : Report) → slot ≡ Some t → SlotUnborn t = λ t is. slot_names node.parts v node.fixed.topology.format t at_u.unborn is in
+    let at_v = (signs arts x w.events w.journal w.world fits.fits reads.carries w.run).nodes v n a.there in
+    let at_u = (signs arts x it.from.events it.from.journal it.from.world fits.fits reads.carries it.from.run).nodes u node it.from.there in
+    let none : HoldNone n.parts.lives = (at_v.plain fits.plain).unborn.lives in
+    let unborn : (t : Report) → slot ≡ Some t → SlotUnborn t = λ t is. slot_names node.parts v node.fixed.topology.format t (at_u.plain fits.plain).unborn is in
     let echo = (link_in node v).peer_boot == 1 in
     let f : Told = told_slot flow echo slot in
     let ds = w.world.directions in
     let told : (wires arts x all flow).told w u v (k + 1) ≡ f =
-    ap (λ j. told_of arts x flow (frame_in ds u v j)) (let q : k + 1 ≡ suc k = omega arith in q) ∙ ap (told_of arts x flow) it.there ∙ frame_told arts x flow u v (k + 1) node it.bytes it.framed in
+    ap (λ j. told_of arts x flow (frame_in ds u v j)) (let q : k + 1 ≡ suc k = omega arith in q) ∙ ap (λ place. told_of arts x flow (option_and_then (λ frame. frame) place)) it.there ∙ frame_told arts x flow u v (k + 1) node it.bytes it.framed in
     let rows = rows_are arts x w.events w.journal w.world fits reads.carries w.run v n a.there in
     let back = both_ways x u v hop in
     let peer_row = peer_there x v u n rows back.joined in
@@ -162,9 +163,9 @@ heard arts x all flow fits reads right w y e u v hop a k it =
     let ready = ready_at arts x all flow fits reads right w v n a.there in
     let done = slot_done arts n.fixed n.parts.lives (nodes_of x.topology) r u flow echo slot
     (λ t is. let b = unborn t is in none_held n.parts.lives none t.flow t.sboot t.dboot b.sboot b.dboot) (views_are arts x w.events w.journal w.world fits reads.carries w.run v n a.there) rel.keys peer_row ready.row in
-    let fixed = at_v.fixed in
+    let fixed = first_life x (Good arts x w.events w.journal) v n fits.plain at_v in
     let count = frames_count arts x w.events w.journal w.world w.run u v in
-    let within = slice_get_within (frames_in ds u v) k it.bytes it.there in
+    let within = slice_get_within (frames_in ds u v) k (Some it.bytes) it.there in
     let seen_0 = ap (seen_at 0 (λ n. (link_in n u).seen.1)) a.there in
     let seen_1 = ap (seen_at 0 (λ n. (link_in n u).seen.1)) a.left in
     let base_0 = ap (seen_at 0 (λ n. (view_of n.parts.rel u flow).base)) a.there in
@@ -232,7 +233,7 @@ heard arts x all flow fits reads right w y e u v hop a k it =
     }
 
 -- a node hears a neighbour by its fresh frames alone, and heeds what they say
-pub hears : (arts : Arts) (x : Setting) (all : List Event) (flow : Flow) → SettingFits arts x → ComesThrough x.topology.format arts x.signature_len
+pub hears : (arts : Arts) (x : Setting) (all : List Event) (flow : Flow) → StaysUp arts x → ComesThrough x.topology.format arts x.signature_len
     → IsRight x flow
     → (w y : State arts x all) (e : Event) (u v : NodeId) → IsHop x u v → Follows arts x all w e y
     → IsDeaf (State arts x all) (sight arts x all flow) (wires arts x all flow) w y u v

@@ -1,5 +1,5 @@
 -- A node knows a correct neighbour's boot as 1 or not at all, and once it knows it, it stays known.
-use Rattle.std.proofs.Common.{◌≡◌, ◌≤◌, ◌⊎◌, ℕ, suc, ◌==◌, ◌&&◌, Bool, true, false, List, [], ◌∷◌, Some, Result, Ok, Err, refl, ap, ◌∙◌, inl, inr, arith, Option}
+use Rattle.std.proofs.Common.{◌≡◌, ◌≤◌, ◌⊎◌, ℕ, suc, ◌==◌, ◌&&◌, Bool, true, false, List, [], ◌∷◌, Some, Result, Ok, Err, refl, ap, ◌∙◌, inl, inr, arith, Option, None}
 use Rattle.std.specs.Prelude.{max, nat_eq, not, option_map, slice_get, unwrap_or}
 use Rattle.std.specs.Result.{result_err}
 use Rattle.std.specs.Cmp.Lexicographic.{pointwise}
@@ -20,16 +20,18 @@ use Rattle.sp_rules.specs.declared.node.LinkReply.{LinkReply}
 use Rattle.sp_rules.specs.declared.node.LinkReply.TheVariants as replies
 use Rattle.laws_node.proofs.Tables.{cond_either}
 use Rattle.laws_runs.proofs.Lists.{are_same}
-use Rattle.sp_runs.specs.Forgery.{has_forged_tag, is_among, is_tagged}
+use Rattle.sp_runs.specs.Forgery as forgery
+use Rattle.sp_runs.specs.Forgery.{has_forged_tag, is_tagged}
 use Rattle.sp_runs.specs.Settings.{Setting, is_correct}
 use Rattle.sp_runs.specs.Worlds.{World, frames_in}
 use Rattle.sp_rules.specs.Steps.{Datagram}
 
-pub among_at : (bytes : List ℕ) (xs : List (List ℕ)) → is_among bytes xs ≡ true → (k : ℕ) × (slice_get xs k ≡ Some bytes)
-among_at bytes [] is = absurd (let e : false ≡ true = is in cc)
-among_at bytes (y ∷ xs) is = elim (cases_Bool (pointwise nat_eq y bytes)) [
-  | inl t ↦ (0, ap Some (are_same y bytes t))
-  | inr t ↦ let rest = among_at bytes xs (rw t at is) in (suc rest.0, rest.1)
+pub made_at : (bytes : List ℕ) (frames : List (Option (List ℕ))) → forgery.is_made bytes frames ≡ true → (k : ℕ) × (slice_get frames k ≡ Some (Some bytes))
+made_at bytes [] is = absurd (let e : false ≡ true = is in cc)
+made_at bytes (None ∷ frames) is = let rest = made_at bytes frames is in (suc rest.0, rest.1)
+made_at bytes (Some y ∷ frames) is = elim (cases_Bool (pointwise nat_eq y bytes)) [
+  | inl t ↦ (0, ap (λ frame. Some (Some frame)) (are_same y bytes t))
+  | inr t ↦ let rest = made_at bytes frames (rw t at is) in (suc rest.0, rest.1)
 ]
 
 -- what the answer to a frame leaves of the neighbour's boot: the same, or it is tagged, and the boot is the greater of both
@@ -80,9 +82,9 @@ after_is arts n v bytes = go (arts.opened bytes)
 
 -- a tagged datagram of a correct neighbour, not forged, is one of its frames
 pub is_made : (arts : Arts) (x : Setting) (w : World) (n : NodeState) (u : NodeId) (bytes : List ℕ) → is_correct x u ≡ true → has_forged_tag arts x w n (Datagram u bytes) ≡ false
-    → is_tagged (reply_at arts n u bytes) ≡ true → (k : ℕ) × (slice_get (frames_in w.directions u n.fixed.me) k ≡ Some bytes)
+    → is_tagged (reply_at arts n u bytes) ≡ true → (k : ℕ) × (slice_get (frames_in w.directions u n.fixed.me) k ≡ Some (Some bytes))
 is_made arts x w n u bytes correct none tagged =
-    among_at bytes (frames_in w.directions u n.fixed.me) (lemma (is_among bytes (frames_in w.directions u n.fixed.me)) (rw (correct, tagged) at none))
+    made_at bytes (frames_in w.directions u n.fixed.me) (lemma (forgery.is_made bytes (frames_in w.directions u n.fixed.me)) (rw (correct, tagged) at none))
   where
     lemma : (t : Bool) → not t ≡ false → t ≡ true
     lemma true e = refl
@@ -90,7 +92,7 @@ is_made arts x w n u bytes correct none tagged =
 
 -- the boot that is known of it stays, or is the boot of one of its frames where that is at least what was known
 pub boot_known : (arts : Arts) (x : Setting) (w : World) (n : NodeState) (u : NodeId) (bytes : List ℕ) → is_correct x u ≡ true → has_forged_tag arts x w n (Datagram u bytes) ≡ false
-    → (link_in n u).peer_boot ≤ 1 → ((k : ℕ) (f : List ℕ) → slice_get (frames_in w.directions u n.fixed.me) k ≡ Some f → (arts.head f).boot ≡ 1)
+    → (link_in n u).peer_boot ≤ 1 → ((k : ℕ) (f : List ℕ) → slice_get (frames_in w.directions u n.fixed.me) k ≡ Some (Some f) → (arts.head f).boot ≡ 1)
     → ((link_after arts n u bytes).peer_boot ≡ (link_in n u).peer_boot) ⊎ ((link_after arts n u bytes).peer_boot ≡ 1)
 boot_known arts x w n u bytes correct none low frames = go (after_is arts n u bytes)
   where

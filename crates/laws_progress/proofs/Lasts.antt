@@ -31,9 +31,9 @@ use Rattle.laws_runs.proofs.Signed.{signs}
 use Rattle.laws_runs.specs.Signs.{Good}
 use Rattle.laws_runs.proofs.Tables.{same_node}
 use Rattle.laws_runs.specs.Premises.{Carries}
-use Rattle.sp_runs.specs.Inputs.{acting, crafted_frame, crafted_object, crafts, flipped, input_of, object_alone}
-use Rattle.sp_runs.specs.Settings.{Setting, SettingFits}
-use Rattle.sp_runs.specs.Worlds.{World, frame_in}
+use Rattle.sp_runs.specs.Inputs.{acting, crafted_contents, crafted_frame, flipped, input_of}
+use Rattle.sp_runs.specs.Settings.{Setting, StaysUp}
+use Rattle.sp_runs.specs.Worlds.{World, crafts, frame_in}
 use Rattle.sp_schedule_crafts.specs.Objects.{body_of}
 use Rattle.sp_schedule_events.specs.declared.event.Event.{Event}
 use Rattle.sp_schedule_events.specs.declared.event.Event.TheVariants as events
@@ -171,31 +171,33 @@ either_by v false i j quiet e = absurd cc
 just : (v : NodeId) (i j : Input) → NoPoll v j → Some j ≡ Some i → NoPoll v i
 just v i j quiet e = let is : j ≡ i = cc in subst (NoPoll v) is quiet
 
-pub no_poll : (arts : Arts) (x : Setting) (es : List Event) (w : World) (n : NodeState) (e : Event) (i : Input) (u v : NodeId) → acting e ≡ u → is_poll u v e ≡ false → input_of arts x es w n e ≡ Some i → NoPoll v i
-no_poll arts x es w n (events.Poll a b) i u v acts off is =
+pub no_poll : (arts : Arts) (x : Setting) (w : World) (n : NodeState) (e : Event) (i : Input) (u v : NodeId) → acting e ≡ u → is_poll u v e ≡ false → input_of arts x w n e ≡ Some i → NoPoll v i
+no_poll arts x w n (events.Poll a b) i u v acts off is =
     just v i (Poll b) (λ same. absurd (let yes : (a.0 == u.0 && b.0 == v.0) ≡ true = rw (eq-eqb a.0 u.0 (ap (λ (z : NodeId). z.0) acts), eq-eqb b.0 v.0 (ap (λ (z : NodeId). z.0) same)) refl in let never : true ≡ false = sym yes ∙ off in cc)) is
-no_poll arts x es w n (events.Rel a b c) i u v acts off is = just v i _ tt is
-no_poll arts x es w n (events.Prio a b c f g h) i u v acts off is = just v i _ tt is
-no_poll arts x es w n (events.Take a b) i u v acts off is = just v i _ tt is
-no_poll arts x es w n (events.TakePrio a) i u v acts off is = just v i _ tt is
-no_poll arts x es w n (events.Tick a b) i u v acts off is = just v i _ tt is
-no_poll arts x es w n (events.Weight a b c) i u v acts off is = just v i _ tt is
-no_poll arts x es w n (events.Pass a b c) i u v acts off is = came_by v a (frame_in w.directions a b c) (λ bytes. bytes) i is
-no_poll arts x es w n (events.Flip a b c f g) i u v acts off is = came_by v a (frame_in w.directions a b c) (flipped f g) i is
-no_poll arts x es w n (events.Inject a b c) i u v acts off is = just v i _ tt is
-no_poll arts x es w n (events.Craft a b c f) i u v acts off is =
-    either_by v (nat_lt (crafts es c) x.total) i (Datagram a (crafted_frame arts n a (object_alone (body_of f) (crafted_object arts x es c (body_of f))))) tt is
-no_poll arts x es w n (events.CraftStatus a b c f g h) i u v acts off is = just v i _ tt is
+no_poll arts x w n (events.Rel a b c) i u v acts off is = just v i _ tt is
+no_poll arts x w n (events.Prio a b c f g h) i u v acts off is = just v i _ tt is
+no_poll arts x w n (events.Take a b) i u v acts off is = just v i _ tt is
+no_poll arts x w n (events.TakePrio a) i u v acts off is = just v i _ tt is
+no_poll arts x w n (events.Tick a b) i u v acts off is = just v i _ tt is
+no_poll arts x w n (events.Weight a b c) i u v acts off is = just v i _ tt is
+no_poll arts x w n (events.Pass a b c) i u v acts off is = came_by v a (frame_in w.directions a b c) (λ bytes. bytes) i is
+no_poll arts x w n (events.Flip a b c f g) i u v acts off is = came_by v a (frame_in w.directions a b c) (flipped f g) i is
+no_poll arts x w n (events.Inject a b c) i u v acts off is = just v i _ tt is
+no_poll arts x w n (events.Craft a b c f) i u v acts off is =
+    either_by v (nat_lt (crafts w.crafted c) x.total) i (Datagram a (crafted_frame arts n a (crafted_contents arts x w.crafted n c (body_of f)))) tt is
+no_poll arts x w n (events.CraftStatus a b c f g h) i u v acts off is = just v i _ tt is
+no_poll arts x w n (events.Start a) i u v acts off is = absurd cc
+no_poll arts x w n (events.Stop a) i u v acts off is = absurd cc
 
-pub serves_none : (arts : Arts) (x : Setting) (all : List Event) (flow : Flow) → SettingFits arts x → Carries x.topology.format arts
+pub serves_none : (arts : Arts) (x : Setting) (all : List Event) (flow : Flow) → StaysUp arts x → Carries x.topology.format arts
     → (w y : State arts x all) (e : Event) (u v : NodeId) → Follows arts x all w e y
     → is_poll u v e ≡ false → (sight arts x all flow).last y u v ≡ (sight arts x all flow).last w u v
 serves_none arts x all flow fits reads w y e u v follows off = elim (change arts x all fits reads w y e follows u) [
   | inl q ↦ ap (seen_at None (λ n. (peer_in n.parts.rel.peers v).last)) q.same
   | inr a ↦
-      let quiet = no_poll arts x w.events w.world a.node e a.input u v a.acts off a.reaches in
+      let quiet = no_poll arts x w.world a.node e a.input u v a.acts off a.reaches in
       ap (seen_at None (λ n. (peer_in n.parts.rel.peers v).last)) a.left
       ∙ step_last v arts a.node a.input a.output a.after quiet a.step
-      (without x (Good arts x w.events w.journal) u a.node ((signs arts x w.events w.journal w.world fits reads w.run).nodes u a.node a.there))
+      (without x (Good arts x w.events w.journal) u a.node fits.plain ((signs arts x w.events w.journal w.world fits.fits reads w.run).nodes u a.node a.there))
       ∙ sym (ap (seen_at None (λ n. (peer_in n.parts.rel.peers v).last)) a.there)
 ]

@@ -14,7 +14,7 @@ use Rattle.sp_topology.specs.declared.topology.Edge.{Edge}
 use Rattle.laws_node.specs.Shapes.{LinkShape, Shape, link_shape}
 use Rattle.laws_runs.specs.Premises.{Carries}
 use Rattle.sp_runs.specs.Runs.{Clean, is_hop}
-use Rattle.sp_runs.specs.Settings.{Setting, SettingFits, fixed_of, node_at_boot}
+use Rattle.sp_runs.specs.Settings.{Setting, StaysUp, fixed_of, node_at_boot}
 use Rattle.sp_runs.specs.Worlds.{World, node_in}
 use Rattle.sp_journal.specs.declared.entry.Entry.{Entry}
 use Rattle.sp_schedule_events.specs.declared.event.Event.{Event}
@@ -101,7 +101,7 @@ first_shape v a b (l ∷ ls) (k ∷ ks) same there =
       | inr t ↦ let u : is_link v k ≡ false = sym peer ∙ t in rw (t, u) (first_shape v a b ls ks rest (rw t at there))
     ]
 
-pub keys_are : (arts : Arts) (x : Setting) (es : List Event) (js : List Entry) (w : World) → SettingFits arts x → Carries x.topology.format arts
+pub keys_are : (arts : Arts) (x : Setting) (es : List Event) (js : List Entry) (w : World) → StaysUp arts x → Carries x.topology.format arts
     → Clean arts x es js w
     → (u v : NodeId) → is_hop x u v ≡ true → (n : NodeState) → node_in w.nodes u ≡ Some n → (link_in n v).key ≡ x.link_key (first_edge u v 0 x.topology.edges)
 keys_are arts x es js w fits reads run u v hop n at =

@@ -18,11 +18,13 @@ use Rattle.sp_rules.specs.declared.link.LinkAnswer.{LinkAnswer}
 use Rattle.sp_rules.specs.declared.link.LinkAnswer.TheVariants as links
 use Rattle.laws_runs.proofs.Lives.{step_stays}
 use Rattle.laws_runs.specs.Premises.{Carries}
+use Rattle.laws_runs.proofs.Plain as turns
+use Rattle.laws_runs.proofs.Plain.{Plain, plain_turn}
 use Rattle.laws_runs.proofs.Signed.{signs}
 use Rattle.laws_runs.proofs.Tables.{node_put}
 use Rattle.sp_runs.specs.Inputs.{acting, input_of}
-use Rattle.sp_runs.specs.Runs.{Clean, Starts, Turned, Moves, Stays, IsCraftOf, is_hop, next_frame, polls}
-use Rattle.sp_runs.specs.Settings.{Setting, SettingFits, correct_nodes, fixed_of, link_keys}
+use Rattle.sp_runs.specs.Runs.{Clean, Starts, Turned, IsCraftOf, is_hop, next_frame, polls}
+use Rattle.sp_runs.specs.Settings.{Setting, StaysUp, fixed_of, link_keys}
 use Rattle.sp_runs.specs.Worlds.{World, node_in}
 use Rattle.sp_journal.specs.declared.entry.Entry.{Entry}
 use Rattle.sp_schedule_events.specs.declared.event.Event.{Event}
@@ -77,24 +79,24 @@ one_more : (es : List Event) (e : Event) (u v : NodeId) → is_poll u v e ≡ tr
 one_more es e u v on = counted u v es e ∙ ap (λ (t : Bool). polls es u v + cond t 1 0) on
 
 -- what a poll of v gives the node
-poll_input : (arts : Arts) (x : Setting) (es : List Event) (w : World) (n : NodeState) (e : Event) (i : Input) (u v : NodeId) → is_poll u v e ≡ true → input_of arts x es w n e ≡ Some i → i ≡ Poll v
-poll_input arts x es w n e i u v on reaches = let is : Some (Poll v) ≡ Some i = sym (ap (input_of arts x es w n) (poll_is u v e on)) ∙ reaches in cc
+poll_input : (arts : Arts) (x : Setting) (w : World) (n : NodeState) (e : Event) (i : Input) (u v : NodeId) → is_poll u v e ≡ true → input_of arts x w n e ≡ Some i → i ≡ Poll v
+poll_input arts x w n e i u v on reaches = let is : Some (Poll v) ≡ Some i = sym (ap (input_of arts x w n) (poll_is u v e on)) ∙ reaches in cc
 
 same_count : (es : List Event) (e : Event) (u v : NodeId) (l k : Link) → is_poll u v e ≡ false → SameEnd l k → LinkAt es u v l → LinkAt (es ++ e ∷ []) u v k
 same_count es e u v l k off s h = record { me = s.me ∙ h.me; boot = s.boot ∙ h.boot; sent = s.sent ∙ h.sent ∙ sym (no_more es e u v off) }
 
-acted_link : (arts : Arts) (x : Setting) (es : List Event) (w : World) (n m : NodeState) (e : Event) (i : Input) (u v : NodeId) → acting e ≡ u → input_of arts x es w n e ≡ Some i
+acted_link : (arts : Arts) (x : Setting) (es : List Event) (w : World) (n m : NodeState) (e : Event) (i : Input) (u v : NodeId) → acting e ≡ u → input_of arts x w n e ≡ Some i
     → LinkAfter arts n i m v → LinkAt es u v (link_in n v) → LinkAt (es ++ e ∷ []) u v (link_in m v)
 acted_link arts x es w n m e i u v acts reaches (Rests quiet same) h = elim (cases_Bool (is_poll u v e)) [
-  | inl on ↦ absurd ((subst (NoPoll v) (poll_input arts x es w n e i u v on reaches) quiet) refl)
+  | inl on ↦ absurd ((subst (NoPoll v) (poll_input arts x w n e i u v on reaches) quiet) refl)
   | inr off ↦ subst (LinkAt (es ++ e ∷ []) u v) (sym same) (same_count es e u v (link_in n v) (link_in n v) off (record { me = refl; boot = refl; sent = refl }) h)
 ]
 acted_link arts x es w n m e i u v acts reaches (Sends is same) h = elim (cases_Bool (is_poll u v e)) [
   | inl on ↦ subst (LinkAt (es ++ e ∷ []) u v) (sym same) (record { me = h.me; boot = h.boot; sent = let one = one_more es e u v on in let was = h.sent in omega (arith, one, was) })
-  | inr off ↦ absurd ((subst (NoPoll v) is (no_poll arts x es w n e i u v acts off reaches)) refl)
+  | inr off ↦ absurd ((subst (NoPoll v) is (no_poll arts x w n e i u v acts off reaches)) refl)
 ]
 acted_link arts x es w n m e i u v acts reaches (Hears bytes is same) h = elim (cases_Bool (is_poll u v e)) [
-  | inl on ↦ absurd (let both : Datagram v bytes ≡ Poll v = sym is ∙ poll_input arts x es w n e i u v on reaches in cc)
+  | inl on ↦ absurd (let both : Datagram v bytes ≡ Poll v = sym is ∙ poll_input arts x w n e i u v on reaches in cc)
   | inr off ↦ subst (LinkAt (es ++ e ∷ []) u v) (sym same) (same_count es e u v (link_in n v) (link_after arts n v bytes) off (after_same arts n v bytes) h)
 ]
 
@@ -110,32 +112,40 @@ craft_poll key e u v is = elim (cases_Bool (is_poll u v e)) [
   | inr off ↦ off
 ]
 
-pub links_at : (arts : Arts) (x : Setting) (es : List Event) (js : List Entry) (w : World) → SettingFits arts x → Carries x.topology.format arts
-    → Clean arts x es js w
-    → (u v : NodeId) → is_hop x u v ≡ true → (n : NodeState) → node_in w.nodes u ≡ Some n → LinkAt es u v (link_in n v)
-links_at arts x es js w fits reads Starts u v hop n at =
-    let rows = rows_are arts x [] [] w fits reads Starts u n at in
-    let is = at_boot x u (correct_nodes x) n at in
-    let there = subst (λ (m : NodeState). list_any (is_link v) m.links ≡ true) is (link_there x u v n rows hop) in
-    let f = fixed_of x u in
-    let new = boot_link f (new_link u v 0 []) v (zip (neighbours_of f) (link_keys x u)) there in
-    subst (λ (m : NodeState). LinkAt [] u v (link_in m v)) (sym is) (record { me = new.me; boot = new.boot; sent = new.sent })
-links_at arts x es js w fits reads (Turned {es = es'} {js = js'} {old = old} {e = e} {j = j} run range (Moves m) unforged) u v hop n at =
-    let is = (signs arts x es' js' old fits reads run).nodes (acting e) m.node m.is_there in
+links_more : (arts : Arts) (x : Setting) (es : List Event) (js : List Entry) (old new : World) (e : Event) (j : Entry) → StaysUp arts x → Carries x.topology.format arts
+    → Clean arts x es js old
+    → (u v : NodeId) → is_hop x u v ≡ true → ((n : NodeState) → node_in old.nodes u ≡ Some n → LinkAt es u v (link_in n v))
+    → (n : NodeState) → node_in new.nodes u ≡ Some n → Plain arts x es js old e j new → LinkAt (es ++ e ∷ []) u v (link_in n v)
+links_more arts x es js old new e j fits reads run u v hop holds n at (turns.Goes m unforged) =
+    let is = (signs arts x es js old fits.fits reads run).nodes (acting e) m.node m.is_there in
     let me : m.after.fixed.me ≡ acting e = ap (λ (f : Fixed). f.me) ((step_stays arts m.node m.input m.output m.after m.step).fixed ∙ is.fixed) in
     elim (node_put u (acting e) m.after n old.nodes me (ap (λ (z : World). node_in z.nodes u) (sym m.world) ∙ at)) [
       | inl here ↦
           let node_there : node_in old.nodes u ≡ Some m.node = ap (node_in old.nodes) here.0 ∙ m.is_there in
-          let before = links_at arts x es' js' old fits reads run u v hop m.node node_there in
-          let rows = rows_are arts x es' js' old fits reads run u m.node node_there in
+          let before = holds m.node node_there in
+          let rows = rows_are arts x es js old fits reads run u m.node node_there in
           let there = link_there x u v m.node rows hop in
           let step = link_step arts x m.node m.input m.output m.after v (next_frame old e) j.reply there m.step m.journal.reply in
-          subst (λ (q : NodeState). LinkAt (es' ++ e ∷ []) u v (link_in q v)) (sym here.1)
-          (acted_link arts x es' old m.node m.after e m.input u v (sym here.0) m.reaches step before)
+          subst (λ (q : NodeState). LinkAt (es ++ e ∷ []) u v (link_in q v)) (sym here.1)
+          (acted_link arts x es old m.node m.after e m.input u v (sym here.0) m.reaches step before)
       | inr other ↦
-          let before = links_at arts x es' js' old fits reads run u v hop n other.1 in
-          same_count es' e u v (link_in n v) (link_in n v) (away_poll e u v other.0) (record { me = refl; boot = refl; sent = refl }) before
+          let before = holds n other.1 in
+          same_count es e u v (link_in n v) (link_in n v) (away_poll e u v other.0) (record { me = refl; boot = refl; sent = refl }) before
     ]
-links_at arts x es js w fits reads (Turned {es = es'} {js = js'} {old = old} {e = e} {j = j} run range (Stays s) unforged) u v hop n at =
-    let before = links_at arts x es' js' old fits reads run u v hop n (ap (λ (z : World). node_in z.nodes u) (sym s.world) ∙ at) in
-    same_count es' e u v (link_in n v) (link_in n v) (craft_poll s.key e u v s.is_craft) (record { me = refl; boot = refl; sent = refl }) before
+links_more arts x es js old new e j fits reads run u v hop holds n at (turns.Rests s) =
+    let before = holds n (ap (λ (z : World). node_in z.nodes u) (sym s.world) ∙ at) in
+    same_count es e u v (link_in n v) (link_in n v) (craft_poll s.key e u v s.is_craft) (record { me = refl; boot = refl; sent = refl }) before
+
+pub links_at : (arts : Arts) (x : Setting) (es : List Event) (js : List Entry) (w : World) → StaysUp arts x → Carries x.topology.format arts
+    → Clean arts x es js w
+    → (u v : NodeId) → is_hop x u v ≡ true → (n : NodeState) → node_in w.nodes u ≡ Some n → LinkAt es u v (link_in n v)
+links_at arts x es js w fits reads Starts u v hop n at =
+    let rows = rows_are arts x [] [] w fits reads Starts u n at in
+    let is = at_boot x u n at in
+    let there = subst (λ (m : NodeState). list_any (is_link v) m.links ≡ true) is (link_there x u v n rows hop) in
+    let f = fixed_of x u in
+    let new = boot_link f (new_link u v 0 []) v (zip (neighbours_of f) (link_keys x u)) there in
+    subst (λ (m : NodeState). LinkAt [] u v (link_in m v)) (sym is) (record { me = new.me; boot = new.boot; sent = new.sent })
+links_at arts x es js w fits reads (Turned {es = es'} {js = js'} {old = old} {e = e} {j = j} run range turn unforged) u v hop n at =
+    links_more arts x es' js' old w e j fits reads run u v hop (λ m was. links_at arts x es' js' old fits reads run u v hop m was) n at
+    (plain_turn arts x es' js' old w e j fits.plain turn unforged)

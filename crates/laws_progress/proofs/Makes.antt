@@ -1,7 +1,7 @@
 -- What the frame of a poll tells of the flow: where it stands, the acknowledgement that the neighbour lacks, and the first messages after those
 -- that it has.
 use Rattle.std.proofs.Common.{◌≡◌, ◌≤◌, ◌<◌, ◌⊎◌, ℕ, zero, suc, ◌+◌, ◌-◌, ◌==◌, Bool, true, false, cond, max, List, [], ◌∷◌, ◌++◌, length, map, take, drop, Option, Some, None, option_map, refl, sym, ap, subst, ◌∙◌, inl, inr, arith}
-use Rattle.std.specs.Prelude.{All, IfSome, if◌then◌else◌, nat_lt, slice_get}
+use Rattle.std.specs.Prelude.{All, IfSome, if◌then◌else◌, nat_lt, option_and_then, slice_get}
 use Rattle.std.specs.Option.{option_and_then}
 use Rattle.std.proofs.lemmas.Bool.{cases_Bool, eqb-true, eqb-false, ne_eqb, ltb-false, ltb-true}
 use Rattle.std.proofs.lemmas.List.Elements.{All-head, All-nil, All-tail, All-take}
@@ -30,11 +30,14 @@ use Rattle.laws_node.specs.Flows.{AckKept, FlowHolds, IsAckOf, RelHolds}
 use Rattle.laws_node.specs.Sizes.{Sizes}
 use Rattle.laws_runs.specs.Signs.{Good, sizes_at}
 use Rattle.laws_runs.proofs.Lists.{both}
+use Rattle.laws_runs.proofs.Plain as turns
+use Rattle.laws_runs.proofs.Plain.{Plain, plain_turn}
 use Rattle.laws_runs.proofs.Tables.{same_node}
 use Rattle.sp_runs.specs.Inputs.{acting}
-use Rattle.sp_runs.specs.Runs.{IsCraftOf, Moves, Stays, polls}
-use Rattle.sp_runs.specs.Settings.{Setting, SettingFits}
+use Rattle.sp_runs.specs.Runs.{IsCraftOf, polls}
+use Rattle.sp_runs.specs.Settings.{Setting, StaysUp}
 use Rattle.sp_runs.specs.Worlds.{World, frame_in, frames_in, node_in}
+use Rattle.sp_journal.specs.declared.entry.Entry.{Entry}
 use Rattle.sp_schedule_events.specs.declared.event.Event.{Event}
 use Rattle.sp_runs.specs.Runs.{is_poll}
 use Rattle.laws_progress.proofs.Hops.{IsMade, Told}
@@ -349,15 +352,16 @@ frame_told arts x flow u v number n bytes f =
     ap (λ e. told_slot flow (e == 1) (slot_in (arts.sections x.signature_len bytes))) f.echo
     ∙ ap (λ s. told_slot flow ((link_in n v).peer_boot == 1) (slot_in s)) f.sections
 
-pub makes : (arts : Arts) (x : Setting) (all : List Event) (flow : Flow) → SettingFits arts x → ComesThrough x.topology.format arts x.signature_len
-    → (w y : State arts x all) (e : Event) (u v : NodeId) → IsHop x u v → Follows arts x all w e y → is_poll u v e ≡ true
+makes_by : (arts : Arts) (x : Setting) (all : List Event) (flow : Flow) → StaysUp arts x → ComesThrough x.topology.format arts x.signature_len
+    → (w y : State arts x all) (e : Event) (j : Entry) (u v : NodeId) → IsHop x u v → Follows arts x all w e y
+    → Plain arts x w.events w.journal w.world e j y.world → is_poll u v e ≡ true
     → IsMade (State arts x all) (sight arts x all flow) (place_at x flow) flow.dst w u v ((wires arts x all flow).told y u v ((sight arts x all flow).polled y u v))
-makes arts x all flow fits reads w y e u v hop (Follow j events journal range (Stays s) unforged) is = absurd (subst (IsCraftOf s.key) (poll_is u v e is) s.is_craft)
-makes arts x all flow fits reads w y e u v hop (Follow j events journal range (Moves m) unforged) is =
+makes_by arts x all flow fits reads w y e j u v hop follows (turns.Rests s) is = absurd (subst (IsCraftOf s.key) (poll_is u v e is) s.is_craft)
+makes_by arts x all flow fits reads w y e j u v hop follows (turns.Goes m unforged) is =
     let acts : acting e ≡ u = ap acting (poll_is u v e is) in
     let there : node_in w.world.nodes u ≡ Some m.node = ap (node_in w.world.nodes) (sym acts) ∙ m.is_there in
     let h = rel_of arts x all fits reads.carries w u m.node there in
-    let acks = ((signs arts x w.events w.journal w.world fits reads.carries w.run).nodes u m.node there).acks in
+    let acks = ((signs arts x w.events w.journal w.world fits.fits reads.carries w.run).nodes u m.node there).acks in
     let made = made_by (sizes_at x (Good arts x w.events w.journal) u) m.node.signer.index flow (nodes_of x.topology) m.node u v refl refl h acks in
     let f = frame_at arts x w.events w.journal w.world fits reads w.run u v hop.joined m.node there in
     let told =
@@ -365,15 +369,15 @@ makes arts x all flow fits reads w y e u v hop (Follow j events journal range (M
     ∙ told_dated flow ((link_in m.node v).peer_boot == 1) m.node.fixed.topology.format m.node.parts.lives (slot_for m.node.parts.rel v) in
     let ds = w.world.directions in
     let count = frames_count arts x w.events w.journal w.world w.run u v in
-    let number = one_polled arts x all flow w y e u v (Follow j events journal range (Moves m) unforged) is in
-    let frames : frames_in y.world.directions u v ≡ frames_in ds u v ++ frame_to arts m.node v ∷ [] =
-    ap (λ (z : World). frames_in z.directions u v) m.world ∙ elim (frames_step arts x w.events w.world m.node e m.input m.output m.after j u v m.reaches m.step m.journal) [
+    let number = one_polled arts x all flow w y e u v follows is in
+    let frames : frames_in y.world.directions u v ≡ frames_in ds u v ++ Some (frame_to arts m.node v) ∷ [] =
+    ap (λ (z : World). frames_in z.directions u v) m.world ∙ elim (frames_step arts x w.world m.node e m.input m.output m.after j u v m.reaches m.step m.journal) [
       | inl grown ↦ grown.1
       | inr same ↦ absurd (let g : true ≡ false = sym is ∙ same.0 in cc)
     ] in
     let at : frame_in y.world.directions u v (polls y.events u v) ≡ Some (frame_to arts m.node v) =
     ap (frame_in y.world.directions u v) (let q : polls y.events u v ≡ suc (length (frames_in ds u v)) = omega (arith, number, count) in q)
-    ∙ ap (λ fs. slice_get fs (length (frames_in ds u v))) frames ∙ get_last (frames_in ds u v) (frame_to arts m.node v) in
+    ∙ ap (option_and_then (λ frame. frame)) (ap (λ fs. slice_get fs (length (frames_in ds u v))) frames ∙ get_last (frames_in ds u v) (Some (frame_to arts m.node v))) in
     let z : MadeSeen flow (place_at x flow) (node_in w.world.nodes u) u v (told_slot flow ((link_in m.node v).peer_boot == 1) (slot_for m.node.parts.rel v)) =
     subst (λ o. MadeSeen flow (place_at x flow) o u v (told_slot flow ((link_in m.node v).peer_boot == 1) (slot_for m.node.parts.rel v))) (sym there) made in
     subst (λ g. IsMade (State arts x all) (sight arts x all flow) (place_at x flow) flow.dst w u v g) (sym (ap (told_of arts x flow) at ∙ told)) (record {
@@ -386,3 +390,10 @@ makes arts x all flow fits reads w y e u v hop (Follow j events journal range (M
       next_near = z.next_near;
       next_is = z.next_is;
     })
+
+pub makes : (arts : Arts) (x : Setting) (all : List Event) (flow : Flow) → StaysUp arts x → ComesThrough x.topology.format arts x.signature_len
+    → (w y : State arts x all) (e : Event) (u v : NodeId) → IsHop x u v → Follows arts x all w e y → is_poll u v e ≡ true
+    → IsMade (State arts x all) (sight arts x all flow) (place_at x flow) flow.dst w u v ((wires arts x all flow).told y u v ((sight arts x all flow).polled y u v))
+makes arts x all flow fits reads w y e u v hop (Follow j events journal range turn unforged) is =
+    makes_by arts x all flow fits reads w y e j u v hop (Follow j events journal range turn unforged)
+    (plain_turn arts x w.events w.journal w.world y.world e j fits.plain turn unforged) is

@@ -1,6 +1,6 @@
 -- A frame that is passed comes through: the node that it reaches knows the sender's boot, and, where the frame echoes its own, has seen the frame or a later one.
 use Rattle.std.proofs.Common.{◌≡◌, ◌≤◌, ◌⊎◌, ℕ, zero, suc, ◌+◌, ◌==◌, Bool, true, false, max, List, Option, Some, None, option_map, refl, sym, ap, subst, ◌∙◌, inl, inr, arith}
-use Rattle.std.specs.Prelude.{nat_lt}
+use Rattle.std.specs.Prelude.{nat_lt, option_and_then, slice_get}
 use Rattle.std.specs.List.{list_any}
 use Rattle.std.proofs.lemmas.Bool.{eqb-true, eq-eqb, ltb-false}
 use Rattle.sp_base.specs.declared.id.Flow.{Flow}
@@ -17,8 +17,8 @@ use Rattle.laws_runs.proofs.Tables.{same_node}
 use Rattle.sp_runs.specs.Inputs.{acting, input_of}
 use Rattle.sp_runs.specs.Journals.{reply_word}
 use Rattle.sp_runs.specs.Runs.{IsCraftOf, next_frame}
-use Rattle.sp_runs.specs.Settings.{Setting, SettingFits}
-use Rattle.sp_runs.specs.Worlds.{frame_in, node_in}
+use Rattle.sp_runs.specs.Settings.{Setting, StaysUp}
+use Rattle.sp_runs.specs.Worlds.{frame_in, frames_in, node_in}
 use Rattle.sp_journal.specs.declared.entry.Reply.{Reply}
 use Rattle.sp_schedule_events.specs.declared.event.Event.{Event}
 use Rattle.sp_schedule_events.specs.declared.event.Event.TheVariants as events
@@ -52,6 +52,13 @@ pass_is u v k (events.Flip a b c f g) is = absurd (let e : false ≡ true = is i
 pass_is u v k (events.Inject a b c) is = absurd (let e : false ≡ true = is in cc)
 pass_is u v k (events.Craft a b c f) is = absurd (let e : false ≡ true = is in cc)
 pass_is u v k (events.CraftStatus a b c f g h) is = absurd (let e : false ≡ true = is in cc)
+pass_is u v k (events.Start a) is = absurd (let e : false ≡ true = is in cc)
+pass_is u v k (events.Stop a) is = absurd (let e : false ≡ true = is in cc)
+
+-- a frame that is in its place
+in_place : (o : Option (Option (List ℕ))) (bytes : List ℕ) → option_and_then (λ frame. frame) o ≡ Some bytes → o ≡ Some (Some bytes)
+in_place None bytes e = absurd (let f : None ≡ Some bytes = e in cc)
+in_place (Some frame) bytes e = ap Some e
 
 -- a datagram that was answered leaves its link and its parts
 pub datagram_after : (arts : Arts) (x : Setting) (n : NodeState) (u : NodeId) (bytes : List ℕ) (o : Output) (m : NodeState) (k : ℕ) (reply : Reply) → NodeStep arts n (Datagram u bytes) o m → reply_word x k o.reply ≡ Some reply
@@ -112,7 +119,7 @@ pub record Passed (arts : Arts) (x : Setting) (all : List Event) (flow : Flow) (
   pub learned : ((wires arts x all flow).told w u v k).echo ≡ false → (sight arts x all flow).knows y v u ≡ true
   pub late : ((wires arts x all flow).told w u v k).echo ≡ true → k ≤ (wires arts x all flow).seen y v u
 
-pub passed : (arts : Arts) (x : Setting) (all : List Event) (flow : Flow) → SettingFits arts x → ComesThrough x.topology.format arts x.signature_len
+pub passed : (arts : Arts) (x : Setting) (all : List Event) (flow : Flow) → StaysUp arts x → ComesThrough x.topology.format arts x.signature_len
     → (w y : State arts x all) (e : Event) (u v : NodeId) (k : ℕ) → IsHop x u v → Follows arts x all w e y
     → is_pass u v k e ≡ true → Passed arts x all flow w y u v k
 passed arts x all flow fits reads w y e u v k hop follows is = elim (change arts x all fits reads.carries w y e follows v) [
@@ -121,7 +128,7 @@ passed arts x all flow fits reads w y e u v k hop follows is = elim (change arts
     | inr c ↦ absurd (subst (IsCraftOf c.0) (pass_is u v k e is) c.1)
   ]
   | inr a ↦
-      let it = of_frame u (frame_in w.world.directions u v k) a.input (sym (ap (input_of arts x w.events w.world a.node) (pass_is u v k e is)) ∙ a.reaches) in
+      let it = of_frame u (frame_in w.world.directions u v k) a.input (sym (ap (input_of arts x w.world a.node) (pass_is u v k e is)) ∙ a.reaches) in
       let step : NodeStep arts a.node (Datagram u it.0) a.output a.after = subst (λ i. NodeStep arts a.node i a.output a.after) it.2 a.step in
       let left = datagram_after arts x a.node u it.0 a.output a.after (next_frame w.world e) a.entry.reply step a.journal.reply in
       done k it.0 it.1 a.node a.there a.after a.left left
@@ -134,7 +141,7 @@ passed arts x all flow fits reads w y e u v k hop follows is = elim (change arts
         let back = both_ways x u v hop in
         let there = link_there x v u n (rows_are arts x w.events w.journal w.world fits reads.carries w.run v n at) back.joined in
         let link = datagram_link arts n m u bytes there left in
-        let came = frame_arrived arts x w.events w.journal w.world fits reads w.run u v hop n at k bytes frame in
+        let came = frame_arrived arts x w.events w.journal w.world fits reads w.run u v hop n at k bytes (in_place (slice_get (frames_in w.world.directions u v) k) bytes frame) in
         let low = low_boot arts x w.events w.journal w.world fits reads.carries reads.heads w.run v u back n at in
         let s = seen_is arts x w.events w.journal w.world fits reads w.run u v hop n at in
         let p = passed_by arts n m u v (k + 1) bytes came.framed.head low s link came.came in

@@ -22,7 +22,7 @@ use Rattle.sp_runs.specs.Inputs.{acting, input_of}
 use Rattle.sp_runs.specs.Journals.{reply_word}
 use Rattle.sp_runs.specs.Runs as runs
 use Rattle.sp_runs.specs.Runs.{IsCraftOf, is_hop, is_poll, polls}
-use Rattle.sp_runs.specs.Settings.{Setting, SettingFits}
+use Rattle.sp_runs.specs.Settings.{Setting, StaysUp}
 use Rattle.sp_journal.specs.declared.entry.Reply.{Reply}
 use Rattle.sp_schedule_events.specs.declared.event.Event.{Event}
 use Rattle.sp_schedule_events.specs.declared.event.Event.TheVariants as events
@@ -49,6 +49,8 @@ poll_is u v (events.Flip a b c f g) is = absurd (let e : false ≡ true = is in 
 poll_is u v (events.Inject a b c) is = absurd (let e : false ≡ true = is in cc)
 poll_is u v (events.Craft a b c f) is = absurd (let e : false ≡ true = is in cc)
 poll_is u v (events.CraftStatus a b c f g h) is = absurd (let e : false ≡ true = is in cc)
+poll_is u v (events.Start a) is = absurd (let e : false ≡ true = is in cc)
+poll_is u v (events.Stop a) is = absurd (let e : false ≡ true = is in cc)
 
 pub counted : (u v : NodeId) (es : List Event) (e : Event) → polls (es ++ e ∷ []) u v ≡ polls es u v + cond (is_poll u v e) 1 0
 counted u v es e = sum_by_push (λ y. cond (is_poll u v y) 1 0) es e
@@ -87,7 +89,7 @@ served_last r v place there next =
 polled_rel : (n : NodeState) (v : NodeId) → call_refusal n v ≡ None → (after_poll n v).parts.rel ≡ served n.parts.rel v
 polled_rel n v e = ap (λ (r : Option NodeRefused). (kept_or r n (called n (with_link n v (advanced (link_in n v))) (polled n.fixed n.parts v))).parts.rel) e
 
-pub serves : (arts : Arts) (x : Setting) (all : List Event) (flow : Flow) → SettingFits arts x → Carries x.topology.format arts
+pub serves : (arts : Arts) (x : Setting) (all : List Event) (flow : Flow) → StaysUp arts x → Carries x.topology.format arts
     → (w y : State arts x all) (e : Event) (u v : NodeId) (p : ℕ) → IsHop x u v → Follows arts x all w e y
     → is_poll u v e ≡ true → next_after ((sight arts x all flow).last w u v) ((sight arts x all flow).actives w u) ≡ Some p → (sight arts x all flow).last y u v ≡ Some p
 serves arts x all flow fits reads w y e u v p hop follows is next = elim (change arts x all fits reads w y e follows u) [
@@ -97,7 +99,7 @@ serves arts x all flow fits reads w y e u v p hop follows is next = elim (change
   ]
   | inr a ↦
       let poll = poll_is u v e is in
-      let in_is : Some (Poll v) ≡ Some a.input = sym (ap (input_of arts x w.events w.world a.node) poll) ∙ a.reaches in
+      let in_is : Some (Poll v) ≡ Some a.input = sym (ap (input_of arts x w.world a.node) poll) ∙ a.reaches in
       let input : a.input ≡ Poll v = cc in
       let step : NodeStep arts a.node (Poll v) a.output a.after = subst (λ i. NodeStep arts a.node i a.output a.after) input a.step in
       let word = ap (λ (o : Output). reply_word x (runs.next_frame w.world e) o.reply) (sym step.0) ∙ a.journal.reply in

@@ -16,7 +16,7 @@ use Rattle.laws_node.proofs.Boot.{nodes_hold}
 use Rattle.laws_node.proofs.Reliable.{in_range, read}
 use Rattle.sp_runs.specs.Rounds.{flow_count}
 use Rattle.sp_runs.specs.Runs.{Clean, is_hop}
-use Rattle.sp_runs.specs.Settings.{Setting, SettingFits, is_correct}
+use Rattle.sp_runs.specs.Settings.{Setting, StaysUp, is_correct}
 use Rattle.sp_runs.specs.Worlds.{World, node_in}
 use Rattle.sp_journal.specs.declared.entry.Entry.{Entry}
 use Rattle.sp_schedule_events.specs.declared.event.Event.{Event}
@@ -52,9 +52,9 @@ counted_is false false h = refl
 
 -- ---- one flow
 
-module _ (arts : Arts) (x : Setting) (es : List Event) (js : List Entry) (w : World) (fits : SettingFits arts x) (through : ComesThrough x.topology.format arts x.signature_len) (one : 1 ≤ x.buffer) (run : Clean arts x es js w) where
+module _ (arts : Arts) (x : Setting) (es : List Event) (js : List Entry) (w : World) (fits : StaysUp arts x) (through : ComesThrough x.topology.format arts x.signature_len) (one : 1 ≤ x.buffer) (run : Clean arts x es js w) where
   correct_at : (u : NodeId) (n : NodeState) → node_in w.nodes u ≡ Some n → is_correct x u ≡ true
-  correct_at u n at = ((signs arts x es js w fits through.carries run).nodes u n at).correct
+  correct_at u n at = ((signs arts x es js w fits.fits through.carries run).nodes u n at).correct
 
   module _ (s d : NodeId) (from : IsTrue (is_correct x s)) (to : IsTrue (is_correct x d)) (different : s ≡ d → ⊥) where
     abbrev flow : Flow
@@ -67,8 +67,8 @@ module _ (arts : Arts) (x : Setting) (es : List Event) (js : List Entry) (w : Wo
     position_at : (u : NodeId) (n : NodeState) → node_in w.nodes u ≡ Some n → (u ≡ d → ⊥) → IsPosition (flow_at n s d).at
     position_at u n at other =
         let k = sizes_at x (Good arts x es js) u in
-        let nodes = nodes_hold x.topology.format x.topology.height 0 x.topology.nodes fits.topology.ranges.nodes in
-        let rel = ((signs arts x es js w fits through.carries run).nodes u n at).holds.parts.rel in
+        let nodes = nodes_hold x.topology.format x.topology.height 0 x.topology.nodes fits.fits.topology.ranges.nodes in
+        let rel = ((signs arts x es js w fits.fits through.carries run).nodes u n at).holds.parts.rel in
         let row = read k n.signer.index n.parts.rel.flows flow (in_range x.topology.format (nodes_of x.topology) s nodes (both _ _ from).0) (in_range x.topology.format (nodes_of x.topology) d nodes (both _ _ to).0) rel.flows in
         let end : (flow_at n s d).dst ≡ d = ap (λ (f : Flow). f.dst) (found_ends n.parts.rel.flows flow) in
         row.standing.position (ne_eqb _ _ (λ same. other (sym (same_node _ _ same) ∙ end)))

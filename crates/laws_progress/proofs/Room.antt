@@ -15,7 +15,7 @@ use Rattle.laws_runs.proofs.Lists.{both}
 use Rattle.laws_runs.proofs.Tables.{same_node}
 use Rattle.sp_runs.specs.Inputs.{acting, input_of}
 use Rattle.sp_runs.specs.Runs.{IsCraftOf}
-use Rattle.sp_runs.specs.Settings.{Setting, SettingFits}
+use Rattle.sp_runs.specs.Settings.{Setting, StaysUp}
 use Rattle.sp_schedule_events.specs.declared.event.Event.{Event}
 use Rattle.sp_schedule_events.specs.declared.event.Event.TheVariants as events
 use Rattle.sp_runs.specs.Rounds.{is_take}
@@ -38,6 +38,8 @@ take_is d s (events.Flip a b c f g) is = absurd (let e : false ≡ true = is in 
 take_is d s (events.Inject a b c) is = absurd (let e : false ≡ true = is in cc)
 take_is d s (events.Craft a b c f) is = absurd (let e : false ≡ true = is in cc)
 take_is d s (events.CraftStatus a b c f g h) is = absurd (let e : false ≡ true = is in cc)
+take_is d s (events.Start a) is = absurd (let e : false ≡ true = is in cc)
+take_is d s (events.Stop a) is = absurd (let e : false ≡ true = is in cc)
 
 put_or : (P : FlowState → Type 0) (flow : Flow) (g : FlowState) (fs : List FlowState) → is_flow flow g ≡ true → P g → (flow_in fs flow ≡ no_flow flow → P (no_flow flow)) → P (flow_in (put_flow fs flow g) flow)
 put_or P flow g [] is p none = none refl
@@ -58,7 +60,7 @@ room_at flow fs bound some most =
     (let less = less_one f.inbox bound some most in omega (arith, less))
     (λ e. let none = ap (λ (g : FlowState). g.at.have) e in omega (arith, none, some))
 
-pub makes_room : (arts : Arts) (x : Setting) (all : List Event) (flow : Flow) → SettingFits arts x → Carries x.topology.format arts → 1 ≤ x.buffer
+pub makes_room : (arts : Arts) (x : Setting) (all : List Event) (flow : Flow) → StaysUp arts x → Carries x.topology.format arts → 1 ≤ x.buffer
     → (w y : State arts x all) (e : Event) → Follows arts x all w e y
     → is_take flow.dst flow.src e ≡ true → (sight arts x all flow).have w flow.dst < (sight arts x all flow).taken y + x.buffer
 makes_room arts x all flow fits reads some w y e follows is = elim (change arts x all fits reads w y e follows flow.dst) [
@@ -68,7 +70,7 @@ makes_room arts x all flow fits reads some w y e follows is = elim (change arts 
   ]
   | inr a ↦
       let take = take_is flow.dst flow.src e is in
-      let in_is : Some (TakeRel flow.src) ≡ Some a.input = sym (ap (input_of arts x w.events w.world a.node) take) ∙ a.reaches in
+      let in_is : Some (TakeRel flow.src) ≡ Some a.input = sym (ap (input_of arts x w.world a.node) take) ∙ a.reaches in
       let input : a.input ≡ TakeRel flow.src = cc in
       let step : NodeStep arts a.node (TakeRel flow.src) a.output a.after = subst (λ i. NodeStep arts a.node i a.output a.after) input a.step in
       let r = a.node.parts.rel in

@@ -11,14 +11,15 @@ use Rattle.sp_rules.specs.Arts.{Arts}
 use Rattle.sp_rules.specs.Node.{NodeState, is_link, link_of}
 use Rattle.sp_rules.specs.Parts.{Fixed, neighbours_of, nodes_of}
 use Rattle.sp_rules.specs.Rel.{is_peer, new_peer, pairs_of}
-use Rattle.laws_node.specs.Shapes.{LinkShape, RelPeerShape, Shape, link_shape, rel_peer_shape, shape_of}
+use Rattle.laws_node.specs.Shapes.{LinkShape, RelPeerShape, Shape, link_shape, rel_peer_shape, shape_at_start, shape_of}
 use Rattle.laws_node.proofs.Shapes.{shapes_begin}
 use Rattle.sp_runs.specs.Runs.{Clean, is_hop}
-use Rattle.sp_runs.specs.Settings.{Setting, SettingFits, first_signer, fixed_of, link_keys, node_at_boot}
-use Rattle.sp_runs.specs.Worlds.{World, is_me, node_in}
+use Rattle.sp_runs.specs.Settings.{Setting, StaysUp, correct_nodes, first_signer, fixed_at, fixed_of, link_keys, node_at_boot, signer_from}
+use Rattle.sp_runs.specs.Worlds.{World, at_start, is_me, node_in}
 use Rattle.sp_journal.specs.declared.entry.Entry.{Entry}
 use Rattle.sp_schedule_events.specs.declared.event.Event.{Event}
 use Rattle.laws_runs.specs.Premises.{Carries}
+use Rattle.laws_runs.proofs.Goods.{plain_start}
 use Rattle.laws_runs.proofs.Signed.{signs}
 use Rattle.laws_runs.proofs.Tables.{same_node}
 
@@ -40,21 +41,29 @@ new_links : (f : Fixed) (key : NodeId × EdgeId → List ℕ) (ns : List (NodeId
 new_links f key [] = refl
 new_links f key (n ∷ ns) = ap (λ (us : List NodeId). n.0 ∷ us) (new_links f key ns)
 
-pub at_boot : (x : Setting) (u : NodeId) (ns : List NodeId) (n : NodeState) → find (is_me u) (map (node_at_boot x) ns) ≡ Some n → n ≡ node_at_boot x u
-at_boot x u [] n e = absurd cc
-at_boot x u (v ∷ ns) n e = elim (cases_Bool (eqb v.0 u.0)) [
+boot_among : (x : Setting) (u : NodeId) (ns : List NodeId) (n : NodeState) → find (is_me u) (map (node_at_boot x) ns) ≡ Some n → n ≡ node_at_boot x u
+boot_among x u [] n e = absurd cc
+boot_among x u (v ∷ ns) n e = elim (cases_Bool (eqb v.0 u.0)) [
   | inl t ↦ let here : Some (node_at_boot x v) ≡ Some n = rw t at e in let is : node_at_boot x v ≡ n = cc in sym is ∙ ap (node_at_boot x) (same_node v u (eqb-true _ _ t))
-  | inr t ↦ at_boot x u ns n (rw t at e)
+  | inr t ↦ boot_among x u ns n (rw t at e)
 ]
+
+pub at_boot : (x : Setting) (u : NodeId) (n : NodeState) → node_in (at_start x).nodes u ≡ Some n → n ≡ node_at_boot x u
+at_boot x u n at = boot_among x u (correct_nodes x) n (plain_start x u n at).1
 
 -- ---- over a run
 
 -- a node has for whom and what it has rows at its start
-pub shape_is : (arts : Arts) (x : Setting) (es : List Event) (js : List Entry) (w : World) → SettingFits arts x → Carries x.topology.format arts
+pub shape_is : (arts : Arts) (x : Setting) (es : List Event) (js : List Entry) (w : World) → StaysUp arts x → Carries x.topology.format arts
     → Clean arts x es js w
     → (u : NodeId) (n : NodeState) → node_in w.nodes u ≡ Some n → shape_of n ≡ shape_of (node_at_boot x u)
 shape_is arts x es js w fits reads run u n at =
-    ((signs arts x es js w fits reads run).nodes u n at).shape ∙ sym (shapes_begin (fixed_of x u) (first_signer x u) (link_keys x u) x.buffer x.store)
+    let is = (signs arts x es js w fits.fits reads run).nodes u n at in
+    let plain = is.plain fits.plain in
+    is.shape
+    ∙ ap (λ b. shape_at_start (fixed_at x u b) (signer_from x u 0 n.signer.bound) (link_keys x u) x.buffer x.store) plain.first
+    ∙ ap (λ b. shape_at_start (fixed_of x u) (signer_from x u 0 b) (link_keys x u) x.buffer x.store) plain.whole
+    ∙ sym (shapes_begin (fixed_of x u) (first_signer x u) (link_keys x u) x.buffer x.store)
 
 -- what is read off the shapes is read off the things
 through : {X S Y : Type 0} (shape : X → S) (read : S → Y) (xs : List X) → map read (map shape xs) ≡ map (λ x. read (shape x)) xs
@@ -64,7 +73,7 @@ through shape read (x ∷ xs) = ap (λ ys. read (shape x) ∷ ys) (through shape
 same_shapes : {X S Y : Type 0} (shape : X → S) (read : S → Y) (xs ys : List X) → map shape xs ≡ map shape ys → map (λ x. read (shape x)) xs ≡ map (λ x. read (shape x)) ys
 same_shapes shape read xs ys same = sym (through shape read xs) ∙ ap (map read) same ∙ through shape read ys
 
-pub rows_are : (arts : Arts) (x : Setting) (es : List Event) (js : List Entry) (w : World) → SettingFits arts x → Carries x.topology.format arts
+pub rows_are : (arts : Arts) (x : Setting) (es : List Event) (js : List Entry) (w : World) → StaysUp arts x → Carries x.topology.format arts
     → Clean arts x es js w
     → (u : NodeId) (n : NodeState) → node_in w.nodes u ≡ Some n → RowsAre x u n
 rows_are arts x es js w fits reads run u n at =

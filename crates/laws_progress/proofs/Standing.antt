@@ -12,7 +12,7 @@ use Rattle.sp_rules.specs.Rel.{flow_in, pairs_of}
 use Rattle.laws_node.specs.Flows.{FlowHolds, RelHolds}
 use Rattle.laws_node.proofs.Reliable.{found}
 use Rattle.laws_node.proofs.Tables.{all_get}
-use Rattle.sp_runs.specs.Settings.{Setting, SettingFits}
+use Rattle.sp_runs.specs.Settings.{Setting, StaysUp}
 use Rattle.sp_runs.specs.Worlds.{node_in}
 use Rattle.sp_schedule_events.specs.declared.event.Event.{Event}
 use Rattle.laws_runs.specs.Premises.{Carries}
@@ -26,10 +26,10 @@ use Rattle.laws_progress.proofs.Rises.{RelLater, step_later}
 
 -- ---- a node that is seen
 
-pub rel_of : (arts : Arts) (x : Setting) (all : List Event) → SettingFits arts x → Carries x.topology.format arts
+pub rel_of : (arts : Arts) (x : Setting) (all : List Event) → StaysUp arts x → Carries x.topology.format arts
     → (w : State arts x all) (u : NodeId) (n : NodeState) → node_in w.world.nodes u ≡ Some n
     → RelHolds (sizes_at x (Good arts x w.events w.journal) u) n.signer.index n.parts.rel
-rel_of arts x all fits reads w u n at = ((signs arts x w.events w.journal w.world fits reads w.run).nodes u n at).holds.parts.rel
+rel_of arts x all fits reads w u n at = ((signs arts x w.events w.journal w.world fits.fits reads w.run).nodes u n at).holds.parts.rel
 
 -- what is read of rows is a row, or nothing
 first_is : (P : FlowState → Type 0) (flow : Flow) (fs : List FlowState) → P (no_flow flow) → ((i : ℕ) (f : FlowState) → slice_get fs i ≡ Some f → P f) → P (flow_in fs flow)
@@ -39,7 +39,7 @@ first_is P flow (f ∷ fs) none each = elim (cases_Bool (is_flow flow f)) [
   | inr t ↦ rw t (first_is P flow fs none (λ i g at. each (suc i) g at))
 ]
 
-pub seen_stands : (arts : Arts) (x : Setting) (all : List Event) (flow : Flow) → SettingFits arts x → Carries x.topology.format arts
+pub seen_stands : (arts : Arts) (x : Setting) (all : List Event) (flow : Flow) → StaysUp arts x → Carries x.topology.format arts
     → (P : FlowState → Type 0) → P (no_flow flow)
     → ((me : NodeId) (f : FlowState) → IsStanding me x.buffer f → P f) → (w : State arts x all) (u : NodeId) → P (flow_seen arts x all flow w u)
 seen_stands arts x all flow fits reads P none each w u = go (node_in w.world.nodes u) refl
@@ -51,12 +51,12 @@ seen_stands arts x all flow fits reads P none each w u = go (node_in w.world.nod
         let rel = rel_of arts x all fits reads w u n e in
         first_is P flow n.parts.rel.flows none (λ i f at. each u f (all_get (FlowHolds k n.signer.index) n.parts.rel.flows i f rel.flows at).standing)
 
-pub sound : (arts : Arts) (x : Setting) (all : List Event) (flow : Flow) → SettingFits arts x → Carries x.topology.format arts
+pub sound : (arts : Arts) (x : Setting) (all : List Event) (flow : Flow) → StaysUp arts x → Carries x.topology.format arts
     → (w : State arts x all) (u : NodeId)
     → (sight arts x all flow).base w u ≤ (sight arts x all flow).have w u
 sound arts x all flow fits reads w u = seen_stands arts x all flow fits reads (λ f. f.at.base ≤ f.at.have) (omega arith) (λ me f h. h.sound) w u
 
-pub window : (arts : Arts) (x : Setting) (all : List Event) (flow : Flow) → SettingFits arts x → Carries x.topology.format arts
+pub window : (arts : Arts) (x : Setting) (all : List Event) (flow : Flow) → StaysUp arts x → Carries x.topology.format arts
     → (w : State arts x all) (u : NodeId)
     → (sight arts x all flow).have w u ≤ (sight arts x all flow).base w u + x.buffer
 window arts x all flow fits reads w u = seen_stands arts x all flow fits reads (λ f. f.at.have ≤ f.at.base + x.buffer) (omega arith) (λ me f h. h.bounded) w u
@@ -101,7 +101,7 @@ busy_on me bound f h some = elim (cases_Bool f.active) [
   | inr t ↦ absurd (let none = ap (λ (g : FlowState). g.at.have) (h.idle t) in omega (arith, none, some))
 ]
 
-pub is_active : (arts : Arts) (x : Setting) (all : List Event) (flow : Flow) → SettingFits arts x → Carries x.topology.format arts
+pub is_active : (arts : Arts) (x : Setting) (all : List Event) (flow : Flow) → StaysUp arts x → Carries x.topology.format arts
     → (w : State arts x all) (u : NodeId)
     → 0 < (sight arts x all flow).have w u → is_on ((sight arts x all flow).actives w u) (place_at x flow) ≡ true
 is_active arts x all flow fits reads w u some = go (node_in w.world.nodes u) refl some
@@ -126,7 +126,7 @@ key_there (h ∷ fs) [] i f same at = absurd cc
 key_there (h ∷ fs) (g ∷ gs) zero f same at = let here : h ≡ f = cc in (g, refl, let e : ends h ≡ ends g = cc in sym e ∙ ap ends here)
 key_there (h ∷ fs) (g ∷ gs) (suc i) f same at = key_there fs gs i f (let e : map ends fs ≡ map ends gs = cc in e) at
 
-rows_within : (arts : Arts) (x : Setting) (all : List Event) → SettingFits arts x → Carries x.topology.format arts
+rows_within : (arts : Arts) (x : Setting) (all : List Event) → StaysUp arts x → Carries x.topology.format arts
     → (w y : State arts x all) (u : NodeId) (n m : NodeState)
     → node_in w.world.nodes u ≡ Some n → node_in y.world.nodes u ≡ Some m → RelLater n.parts.rel m.parts.rel
     → IsWithin (map (λ f. f.active) n.parts.rel.flows) (map (λ f. f.active) m.parts.rel.flows)
@@ -142,7 +142,7 @@ rows_within arts x all fits reads w y u n m first second later place on =
     let g_on : g.0.active ≡ true = ap (λ (h : FlowState). h.active) (sym g_is) ∙ ap (λ fl. (flow_in m.parts.rel.flows fl).active) g.2 ∙ on_new in
     on_at m.parts.rel.flows place g.0 g.1 ∙ g_on
 
-pub actives_rise : (arts : Arts) (x : Setting) (all : List Event) (flow : Flow) → SettingFits arts x → Carries x.topology.format arts
+pub actives_rise : (arts : Arts) (x : Setting) (all : List Event) (flow : Flow) → StaysUp arts x → Carries x.topology.format arts
     → (w y : State arts x all) (e : Event) (u : NodeId) → Follows arts x all w e y
     → IsWithin ((sight arts x all flow).actives w u) ((sight arts x all flow).actives y u)
 actives_rise arts x all flow fits reads w y e u follows place on = elim (change arts x all fits reads w y e follows u) [
@@ -151,5 +151,5 @@ actives_rise arts x all flow fits reads w y e u follows place on = elim (change 
       let before = subst (λ o. is_on (seen_at [] (λ n. map (λ f. f.active) n.parts.rel.flows) o) place ≡ true) a.there on in
       subst (λ o. is_on (seen_at [] (λ n. map (λ f. f.active) n.parts.rel.flows) o) place ≡ true) (sym a.left)
       (rows_within arts x all fits reads w y u a.node a.after a.there a.left (step_later arts a.node a.input a.output a.after a.step
-      (without x (Good arts x w.events w.journal) u a.node ((signs arts x w.events w.journal w.world fits reads w.run).nodes u a.node a.there))) place before)
+      (without x (Good arts x w.events w.journal) u a.node fits.plain ((signs arts x w.events w.journal w.world fits.fits reads w.run).nodes u a.node a.there))) place before)
 ]

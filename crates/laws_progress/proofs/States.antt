@@ -33,7 +33,7 @@ last_state arts x es js w run = record { events = es; journal = js; world = w; r
 -- one more event leads from one to the next
 pub data Follows (arts : Arts) (x : Setting) (all : List Event) (w : State arts x all) (e : Event) (y : State arts x all) : Type 0 where
   Follow : (j : Entry) → y.events ≡ w.events ++ e ∷ [] → y.journal ≡ w.journal ++ j ∷ [] → InRange x w.events e
-      → (turn : Turn arts x w.events w.world e j y.world) → forged_in arts x w.events w.journal w.world e j y.world turn ≡ None → Follows arts x all w e y
+      → (turn : Turn arts x w.world e j y.world) → forged_in arts x w.events w.journal w.world e j y.world turn ≡ None → Follows arts x all w e y
 
 -- ---- what is seen of a flow
 

@@ -6,7 +6,7 @@ use Rattle.sp_rules.specs.Arts.{Arts}
 use Rattle.sp_rules.specs.Flow.{FlowState, no_flow}
 use Rattle.sp_rules.specs.Node.{NodeState}
 use Rattle.sp_rules.specs.Rel.{flow_in}
-use Rattle.sp_runs.specs.Settings.{Setting, SettingFits, is_correct}
+use Rattle.sp_runs.specs.Settings.{Setting, StaysUp, is_correct}
 use Rattle.sp_runs.specs.Told.{sent}
 use Rattle.sp_runs.specs.Worlds.{node_in}
 use Rattle.sp_schedule_events.specs.declared.event.Event.{Event}
@@ -39,20 +39,20 @@ pub record FromLaws (arts : Arts) (x : Setting) (all : List Event) (flow : Flow)
   pub acknowledged : (w : State arts x all) (u : NodeId) → (sight arts x all flow).base w u ≤ (sight arts x all flow).base w flow.dst
   pub sent : (w : State arts x all) (u : NodeId) → (sight arts x all flow).have w u ≤ (sight arts x all flow).have w flow.src
 
-pub from_laws : (arts : Arts) (x : Setting) (all : List Event) (flow : Flow) → SettingFits arts x → Carries x.topology.format arts
+pub from_laws : (arts : Arts) (x : Setting) (all : List Event) (flow : Flow) → StaysUp arts x → Carries x.topology.format arts
     → is_correct x flow.src ≡ true → is_correct x flow.dst ≡ true
     → (flow.src ≡ flow.dst → ⊥) → FromLaws arts x all flow
 from_laws arts x all flow fits reads from to different = record {
   acknowledged = λ w u.
       let h = claims w in
-      let end = is_there arts x w.events w.journal w.world fits reads w.run flow.dst to in
+      let end = is_there arts x w.events w.journal w.world fits w.run flow.dst to in
       let top = h.base_at_end end.0 end.1 in
       let there = ap (λ (f : FlowState). f.at.base) (seen_there flow _ end.0 end.1) in
       let low = seen_is (λ f. f.at.base ≤ acknowledged arts w.events w.journal flow.src flow.dst) flow (node_in w.world.nodes u) (omega arith) (λ n at. h.base u n at) in
       omega (arith, low, top, there);
   sent = λ w u.
       let h = claims w in
-      let end = is_there arts x w.events w.journal w.world fits reads w.run flow.src from in
+      let end = is_there arts x w.events w.journal w.world fits w.run flow.src from in
       let top = h.have_at_source from end.0 end.1 in
       let there = ap (λ (f : FlowState). f.at.have) (seen_there flow _ end.0 end.1) in
       let low = seen_is (λ f. f.at.have ≤ length (sent w.events w.journal flow.src flow.dst)) flow (node_in w.world.nodes u) (omega arith) (λ n at. h.have from u n at) in

@@ -2,7 +2,7 @@
 use Rattle.std.proofs.Common.{◌≤◌, ℕ, List, arith}
 use Rattle.sp_base.specs.declared.id.Flow.{Flow}
 use Rattle.sp_rules.specs.Arts.{Arts}
-use Rattle.sp_runs.specs.Settings.{Setting, SettingFits}
+use Rattle.sp_runs.specs.Settings.{Setting, StaysUp}
 use Rattle.sp_schedule_events.specs.declared.event.Event.{Event}
 use Rattle.sp_runs.specs.Rounds.{flow_count}
 use Rattle.laws_progress.proofs.Hops.{Steady}
@@ -23,7 +23,7 @@ use Rattle.laws_progress.proofs.Standing.{actives_rise, is_active, place_at, sou
 use Rattle.laws_progress.proofs.Upper.{IsRight, from_laws}
 use Rattle.laws_progress.proofs.Wires.{told_stays, wires}
 
-pub steady : (arts : Arts) (x : Setting) (all : List Event) (flow : Flow) → SettingFits arts x → ComesThrough x.topology.format arts x.signature_len
+pub steady : (arts : Arts) (x : Setting) (all : List Event) (flow : Flow) → StaysUp arts x → ComesThrough x.topology.format arts x.signature_len
     → 1 ≤ x.buffer → IsRight x flow → (least : ℕ) → flow_count x all ≤ least
     → Steady (State arts x all) (Follows arts x all) (IsHop x) (sight arts x all flow) (wires arts x all flow) (place_at x flow) x.buffer least flow.src flow.dst
 steady arts x all flow fits reads one right least enough =
@@ -40,7 +40,7 @@ steady arts x all flow fits reads one right least enough =
       serves = λ w y e u v p hop f t turn. serves arts x all flow fits reads.carries w y e u v p hop f t turn;
       serves_none = λ w y e u v hop f t. serves_none arts x all flow fits reads.carries w y e u v f t;
       makes_room = λ w y e f t. makes_room arts x all flow fits reads.carries one w y e f t;
-      frames_stay = λ w y e u v k hop f low. told_stays arts x all flow w y e u v k f low;
+      frames_stay = λ w y e u v k hop f low. told_stays arts x all flow fits.plain w y e u v k f low;
       makes = λ w y e u v hop f t. makes arts x all flow fits reads w y e u v hop f t;
       hears = λ w y e u v hop f. hears arts x all flow fits reads right w y e u v hop f;
       learns = λ w y e u v k hop f t echo. (passed arts x all flow fits reads w y e u v k hop f t).learned echo;

@@ -47,6 +47,6 @@ wires arts x all flow = record {
   seen = λ w v u. at_node arts x all 0 (λ n. (link_in n u).seen.1) w v;
 }
 
-pub told_stays : (arts : Arts) (x : Setting) (all : List Event) (flow : Flow) (w y : State arts x all) (e : Event) (u v : NodeId) (k : ℕ) → Follows arts x all w e y → k ≤ polls w.events u v
+pub told_stays : (arts : Arts) (x : Setting) (all : List Event) (flow : Flow) → x.epochs ≡ false → (w y : State arts x all) (e : Event) (u v : NodeId) (k : ℕ) → Follows arts x all w e y → k ≤ polls w.events u v
     → (wires arts x all flow).told y u v k ≡ (wires arts x all flow).told w u v k
-told_stays arts x all flow w y e u v k follows low = ap (told_of arts x flow) (frames_stay arts x all w y e u v k follows low)
+told_stays arts x all flow plain w y e u v k follows low = ap (told_of arts x flow) (frames_stay arts x all plain w y e u v k follows low)

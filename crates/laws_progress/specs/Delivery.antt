@@ -8,7 +8,7 @@ use Rattle.sp_rules.specs.Node.{NodeState}
 use Rattle.sp_runs.specs.Paths.{IsCorrectPath, hops}
 use Rattle.sp_runs.specs.Rounds.{CompleteRounds, flow_count}
 use Rattle.sp_runs.specs.Runs.{Clean}
-use Rattle.sp_runs.specs.Settings.{Setting, SettingFits}
+use Rattle.sp_runs.specs.Settings.{Setting, StaysUp}
 use Rattle.sp_runs.specs.Told.{Message, delivered, sent}
 use Rattle.sp_runs.specs.Worlds.{World, node_in}
 use Rattle.sp_journal.specs.declared.entry.Entry.{Entry}
@@ -54,11 +54,11 @@ ReturnsInRounds arts x =
     → (least : ℕ) → flow_count x (es ++ after) ≤ least → CompleteRounds least s d path (hops path + 1) es after
     → HasReturned x.buffer (acknowledged arts es js s d) (flow_at n s d)
 
--- ---- the laws, of any arts by which frames come through
+-- ---- the laws, of any arts by which frames come through, and of settings without epochs
 
 abbrev pub CountedDelivery : Type 0
-CountedDelivery = (arts : Arts) (x : Setting) → SettingFits arts x → ComesThrough x.topology.format arts x.signature_len → 1 ≤ x.buffer
+CountedDelivery = (arts : Arts) (x : Setting) → StaysUp arts x → ComesThrough x.topology.format arts x.signature_len → 1 ≤ x.buffer
     → DeliversInRounds arts x
 
 abbrev pub CountedReturn : Type 0
-CountedReturn = (arts : Arts) (x : Setting) → SettingFits arts x → ComesThrough x.topology.format arts x.signature_len → 1 ≤ x.buffer → ReturnsInRounds arts x
+CountedReturn = (arts : Arts) (x : Setting) → StaysUp arts x → ComesThrough x.topology.format arts x.signature_len → 1 ≤ x.buffer → ReturnsInRounds arts x

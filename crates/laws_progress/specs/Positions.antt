@@ -11,7 +11,7 @@ use Rattle.sp_rules.specs.Node.{NodeState}
 use Rattle.sp_rules.specs.Rel.{View, peer_in, view_in}
 use Rattle.sp_runs.specs.Rounds.{flow_count, has_correct_ends, is_send}
 use Rattle.sp_runs.specs.Runs.{Clean, is_hop}
-use Rattle.sp_runs.specs.Settings.{Setting, SettingFits, is_correct}
+use Rattle.sp_runs.specs.Settings.{Setting, StaysUp, is_correct}
 use Rattle.sp_runs.specs.Told.{sent}
 use Rattle.sp_runs.specs.Worlds.{World, node_in}
 use Rattle.sp_journal.specs.declared.entry.Entry.{Entry}
@@ -49,8 +49,8 @@ pub record ProgressClaims (arts : Arts) (x : Setting) (es : List Event) (js : Li
   pub counted : (u : NodeId) (n : NodeState) → node_in w.nodes u ≡ Some n → All (λ f. IsTrue f.active → IsTrue (is_counted x es (ends f))) n.parts.rel.flows
   pub few : (u : NodeId) (n : NodeState) → node_in w.nodes u ≡ Some n → count_by (λ f. f.active) n.parts.rel.flows ≤ flow_count x es
 
--- of each run without forgery
+-- of each run without forgery and without epochs
 abbrev pub PositionsAreInOrder : Type 0
-PositionsAreInOrder = (arts : Arts) (x : Setting) (es : List Event) (js : List Entry) (w : World) → SettingFits arts x
+PositionsAreInOrder = (arts : Arts) (x : Setting) (es : List Event) (js : List Entry) (w : World) → StaysUp arts x
     → ComesThrough x.topology.format arts x.signature_len
     → 1 ≤ x.buffer → Clean arts x es js w → ProgressClaims arts x es js w

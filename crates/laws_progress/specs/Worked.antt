@@ -42,6 +42,7 @@ setting ids edges bad = record {
   total = 0;
   link_key = λ e. [];
   digest = λ bytes. bytes;
+  epochs = false;
 }
 
 -- so many frames of u for v after so many before, each passed as soon as it is made

@@ -58,7 +58,7 @@ abbrev pub source : NodeState
 source = standing 1 0 1 (sent_message ∷ [])
 
 abbrev pub world : (one two three : NodeState) → World
-world one two three = record { nodes = one ∷ two ∷ three ∷ []; directions = [] }
+world one two three = record { keys = []; nodes = one ∷ two ∷ three ∷ []; directions = []; crafted = [] }
 
 -- ---- what is claimed
 

@@ -1,4 +1,5 @@
 //! Counted delivery: what a source accepted is delivered, and its acknowledgement is back, after so many complete rounds of a path of correct nodes.
+//! It is claimed of runs without epochs: no node starts or stops by an event.
 #![tactic(auto)]
 
 ghost use Rattle.laws_progress.specs.Counts.{FlowCountNeverFalls};

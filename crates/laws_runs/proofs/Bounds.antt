@@ -17,7 +17,7 @@ use Rattle.laws_node.specs.Stores.{PrioPeerHolds}
 use Rattle.laws_node.specs.Updates.{UpdateHolds}
 use Rattle.laws_node.proofs.Tables.{all_weaker}
 use Rattle.sp_runs.specs.Bounds.{FlowIsBounded, IsBounded, PeerIsBounded, neighbour_ids}
-use Rattle.sp_runs.specs.Settings.{Setting, fixed_of}
+use Rattle.sp_runs.specs.Settings.{Setting, fixed_at}
 use Rattle.laws_runs.specs.Laws.{BoundsFollow, BuffersStayBounded}
 use Rattle.laws_runs.specs.Signs.{Good, NodeIs, sizes_at}
 use Rattle.laws_runs.proofs.Signed.{signs}
@@ -53,7 +53,7 @@ places : (x : Setting) (P : Kept → Type 0) (u : NodeId) (n : NodeState) → No
 places x P u n is =
     sym (fused (λ (s : PeerShape). s.peer) peer_shape (λ (q : PrioPeer). q.peer) (λ q. refl) n.parts.prio.peers)
     ∙ ap (λ (s : Shape). map (λ (p : PeerShape). p.peer) s.prio.peers) is.shape
-    ∙ fused (λ (s : PeerShape). s.peer) (λ n. record { peer = n.0.0; edge = n.1.0; capacity = x.store }) (λ n. n.0.0) (λ n. refl) (neighbours_of (fixed_of x u))
+    ∙ fused (λ (s : PeerShape). s.peer) (λ n. record { peer = n.0.0; edge = n.1.0; capacity = x.store }) (λ n. n.0.0) (λ n. refl) (neighbours_of (fixed_at x u n.fixed.boot))
 
 update_placed : (x : Setting) (P : Kept → Type 0) (u : NodeId) (index row : ℕ) (o : Option Kept) → IfSome o (UpdateHolds (sizes_at x P u) index row)
     → IfSome o (λ (y : Kept). row_for x.topology.edges y.body ≡ Some row)

@@ -27,33 +27,40 @@ use Rattle.sp_rules.specs.Node.{call_refusal, link_in}
 use Rattle.sp_rules.specs.Parts.{Fixed, nodes_of}
 use Rattle.sp_rules.specs.Pieces.{Piece, pieces_of}
 use Rattle.sp_rules.specs.Steps as steps
-use Rattle.sp_rules.specs.Steps.{Input, NodeStep, Output, arrived, refused_call}
+use Rattle.sp_rules.specs.Steps.{Input, NodeStep, Output, arrived}
 use Rattle.sp_rules.specs.declared.answers.Item.{Item}
+use Rattle.sp_rules.specs.declared.lives.Life.{Life}
 use Rattle.laws_node.specs.Asked.{NewKeep}
 use Rattle.laws_node.specs.Sizes.{IsNode}
 use Rattle.laws_node.proofs.Boot.{nodes_hold}
 use Rattle.laws_node.proofs.Carried.{AllKeep, pieces_new}
 use Rattle.laws_node.proofs.Reliable.{in_range}
-use Rattle.sp_runs.specs.Forgery.{forged_object, has_forged_tag, is_among, is_forged, is_tagged}
-use Rattle.sp_runs.specs.Inputs.{acting, contents_with, crafted_frame, crafted_head, crafted_object, crafts, object_alone, report_on, slot_alone}
-use Rattle.sp_runs.specs.Runs.{Moves, Move, Stays}
-use Rattle.sp_runs.specs.Settings.{Setting, SettingFits, fixed_of, is_correct, is_node}
+use Rattle.sp_runs.specs.Forgery.{forged, forged_object, has_forged_tag, is_among, is_forged, is_made, is_tagged}
+use Rattle.sp_runs.specs.Inputs.{acting, contents_with, crafted_frame, crafted_head, crafted_object, dated, object_alone, report_on, slot_alone}
+use Rattle.sp_runs.specs.Lives.{ready}
+use Rattle.sp_runs.specs.Runs.{AreFields, Lives, Moves, Move, Stays}
+use Rattle.sp_runs.specs.Settings.{Setting, StaysUp, fixed_of, is_correct, is_node}
 use Rattle.sp_runs.specs.Told.{signed}
-use Rattle.sp_runs.specs.Worlds.{World, frames_in}
+use Rattle.sp_runs.specs.Worlds.{World, crafts, frames_in}
 use Rattle.sp_journal.specs.declared.entry.Entry.{Entry}
 use Rattle.sp_schedule_crafts.specs.Objects.{body_of}
+use Rattle.sp_schedule_crafts.specs.declared.object.CraftedObject.{CraftedObject}
+use Rattle.sp_schedule_crafts.specs.declared.object.CraftedObject.TheVariants as crafted
 use Rattle.sp_base.specs.declared.format.TheConstants.{FORMAT_1}
 use Rattle.sp_msg.proofs.GoodFields.{good_ack, good_rel}
 use Rattle.sp_schedule_events.specs.declared.event.Event.{Event}
 use Rattle.sp_schedule_events.specs.declared.event.Event.TheVariants as events
 use Rattle.sp_runs.specs.declared.what.What.TheVariants as whats
-use Rattle.laws_runs.specs.Crafts.{NoFrameIsForged, OwnCraftsForgeNothing}
+use Rattle.laws_runs.specs.Crafts.{AreLong, IsGoodCraft, NamesNoCorrectNode, NoFrameIsForged, OwnCraftsForgeNothing}
 use Rattle.laws_runs.specs.Premises.{Carries, HasGoodMessages}
+use Rattle.laws_runs.specs.Signs.{Good, NodeIs, Signs}
+use Rattle.laws_runs.specs.Unborn.{HoldNone}
 use Rattle.laws_runs.proofs.NoStarts.{in_keep, pieces_at}
 use Rattle.laws_runs.proofs.Goods.{all_of, where_keep}
 use Rattle.laws_runs.proofs.Lists.{both}
 use Rattle.laws_runs.proofs.Passes.{called_good, neither}
-use Rattle.laws_runs.proofs.Signed.{signs}
+use Rattle.laws_runs.proofs.Signed.{signs_there}
+use Rattle.laws_runs.proofs.There.{first_life}
 
 -- ---- an object of a compromised signer
 
@@ -77,7 +84,7 @@ none_forged arts x es js (a ∷ others) h =
 one_input : (a b : Input) → Some a ≡ Some b → b ≡ a
 one_input a b e = cc
 
-arrived_unforged : (arts : Arts) (x : Setting) (es : List Event) (js : List Entry) (w new : World) (e : Event) (j : Entry) (m : Move arts x es w e j new) (c : NodeId) (contents : Contents)
+arrived_unforged : (arts : Arts) (x : Setting) (es : List Event) (js : List Entry) (w new : World) (e : Event) (j : Entry) (m : Move arts x w e j new) (c : NodeId) (contents : Contents)
     → Carries x.topology.format arts → m.node.fixed ≡ fixed_of x (acting e) → is_correct x c ≡ false
     → IsContentsIn x.topology.format x.signature_len contents → HasGoodMessages arts contents
     → AllKeep (IsOfCompromised x) (pieces_of contents)
@@ -97,7 +104,7 @@ arrived_unforged arts x es js w new e j m c contents carries fixed bad range goo
     subst (λ (o : Output). NewKeep P o.answered) (sym moves.0) (called_good P (arrived arts n c bytes) (call_refusal n c)
     (pieces_new P arts (arrival_at n c) (parts_met arts n c bytes) (pieces_at arts n c bytes)
     (where_keep P (reply_at arts n c bytes) (pieces_in n.fixed (sections_in arts n.fixed bytes)) pieces))) in
-    let tag : has_forged_tag arts x w n m.input ≡ false = ap (has_forged_tag arts x w n) is ∙ never_first (is_correct x c) (is_tagged (reply_at arts n c bytes)) (is_among bytes (frames_in w.directions c n.fixed.me)) bad in
+    let tag : has_forged_tag arts x w n m.input ≡ false = ap (has_forged_tag arts x w n) is ∙ never_first (is_correct x c) (is_tagged (reply_at arts n c bytes)) (is_made bytes (frames_in w.directions c n.fixed.me)) bad in
     neither _ _ tag (none_forged arts x es js m.output.answered news)
   where
     never_first : (a b c : Bool) → a ≡ false → (a && b && not c) ≡ false
@@ -121,8 +128,10 @@ no_pieces P arts f l bytes frames.Version pieces = tt
 
 pub no_frame_is_forged : NoFrameIsForged
 no_frame_is_forged arts x es js w new u v bytes j none (Stays s) = refl
+no_frame_is_forged arts x es js w new u v bytes j none (Lives on life) = refl
 no_frame_is_forged arts x es js w new u v bytes j none (Moves m) =
     let n = m.node in
+    let there = ready x w (events.Inject u v bytes) in
     let P = IsOfCompromised x in
     let is : m.input ≡ steps.Datagram u bytes = one_input _ m.input m.reaches in
     let moves : NodeStep arts n (steps.Datagram u bytes) m.output m.after = subst (λ i. NodeStep arts n i m.output m.after) is m.step in
@@ -132,8 +141,8 @@ no_frame_is_forged arts x es js w new u v bytes j none (Moves m) =
     let news : NewKeep P m.output.answered =
     subst (λ (o : Output). NewKeep P o.answered) (sym moves.0) (called_good P (arrived arts n u bytes) (call_refusal n u)
     (pieces_new P arts (arrival_at n u) (parts_met arts n u bytes) (pieces_where (reply_at arts n u bytes) read) pieces)) in
-    let tag : has_forged_tag arts x w n m.input ≡ false =
-    ap (has_forged_tag arts x w n) is ∙ never_second (is_correct x u) (is_tagged (reply_at arts n u bytes)) (is_among bytes (frames_in w.directions u n.fixed.me)) (ap is_tagged reply ∙ untagged arts n.fixed (link_in n u) bytes none.0) in
+    let tag : has_forged_tag arts x there n m.input ≡ false =
+    ap (has_forged_tag arts x there n) is ∙ never_second (is_correct x u) (is_tagged (reply_at arts n u bytes)) (is_made bytes (frames_in there.directions u n.fixed.me)) (ap is_tagged reply ∙ untagged arts n.fixed (link_in n u) bytes none.0) in
     neither _ _ tag (none_forged arts x es js m.output.answered news)
   where
     never_second : (a b c : Bool) → b ≡ false → (a && b && not c) ≡ false
@@ -146,10 +155,10 @@ no_frame_is_forged arts x es js w new u v bytes j none (Moves m) =
 small : (format : ℕ) (v : NodeId) → IsNode format v → v.0 < 256
 small format v is = omega (arith, is.1, few_nodes format)
 
-node_small : (arts : Arts) (x : Setting) → SettingFits arts x → (u : NodeId) → is_node x u ≡ true → u.0 < 256
+node_small : (arts : Arts) (x : Setting) → StaysUp arts x → (u : NodeId) → is_node x u ≡ true → u.0 < 256
 node_small arts x fits u there =
     let f = x.topology.format in
-    small f u (in_range f (nodes_of x.topology) u (nodes_hold f x.topology.height 0 x.topology.nodes fits.topology.ranges.nodes) there)
+    small f u (in_range f (nodes_of x.topology) u (nodes_hold f x.topology.height 0 x.topology.nodes fits.fits.topology.ranges.nodes) there)
 
 -- 0 has room in the field of a boot, and a slot has room for a message
 pub no_boot : (format : ℕ) → 0 < 256 ^ boot_bytes format
@@ -183,16 +192,17 @@ with_fits format len weights prios slot few_weights of_weights few_prios of_prio
   epoch = tt;
 }
 
-slot_fits : (format len base have : ℕ) (flow : Flow) (ack : Option Kept) (rels : List Kept) → flow.src.0 < 256 → flow.dst.0 < 256 → base < 2 ^ 64
+slot_fits : (format len base have : ℕ) (lives : List Life) → HoldNone lives → (flow : Flow) (ack : Option Kept) (rels : List Kept)
+    → flow.src.0 < 256 → flow.dst.0 < 256 → base < 2 ^ 64
     → have < 2 ^ 64 → IfSome ack (IsObject format kinds.Ack len) → length rels ≤ 1 → All (IsObject format kinds.Rel len) rels
-    → IsContentsIn format len (slot_alone flow base have ack rels)
-slot_fits format len base have flow ack rels src dst b h of_ack few of_rels =
-    with_fits format len [] [] (Some (report_on flow base have ack rels)) (omega arith) (All-nil (IsObject format kinds.Weight len)) (omega arith)
+    → IsContentsIn format len (slot_alone lives flow base have ack rels)
+slot_fits format len base have lives none flow ack rels src dst b h of_ack few of_rels =
+    with_fits format len [] [] (Some (report_on lives flow base have ack rels)) (omega arith) (All-nil (IsObject format kinds.Weight len)) (omega arith)
     (All-nil (IsNumbered format len)) (record {
       src = src;
       dst = dst;
-      sboot = no_boot format;
-      dboot = no_boot format;
+      sboot = subst (λ boot. boot < 256 ^ boot_bytes format) (sym (none flow.src)) (no_boot format);
+      dboot = subst (λ boot. boot < 256 ^ boot_bytes format) (sym (none flow.dst)) (no_boot format);
       base = b;
       have = h;
       ack = of_ack;
@@ -200,87 +210,131 @@ slot_fits format len base have flow ack rels src dst b h of_ack few of_rels =
       rels = of_rels;
     })
 
-status_fits : (format len base have : ℕ) (flow : Flow) → flow.src.0 < 256 → flow.dst.0 < 256 → base < 2 ^ 64 → have < 2 ^ 64
-    → IsContentsIn format len (slot_alone flow base have None [])
-status_fits format len base have flow src dst b h =
-    slot_fits format len base have flow None [] src dst b h tt (omega arith) (All-nil (IsObject format kinds.Rel len))
+status_fits : (format len base have : ℕ) (lives : List Life) → HoldNone lives → (flow : Flow)
+    → flow.src.0 < 256 → flow.dst.0 < 256 → base < 2 ^ 64 → have < 2 ^ 64
+    → IsContentsIn format len (slot_alone lives flow base have None [])
+status_fits format len base have lives none flow src dst b h =
+    slot_fits format len base have lives none flow None [] src dst b h tt (omega arith) (All-nil (IsObject format kinds.Rel len))
 
 none_fits : (format len : ℕ) → IsContentsIn format len (contents_with [] [] None)
 none_fits format len =
     with_fits format len [] [] None (omega arith) (All-nil (IsObject format kinds.Weight len)) (omega arith) (All-nil (IsNumbered format len)) tt
 
-object_fits : (format len : ℕ) (body : Body) (signature : List ℕ) → HasGoodFieldsIn format body → length signature ≡ len → len < 65536
-    → IsContentsIn format len (object_alone body (record { body = body; signature = signature }))
-object_fits format len (bodies.Prio p) signature good long short =
+object_fits : (format len : ℕ) (lives : List Life) → HoldNone lives → (body : Body) (signature : List ℕ)
+    → HasGoodFieldsIn format body → length signature ≡ len → len < 65536
+    → IsContentsIn format len (object_alone lives body (record { body = body; signature = signature }))
+object_fits format len lives none (bodies.Prio p) signature good long short =
     with_fits format len [] ((1, record { body = bodies.Prio p; signature = signature }) ∷ []) None (omega arith) (All-nil (IsObject format kinds.Weight len)) (omega arith)
     (All-cons (IsNumbered format len) (1, record { body = bodies.Prio p; signature = signature }) []
     (record { number = omega arith; object = record { fields = good; is = refl; long = long; fits = short } }) (All-nil (IsNumbered format len))) tt
-object_fits format len (bodies.Rel r) signature good long short =
+object_fits format len lives none (bodies.Rel r) signature good long short =
     let fields = good_rel format r good in
     let few = few_nodes format in
-    slot_fits format len 0 0 (record { src = r.src; dst = r.dst }) None (record { body = bodies.Rel r; signature = signature } ∷ []) (omega (arith, fields.src.1, few))
+    slot_fits format len 0 0 lives none (record { src = r.src; dst = r.dst }) None (record { body = bodies.Rel r; signature = signature } ∷ []) (omega (arith, fields.src.1, few))
     (omega (arith, fields.dst.1, few)) (omega arith) (omega arith) tt (omega arith)
     (All-cons (IsObject format kinds.Rel len) (record { body = bodies.Rel r; signature = signature }) []
     (record { fields = good; is = refl; long = long; fits = short }) (All-nil (IsObject format kinds.Rel len)))
-object_fits format len (bodies.Ack a) signature good long short =
+object_fits format len lives none (bodies.Ack a) signature good long short =
     let fields = good_ack format a good in
     let few = few_nodes format in
-    slot_fits format len 0 0 (record { src = a.src; dst = a.dst }) (Some (record { body = bodies.Ack a; signature = signature })) []
+    slot_fits format len 0 0 lives none (record { src = a.src; dst = a.dst }) (Some (record { body = bodies.Ack a; signature = signature })) []
     (omega (arith, fields.src.1, few)) (omega (arith, fields.dst.1, few)) (omega arith) (omega arith)
     (record { fields = good; is = refl; long = long; fits = short }) (omega arith) (All-nil (IsObject format kinds.Rel len))
-object_fits format len (bodies.Weight w) signature good long short =
+object_fits format len lives none (bodies.Weight w) signature good long short =
     with_fits format len (record { body = bodies.Weight w; signature = signature } ∷ []) [] None (omega arith)
     (All-cons (IsObject format kinds.Weight len) (record { body = bodies.Weight w; signature = signature }) []
     (record { fields = good; is = refl; long = long; fits = short }) (All-nil (IsObject format kinds.Weight len))) (omega arith) (All-nil (IsNumbered format len)) tt
-object_fits format len (bodies.Krel r) signature good long short = none_fits format len
-object_fits format len (bodies.Kack a) signature good long short = none_fits format len
-object_fits format len (bodies.Epoch e) signature good long short = none_fits format len
+object_fits format len lives none (bodies.Krel r) signature good long short = none_fits format len
+object_fits format len lives none (bodies.Kack a) signature good long short = none_fits format len
+object_fits format len lives none (bodies.Epoch e) signature good long short = none_fits format len
 
 -- what it carries is that object alone, or none of a kind that no schedule crafts
-only_it : (P : Kept → Type 0) (body : Body) (signature : List ℕ) → P (record { body = body; signature = signature })
-    → AllKeep P (pieces_of (object_alone body (record { body = body; signature = signature })))
-only_it P (bodies.Prio p) signature h = (tt, (h, tt))
-only_it P (bodies.Rel r) signature h = (tt, (tt, (h, tt)))
-only_it P (bodies.Ack a) signature h = (tt, (tt, (h, tt)))
-only_it P (bodies.Weight w) signature h = (h, (tt, tt))
-only_it P (bodies.Krel r) signature h = (tt, tt)
-only_it P (bodies.Kack a) signature h = (tt, tt)
-only_it P (bodies.Epoch e) signature h = (tt, tt)
+only_it : (P : Kept → Type 0) (lives : List Life) (body : Body) (signature : List ℕ) → P (record { body = body; signature = signature })
+    → AllKeep P (pieces_of (object_alone lives body (record { body = body; signature = signature })))
+only_it P lives (bodies.Prio p) signature h = (tt, (h, tt))
+only_it P lives (bodies.Rel r) signature h = (tt, (tt, (h, tt)))
+only_it P lives (bodies.Ack a) signature h = (tt, (tt, (h, tt)))
+only_it P lives (bodies.Weight w) signature h = (h, (tt, tt))
+only_it P lives (bodies.Krel r) signature h = (tt, tt)
+only_it P lives (bodies.Kack a) signature h = (tt, tt)
+only_it P lives (bodies.Epoch e) signature h = (tt, tt)
+
+-- without epochs a node takes a crafted object as it is: it holds no boot of an end
+dated_is : (lives : List Life) → HoldNone lives → (o : CraftedObject) → dated lives (body_of o) ≡ body_of o
+dated_is lives none (crafted.Rel r) = rw (none r.src, none r.dst) refl
+dated_is lives none (crafted.Ack a) = rw (none a.src, none a.dst) refl
+dated_is lives none (crafted.Prio p) = rw (none p.src) refl
+dated_is lives none (crafted.Weight w) = refl
 
 -- ---- the law
 
-pub own_crafts_forge_nothing : OwnCraftsForgeNothing
-own_crafts_forge_nothing arts x es js w fits carries lengths run e j new range good names (Stays s) = refl
-own_crafts_forge_nothing arts x es js w fits carries lengths run (events.Craft c v key object) j new range good names (Moves m) = go (nat_lt (crafts es key) x.total) m.reaches
+moves_forge_nothing : (arts : Arts) (x : Setting) (es : List Event) (js : List Entry) (w new : World) (e : Event) (j : Entry) → StaysUp arts x
+    → Carries x.topology.format arts → AreLong arts x → Signs arts x es js w → AreFields x es e → IsGoodCraft arts e → NamesNoCorrectNode x e
+    → (m : Move arts x w e j new) → forged arts x es js w m.node m.input m.output ≡ None
+moves_forge_nothing arts x es js w new (events.Craft c v key object) j fits carries lengths signs range good names m =
+    go (nat_lt (crafts w.crafted key) x.total) m.reaches
   where
+    is_it : NodeIs x (Good arts x es js) v m.node
+    is_it = signs.nodes v m.node m.is_there
+
+    lives : List Life
+    lives = m.node.parts.lives
+
+    none : HoldNone lives
+    none = (is_it.plain fits.plain).unborn.lives
+
+    said : Body
+    said = dated lives (body_of object)
+
+    same : body_of object ≡ said
+    same = sym (dated_is lives none object)
+
     o : Kept
-    o = crafted_object arts x es key (body_of object)
+    o = crafted_object arts x w.crafted key said
 
-    fixed : m.node.fixed ≡ fixed_of x v
-    fixed = ((signs arts x es js w fits carries run).nodes v m.node m.is_there).fixed
+    contents : Contents
+    contents = object_alone lives said o
 
-    go : (t : Bool) → cond t (Some (steps.Datagram c (crafted_frame arts m.node c (object_alone (body_of object) o)))) None ≡ Some m.input
-        → cond (has_forged_tag arts x w m.node m.input) (Some whats.Tag) (option_map whats.Object (forged_object arts x es js m.output.answered)) ≡ None
+    go : (t : Bool) → cond t (Some (steps.Datagram c (crafted_frame arts m.node c contents))) None ≡ Some m.input
+        → forged arts x es js w m.node m.input m.output ≡ None
     go false is = absurd cc
     go true is =
-        arrived_unforged arts x es js w new (events.Craft c v key object) j m c (object_alone (body_of object) o) carries fixed names.0
-        (object_fits x.topology.format x.signature_len (body_of object) o.signature range.3 (lengths key range.2 (crafts es key) (arts.spell (body_of object))) fits.short)
-        (all_of (λ p. IsTrue (arts.is_good p.body)) (pieces_of (object_alone (body_of object) o)) (only_it (λ p. IsTrue (arts.is_good p.body)) (body_of object) o.signature good))
-        (only_it (IsOfCompromised x) (body_of object) o.signature names.1) (one_input _ m.input is)
-own_crafts_forge_nothing arts x es js w fits carries lengths run (events.CraftStatus c v s d base have) j new range good names (Moves m) =
-    let fixed = ((signs arts x es js w fits carries run).nodes v m.node m.is_there).fixed in
+        arrived_unforged arts x es js w new (events.Craft c v key object) j m c contents carries
+        (first_life x (Good arts x es js) v m.node fits.plain is_it) names.0
+        (object_fits x.topology.format x.signature_len lives none said o.signature (subst (HasGoodFieldsIn x.topology.format) same range.3)
+        (lengths key range.2 (crafts w.crafted key) (arts.spell said)) fits.fits.short)
+        (all_of (λ p. IsTrue (arts.is_good p.body)) (pieces_of contents)
+        (only_it (λ p. IsTrue (arts.is_good p.body)) lives said o.signature (subst (λ (b : Body). IsTrue (arts.is_good b)) same good)))
+        (only_it (IsOfCompromised x) lives said o.signature (subst (λ (b : Body). is_correct x (signer_of b) ≡ false) same names.1))
+        (one_input _ m.input is)
+moves_forge_nothing arts x es js w new (events.CraftStatus c v s d base have) j fits carries lengths signs range good names m =
+    let is_it = signs.nodes v m.node m.is_there in
+    let lives = m.node.parts.lives in
+    let none : HoldNone lives = (is_it.plain fits.plain).unborn.lives in
     let flow : Flow = record { src = s; dst = d } in
     let other = both (is_node x d) (not (s.0 == d.0)) range.3 in
-    arrived_unforged arts x es js w new (events.CraftStatus c v s d base have) j m c (slot_alone flow base have None []) carries fixed names
-    (status_fits x.topology.format x.signature_len base have flow (node_small arts x fits s range.2) (node_small arts x fits d other.0) range.4 range.5) (All-nil (λ p. IsTrue (arts.is_good p.body))) (tt, (tt, tt))
+    arrived_unforged arts x es js w new (events.CraftStatus c v s d base have) j m c (slot_alone lives flow base have None []) carries
+    (first_life x (Good arts x es js) v m.node fits.plain is_it) names
+    (status_fits x.topology.format x.signature_len base have lives none flow (node_small arts x fits s range.2)
+    (node_small arts x fits d other.0) range.4 range.5)
+    (All-nil (λ p. IsTrue (arts.is_good p.body))) (tt, (tt, tt))
     (one_input _ m.input m.reaches)
-own_crafts_forge_nothing arts x es js w fits carries lengths run (events.Rel a b p) j new range good names (Moves m) = absurd names
-own_crafts_forge_nothing arts x es js w fits carries lengths run (events.Prio a b c d f p) j new range good names (Moves m) = absurd names
-own_crafts_forge_nothing arts x es js w fits carries lengths run (events.Take a b) j new range good names (Moves m) = absurd names
-own_crafts_forge_nothing arts x es js w fits carries lengths run (events.TakePrio a) j new range good names (Moves m) = absurd names
-own_crafts_forge_nothing arts x es js w fits carries lengths run (events.Tick a b) j new range good names (Moves m) = absurd names
-own_crafts_forge_nothing arts x es js w fits carries lengths run (events.Weight a b c) j new range good names (Moves m) = absurd names
-own_crafts_forge_nothing arts x es js w fits carries lengths run (events.Poll a b) j new range good names (Moves m) = absurd names
-own_crafts_forge_nothing arts x es js w fits carries lengths run (events.Pass a b c) j new range good names (Moves m) = absurd names
-own_crafts_forge_nothing arts x es js w fits carries lengths run (events.Flip a b c d f) j new range good names (Moves m) = absurd names
-own_crafts_forge_nothing arts x es js w fits carries lengths run (events.Inject a b c) j new range good names (Moves m) = absurd names
+moves_forge_nothing arts x es js w new (events.Rel a b p) j fits carries lengths signs range good names m = absurd names
+moves_forge_nothing arts x es js w new (events.Prio a b c d f p) j fits carries lengths signs range good names m = absurd names
+moves_forge_nothing arts x es js w new (events.Take a b) j fits carries lengths signs range good names m = absurd names
+moves_forge_nothing arts x es js w new (events.TakePrio a) j fits carries lengths signs range good names m = absurd names
+moves_forge_nothing arts x es js w new (events.Tick a b) j fits carries lengths signs range good names m = absurd names
+moves_forge_nothing arts x es js w new (events.Weight a b c) j fits carries lengths signs range good names m = absurd names
+moves_forge_nothing arts x es js w new (events.Poll a b) j fits carries lengths signs range good names m = absurd names
+moves_forge_nothing arts x es js w new (events.Pass a b c) j fits carries lengths signs range good names m = absurd names
+moves_forge_nothing arts x es js w new (events.Flip a b c d f) j fits carries lengths signs range good names m = absurd names
+moves_forge_nothing arts x es js w new (events.Inject a b c) j fits carries lengths signs range good names m = absurd names
+moves_forge_nothing arts x es js w new (events.Start a) j fits carries lengths signs range good names m = absurd names
+moves_forge_nothing arts x es js w new (events.Stop a) j fits carries lengths signs range good names m = absurd names
+
+pub own_crafts_forge_nothing : OwnCraftsForgeNothing
+own_crafts_forge_nothing arts x es js w fits carries lengths run e j new range good names (Stays s) = refl
+own_crafts_forge_nothing arts x es js w fits carries lengths run e j new range good names (Lives on life) = refl
+own_crafts_forge_nothing arts x es js w fits carries lengths run e j new range good names (Moves m) =
+    moves_forge_nothing arts x es js (ready x w e) new e j fits carries lengths
+    (signs_there arts x es js w e fits.fits carries run) range.fields good names m

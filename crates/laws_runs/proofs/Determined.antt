@@ -1,6 +1,6 @@
 -- A journal says all that was left open: so it determines each step, and the run.
-use Rattle.std.proofs.Common.{◌≡◌, ◌<◌, ◌≤◌, ℕ, Bool, true, false, cond, List, [], ◌∷◌, ◌++◌, length, length-append, Option, Some, None, refl, sym, ap, ap₂, subst, ◌∙◌, arith}
-use Rattle.std.specs.Prelude.{IsTrue, nat_lt}
+use Rattle.std.proofs.Common.{◌≡◌, ◌<◌, ◌≤◌, ℕ, Bool, true, false, cond, List, [], ◌∷◌, ◌++◌, length, length-append, Option, Some, None, refl, sym, ap, ap₂, subst, ◌∙◌, inl, inr, arith}
+use Rattle.std.specs.Prelude.{◌⊎◌, IsTrue, nat_lt}
 use Rattle.std.proofs.lemmas.Bool.Decides.{nat_tests}
 use Rattle.sp_base.specs.Cursor.{or_else}
 use Rattle.sp_base.specs.declared.id.NodeId.{NodeId}
@@ -18,11 +18,11 @@ use Rattle.laws_node.specs.Inputs.{ArtsFit, InputFits, ReadsBack}
 use Rattle.laws_node.specs.Nodes.{IsKept}
 use Rattle.laws_node.proofs.Determined.{steps_are_determined}
 use Rattle.laws_node.proofs.Weaker.{node_weaker}
-use Rattle.sp_runs.specs.Inputs.{acting, crafted_frame, crafted_object, crafts, input_of, object_alone}
+use Rattle.sp_runs.specs.Inputs.{acting, crafted_contents, crafted_frame, input_of}
 use Rattle.sp_runs.specs.Journals.{Says, reply_word}
-use Rattle.sp_runs.specs.Runs.{Clean, InRange, Move, Moves, Spends, Starts, Stays, Turn, Turned, directions_after, next_frame}
-use Rattle.sp_runs.specs.Settings.{Setting, SettingFits}
-use Rattle.sp_runs.specs.Worlds.{World, at_start, with_node}
+use Rattle.sp_runs.specs.Runs.{Clean, InRange, Move, Spends, Starts, Turn, Turned, crafted_after, directions_after, next_frame}
+use Rattle.sp_runs.specs.Settings.{Setting, StaysUp}
+use Rattle.sp_runs.specs.Worlds.{World, at_start, crafts, with_node}
 use Rattle.sp_journal.specs.declared.entry.Entry.{Entry}
 use Rattle.sp_schedule_crafts.specs.Objects.{body_of}
 use Rattle.sp_schedule_events.specs.declared.event.Event.{Event}
@@ -32,7 +32,9 @@ use Rattle.laws_runs.specs.States.{RunsAreDetermined}
 use Rattle.laws_runs.specs.Signs.{Good, sizes_at}
 use Rattle.laws_runs.proofs.Goods.{arts_fit}
 use Rattle.laws_runs.proofs.Kept.{read_off}
-use Rattle.laws_runs.proofs.Signed.{reached, signs}
+use Rattle.laws_runs.proofs.PlainTurns.{moves_or_rests}
+use Rattle.laws_runs.proofs.Reaches.{input_fits}
+use Rattle.laws_runs.proofs.Signed.{signs}
 
 -- ---- one output
 
@@ -80,15 +82,20 @@ same_some : {X : Type 0} (a b : X) → Some a ≡ Some b → a ≡ b
 same_some a b e = cc
 
 world_of : World → Event → NodeState → steps.Reply → World
-world_of old e after reply = record { nodes = with_node old.nodes (acting e) after; directions = directions_after old.directions e reply }
+world_of old e after reply = record {
+  keys = old.keys;
+  nodes = with_node old.nodes (acting e) after;
+  directions = directions_after old.directions e reply;
+  crafted = crafted_after old.crafted e;
+}
 
-by_moves : (arts : Arts) → ReadsBack arts → (x : Setting) (es : List Event) (old w v : World) (e : Event) (j : Entry) (m : Move arts x es old e j w) (n : Move arts x es old e j v)
+by_moves : (arts : Arts) → ReadsBack arts → (x : Setting) (es : List Event) (old w v : World) (e : Event) (j : Entry) (m : Move arts x old e j w) (n : Move arts x old e j v)
     → ArtsFit arts m.node.fixed m.node.signer → InputFits m.input → IsKept arts m.node → w ≡ v
 unfolding world_of
 by_moves arts reads x es old w v e j m n arts_are fits kept =
     let node : n.node ≡ m.node = same_some n.node m.node (sym n.is_there ∙ m.is_there) in
     let input : n.input ≡ m.input =
-    same_some n.input m.input (sym n.reaches ∙ ap (λ (y : NodeState). input_of arts x es old y e) node ∙ m.reaches) in
+    same_some n.input m.input (sym n.reaches ∙ ap (λ (y : NodeState). input_of arts x old y e) node ∙ m.reaches) in
     let step : NodeStep arts m.node m.input n.output n.after =
     subst (λ (y : NodeState). NodeStep arts y m.input n.output n.after) node (subst (λ (i : Input). NodeStep arts n.node i n.output n.after) input n.step) in
     let output : m.output ≡ n.output = one_output x (next_frame old e) j arts m.node m.input m.output n.output m.after n.after m.step step m.journal n.journal in
@@ -98,17 +105,16 @@ by_moves arts reads x es old w v e j m n arts_are fits kept =
     m.world ∙ ap₂ (λ (a : NodeState) (o : Output). world_of old e a o.reply) after output ∙ sym n.world
 
 -- a crafting signer that is spent brings nothing
-not_both : (arts : Arts) (x : Setting) (es : List Event) (old w v : World) (e : Event) (j : Entry) → Move arts x es old e j w → Spends x es old e j v → ⊥
-not_both arts x es old w v (events.Craft c u k object) j m s = go (nat_lt (crafts es k) x.total) refl m.reaches
+not_both : (arts : Arts) (x : Setting) (es : List Event) (old w v : World) (e : Event) (j : Entry) → Move arts x old e j w → Spends x old e j v → ⊥
+not_both arts x es old w v (events.Craft c u k object) j m s = go (nat_lt (crafts old.crafted k) x.total) refl m.reaches
   where
-    o : Kept
-    o = crafted_object arts x es k (body_of object)
+    bytes : List ℕ
+    bytes = crafted_frame arts m.node c (crafted_contents arts x old.crafted m.node k (body_of object))
 
-    go : (t : Bool) → nat_lt (crafts es k) x.total ≡ t
-        → cond t (Some (steps.Datagram c (crafted_frame arts m.node c (object_alone (body_of object) o)))) None ≡ Some m.input → ⊥
+    go : (t : Bool) → nat_lt (crafts old.crafted k) x.total ≡ t → cond t (Some (steps.Datagram c bytes)) None ≡ Some m.input → ⊥
     go true is e =
-        let spent : x.total ≤ crafts es k = subst (λ (u : NodeId). x.total ≤ crafts es u) (sym s.is_craft) s.spent in
-        let below : crafts es k < x.total = grind (arith, nat_tests, is) in
+        let spent : x.total ≤ crafts old.crafted k = subst (λ (u : NodeId). x.total ≤ crafts old.crafted u) (sym s.is_craft) s.spent in
+        let below : crafts old.crafted k < x.total = grind (arith, nat_tests, is) in
         omega (arith, spent, below)
     go false is e = cc
 not_both arts x es old w v (events.Rel a b p) j m s = s.is_craft
@@ -122,33 +128,41 @@ not_both arts x es old w v (events.Pass a b c) j m s = s.is_craft
 not_both arts x es old w v (events.Flip a b c d f) j m s = s.is_craft
 not_both arts x es old w v (events.Inject a b c) j m s = s.is_craft
 not_both arts x es old w v (events.CraftStatus a b c d f g) j m s = s.is_craft
+not_both arts x es old w v (events.Start a) j m s = s.is_craft
+not_both arts x es old w v (events.Stop a) j m s = s.is_craft
 
 -- the arts fit the acting node
-arts_fit_it : (arts : Arts) (x : Setting) (es : List Event) (js : List Entry) (old w : World) (e : Event) (j : Entry) → SettingFits arts x
+arts_fit_it : (arts : Arts) (x : Setting) (es : List Event) (js : List Entry) (old w : World) (e : Event) (j : Entry) → StaysUp arts x
     → Carries x.topology.format arts
-    → Clean arts x es js old → (m : Move arts x es old e j w) → ArtsFit arts m.node.fixed m.node.signer
+    → Clean arts x es js old → (m : Move arts x old e j w) → ArtsFit arts m.node.fixed m.node.signer
 arts_fit_it arts x es js old w e j fits carries run m =
-    arts_fit arts x (Good arts x es js) (acting e) m.node fits ((signs arts x es js old fits carries run).nodes (acting e) m.node m.is_there)
+    arts_fit arts x (Good arts x es js) (acting e) m.node fits.fits
+    ((signs arts x es js old fits.fits carries run).nodes (acting e) m.node m.is_there)
 
 -- which keeps what a node keeps
-kept_there : (arts : Arts) (x : Setting) (es : List Event) (js : List Entry) (old w : World) (e : Event) (j : Entry) → SettingFits arts x
+kept_there : (arts : Arts) (x : Setting) (es : List Event) (js : List Entry) (old w : World) (e : Event) (j : Entry) → StaysUp arts x
     → Carries x.topology.format arts
-    → Clean arts x es js old → (m : Move arts x es old e j w) → IsKept arts m.node
+    → Clean arts x es js old → (m : Move arts x old e j w) → IsKept arts m.node
 kept_there arts x es js old w e j fits carries run m =
-    let is = (signs arts x es js old fits carries run).nodes (acting e) m.node m.is_there in
+    let is = (signs arts x es js old fits.fits carries run).nodes (acting e) m.node m.is_there in
     let Q : Kept → Type 0 = λ o. IsTrue (is_signed arts m.node.fixed o) in
     read_off x Q (acting e) m.node
     (node_weaker (sizes_at x (Good arts x es js) (acting e)) Q (λ o good. subst (λ (f : Fixed). IsTrue (is_signed arts f o)) (sym is.fixed) good.right) m.node is.holds)
 
-pub one_turn : (arts : Arts) (x : Setting) (es : List Event) (js : List Entry) (old w v : World) (e : Event) (j : Entry) → SettingFits arts x
+pub one_turn : (arts : Arts) (x : Setting) (es : List Event) (js : List Entry) (old w v : World) (e : Event) (j : Entry) → StaysUp arts x
     → Carries x.topology.format arts
-    → Clean arts x es js old → InRange x es e → Turn arts x es old e j w → Turn arts x es old e j v → w ≡ v
-one_turn arts x es js old w v e j fits carries run range (Moves m) (Moves n) =
-    by_moves arts carries.bodies x es old w v e j m n (arts_fit_it arts x es js old w e j fits carries run m) (reached arts x es js old w e j fits carries run range m)
-    (kept_there arts x es js old w e j fits carries run m)
-one_turn arts x es js old w v e j fits carries run range (Stays s) (Stays t) = s.world ∙ sym t.world
-one_turn arts x es js old w v e j fits carries run range (Moves m) (Stays t) = absurd (not_both arts x es old w v e j m t)
-one_turn arts x es js old w v e j fits carries run range (Stays s) (Moves n) = absurd (not_both arts x es old v w e j n s)
+    → Clean arts x es js old → InRange x es e → Turn arts x old e j w → Turn arts x old e j v → w ≡ v
+one_turn arts x es js old w v e j fits carries run range one two =
+    go (moves_or_rests arts x old w e j fits.plain one) (moves_or_rests arts x old v e j fits.plain two)
+  where
+    go : Move arts x old e j w ⊎ Spends x old e j w → Move arts x old e j v ⊎ Spends x old e j v → w ≡ v
+    go (inl m) (inl n) =
+        by_moves arts carries.bodies x es old w v e j m n (arts_fit_it arts x es js old w e j fits carries run m)
+        (input_fits arts x es old m.node e m.input carries (signs arts x es js old fits.fits carries run).bytes range.fields m.reaches)
+        (kept_there arts x es js old w e j fits carries run m)
+    go (inr s) (inr t) = s.world ∙ sym t.world
+    go (inl m) (inr t) = absurd (not_both arts x es old w v e j m t)
+    go (inr s) (inl n) = absurd (not_both arts x es old v w e j n s)
 
 -- ---- a run
 
@@ -166,7 +180,7 @@ snoc {X} (a ∷ xs) (b ∷ ys) x y e =
 record LastTurn (arts : Arts) (x : Setting) (es : List Event) (js : List Entry) (e : Event) (j : Entry) (v : World) : Type 0 where
   old : World
   run : Clean arts x es js old
-  turn : Turn arts x es old e j v
+  turn : Turn arts x old e j v
 
 last_turn : (arts : Arts) (x : Setting) (es all : List Event) (js each : List Entry) (e : Event) (j : Entry) (v : World) → Clean arts x all each v
     → all ≡ es ++ e ∷ [] → each ≡ js ++ j ∷ [] → LastTurn arts x es js e j v
@@ -178,8 +192,8 @@ last_turn arts x es all js each e j v (Turned {es = es'} {js = js'} {old = old} 
     record {
       old = old;
       run = subst (λ (ys : List Entry). Clean arts x es ys old) q.0 (subst (λ (xs : List Event). Clean arts x xs js' old) p.0 run);
-      turn = subst (λ (y : Entry). Turn arts x es old e y v) q.1 (subst (λ (y : Event). Turn arts x es old y j' v) p.1
-          (subst (λ (xs : List Event). Turn arts x xs old e' j' v) p.0 turn));
+      turn = subst (λ (y : Entry). Turn arts x old e y v) q.1 (subst (λ (y : Event). Turn arts x old y j' v) p.1
+          (subst (λ (xs : List Event). Turn arts x old e' j' v) p.0 turn));
     }
 
 none_left : (arts : Arts) (x : Setting) (es : List Event) (js : List Entry) (v : World) → Clean arts x es js v → es ≡ [] → v ≡ at_start x
@@ -192,4 +206,4 @@ runs_are_determined arts x es js w v fits carries Starts other = sym (none_left 
 runs_are_determined arts x es js w v fits carries (Turned {es = es'} {js = js'} {old = old} {e = e} {j = j} run range turn unforged) other =
     let last = last_turn arts x es' (es' ++ e ∷ []) js' (js' ++ j ∷ []) e j v other refl refl in
     let same : last.old ≡ old = sym (runs_are_determined arts x es' js' old last.old fits carries run last.run) in
-    one_turn arts x es' js' old w v e j fits carries run range turn (subst (λ (y : World). Turn arts x es' y e j v) same last.turn)
+    one_turn arts x es' js' old w v e j fits carries run range turn (subst (λ (y : World). Turn arts x y e j v) same last.turn)

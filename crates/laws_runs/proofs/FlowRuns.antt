@@ -22,8 +22,8 @@ use Rattle.laws_runs.proofs.Lives.{step_stays}
 use Rattle.laws_node.proofs.Tables.{cond_either}
 use Rattle.sp_runs.specs.Forgery.{forged_object, has_forged_tag, is_among}
 use Rattle.sp_runs.specs.Inputs.{acting}
-use Rattle.sp_runs.specs.Runs.{Clean, InRange, Starts, Turned, Turn, Moves, Stays, Move, Spends, IsCraftOf, forged_in, next_frame}
-use Rattle.sp_runs.specs.Settings.{Setting, SettingFits, is_correct, is_node, is_one_of}
+use Rattle.sp_runs.specs.Runs.{Clean, InRange, Starts, Turned, Turn, Move, Spends, IsCraftOf, forged_in, next_frame}
+use Rattle.sp_runs.specs.Settings.{Setting, StaysUp, is_correct, is_node, is_one_of}
 use Rattle.sp_runs.specs.Told.{Message, accepted_in, delivered, delivered_by, sent, signed, signed_by, told_at}
 use Rattle.sp_runs.specs.Worlds.{World, at_start, node_in}
 use Rattle.sp_journal.specs.declared.entry.Entry.{Entry}
@@ -37,12 +37,14 @@ use Rattle.laws_runs.proofs.FlowFacts.{RelIs, flow_grown, flow_of, in_more}
 use Rattle.laws_runs.proofs.FlowPieces.{told_here}
 use Rattle.laws_runs.proofs.FlowSteps.{Stepped, acked_away, acked_here}
 use Rattle.laws_runs.proofs.Flows.{FlowsHold, acks_both, stepped}
-use Rattle.laws_runs.proofs.Lists.{among_or, told_more}
+use Rattle.laws_runs.proofs.Lists.{among_or, or_true, told_more}
 use Rattle.laws_runs.proofs.SentLists.{lists_sent}
 use Rattle.laws_runs.proofs.VouchedAcks.{vouched}
-use Rattle.laws_runs.proofs.Goods.{new_known, started, unforged_tag}
+use Rattle.laws_runs.proofs.Goods.{new_known, plain_start, started, unforged_tag}
+use Rattle.laws_runs.proofs.Plain.{Goes, Plain, Rests, plain_turn}
+use Rattle.laws_runs.proofs.PlainTurns.{plain_signs}
 use Rattle.laws_runs.proofs.Reaches.{input_fits}
-use Rattle.laws_runs.proofs.Signed.{signs, turns_keep_signs}
+use Rattle.laws_runs.proofs.Signed.{signs}
 use Rattle.laws_runs.proofs.Tables.{node_put, same_node}
 
 -- ---- the start: there is a row for each two nodes, and nothing came
@@ -50,10 +52,6 @@ use Rattle.laws_runs.proofs.Tables.{node_put, same_node}
 at_boot : (fs : List Flow) (fl : Flow) → (flow_in (map no_flow fs) fl).at ≡ start
 at_boot [] fl = refl
 at_boot (f ∷ fs) fl = cond_either (λ (g : FlowState). g.at ≡ start) (is_flow fl (no_flow f)) (no_flow f) (flow_in (map no_flow fs) fl) refl (at_boot fs fl)
-
-or_true : (a : Bool) → (a || true) ≡ true
-or_true true = refl
-or_true false = refl
 
 pub any_map : {X Y : Type 0} (p : Y → Bool) (q : X → Bool) (f : X → Y) → ((x : X) → q x ≡ true → p (f x) ≡ true) → (xs : List X) → list_any q xs ≡ true → list_any p (map f xs) ≡ true
 any_map p q f is [] some = absurd (let e : false ≡ true = some in cc)
@@ -111,7 +109,7 @@ row_of_keys nodes s d fs different from to keys =
 starts : (arts : Arts) (x : Setting) (s d : NodeId) → (s ≡ d → ⊥) → is_node x s ≡ true → is_node x d ≡ true → FlowsHold arts x s d [] [] (at_start x)
 starts arts x s d different from to = record {
   nodes = λ u n at.
-      let is = started x (nodes_of x.topology) u n at in
+      let is = started x (nodes_of x.topology) u n (plain_start x u n at).1 in
       subst (λ (m : NodeState). RelIs (IsTrue (is_correct x s)) s d [] [] 0 u m.parts.rel) (sym is.0) (record {
         me = refl;
         row = has_row (nodes_of x.topology) s d different from to;
@@ -147,7 +145,7 @@ pub here_is : {X : Type 0} (v : NodeId) (tells : Effect → List X) (e : Event) 
     → told_at v tells (e, j) ≡ cond ((acting e).0 == v.0) (flat_map tells es) []
 here_is v tells e j es is = ap (λ (xs : List Effect). cond ((acting e).0 == v.0) (flat_map tells xs) []) is
 
-moved_on : (arts : Arts) (x : Setting) (s d : NodeId) (es : List Event) (js : List Entry) (w new : World) (e : Event) (j : Entry) (m : Move arts x es w e j new) → length es ≡ length js
+moved_on : (arts : Arts) (x : Setting) (s d : NodeId) (es : List Event) (js : List Entry) (w new : World) (e : Event) (j : Entry) (m : Move arts x w e j new) → length es ≡ length js
     → m.after.fixed.me ≡ acting e → FlowsHold arts x s d es js w
     → Stepped arts (IsTrue (is_correct x s)) s d (sent es js s d) (accepted_in s d e j.reply) (delivered es js s d) (acknowledged arts es js s d) (acting e) m.output.effects m.after.parts.rel
     → FlowsHold arts x s d (es ++ e ∷ []) (js ++ j ∷ []) new
@@ -214,6 +212,8 @@ quiet_craft s d key (events.Pass a b c) j is = absurd is
 quiet_craft s d key (events.Flip a b c f g) j is = absurd is
 quiet_craft s d key (events.Inject a b c) j is = absurd is
 quiet_craft s d key (events.CraftStatus a b c f g i) j is = absurd is
+quiet_craft s d key (events.Start a) j is = absurd is
+quiet_craft s d key (events.Stop a) j is = absurd is
 
 pub none_either : {X : Type 0} (t : Bool) → cond {A = List X} t [] [] ≡ []
 none_either true = refl
@@ -225,7 +225,7 @@ nothing_told v tells es js e j same none =
     told_more (told_at v tells) es js e j same ∙ ap (λ t. flat_map (told_at v tells) (zip es js) ++ t) (here_is v tells e j [] none ∙ none_either ((acting e).0 == v.0))
     ∙ append-nil (flat_map (told_at v tells) (zip es js))
 
-stayed_on : (arts : Arts) (x : Setting) (s d : NodeId) (es : List Event) (js : List Entry) (w new : World) (e : Event) (j : Entry) → length es ≡ length js → Spends x es w e j new → FlowsHold arts x s d es js w
+stayed_on : (arts : Arts) (x : Setting) (s d : NodeId) (es : List Event) (js : List Entry) (w new : World) (e : Event) (j : Entry) → length es ≡ length js → Spends x w e j new → FlowsHold arts x s d es js w
     → FlowsHold arts x s d (es ++ e ∷ []) (js ++ j ∷ []) new
 stayed_on arts x s d es js w new e j same m h =
     let C = IsTrue (is_correct x s) in
@@ -251,20 +251,25 @@ stayed_on arts x s d es js w new e j same m h =
 
 -- ---- a whole run
 
-flows_on : (arts : Arts) (x : Setting) (es : List Event) (js : List Entry) (old : World) (e : Event) (j : Entry) (new : World) → SettingFits arts x
+flows_on : (arts : Arts) (x : Setting) (es : List Event) (js : List Entry) (old : World) (e : Event) (j : Entry) (new : World) → StaysUp arts x
     → Carries x.topology.format arts
-    → Signs arts x es js old → InRange x es e → (turn : Turn arts x es old e j new) → forged_in arts x es js old e j new turn ≡ None
+    → Signs arts x es js old → InRange x es e → (turn : Turn arts x old e j new) → forged_in arts x es js old e j new turn ≡ None
     → (s d : NodeId) → IsTrue (is_correct x d) → (s ≡ d → ⊥) → FlowsHold arts x s d es js old → FlowsHold arts x s d (es ++ e ∷ []) (js ++ j ∷ []) new
-flows_on arts x es js old e j new fits reads signs range (Moves m) unforged s d to different h =
-    let is = signs.nodes (acting e) m.node m.is_there in
-    let nothing = unforged_tag (has_forged_tag arts x old m.node m.input) (forged_object arts x es js m.output.answered) unforged in
-    let me : m.after.fixed.me ≡ acting e = ap (λ (f : Fixed). f.me) ((step_stays arts m.node m.input m.output m.after m.step).fixed ∙ is.fixed) in
-    moved_on arts x s d es js old new e j m signs.entries me h
-    (stepped arts x s d different fits reads to es js old new j e m.node (next_frame old e) m.input m.output m.after m.reaches (input_fits arts x es old m.node e m.input reads signs.bytes range m.reaches)
-    m.step m.journal is (new_known arts x es js m.output.answered nothing.1) h (h.nodes (acting e) m.node m.is_there))
-flows_on arts x es js old e j new fits reads signs range (Stays m) unforged s d to different h = stayed_on arts x s d es js old new e j signs.entries m h
+flows_on arts x es js old e j new fits reads signs range turn unforged s d to different h =
+    go (plain_turn arts x es js old new e j fits.plain turn unforged)
+  where
+    go : Plain arts x es js old e j new → FlowsHold arts x s d (es ++ e ∷ []) (js ++ j ∷ []) new
+    go (Goes m none) =
+        let is = signs.nodes (acting e) m.node m.is_there in
+        let nothing = unforged_tag (has_forged_tag arts x old m.node m.input) (forged_object arts x es js m.output.answered) none in
+        let me : m.after.fixed.me ≡ acting e = ap (λ (f : Fixed). f.me) ((step_stays arts m.node m.input m.output m.after m.step).fixed ∙ is.fixed) in
+        moved_on arts x s d es js old new e j m signs.entries me h
+        (stepped arts x s d different fits reads to es js old new j e m.node (next_frame old e) m.input m.output m.after m.reaches
+        (input_fits arts x es old m.node e m.input reads signs.bytes range.fields m.reaches)
+        m.step m.journal is (new_known arts x es js m.output.answered nothing.1) h (h.nodes (acting e) m.node m.is_there))
+    go (Rests spends) = stayed_on arts x s d es js old new e j signs.entries spends h
 
-pub flows_hold : (arts : Arts) (x : Setting) (es : List Event) (js : List Entry) (w : World) → SettingFits arts x → Carries x.topology.format arts
+pub flows_hold : (arts : Arts) (x : Setting) (es : List Event) (js : List Entry) (w : World) → StaysUp arts x → Carries x.topology.format arts
     → Clean arts x es js w
     → (s d : NodeId) → is_node x s ≡ true → IsTrue (is_correct x d) → (s ≡ d → ⊥) → FlowsHold arts x s d es js w
 flows_hold arts x es js w fits reads Starts s d from to different = starts arts x s d different from (first _ _ to)
@@ -273,7 +278,7 @@ flows_hold arts x es js w fits reads Starts s d from to different = starts arts 
     first true b e = refl
     first false b e = absurd (let f : false ≡ true = e in cc)
 flows_hold arts x es js w fits reads (Turned {es = es'} {js = js'} {old = old} {e = e} {j = j} run range turn unforged) s d from to different =
-    flows_on arts x es' js' old e j w fits reads (signs arts x es' js' old fits reads run) range turn unforged s d to different
+    flows_on arts x es' js' old e j w fits reads (signs arts x es' js' old fits.fits reads run) range turn unforged s d to different
     (flows_hold arts x es' js' old fits reads run s d from to different)
 
 first_true : (a b : Bool) → (a && b) ≡ true → a ≡ true
@@ -281,7 +286,7 @@ first_true true b e = refl
 first_true false b e = absurd (let f : false ≡ true = e in cc)
 
 -- the claims, and what they come from
-claims_of : (arts : Arts) (x : Setting) (es : List Event) (js : List Entry) (w : World) → SettingFits arts x → Signs arts x es js w
+claims_of : (arts : Arts) (x : Setting) (es : List Event) (js : List Entry) (w : World) → StaysUp arts x → Signs arts x es js w
     → (s d : NodeId) → IsTrue (is_node x s) → IsTrue (is_correct x d) → FlowsHold arts x s d es js w → FlowClaims arts x s d es js w
 claims_of arts x es js w fits signs s d from to h = record {
   base = λ u n at. (h.nodes u n at).flow.base;
@@ -323,9 +328,9 @@ of_claims arts x es js w signs s d from to different c = record {
 
 pub turns_keep_flows : TurnsKeepFlows
 turns_keep_flows arts x es js old e j new fits reads signs range turn unforged s d from to different c =
-    claims_of arts x (es ++ e ∷ []) (js ++ j ∷ []) new fits (turns_keep_signs arts x es js old e j new fits reads signs range turn unforged) s d from to
+    claims_of arts x (es ++ e ∷ []) (js ++ j ∷ []) new fits (plain_signs arts x es js old e j new fits reads signs range turn unforged) s d from to
     (flows_on arts x es js old e j new fits reads signs range turn unforged s d to different (of_claims arts x es js old signs s d from to different c))
 
 pub flows_are_kept : FlowsAreKept
 flows_are_kept arts x es js w fits reads run s d from to different =
-    claims_of arts x es js w fits (signs arts x es js w fits reads run) s d from to (flows_hold arts x es js w fits reads run s d from to different)
+    claims_of arts x es js w fits (signs arts x es js w fits.fits reads run) s d from to (flows_hold arts x es js w fits reads run s d from to different)

@@ -46,7 +46,7 @@ use Rattle.sp_runs.specs.Forgery.{is_among}
 use Rattle.sp_runs.specs.Inputs.{acting, crafted_frame, flipped, input_of, slot_alone}
 use Rattle.sp_node_words.specs.Words.{refused_word}
 use Rattle.sp_runs.specs.Journals.{Says, reply_word}
-use Rattle.sp_runs.specs.Settings.{Setting, SettingFits, is_correct}
+use Rattle.sp_runs.specs.Settings.{Setting, StaysUp, is_correct}
 use Rattle.sp_runs.specs.Told.{Message, accepted_in, delivered, sent, signed}
 use Rattle.sp_runs.specs.Worlds.{World, node_in}
 use Rattle.sp_journal.specs.declared.entry.Entry.{Entry}
@@ -119,7 +119,7 @@ new_three P Q R S join (a ∷ others) one two three =
 
 -- what a node takes from a datagram is none of a K-path flow
 new_on_one : (arts : Arts) (x : Setting) (P : Kept → Type 0) (v : NodeId) (n : NodeState) (u : NodeId) (bytes : List ℕ) (output : Output)
-    (after : NodeState) → SettingFits arts x → NodeStep arts n (steps.Datagram u bytes) output after → InputFits (steps.Datagram u bytes) → NodeIs x P v n
+    (after : NodeState) → StaysUp arts x → NodeStep arts n (steps.Datagram u bytes) output after → InputFits (steps.Datagram u bytes) → NodeIs x P v n
     → NewKeep (λ o. IsOnePath o.body) output.answered
 new_on_one arts x P v n u bytes output after fits step input is =
     subst (λ (o : Output). NewKeep (λ y. IsOnePath y.body) o.answered) (sym step.0) (go (call_refusal n u))
@@ -129,7 +129,7 @@ new_on_one arts x P v n u bytes output after fits step input is =
 
     few : FewFit k (pieces_at arts n u bytes)
     few = where_fits k (pieces_in n.fixed (sections_in arts n.fixed bytes)) (reply_at arts n u bytes)
-        (sections_fit k arts n.fixed n.signer bytes (arts_fit arts x P v n fits is) input is.holds.fixed.format is.holds.fixed.signature_len
+        (sections_fit k arts n.fixed n.signer bytes (arts_fit arts x P v n fits.fits is) input is.holds.fixed.format is.holds.fixed.signature_len
         (sections_in arts n.fixed bytes) refl)
 
     go : (r : Option NodeRefused) → NewKeep (λ o. IsOnePath o.body) (refused_call r (arrived arts n u bytes)).answered
@@ -154,7 +154,7 @@ vouched arts reads x s d es js w d_correct h o known good one_path = record {
 
 -- ---- one step of the acting node
 
-module _ (C : Type 0) (x : Setting) (P : Kept → Type 0) (arts : Arts) (s d : NodeId) (S D : List Message) (c : ℕ) (u : NodeId) (different : s ≡ d → ⊥) (fits : SettingFits arts x) (reads : ReadsBack arts) where
+module _ (C : Type 0) (x : Setting) (P : Kept → Type 0) (arts : Arts) (s d : NodeId) (S D : List Message) (c : ℕ) (u : NodeId) (different : s ≡ d → ⊥) (fits : StaysUp arts x) (reads : ReadsBack arts) where
   -- of a step that is told with these effects
   abbrev Done : List Message → List Effect → NodeState → Type 0
   Done T es after = Stepped arts C s d S T D c u es after.parts.rel
@@ -218,7 +218,7 @@ module _ (C : Type 0) (x : Setting) (P : Kept → Type 0) (arts : Arts) (s d : N
           let d_now = dated_due n ack is_due in
           settled_step arts reads C s d S D c u different n.parts.rel d_now.raw ack (held_boot n.parts.lives d_now.raw.src) (held_boot n.parts.lives d_now.raw.dst)
           (signed_now arts (at_time n now) (bodies.Ack ack)) (expired_effects n.parts.prio (time_after n now)) d_now.is_due d_now.is refl facts.mine
-          (ack_good arts (sizes_at x P u) n ack (arts_fit arts x P u n fits is) is_due is.holds)
+          (ack_good arts (sizes_at x P u) n ack (arts_fit arts x P u n fits.fits is) is_due is.holds)
           (quiet_expired n.parts.prio (time_after n now)) h prefix low
 
   -- what a client sent
@@ -237,7 +237,7 @@ module _ (C : Type 0) (x : Setting) (P : Kept → Type 0) (arts : Arts) (s d : N
           → after ≡ kept_or r n (signed_once n (record n.parts { rel = pushed_in n.parts.rel (signed_now arts n (rel_body n dst payload)) }))
           → Stepped arts C s d S (sent_if r n dst payload) D c u output.effects after.parts.rel
       go None free e f =
-          let good = rel_good arts (sizes_at x P u) n dst payload (arts_fit arts x P u n fits is) short free is.holds in
+          let good = rel_good arts (sizes_at x P u) n dst payload (arts_fit arts x P u n fits.fits is) short free is.holds in
           subst (λ es. Stepped arts C s d S (sent_now n dst payload) D c u es after.parts.rel) (sym e)
           (subst (λ (m : NodeState). Stepped arts C s d S (sent_now n dst payload) D c u (rel_sent arts n dst payload) m.parts.rel) (sym f)
           (sent_step arts reads C s d S D c u different (sizes_at x P u) n dst payload (ap (λ (g : Fixed). g.me) is.fixed) good h prefix low))
@@ -252,7 +252,7 @@ module _ (C : Type 0) (x : Setting) (P : Kept → Type 0) (arts : Arts) (s d : N
           → after ≡ kept_or r n (signed_once n (record n.parts { prio = admit_prio n.parts.prio (own_prio arts n m step.choice) None }))
           → Stepped arts C s d S [] D c u output.effects after.parts.rel
       go None free e f =
-          let good = prio_good arts (sizes_at x P u) n m step.choice (arts_fit arts x P u n fits is) sizes free
+          let good = prio_good arts (sizes_at x P u) n m step.choice (arts_fit arts x P u n fits.fits is) sizes free
           (step.is_choice (either (prio_refusal n m) (no_paths step.choice) free).0) is.holds in
           subst (λ es. Stepped arts C s d S [] D c u es after.parts.rel) (sym e)
           (subst (λ (y : NodeState). Stepped arts C s d S [] D c u (prio_sent arts n m step.choice) y.parts.rel) (sym f)
@@ -269,7 +269,7 @@ module _ (C : Type 0) (x : Setting) (P : Kept → Type 0) (arts : Arts) (s d : N
           → after ≡ kept_or r n (signed_once n (record n.parts { weights = held n.parts.weights (signed_now arts n (weight_body n v weight)) }))
           → Stepped arts C s d S [] D c u output.effects after.parts.rel
       go None free e f =
-          let good = weight_good arts (sizes_at x P u) n v weight (arts_fit arts x P u n fits is) sizes.0 sizes.1 free is.holds in
+          let good = weight_good arts (sizes_at x P u) n v weight (arts_fit arts x P u n fits.fits is) sizes.0 sizes.1 free is.holds in
           subst (λ es. Stepped arts C s d S [] D c u es after.parts.rel) (sym e)
           (subst (λ (y : NodeState). Stepped arts C s d S [] D c u (weight_sent arts n v weight) y.parts.rel) (sym f)
           (signed_other arts reads C s d S D c u different (weight_body n v weight) (weight_effects (weight_body n v weight)) n.parts.rel tt good (quiet_weight (weight_body n v weight)) h prefix low))
@@ -299,7 +299,7 @@ not_accepted s d from to payload (refusals.Expired now) reply e = let is : repli
 not_accepted s d from to payload (refusals.NoPaths found) reply e = let is : replies.NoPaths found ≡ reply = cc in subst (λ r. accepted_in s d (events.Rel from to payload) r ≡ []) is refl
 not_accepted s d from to payload (refusals.Low least) reply e = let is : replies.Low least ≡ reply = cc in subst (λ r. accepted_in s d (events.Rel from to payload) r ≡ []) is refl
 not_accepted s d from to payload (refusals.Spent index) reply e = let is : replies.Spent index ≡ reply = cc in subst (λ r. accepted_in s d (events.Rel from to payload) r ≡ []) is refl
-not_accepted s d from to payload refusals.BadEnd reply e = absurd (cc)
+not_accepted s d from to payload refusals.BadEnd reply e = let is : replies.BadEnd ≡ reply = cc in subst (λ r. accepted_in s d (events.Rel from to payload) r ≡ []) is refl
 not_accepted s d from to payload (refusals.NotReserved bound) reply e = absurd (cc)
 not_accepted s d from to payload refusals.Memory reply e = absurd (cc)
 
@@ -313,7 +313,7 @@ accepted_is arts x s d from to number payload n output j None says e =
 accepted_is arts x s d from to number payload n output j (Some refused) says e =
     not_accepted s d from to payload refused j.reply (sym (ap (λ (o : Output). reply_word x number o.reply) e) ∙ says.reply)
 
-sent_same : (s d u to : NodeId) (n : NodeState) (payload : List ℕ) (C : Type 0) (x : Setting) (P : Kept → Type 0) (arts : Arts) (S D : List Message) (c : ℕ) (different : s ≡ d → ⊥) (fits : SettingFits arts x) (reads : ReadsBack arts) (r : Option SendRefused)
+sent_same : (s d u to : NodeId) (n : NodeState) (payload : List ℕ) (C : Type 0) (x : Setting) (P : Kept → Type 0) (arts : Arts) (S D : List Message) (c : ℕ) (different : s ≡ d → ⊥) (fits : StaysUp arts x) (reads : ReadsBack arts) (r : Option SendRefused)
     → elim r [ None ↦ cond (u.0 == s.0 && to.0 == d.0) ((rel_number n to, payload) ∷ []) [] | Some refused ↦ [] ] ≡ sent_if C x P arts s d S D c u different fits reads r n to payload
 sent_same s d u to n payload C x P arts S D c different fits reads None = refl
 sent_same s d u to n payload C x P arts S D c different fits reads (Some refused) = refl
@@ -326,7 +326,7 @@ pub crafted_bytes : (t : Bool) (c : NodeId) (bytes : List ℕ) (i : Input) → c
 crafted_bytes true c bytes i e = (bytes, cc)
 crafted_bytes false c bytes i e = absurd (cc)
 
-module _ (arts : Arts) (x : Setting) (s d : NodeId) (different : s ≡ d → ⊥) (fits : SettingFits arts x) (carries : Carries x.topology.format arts) (d_correct : IsTrue (is_correct x d)) (es : List Event) (js : List Entry) (w new : World) (j : Entry) where
+module _ (arts : Arts) (x : Setting) (s d : NodeId) (different : s ≡ d → ⊥) (fits : StaysUp arts x) (carries : Carries x.topology.format arts) (d_correct : IsTrue (is_correct x d)) (es : List Event) (js : List Entry) (w new : World) (j : Entry) where
   abbrev C : Type 0
   C = IsTrue (is_correct x s)
 
@@ -350,11 +350,11 @@ module _ (arts : Arts) (x : Setting) (s d : NodeId) (different : s ≡ d → ⊥
       let moves : NodeStep arts n (steps.Datagram u bytes) output after = subst (λ y. NodeStep arts n y output after) same step in
       let good = new_have (λ o. IsTrue (arts.is_good o.body)) arts n i output after carries.goods input step in
       let fields = new_on_one arts x (Good arts x es js) v n u bytes output after fits moves (subst InputFits same input) is in
-      datagram_done C x (Good arts x es js) arts s d S D c v different fits carries.bodies n u bytes output after moves (without x (Good arts x es js) v n is)
+      datagram_done C x (Good arts x es js) arts s d S D c v different fits carries.bodies n u bytes output after moves (without x (Good arts x es js) v n fits.plain is)
       (new_three (Known arts x es js) (λ o. IsTrue (arts.is_good o.body)) (λ o. IsOnePath o.body) (Vouched C s d S c)
       (vouched arts carries.bodies x s d es js w d_correct h) output.answered known good fields) rel h.prefix h.low
 
-  pub stepped : (e : Event) (n : NodeState) (number : ℕ) (i : Input) (output : Output) (after : NodeState) → input_of arts x es w n e ≡ Some i → InputFits i → NodeStep arts n i output after → Says x number output j
+  pub stepped : (e : Event) (n : NodeState) (number : ℕ) (i : Input) (output : Output) (after : NodeState) → input_of arts x w n e ≡ Some i → InputFits i → NodeStep arts n i output after → Says x number output j
       → NodeIs x (Good arts x es js) (acting e) n → NewKeep (Known arts x es js) output.answered → FlowsHold arts x s d es js w → RelIs C s d S D c (acting e) n.parts.rel → After e output after
   stepped (events.Rel u to payload) n number i output after reaches input step says is known h rel =
       let same : i ≡ steps.SendRel to payload = cc in
@@ -390,4 +390,6 @@ module _ (arts : Arts) (x : Setting) (s d : NodeId) (different : s ≡ d → ⊥
   stepped (events.Craft u v key body) n number i output after reaches input step says is known h rel =
       arrived_at v u n i output after step input is known h rel (crafted_bytes _ u _ i reaches)
   stepped (events.CraftStatus u v a b base have) n number i output after reaches input step says is known h rel =
-      arrived_at v u n i output after step input is known h rel (crafted_frame arts n u (slot_alone (flow_of a b) base have None []), cc)
+      arrived_at v u n i output after step input is known h rel (crafted_frame arts n u (slot_alone n.parts.lives (flow_of a b) base have None []), cc)
+  stepped (events.Start u) n number i output after reaches input step says is known h rel = absurd cc
+  stepped (events.Stop u) n number i output after reaches input step says is known h rel = absurd cc

@@ -13,8 +13,8 @@ use Rattle.sp_rules.specs.PrioPeer.{PrioPeer}
 use Rattle.sp_rules.specs.Prio.{PrioState}
 use Rattle.sp_runs.specs.Held.{Held, held, held_in}
 use Rattle.sp_runs.specs.Inputs.{acting}
-use Rattle.sp_runs.specs.Runs.{Clean, Starts, Turned, Moves, Stays}
-use Rattle.sp_runs.specs.Settings.{Setting, SettingFits, is_correct}
+use Rattle.sp_runs.specs.Runs.{Clean, Starts, Turned}
+use Rattle.sp_runs.specs.Settings.{Setting, StaysUp, is_correct}
 use Rattle.sp_runs.specs.Told.{Message, delivered, effects_at, sent, told_at}
 use Rattle.sp_runs.specs.Worlds.{World}
 use Rattle.sp_journal.specs.declared.entry.Entry.{Entry}
@@ -22,12 +22,14 @@ use Rattle.sp_schedule_events.specs.declared.event.Event.{Event}
 use Rattle.laws_runs.specs.Good.{IsGood, RunsAreGood}
 use Rattle.laws_runs.specs.Places.{PlacesAre, Shelf, StoreIs, all_held, as_held, played, row_store, store_at}
 use Rattle.laws_runs.specs.Premises.{Carries}
+use Rattle.laws_runs.specs.Signs.{Signs}
 use Rattle.laws_runs.proofs.Beginnings.{beginnings_are_clean}
 use Rattle.laws_runs.proofs.FlowRuns.{flows_are_kept, here_is, nothing_told}
 use Rattle.laws_runs.proofs.Lists.{both, told_more}
 use Rattle.laws_runs.proofs.OwnDeliveries.{none_of_its_own}
 use Rattle.laws_runs.proofs.PlaceFacts.{row_here, row_there}
 use Rattle.laws_runs.proofs.PlaceRuns.{evictions_leave_shares, places_are_told}
+use Rattle.laws_runs.proofs.Plain.{Goes, Plain, Rests, plain_turn}
 use Rattle.laws_runs.proofs.Played.{held_from_start}
 use Rattle.laws_runs.proofs.PrioRuns.{priority_is_kept}
 use Rattle.laws_runs.proofs.Signed.{signs}
@@ -36,7 +38,7 @@ use Rattle.laws_runs.proofs.There.{correct_nodes_are_there}
 
 -- ---- what was delivered
 
-in_order : (arts : Arts) (x : Setting) (es : List Event) (js : List Entry) (w : World) → SettingFits arts x → Carries x.topology.format arts
+in_order : (arts : Arts) (x : Setting) (es : List Event) (js : List Entry) (w : World) → StaysUp arts x → Carries x.topology.format arts
     → Clean arts x es js w
     → (s d : NodeId) → IsTrue (is_correct x s) → IsTrue (is_correct x d) → IsPrefix (delivered es js s d) (sent es js s d)
 in_order arts x es js w fits reads run s d from to = elim (cases_eq s.0 d.0) [
@@ -50,23 +52,28 @@ in_order arts x es js w fits reads run s d from to = elim (cases_eq s.0 d.0) [
 -- ---- what a place holds
 
 -- a node that isn't correct makes no step, so no effect is told of it
-no_effects : (arts : Arts) (x : Setting) (es : List Event) (js : List Entry) (w : World) → SettingFits arts x → Carries x.topology.format arts
+no_effects : (arts : Arts) (x : Setting) (es : List Event) (js : List Entry) (w : World) → StaysUp arts x → Carries x.topology.format arts
     → Clean arts x es js w
     → (u : NodeId) → is_correct x u ≡ false → effects_at es js u ≡ []
 no_effects arts x es js w fits reads Starts u wrong = refl
-no_effects arts x es js w fits reads (Turned {es = es'} {js = js'} {old = old} {e = e} {j = j} run range (Moves m) unforged) u wrong =
-    let are = signs arts x es' js' old fits reads run in
-    told_more (told_at u (λ y. y ∷ [])) es' js' e j are.entries
-    ∙ ap (λ (t : List Effect). t ++ told_at u (λ y. y ∷ []) (e, j)) (no_effects arts x es' js' old fits reads run u wrong)
-    ∙ here_is u (λ y. y ∷ []) e j m.output.effects m.journal.effects
-    ∙ elim (cases_Bool ((acting e).0 == u.0)) [
-      | inl t ↦
-          let right : is_correct x u ≡ true = subst (λ (v : NodeId). is_correct x v ≡ true) (same_node (acting e) u (eqb-true (acting e).0 u.0 t)) (are.nodes (acting e) m.node m.is_there).correct in
-          absurd (let f : true ≡ false = sym right ∙ wrong in cc)
-      | inr t ↦ rw t refl
-    ]
-no_effects arts x es js w fits reads (Turned {es = es'} {js = js'} {old = old} {e = e} {j = j} run range (Stays s) unforged) u wrong =
-    nothing_told u (λ y. y ∷ []) es' js' e j (signs arts x es' js' old fits reads run).entries s.effects ∙ no_effects arts x es' js' old fits reads run u wrong
+no_effects arts x es js w fits reads (Turned {es = es'} {js = js'} {old = old} {e = e} {j = j} run range turn unforged) u wrong =
+    go (no_effects arts x es' js' old fits reads run u wrong) (plain_turn arts x es' js' old w e j fits.plain turn unforged)
+  where
+    are : Signs arts x es' js' old
+    are = signs arts x es' js' old fits.fits reads run
+
+    go : effects_at es' js' u ≡ [] → Plain arts x es' js' old e j w → effects_at (es' ++ e ∷ []) (js' ++ j ∷ []) u ≡ []
+    go before (Goes m none) =
+        told_more (told_at u (λ y. y ∷ [])) es' js' e j are.entries
+        ∙ ap (λ (t : List Effect). t ++ told_at u (λ y. y ∷ []) (e, j)) before
+        ∙ here_is u (λ y. y ∷ []) e j m.output.effects m.journal.effects
+        ∙ elim (cases_Bool ((acting e).0 == u.0)) [
+          | inl t ↦
+              let right : is_correct x u ≡ true = subst (λ (v : NodeId). is_correct x v ≡ true) (same_node (acting e) u (eqb-true (acting e).0 u.0 t)) (are.nodes (acting e) m.node m.is_there).correct in
+              absurd (let f : true ≡ false = sym right ∙ wrong in cc)
+          | inr t ↦ rw t refl
+        ]
+    go before (Rests s) = nothing_told u (λ y. y ∷ []) es' js' e j are.entries s.effects ∙ before
 
 row_few : (capacity place : ℕ) (qs : List PrioPeer) → All (λ q. StoreIs capacity q.store) qs → length (row_store qs place).entries ≤ capacity
 row_few capacity place [] all = omega arith
@@ -81,7 +88,7 @@ place_few : (capacity : ℕ) (p : PrioState) (place : ℕ) → PlacesAre capacit
 place_few capacity p zero are = omega (arith, length-map p.inbox.entries as_held, are.inbox.few, are.inbox.capacity_is)
 place_few capacity p (suc v) are = omega (arith, length-map (row_store p.peers (suc v)).entries as_held, row_few capacity (suc v) p.peers are.peers)
 
-in_bounds : (arts : Arts) (x : Setting) (es : List Event) (js : List Entry) (w : World) → SettingFits arts x → Carries x.topology.format arts
+in_bounds : (arts : Arts) (x : Setting) (es : List Event) (js : List Entry) (w : World) → StaysUp arts x → Carries x.topology.format arts
     → Clean arts x es js w
     → (u : NodeId) (place : ℕ) → length (held es js u place) ≤ x.store
 in_bounds arts x es js w fits reads run u place = elim (cases_Bool (is_correct x u)) [
@@ -96,7 +103,7 @@ in_bounds arts x es js w fits reads run u place = elim (cases_Bool (is_correct x
 
 -- ---- all promises
 
-pub is_good : (arts : Arts) (x : Setting) (es : List Event) (js : List Entry) (w : World) → SettingFits arts x → Carries x.topology.format arts
+pub is_good : (arts : Arts) (x : Setting) (es : List Event) (js : List Entry) (w : World) → StaysUp arts x → Carries x.topology.format arts
     → Clean arts x es js w → IsGood x es js
 is_good arts x es js w fits reads run = record {
   prefix = λ s d from to. in_order arts x es js w fits reads run s d from to;

@@ -29,7 +29,7 @@ use Rattle.laws_node.proofs.Shapes.{shapes_begin}
 use Rattle.sp_runs.specs.Forgery.{forged_object, is_among, is_forged}
 use Rattle.sp_runs.specs.Inputs.{acting}
 use Rattle.sp_runs.specs.Runs.{Move}
-use Rattle.sp_runs.specs.Settings.{Setting, SettingFits, first_signer, fixed_of, is_correct, link_keys, node_at_boot}
+use Rattle.sp_runs.specs.Settings.{Setting, SettingFits, first_signer, fixed_at, fixed_of, is_correct, link_keys, node_at_boot}
 use Rattle.sp_runs.specs.Told.{signed, signed_by, told_at}
 use Rattle.sp_runs.specs.Worlds.{World, at_start, node_in}
 use Rattle.sp_journal.specs.declared.entry.Entry.{Entry}
@@ -132,7 +132,7 @@ signs_it effects before after bytes e =
     (sym (ap (flat_map signed_by) e ∙ flat_map-append signed_by before (Signed bytes ∷ after)))
     (among_right bytes (flat_map signed_by before) (bytes ∷ flat_map signed_by after) (first_among bytes (flat_map signed_by after)))
 
-pub own_known : (arts : Arts) (x : Setting) (es : List Event) (js : List Entry) (w new : World) (e : Event) (j : Entry) (m : Move arts x es w e j new)
+pub own_known : (arts : Arts) (x : Setting) (es : List Event) (js : List Entry) (w new : World) (e : Event) (j : Entry) (m : Move arts x w e j new)
     → length es ≡ length js → m.node.fixed.me ≡ acting e → (body : Body) → IsOwn arts m.node m.input m.output.effects body
     → is_among (arts.spell body) (signed (es ++ e ∷ []) (js ++ j ∷ []) (signer_of body)) ≡ true
 own_known arts x es js w new e j m even me body own =
@@ -145,8 +145,10 @@ own_known arts x es js w new e j m even me body own =
 
 -- ---- the arts fit each node
 
-fit_there : (arts : Arts) (f : Fixed) (s t : Signer) → t.seed ≡ s.seed → t.total ≡ s.total → ArtsFit arts f s → ArtsFit arts f t
-fit_there arts f s t seed total h = record {
+-- in each life, and with any indexes
+pub fit_in : (arts : Arts) (x : Setting) (u : NodeId) (boot : ℕ) (t : Signer) → t.seed ≡ x.seed u.0 → t.total ≡ x.total → ArtsFit arts (fixed_of x u) (first_signer x u)
+    → ArtsFit arts (fixed_at x u boot) t
+fit_in arts x u boot t seed total h = record {
   long = rw seed h.long;
   key = h.key;
   is_mine = h.is_mine;
@@ -159,7 +161,7 @@ fit_there arts f s t seed total h = record {
 pub arts_fit : (arts : Arts) (x : Setting) (P : Kept → Type 0) (u : NodeId) (n : NodeState) → SettingFits arts x → NodeIs x P u n → ArtsFit arts n.fixed n.signer
 arts_fit arts x P u n fits is =
     subst (λ (f : Fixed). ArtsFit arts f n.signer) (sym is.fixed)
-    (fit_there arts (fixed_of x u) (first_signer x u) n.signer is.seed is.total (fits.each u is.correct))
+    (fit_in arts x u n.fixed.boot n.signer is.seed is.total (fits.each u is.correct))
 
 -- ---- the start
 
@@ -180,9 +182,20 @@ started x (v ∷ us) u n e = elim (cases_Bool (is_correct x v)) [
   | inr wrong ↦ started x us u n (rw wrong at e)
 ]
 
+-- without epochs
+pub plain_start : (x : Setting) (u : NodeId) (n : NodeState) → node_in (at_start x).nodes u ≡ Some n
+    → (x.epochs ≡ false) × (node_in (map (node_at_boot x) (filter (is_correct x) (nodes_of x.topology))) u ≡ Some n)
+plain_start x u n at = go x.epochs refl at
+  where
+    go : (on : Bool) → x.epochs ≡ on → node_in (cond on [] (map (node_at_boot x) (filter (is_correct x) (nodes_of x.topology)))) u ≡ Some n
+        → (x.epochs ≡ false) × (node_in (map (node_at_boot x) (filter (is_correct x) (nodes_of x.topology))) u ≡ Some n)
+    go true on e = absurd cc
+    go false off e = (off, e)
+
 pub starts : (arts : Arts) (x : Setting) (P : Kept → Type 0) → SettingFits arts x → (u : NodeId) (n : NodeState) → node_in (at_start x).nodes u ≡ Some n → NodeIs x P u n
 starts arts x P fits u n e =
-    let is = started x (nodes_of x.topology) u n e in
+    let at = plain_start x u n e in
+    let is = started x (nodes_of x.topology) u n at.1 in
     let among = (both _ _ is.1).0 in
     subst (NodeIs x P u) (sym is.0) (record {
       correct = is.1;
@@ -198,5 +211,9 @@ starts arts x P fits u n e =
         signer = record { index = omega arith; bound = omega arith; total = fits.total };
       });
       acks = all_none (pairs_of (nodes_of x.topology));
-      unborn = record { lives = none_at_start (nodes_of x.topology); flows = no_flows (pairs_of (nodes_of x.topology)) };
+      plain = λ off. record {
+        first = refl;
+        whole = refl;
+        unborn = record { lives = none_at_start (nodes_of x.topology); flows = no_flows (pairs_of (nodes_of x.topology)) };
+      };
     })

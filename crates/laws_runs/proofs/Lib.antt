@@ -1,5 +1,13 @@
 pub mod Lists
 pub mod Tables
+pub mod Running
+pub mod LifeCases
+pub mod Started
+pub mod KeyFiles
+pub mod Ready
+pub mod Plain
+pub mod PlainTurns
+pub mod Begun
 pub mod Lives
 pub mod Reaches
 pub mod Goods
@@ -33,6 +41,7 @@ pub mod PlaceSteps
 pub mod PlaceRuns
 pub mod OwnDeliveries
 pub mod GoodRuns
+pub mod FullPlaces
 pub mod Determined
 pub mod SentLists
 pub mod Neighbours

@@ -38,7 +38,7 @@ are_same [] (y ∷ ys) e = absurd cc
 are_same (x ∷ xs) [] e = absurd cc
 are_same (x ∷ xs) (y ∷ ys) e = let parts = both _ _ e in ap (λ n. n ∷ xs) (eqb-true x y parts.0) ∙ ap (λ r. y ∷ r) (are_same xs ys parts.1)
 
-or_true : (a : Bool) → (a || true) ≡ true
+pub or_true : (a : Bool) → (a || true) ≡ true
 or_true true = refl
 or_true false = refl
 

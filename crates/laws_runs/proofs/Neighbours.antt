@@ -14,7 +14,7 @@ use Rattle.sp_topology.specs.Neighbours.{joins, neighbour, neighbours_from, othe
 use Rattle.sp_topology.specs.declared.topology.Edge.{Edge}
 use Rattle.laws_node.specs.Shapes.{LinkShape, Shape, link_shape}
 use Rattle.sp_runs.specs.Runs.{is_hop}
-use Rattle.sp_runs.specs.Settings.{Setting, fixed_of}
+use Rattle.sp_runs.specs.Settings.{Setting, fixed_at}
 use Rattle.laws_runs.specs.Calls.{LinksHaveTheirKeys}
 use Rattle.laws_runs.specs.Signs.{Good, NodeIs}
 use Rattle.laws_runs.proofs.Signed.{signs}
@@ -89,7 +89,7 @@ abbrev start_links : Setting → Fixed → List (NodeId × EdgeId) → List Link
 start_links x f ns = map (λ n. record { me = f.me; peer = n.0.0; boot = f.boot; key = n.1 }) (zip ns (map (λ n. x.link_key n.1.0) ns))
 
 links_are : (x : Setting) (P : Kept → Type 0) (u : NodeId) (n : NodeState) → NodeIs x P u n
-    → map link_shape n.links ≡ start_links x (fixed_of x u) (neighbours_of (fixed_of x u))
+    → map link_shape n.links ≡ start_links x (fixed_at x u n.fixed.boot) (neighbours_of (fixed_at x u n.fixed.boot))
 links_are x P u n is = ap (λ (s : Shape). s.links) is.shape
 
 start_any : (x : Setting) (f : Fixed) (u v : NodeId) (place : ℕ) (edges : List Edge)
@@ -128,7 +128,7 @@ start_key x f none u v place (e ∷ edges) some = go (other_end u.0 e) (end_join
 
 pub neighbour_there : (x : Setting) (P : Kept → Type 0) (u v : NodeId) (n : NodeState) → NodeIs x P u n → is_hop x u v ≡ true → is_neighbour n v ≡ true
 neighbour_there x P u v n is hop =
-    any_link v n.links ∙ ap (list_any (is_of v)) (links_are x P u n is) ∙ start_any x (fixed_of x u) u v 0 x.topology.edges ∙ hop
+    any_link v n.links ∙ ap (list_any (is_of v)) (links_are x P u n is) ∙ start_any x (fixed_at x u n.fixed.boot) u v 0 x.topology.edges ∙ hop
 
 any_before : {X : Type 0} (test : X → Bool) (xs : List X) → position_or_len test xs < length xs → list_any test xs ≡ true
 any_before test [] within = absurd (omega (arith, within))
@@ -158,7 +158,7 @@ links_have_their_keys arts x es js w fits carries run u v n edge at joined =
     let none = link_shape (new_link n.fixed.me u 0 []) in
     first_key u (new_link n.fixed.me u 0 []) n.links
     ∙ ap (λ (ls : List LinkShape). (first_where (is_of u) none ls).key) (links_are x (Good arts x es js) v n is)
-    ∙ start_key x (fixed_of x v) none v u 0 x.topology.edges some
+    ∙ start_key x (fixed_at x v n.fixed.boot) none v u 0 x.topology.edges some
     ∙ ap x.link_key (omega (arith, place))
   where
     same_place : (a b : ℕ) (edges : List Edge) → position_or_len (joins a b) edges ≡ position_or_len (joins b a) edges

@@ -1,5 +1,5 @@
 -- A node without epochs handles nothing that says of a start, and meets each frame with the parts that it has.
-use Rattle.std.proofs.Common.{◌≡◌, ℕ, Bool, true, false, cond, List, [], ◌∷◌, ◌++◌, map, Option, Some, None, Result, Ok, Err, refl, sym, subst, ap}
+use Rattle.std.proofs.Common.{◌≡◌, ℕ, Bool, true, false, cond, List, [], ◌∷◌, ◌++◌, map, Option, Some, None, Result, Ok, Err, refl, sym, subst, ap, ◌∙◌}
 use Rattle.sp_base.specs.declared.id.NodeId.{NodeId}
 use Rattle.sp_frame.specs.Reliable.{Report}
 use Rattle.sp_frame.specs.Sections.{Contents}
@@ -18,9 +18,9 @@ use Rattle.laws_node.proofs.Carried.{AllKeep}
 use Rattle.sp_runs.specs.Settings.{Setting}
 use Rattle.laws_runs.specs.Signs.{NodeIs}
 
--- the nodes of a run are such
-pub without : (x : Setting) (P : Kept → Type 0) (u : NodeId) (n : NodeState) → NodeIs x P u n → n.fixed.epochs ≡ false
-without x P u n is = ap (λ (f : Fixed). f.epochs) is.fixed
+-- the nodes of a run without epochs are such
+pub without : (x : Setting) (P : Kept → Type 0) (u : NodeId) (n : NodeState) → x.epochs ≡ false → NodeIs x P u n → n.fixed.epochs ≡ false
+without x P u n plain is = ap (λ (f : Fixed). f.epochs) is.fixed ∙ plain
 
 -- ---- pieces
 

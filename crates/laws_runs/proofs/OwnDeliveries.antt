@@ -39,19 +39,20 @@ use Rattle.sp_rules.specs.declared.node.NodeRefused.{NodeRefused}
 use Rattle.sp_rules.specs.declared.rel.RelJudged.TheVariants as rels
 use Rattle.laws_node.proofs.Handles as judged
 use Rattle.sp_runs.specs.Inputs.{acting}
-use Rattle.sp_runs.specs.Runs.{Clean, Starts, Turned, Moves, Stays}
-use Rattle.sp_runs.specs.Settings.{Setting, SettingFits}
+use Rattle.sp_runs.specs.Runs.{Clean, Starts, Turned}
+use Rattle.sp_runs.specs.Settings.{Setting, StaysUp}
 use Rattle.sp_runs.specs.Told.{Message, delivered, delivered_by, told_at}
 use Rattle.sp_runs.specs.Worlds.{World}
 use Rattle.sp_journal.specs.declared.entry.Entry.{Entry}
 use Rattle.sp_schedule_events.specs.declared.event.Event.{Event}
-use Rattle.laws_runs.specs.Signs.{Good}
+use Rattle.laws_runs.specs.Signs.{Good, Signs}
 use Rattle.laws_runs.specs.Premises.{Carries}
 use Rattle.laws_runs.proofs.NoStarts.{NoStart, NoStarts, met_as_it_was, no_starts_at, pieces_at, without}
 use Rattle.laws_runs.proofs.FlowFacts.{flow_of}
 use Rattle.laws_runs.proofs.Quiet.{quiet_acked, quiet_expired, quiet_gone, quiet_prio, quiet_weight}
 use Rattle.laws_runs.proofs.FlowRuns.{here_is, nothing_told}
 use Rattle.laws_runs.proofs.Lists.{told_more}
+use Rattle.laws_runs.proofs.Plain.{Goes, Plain, Rests, plain_turn}
 use Rattle.laws_runs.proofs.Signed.{signs}
 use Rattle.laws_runs.proofs.Tables.{same_node}
 
@@ -180,22 +181,26 @@ module _ (u : NodeId) where
 
 -- ---- a whole run
 
-pub none_of_its_own : (arts : Arts) (x : Setting) (es : List Event) (js : List Entry) (w : World) → SettingFits arts x → Carries x.topology.format arts
+pub none_of_its_own : (arts : Arts) (x : Setting) (es : List Event) (js : List Entry) (w : World) → StaysUp arts x → Carries x.topology.format arts
     → Clean arts x es js w
     → (u : NodeId) → delivered es js u u ≡ []
 none_of_its_own arts x es js w fits reads Starts u = refl
-none_of_its_own arts x es js w fits reads (Turned {es = es'} {js = js'} {old = old} {e = e} {j = j} run range (Moves m) unforged) u =
-    let before = none_of_its_own arts x es' js' old fits reads run u in
-    let are = signs arts x es' js' old fits reads run in
-    let is = are.nodes (acting e) m.node m.is_there in
-    told_more (told_at u (delivered_by u)) es' js' e j are.entries
-    ∙ ap (λ (t : List Message). t ++ told_at u (delivered_by u) (e, j)) before
-    ∙ here_is u (delivered_by u) e j m.output.effects m.journal.effects
-    ∙ elim (cases_Bool ((acting e).0 == u.0)) [
-      | inl t ↦
-          let me : m.node.parts.rel.me ≡ u = is.holds.parts.rel.me ∙ same_node (acting e) u (eqb-true (acting e).0 u.0 t) in
-          rw t (step_unheard u arts m.node m.after m.input m.output m.step (without x (Good arts x es' js') (acting e) m.node is) me)
-      | inr t ↦ rw t refl
-    ]
-none_of_its_own arts x es js w fits reads (Turned {es = es'} {js = js'} {old = old} {e = e} {j = j} run range (Stays s) unforged) u =
-    nothing_told u (delivered_by u) es' js' e j (signs arts x es' js' old fits reads run).entries s.effects ∙ none_of_its_own arts x es' js' old fits reads run u
+none_of_its_own arts x es js w fits reads (Turned {es = es'} {js = js'} {old = old} {e = e} {j = j} run range turn unforged) u =
+    go (none_of_its_own arts x es' js' old fits reads run u) (plain_turn arts x es' js' old w e j fits.plain turn unforged)
+  where
+    are : Signs arts x es' js' old
+    are = signs arts x es' js' old fits.fits reads run
+
+    go : delivered es' js' u u ≡ [] → Plain arts x es' js' old e j w → delivered (es' ++ e ∷ []) (js' ++ j ∷ []) u u ≡ []
+    go before (Goes m none) =
+        let is = are.nodes (acting e) m.node m.is_there in
+        told_more (told_at u (delivered_by u)) es' js' e j are.entries
+        ∙ ap (λ (t : List Message). t ++ told_at u (delivered_by u) (e, j)) before
+        ∙ here_is u (delivered_by u) e j m.output.effects m.journal.effects
+        ∙ elim (cases_Bool ((acting e).0 == u.0)) [
+          | inl t ↦
+              let me : m.node.parts.rel.me ≡ u = is.holds.parts.rel.me ∙ same_node (acting e) u (eqb-true (acting e).0 u.0 t) in
+              rw t (step_unheard u arts m.node m.after m.input m.output m.step (without x (Good arts x es' js') (acting e) m.node fits.plain is) me)
+          | inr t ↦ rw t refl
+        ]
+    go before (Rests s) = nothing_told u (delivered_by u) es' js' e j are.entries s.effects ∙ before

@@ -1,6 +1,7 @@
 -- Only the adversary forges: no pass of a frame is forged, and no event of a client, a clock or a poll.
-use Rattle.std.proofs.Common.{◌≡◌, ℕ, Bool, true, false, cond, List, [], ◌∷◌, Option, Some, None, Result, Ok, Err, refl, sym, ap, subst, ◌∙◌}
-use Rattle.std.specs.Prelude.{◌&&◌, not, option_map}
+use Rattle.std.proofs.Common.{◌≡◌, ℕ, zero, suc, Bool, true, false, cond, List, [], ◌∷◌, Option, Some, None, Result, Ok, Err, refl, sym, ap, subst, ◌∙◌}
+use Rattle.std.specs.Prelude.{◌&&◌, ◌||◌, not, option_map, slice_get}
+use Rattle.std.proofs.lemmas.Option.{same_Some}
 use Rattle.sp_base.specs.declared.id.NodeId.{NodeId}
 use Rattle.sp_frame.specs.Sections.{Contents}
 use Rattle.sp_frame.specs.declared.refused.SectionRefused.{SectionRefused}
@@ -18,9 +19,10 @@ use Rattle.sp_rules.specs.declared.node.NodeRefused.{NodeRefused}
 use Rattle.laws_node.specs.Asked.{NewKeep}
 use Rattle.laws_node.proofs.Carried.{AllKeep, pieces_new}
 use Rattle.sp_rules.specs.Pieces.{pieces_of}
-use Rattle.sp_runs.specs.Forgery.{forged, forged_object, has_forged_tag, is_among, is_forged, is_tagged}
+use Rattle.sp_runs.specs.Forgery.{forged, forged_object, has_forged_tag, is_forged, is_frame, is_made, is_tagged}
 use Rattle.sp_runs.specs.Inputs.{input_of}
-use Rattle.sp_runs.specs.Runs.{Clean, Move, Moves, Stays, Turn, forged_in}
+use Rattle.sp_runs.specs.Lives.{ready}
+use Rattle.sp_runs.specs.Runs.{Lives, Move, Moves, Stays, Turn, forged_in}
 use Rattle.sp_runs.specs.Settings.{Setting, SettingFits, is_correct}
 use Rattle.sp_runs.specs.Worlds.{World, frames_in}
 use Rattle.sp_journal.specs.declared.entry.Entry.{Entry}
@@ -30,12 +32,12 @@ use Rattle.sp_runs.specs.declared.what.What.{What}
 use Rattle.sp_runs.specs.declared.what.What.TheVariants as whats
 use Rattle.laws_runs.specs.Laws.{IsHostile, OnlyTheAdversaryForges}
 use Rattle.laws_runs.specs.Premises.{Carries}
-use Rattle.laws_runs.specs.Signs.{Good}
+use Rattle.laws_runs.specs.Signs.{Good, Signs}
 use Rattle.laws_runs.proofs.NoStarts.{in_keep, pieces_at}
-use Rattle.laws_runs.proofs.Lists.{among_get}
+use Rattle.laws_runs.proofs.Lists.{or_true, same_bytes}
 use Rattle.laws_runs.proofs.Reaches.{came}
 use Rattle.laws_runs.proofs.Goods.{of_all, where_keep}
-use Rattle.laws_runs.proofs.Signed.{signs}
+use Rattle.laws_runs.proofs.Signed.{signs_there}
 
 -- ---- nothing is forged where all that is new is known
 
@@ -57,6 +59,14 @@ neither t o e f = rw (e, f) refl
 
 -- ---- what was made and passed is good
 
+-- the frame in a place is a frame of these places
+made_get : (bytes : List ℕ) (frames : List (Option (List ℕ))) (k : ℕ) → slice_get frames k ≡ Some (Some bytes) → is_made bytes frames ≡ true
+made_get bytes [] k at = absurd cc
+made_get bytes (f ∷ frames) zero at =
+    let same : f ≡ Some bytes = same_Some f (Some bytes) at in
+    subst (λ (g : Option (List ℕ)). (is_frame bytes g || is_made bytes frames) ≡ true) (sym same) (ap (λ t. t || is_made bytes frames) (same_bytes bytes))
+made_get bytes (f ∷ frames) (suc k) at = let rest = made_get bytes frames k at in rw rest (or_true (is_frame bytes f))
+
 pub in_good : (P : Kept → Type 0) (f : Fixed) (r : Result Contents SectionRefused) → ((s : Contents) → r ≡ Ok s → AllKeep P (pieces_of s))
     → AllKeep P (pieces_in f r)
 in_good P f (Ok s) h = in_keep P f s (h s refl)
@@ -68,9 +78,8 @@ called_good P o (Some refused) h = tt
 
 pub pass_unforged : (arts : Arts) (x : Setting) (es : List Event) (js : List Entry) (w new : World) (u v : NodeId) (number : ℕ) (j : Entry)
     → SettingFits arts x → Carries x.topology.format arts
-    → Clean arts x es js w → (m : Move arts x es w (events.Pass u v number) j new) → forged arts x es js w m.node m.input m.output ≡ None
-pass_unforged arts x es js w new u v number j fits reads run m =
-    let h = signs arts x es js w fits reads run in
+    → Signs arts x es js w → (m : Move arts x w (events.Pass u v number) j new) → forged arts x es js w m.node m.input m.output ≡ None
+pass_unforged arts x es js w new u v number j fits reads h m =
     let P = Good arts x es js in
     let it = came w.directions u v number (steps.Datagram u) m.input m.reaches in
     let is = h.nodes v m.node m.is_there in
@@ -84,7 +93,7 @@ pass_unforged arts x es js w new u v number j fits reads run m =
     (where_keep P (reply_at arts m.node u it.bytes) (pieces_in m.node.fixed (sections_in arts m.node.fixed it.bytes)) pieces))) in
     let tag : has_forged_tag arts x w m.node m.input ≡ false =
     ap (has_forged_tag arts x w m.node) it.is
-    ∙ all_three (is_correct x u) (is_tagged (reply_at arts m.node u it.bytes)) (is_among it.bytes (frames_in w.directions u m.node.fixed.me)) (λ correct tagged. subst (λ (y : NodeId). is_among it.bytes (frames_in w.directions u y) ≡ true) (sym me) (among_get it.bytes (frames_in w.directions u v) it.place it.there)) in
+    ∙ all_three (is_correct x u) (is_tagged (reply_at arts m.node u it.bytes)) (is_made it.bytes (frames_in w.directions u m.node.fixed.me)) (λ correct tagged. subst (λ (y : NodeId). is_made it.bytes (frames_in w.directions u y) ≡ true) (sym me) (made_get it.bytes (frames_in w.directions u v) it.place it.there)) in
     neither _ _ tag (nothing_new arts x es js m.output.answered news)
 
 -- ---- the other events bring no objects
@@ -115,16 +124,16 @@ quiet arts x es js w n steps.TakePrio output after s other = neither false _ ref
 never : (o : Option What) (what : What) → o ≡ None → o ≡ Some what → ⊥
 never o what e f = cc
 
-calm : (arts : Arts) (x : Setting) (es : List Event) (js : List Entry) (w new : World) (e : Event) (j : Entry) (m : Move arts x es w e j new) (what : What) (i : Input)
-    → input_of arts x es w m.node e ≡ Some i → ((u : NodeId) (bytes : List ℕ) → i ≡ steps.Datagram u bytes → ⊥) → forged arts x es js w m.node m.input m.output ≡ Some what → ⊥
+calm : (arts : Arts) (x : Setting) (es : List Event) (js : List Entry) (w new : World) (e : Event) (j : Entry) (m : Move arts x w e j new) (what : What) (i : Input)
+    → input_of arts x w m.node e ≡ Some i → ((u : NodeId) (bytes : List ℕ) → i ≡ steps.Datagram u bytes → ⊥) → forged arts x es js w m.node m.input m.output ≡ Some what → ⊥
 calm arts x es js w new e j m what i reaches other is =
     let both : Some m.input ≡ Some i = sym m.reaches ∙ reaches in
     let same : m.input ≡ i = cc in
     never _ what (quiet arts x es js w m.node m.input m.output m.after m.step (λ u bytes f. other u bytes (sym same ∙ f))) is
 
 by_move : (arts : Arts) (x : Setting) (es : List Event) (js : List Entry) (w new : World) (e : Event) (j : Entry) → SettingFits arts x
-    → Carries x.topology.format arts → Clean arts x es js w
-    → (m : Move arts x es w e j new) (what : What) → forged arts x es js w m.node m.input m.output ≡ Some what → IsHostile e
+    → Carries x.topology.format arts → Signs arts x es js w
+    → (m : Move arts x w e j new) (what : What) → forged arts x es js w m.node m.input m.output ≡ Some what → IsHostile e
 by_move arts x es js w new (events.Pass u v number) j fits reads run m what is = never _ what (pass_unforged arts x es js w new u v number j fits reads run m) is
 by_move arts x es js w new (events.Rel s d p) j fits reads run m what is = calm arts x es js w new _ j m what _ refl (λ u b f. cc) is
 by_move arts x es js w new (events.Prio s d a b c p) j fits reads run m what is = calm arts x es js w new _ j m what _ refl (λ u b f. cc) is
@@ -137,10 +146,13 @@ by_move arts x es js w new (events.Flip u v number back bit) j fits reads run m 
 by_move arts x es js w new (events.Inject u v bytes) j fits reads run m what is = tt
 by_move arts x es js w new (events.Craft c v key body) j fits reads run m what is = tt
 by_move arts x es js w new (events.CraftStatus c v s d base have) j fits reads run m what is = tt
+by_move arts x es js w new (events.Start u) j fits reads run m what is = absurd (let none : None ≡ Some m.input = m.reaches in cc)
+by_move arts x es js w new (events.Stop u) j fits reads run m what is = absurd (let none : None ≡ Some m.input = m.reaches in cc)
 
 pub only_the_adversary : OnlyTheAdversaryForges
 only_the_adversary arts x es js w e what fits reads run at = go at.turn at.is
   where
-    go : (turn : Turn arts x es w e at.entry at.new) → forged_in arts x es js w e at.entry at.new turn ≡ Some what → IsHostile e
-    go (Moves m) is = by_move arts x es js w at.new e at.entry fits reads run m what is
+    go : (turn : Turn arts x w e at.entry at.new) → forged_in arts x es js w e at.entry at.new turn ≡ Some what → IsHostile e
+    go (Moves m) is = by_move arts x es js (ready x w e) at.new e at.entry fits reads (signs_there arts x es js w e fits reads run) m what is
     go (Stays s) is = absurd cc
+    go (Lives on life) is = absurd cc

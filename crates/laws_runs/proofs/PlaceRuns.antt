@@ -20,8 +20,8 @@ use Rattle.sp_topology.specs.declared.topology.Edge.{Edge}
 use Rattle.laws_runs.proofs.Lives.{step_stays}
 use Rattle.laws_runs.proofs.Played.{shares_from_start}
 use Rattle.sp_runs.specs.Inputs.{acting}
-use Rattle.sp_runs.specs.Runs.{Starts, Turned, Moves, Stays, Move, Spends, InRange, Turn, forged_in}
-use Rattle.sp_runs.specs.Settings.{Setting, SettingFits, fixed_of, node_at_boot}
+use Rattle.sp_runs.specs.Runs.{Starts, Turned, Move, Spends, InRange, Turn, forged_in}
+use Rattle.sp_runs.specs.Settings.{Setting, StaysUp, fixed_of, node_at_boot}
 use Rattle.sp_runs.specs.Told.{effects_at, told_at}
 use Rattle.sp_runs.specs.Worlds.{World, at_start, node_in}
 use Rattle.sp_journal.specs.declared.entry.Entry.{Entry as JournalEntry}
@@ -33,7 +33,8 @@ use Rattle.laws_runs.specs.Signs.{Good, Signs}
 use Rattle.laws_runs.proofs.FlowRuns.{here_is, none_either}
 use Rattle.laws_runs.proofs.Lists.{as_they_are, told_more}
 use Rattle.laws_runs.proofs.PlaceFacts.{Turns, row_here, row_there}
-use Rattle.laws_runs.proofs.Goods.{started}
+use Rattle.laws_runs.proofs.Goods.{plain_start, started}
+use Rattle.laws_runs.proofs.Plain.{Goes, Plain, Rests, plain_turn}
 use Rattle.laws_runs.proofs.Reaches.{input_fits}
 use Rattle.laws_runs.proofs.Signed.{signs}
 use Rattle.laws_runs.proofs.StoreFacts.{shares_both, held_both, store_empty}
@@ -42,7 +43,7 @@ use Rattle.laws_runs.proofs.PlaceSteps.{turned}
 
 -- ---- a whole run
 
-moved_on : (arts : Arts) (x : Setting) (es : List Event) (js : List JournalEntry) (w new : World) (e : Event) (j : JournalEntry) (m : Move arts x es w e j new) → length es ≡ length js
+moved_on : (arts : Arts) (x : Setting) (es : List Event) (js : List JournalEntry) (w new : World) (e : Event) (j : JournalEntry) (m : Move arts x w e j new) → length es ≡ length js
     → m.after.fixed.me ≡ acting e → SharePart x es js w → Turns x.store m.node.parts.prio m.output.effects m.after.parts.prio → SharePart x (es ++ e ∷ []) (js ++ j ∷ []) new
 moved_on arts x es js w new e j m same me h turns =
     let es2 = es ++ e ∷ [] in
@@ -73,7 +74,7 @@ moved_on arts x es js w new e j m same me h turns =
       ];
     }
 
-stayed_on : (x : Setting) (es : List Event) (js : List JournalEntry) (w new : World) (e : Event) (j : JournalEntry) → length es ≡ length js → Spends x es w e j new → SharePart x es js w → SharePart x (es ++ e ∷ []) (js ++ j ∷ []) new
+stayed_on : (x : Setting) (es : List Event) (js : List JournalEntry) (w new : World) (e : Event) (j : JournalEntry) → length es ≡ length js → Spends x w e j new → SharePart x es js w → SharePart x (es ++ e ∷ []) (js ++ j ∷ []) new
 stayed_on x es js w new e j same m h =
     let es2 = es ++ e ∷ [] in
     let js2 = js ++ j ∷ [] in
@@ -102,17 +103,17 @@ no_rows capacity place (n ∷ ns) = elim (cases_Bool (n.id.0 == place)) [
   | inr t ↦ ap shelf (row_there place (rows.new_peer capacity n) (map (rows.new_peer capacity) ns) t) ∙ no_rows capacity place ns
 ]
 
-starts : (arts : Arts) (x : Setting) → SettingFits arts x → SharePart x [] [] (at_start x)
+starts : (arts : Arts) (x : Setting) → StaysUp arts x → SharePart x [] [] (at_start x)
 starts arts x fits = record {
   nodes = λ u n at.
-      let is = started x (nodes_of x.topology) u n at in
+      let is = started x (nodes_of x.topology) u n (plain_start x u n at).1 in
       subst (λ (y : NodeState). PlacesAre x.store y.parts.prio) (sym is.0) (record {
         inbox = store_empty x.store;
         peers = stores_start x.store (map as_neighbour (neighbours_of (fixed_of x u)));
         rows = rows_rise x.store 0 (neighbours_of (fixed_of x u)) (ascends u);
       });
   held_is = λ u n place at.
-      let is = started x (nodes_of x.topology) u n at in
+      let is = started x (nodes_of x.topology) u n (plain_start x u n at).1 in
       subst (λ (y : NodeState). no_shelf ≡ shelf (store_at y.parts.prio place)) (sym is.0) (empty u place);
   shares = λ u place. tt;
 }
@@ -121,7 +122,7 @@ starts arts x fits = record {
     ascends u =
         let edges = x.topology.edges in
         let found = neighbours_from u.0 0 edges in
-        found_ascend x.topology.format u.0 (length edges) x.topology.height x.topology.nodes edges found fits.topology.ranges.nodes fits.topology.ranges.graph.are_edges (omega arith)
+        found_ascend x.topology.format u.0 (length edges) x.topology.height x.topology.nodes edges found fits.fits.topology.ranges.nodes fits.fits.topology.ranges.graph.are_edges (omega arith)
         (ap (λ (es : List Edge). found ++ neighbours_from u.0 (length edges) es) (drop_of_length-le edges (omega arith)) ∙ append-nil found)
 
     empty : (u : NodeId) (place : ℕ) → no_shelf ≡ shelf (store_at (node_at_boot x u).parts.prio place)
@@ -129,21 +130,24 @@ starts arts x fits = record {
     empty u (suc v) = sym (no_rows x.store (suc v) (map as_neighbour (neighbours_of (fixed_of x u))))
 
 shares_on : (arts : Arts) (x : Setting) (es : List Event) (js : List JournalEntry) (old : World) (e : Event) (j : JournalEntry) (new : World)
-    → SettingFits arts x → Carries x.topology.format arts
-    → Signs arts x es js old → InRange x es e → (turn : Turn arts x es old e j new) → forged_in arts x es js old e j new turn ≡ None
+    → StaysUp arts x → Carries x.topology.format arts
+    → Signs arts x es js old → InRange x es e → (turn : Turn arts x old e j new) → forged_in arts x es js old e j new turn ≡ None
     → SharePart x es js old → SharePart x (es ++ e ∷ []) (js ++ j ∷ []) new
-shares_on arts x es js old e j new fits reads signs range (Moves m) unforged h =
-    let is = signs.nodes (acting e) m.node m.is_there in
-    let me : m.after.fixed.me ≡ acting e = ap (λ (f : Fixed). f.me) ((step_stays arts m.node m.input m.output m.after m.step).fixed ∙ is.fixed) in
-    moved_on arts x es js old new e j m signs.entries me h
-    (turned x arts fits (Good arts x es js) (acting e) m.node m.input m.output m.after m.step (input_fits arts x es old m.node e m.input reads signs.bytes range m.reaches) is
-    (h.nodes (acting e) m.node m.is_there))
-shares_on arts x es js old e j new fits reads signs range (Stays m) unforged h = stayed_on x es js old new e j signs.entries m h
+shares_on arts x es js old e j new fits reads signs range turn unforged h = go (plain_turn arts x es js old new e j fits.plain turn unforged)
+  where
+    go : Plain arts x es js old e j new → SharePart x (es ++ e ∷ []) (js ++ j ∷ []) new
+    go (Goes m none) =
+        let is = signs.nodes (acting e) m.node m.is_there in
+        let me : m.after.fixed.me ≡ acting e = ap (λ (f : Fixed). f.me) ((step_stays arts m.node m.input m.output m.after m.step).fixed ∙ is.fixed) in
+        moved_on arts x es js old new e j m signs.entries me h
+        (turned x arts fits (Good arts x es js) (acting e) m.node m.input m.output m.after m.step
+        (input_fits arts x es old m.node e m.input reads signs.bytes range.fields m.reaches) is (h.nodes (acting e) m.node m.is_there))
+    go (Rests spends) = stayed_on x es js old new e j signs.entries spends h
 
 pub places_are_told : PlacesAreTold
 places_are_told arts x es js w fits reads Starts = starts arts x fits
 places_are_told arts x es js w fits reads (Turned {es = es'} {js = js'} {old = old} {e = e} {j = j} run range turn unforged) =
-    shares_on arts x es' js' old e j w fits reads (signs arts x es' js' old fits reads run) range turn unforged (places_are_told arts x es' js' old fits reads run)
+    shares_on arts x es' js' old e j w fits reads (signs arts x es' js' old fits.fits reads run) range turn unforged (places_are_told arts x es' js' old fits reads run)
 
 pub turns_keep_shares : TurnsKeepShares
 turns_keep_shares = record {

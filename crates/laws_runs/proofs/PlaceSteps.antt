@@ -53,7 +53,7 @@ use Rattle.laws_node.proofs.Carried.{pieces_new}
 use Rattle.laws_node.proofs.Handles as judged
 use Rattle.laws_node.proofs.Own.{either, prio_sent_fits}
 use Rattle.laws_node.proofs.Arrived.{step_fields}
-use Rattle.sp_runs.specs.Settings.{Setting, SettingFits}
+use Rattle.sp_runs.specs.Settings.{Setting, StaysUp}
 use Rattle.laws_runs.specs.Signs.{NodeIs, sizes_at}
 use Rattle.laws_runs.proofs.PlaceFacts.{AllAway, Turns, admitted_turns, all_turn, inbox_turns, row_turns, turns_on, turns_same}
 use Rattle.laws_runs.proofs.Goods.{arts_fit}
@@ -216,7 +216,7 @@ module _ (capacity format : ℕ) where
 
 -- ---- all cases
 
-module _ (x : Setting) (arts : Arts) (fits : SettingFits arts x) (P : Kept → Type 0) (u : NodeId) where
+module _ (x : Setting) (arts : Arts) (fits : StaysUp arts x) (P : Kept → Type 0) (u : NodeId) where
   abbrev Done : NodeState → Output → NodeState → Type 0
   Done n output after = Turns x.store n.parts.prio output.effects after.parts.prio
 
@@ -237,15 +237,15 @@ module _ (x : Setting) (arts : Arts) (fits : SettingFits arts x) (P : Kept → T
     where
       news : NewKeep (λ o. HasGoodFieldsIn x.topology.format o.body) (handled arts n v bytes).answered
       news = pieces_new (λ y. HasGoodFieldsIn x.topology.format y.body) arts (arrival_at n v) (parts_met arts n v bytes) (pieces_at arts n v bytes)
-          (step_fields (sizes_at x P u) arts n v bytes (arts_fit arts x P u n fits is) input is.holds)
+          (step_fields (sizes_at x P u) arts n v bytes (arts_fit arts x P u n fits.fits is) input is.holds)
 
       go : (r : Option NodeRefused) → output.effects ≡ (refused_call r (arrived arts n v bytes)).effects
           → after ≡ kept_or r n (called n (with_link n v (link_after arts n v bytes)) (handled arts n v bytes).parts) → Done n output after
       go None e f = by n output after (called n (with_link n v (link_after arts n v bytes)) (handled arts n v bytes).parts) (handled arts n v bytes).effects e f
-          (let met = met_as_it_was arts n v bytes (without x P u n is) in
+          (let met = met_as_it_was arts n v bytes (without x P u n fits.plain is) in
           subst (λ (p : Parts). Turns x.store p.prio (handled arts n v bytes).effects (handled arts n v bytes).parts.prio) met
           (all_turns x.store x.topology.format arts (arrival_at n v) (parts_met arts n v bytes) (pieces_at arts n v bytes)
-          (no_starts_at arts n v bytes (without x P u n is)) news (subst (λ (p : Parts). PlacesAre x.store p.prio) (sym met) h)))
+          (no_starts_at arts n v bytes (without x P u n fits.plain is)) news (subst (λ (p : Parts). PlacesAre x.store p.prio) (sym met) h)))
       go (Some refused) e f = by n output after n [] e f (still n h)
   turned n (steps.Tick now) output after step input is h =
       by n output after (settled_by arts (at_time n now) (due_now n) (signer_refusal n.signer)) (prio.expired_effects n.parts.prio (time_after n now) ++ ack_effects arts (due_now n) (signer_refusal n.signer))

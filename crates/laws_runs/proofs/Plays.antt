@@ -7,17 +7,18 @@ use Rattle.sp_rules.specs.Steps as steps
 use Rattle.sp_rules.specs.Steps.{Input, NodeStep}
 use Rattle.laws_node.specs.Story.{toys}
 use Rattle.sp_runs.specs.Forgery.{forged}
-use Rattle.sp_runs.specs.Inputs.{acting, crafted_frame, crafted_object, crafts, flipped, input_of, object_alone}
+use Rattle.sp_runs.specs.Inputs.{acting, crafted_contents, crafted_frame, flipped, input_of}
 use Rattle.sp_runs.specs.Journals.{reply_word}
-use Rattle.sp_runs.specs.Runs.{Clean, InRange, Moves, Turned, next_frame}
+use Rattle.sp_runs.specs.Runs.{Clean, InRange, next_frame}
 use Rattle.sp_runs.specs.Settings.{Setting}
-use Rattle.sp_runs.specs.Worlds.{World, frame_in, node_in}
+use Rattle.sp_runs.specs.Worlds.{World, crafts, frame_in, node_in}
 use Rattle.sp_runs.specs.declared.what.What.{What}
 use Rattle.sp_journal.specs.declared.entry.Reply.{Reply}
 use Rattle.sp_schedule_crafts.specs.Objects.{body_of}
 use Rattle.sp_schedule_events.specs.declared.event.Event.{Event}
 use Rattle.sp_schedule_events.specs.declared.event.Event.TheVariants as events
 use Rattle.laws_runs.specs.Story.{Played, after, after_input, after_words, at_acting, one_more, output_of, play_on}
+use Rattle.laws_runs.proofs.PlainTurns.{clean_on}
 
 -- no priority message is sent
 abbrev IsPlain : Input → Type 0
@@ -38,30 +39,32 @@ abbrev IsClean : Setting → Played → Type 0
 IsClean x p = Clean toys x p.events p.journal p.world
 
 -- one event more, where it goes on
-module _ (x : Setting) (p : Played) (e : Event) (h : IsClean x p) (range : InRange x p.events e) where
-  of_words : (n : NodeState) (i : Input) → node_in p.world.nodes (acting e) ≡ Some n → input_of toys x p.events p.world n e ≡ Some i → IsPlain i
+module _ (x : Setting) (off : x.epochs ≡ false) (p : Played) (e : Event) (h : IsClean x p) (range : InRange x p.events e) where
+  of_words : (n : NodeState) (i : Input) → node_in p.world.nodes (acting e) ≡ Some n → input_of toys x p.world n e ≡ Some i → IsPlain i
       → (o : Option Reply) (what : Option What) → reply_word x (next_frame p.world e) (output_of n i).reply ≡ o → forged toys x p.events p.journal p.world n i (output_of n i) ≡ what
       → (after_words x p e n i o what).goes_on ≡ true → IsClean x (after_words x p e n i o what)
   of_words n i there reaches plain None what words is on = absurd (let wrong : false ≡ true = on in cc)
   of_words n i there reaches plain (Some reply) (Some what) words is on = absurd (let wrong : false ≡ true = on in cc)
-  of_words n i there reaches plain (Some reply) None words is on = Turned h range (Moves (record {
-    node = n;
-    is_there = there;
-    input = i;
-    reaches = reaches;
-    output = output_of n i;
-    after = after n i;
-    step = plain_step n i plain;
-    journal = record { reply = words; effects = refl };
-    world = refl;
-  })) is
+  of_words n i there reaches plain (Some reply) None words is on =
+      clean_on toys x p.events p.journal p.world (after_words x p e n i (Some reply) None).world e
+      (record { reply = reply; effects = (output_of n i).effects }) off h range (record {
+        node = n;
+        is_there = there;
+        input = i;
+        reaches = reaches;
+        output = output_of n i;
+        after = after n i;
+        step = plain_step n i plain;
+        journal = record { reply = words; effects = refl };
+        world = refl;
+      }) is
 
-  of_input : (n : NodeState) → node_in p.world.nodes (acting e) ≡ Some n → ((i : Input) → input_of toys x p.events p.world n e ≡ Some i → IsPlain i)
-      → (o : Option Input) → input_of toys x p.events p.world n e ≡ o → (after_input x p e n o).goes_on ≡ true → IsClean x (after_input x p e n o)
+  of_input : (n : NodeState) → node_in p.world.nodes (acting e) ≡ Some n → ((i : Input) → input_of toys x p.world n e ≡ Some i → IsPlain i)
+      → (o : Option Input) → input_of toys x p.world n e ≡ o → (after_input x p e n o).goes_on ≡ true → IsClean x (after_input x p e n o)
   of_input n there plain None reaches on = absurd (let wrong : false ≡ true = on in cc)
   of_input n there plain (Some i) reaches on = of_words n i there reaches (plain i reaches) _ _ refl refl on
 
-  of_node : ((n : NodeState) (i : Input) → input_of toys x p.events p.world n e ≡ Some i → IsPlain i)
+  of_node : ((n : NodeState) (i : Input) → input_of toys x p.world n e ≡ Some i → IsPlain i)
       → (o : Option NodeState) → node_in p.world.nodes (acting e) ≡ o → (at_acting x p e o).goes_on ≡ true → IsClean x (at_acting x p e o)
   of_node plain None there on = absurd (let wrong : false ≡ true = on in cc)
   of_node plain (Some n) there on = of_input n there (plain n) _ refl on
@@ -78,7 +81,7 @@ from_frame take plain (Some bytes) i is = let same : take bytes ≡ i = cc in su
 just : (j i : Input) → IsPlain j → Some j ≡ Some i → IsPlain i
 just j i plain is = let same : j ≡ i = cc in subst IsPlain same plain
 
-plain_input : (x : Setting) (es : List Event) (w : World) (n : NodeState) (e : Event) (i : Input) → IsNoPrio e → input_of toys x es w n e ≡ Some i → IsPlain i
+plain_input : (x : Setting) (es : List Event) (w : World) (n : NodeState) (e : Event) (i : Input) → IsNoPrio e → input_of toys x w n e ≡ Some i → IsPlain i
 plain_input x es w n (events.Rel a b c) i none is = just _ i tt is
 plain_input x es w n (events.Prio a b c d f g) i none is = absurd none
 plain_input x es w n (events.Take a b) i none is = just _ i tt is
@@ -89,12 +92,14 @@ plain_input x es w n (events.Poll a b) i none is = just _ i tt is
 plain_input x es w n (events.Pass a b c) i none is = from_frame (steps.Datagram a) (λ bytes. tt) (frame_in w.directions a b c) i is
 plain_input x es w n (events.Flip a b c d f) i none is = from_frame (λ bytes. steps.Datagram a (flipped d f bytes)) (λ bytes. tt) (frame_in w.directions a b c) i is
 plain_input x es w n (events.Inject a b c) i none is = just _ i tt is
-plain_input x es w n (events.Craft a b c d) i none is = go (nat_lt (crafts es c) x.total) is
+plain_input x es w n (events.Craft a b c d) i none is = go (nat_lt (crafts w.crafted c) x.total) is
   where
-    go : (t : Bool) → cond t (Some (steps.Datagram a (crafted_frame toys n a (object_alone (body_of d) (crafted_object toys x es c (body_of d)))))) None ≡ Some i → IsPlain i
+    go : (t : Bool) → cond t (Some (steps.Datagram a (crafted_frame toys n a (crafted_contents toys x w.crafted n c (body_of d))))) None ≡ Some i → IsPlain i
     go true is = just _ i tt is
     go false is = absurd cc
 plain_input x es w n (events.CraftStatus a b c d f g) i none is = just _ i tt is
+plain_input x es w n (events.Start a) i none is = absurd cc
+plain_input x es w n (events.Stop a) i none is = absurd cc
 
 -- each event is in its range after those before it, and sends no priority message
 abbrev pub AreInRange : Setting → List Event → List Event → Type 0
@@ -122,14 +127,15 @@ events_go x p e was on = ap (λ b. (one_more x b p e).events) was ∙ by_node (n
     by_node None on = absurd (let wrong : false ≡ true = on in cc)
     by_node (Some n) on = by_input n _ on
 
-pub plays_are_clean : (x : Setting) (p : Played) (es : List Event) → IsClean x p → p.goes_on ≡ true → AreInRange x p.events es → (play_on x p es).goes_on ≡ true → IsClean x (play_on x p es)
-plays_are_clean x p [] h was range on = h
-plays_are_clean x p (e ∷ es) h was range on =
+pub plays_are_clean : (x : Setting) (p : Played) (es : List Event) → x.epochs ≡ false → IsClean x p
+    → p.goes_on ≡ true → AreInRange x p.events es → (play_on x p es).goes_on ≡ true → IsClean x (play_on x p es)
+plays_are_clean x p [] off h was range on = h
+plays_are_clean x p (e ∷ es) off h was range on =
     let next = one_more x p.goes_on p e in
     let one : next.goes_on ≡ true → IsClean x next = λ goes.
     subst (λ b. IsClean x (one_more x b p e)) (sym was)
-    (of_node x p e h range.0 (λ n i is. plain_input x p.events p.world n e i range.1 is) _ refl (sym (ap (λ b. (one_more x b p e).goes_on) was) ∙ goes)) in
+    (of_node x off p e h range.0 (λ n i is. plain_input x p.events p.world n e i range.1 is) _ refl (sym (ap (λ b. (one_more x b p e).goes_on) was) ∙ goes)) in
     elim (cases_Bool next.goes_on) [
-      | inl goes ↦ plays_are_clean x next es (one goes) goes (subst (λ before. AreInRange x before es) (sym (events_go x p e was goes)) range.2) on
-      | inr off ↦ absurd (let stays = off_stays x next es off in let wrong : true ≡ false = sym on ∙ stays in cc)
+      | inl goes ↦ plays_are_clean x next es off (one goes) goes (subst (λ before. AreInRange x before es) (sym (events_go x p e was goes)) range.2) on
+      | inr ends ↦ absurd (let stays = off_stays x next es ends in let wrong : true ≡ false = sym on ∙ stays in cc)
     ]

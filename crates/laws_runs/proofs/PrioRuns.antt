@@ -23,8 +23,8 @@ use Rattle.laws_runs.proofs.Lives.{step_stays}
 use Rattle.sp_runs.specs.Forgery.{forged_object, has_forged_tag, is_among}
 use Rattle.sp_runs.specs.Inputs.{acting, crafted_frame, flipped, input_of, slot_alone}
 use Rattle.sp_runs.specs.Journals.{Says}
-use Rattle.sp_runs.specs.Runs.{Clean, InRange, Starts, Turned, Turn, Moves, Stays, Move, Spends, IsCraftOf, forged_in, next_frame}
-use Rattle.sp_runs.specs.Settings.{Setting, SettingFits, is_correct}
+use Rattle.sp_runs.specs.Runs.{Clean, InRange, Starts, Turned, Turn, Move, Spends, IsCraftOf, forged_in, next_frame}
+use Rattle.sp_runs.specs.Settings.{Setting, StaysUp, is_correct}
 use Rattle.sp_runs.specs.Told.{Message, prio_accepted_in, prio_by, prio_delivered, prio_sent, signed, signed_by, told_at}
 use Rattle.sp_runs.specs.Worlds.{World, at_start, node_in}
 use Rattle.sp_journal.specs.declared.entry.Entry.{Entry}
@@ -39,7 +39,8 @@ use Rattle.laws_runs.proofs.FlowRuns.{here_is, nothing_told}
 use Rattle.laws_runs.proofs.Flows.{came_bytes, crafted_bytes, new_both}
 use Rattle.laws_runs.proofs.Lists.{among_or, told_more}
 use Rattle.laws_runs.proofs.PrioFacts.{PrioIs, VouchedPrio, none_once}
-use Rattle.laws_runs.proofs.Goods.{new_known, started, unforged_tag}
+use Rattle.laws_runs.proofs.Goods.{new_known, plain_start, started, unforged_tag}
+use Rattle.laws_runs.proofs.Plain.{Goes, Plain, Rests, plain_turn}
 use Rattle.laws_runs.proofs.Signed.{new_have, signs}
 use Rattle.laws_runs.proofs.Reaches.{input_fits}
 use Rattle.laws_runs.proofs.Tables.{node_put, same_node}
@@ -64,7 +65,7 @@ vouched arts x s d es js w h o known good = record {
       (subst (λ y. is_among (arts.spell y) (signed es js s) ≡ true) is (subst (λ v. is_among (arts.spell o.body) (signed es js v) ≡ true) signer among));
 }
 
-module _ (arts : Arts) (x : Setting) (s d : NodeId) (fits : SettingFits arts x) (carries : Carries x.topology.format arts) (es : List Event) (js : List Entry) (w : World) (j : Entry) where
+module _ (arts : Arts) (x : Setting) (s d : NodeId) (fits : StaysUp arts x) (carries : Carries x.topology.format arts) (es : List Event) (js : List Entry) (w : World) (j : Entry) where
   abbrev C : Type 0
   C = IsTrue (is_correct x s)
 
@@ -82,10 +83,10 @@ module _ (arts : Arts) (x : Setting) (s d : NodeId) (fits : SettingFits arts x) 
   arrived_at v u n i output after step input is known h at (bytes, same) =
       let moves : NodeStep arts n (steps.Datagram u bytes) output after = subst (λ y. NodeStep arts n y output after) same step in
       let good = new_have (λ o. IsTrue (arts.is_good o.body)) arts n i output after carries.goods input step in
-      datagram_done C x P arts carries.bodies fits s d S told v n u bytes output after moves (without x P v n is)
+      datagram_done C x P arts carries.bodies fits s d S told v n u bytes output after moves (without x P v n fits.plain is)
       (new_both (Known arts x es js) (λ o. IsTrue (arts.is_good o.body)) (VouchedPrio C s d S) (vouched arts x s d es js w h) output.answered known good) at
 
-  acted : (e : Event) (n : NodeState) (number : ℕ) (i : Input) (output : Output) (after : NodeState) → input_of arts x es w n e ≡ Some i → InputFits i → NodeStep arts n i output after → Says x number output j
+  acted : (e : Event) (n : NodeState) (number : ℕ) (i : Input) (output : Output) (after : NodeState) → input_of arts x w n e ≡ Some i → InputFits i → NodeStep arts n i output after → Says x number output j
       → NodeIs x P (acting e) n → NewKeep (Known arts x es js) output.answered → PrioHold arts x s d es js w → (acting e ≡ d → PrioIs s d told n.parts.prio)
       → Acted arts C s d S (prio_accepted_in s d e j.reply) told (acting e) after.parts.prio output.effects
   acted (events.Prio u to a b p payload) n number i output after reaches input step says is known h at =
@@ -112,7 +113,9 @@ module _ (arts : Arts) (x : Setting) (s d : NodeId) (fits : SettingFits arts x) 
   acted (events.Inject u v bytes) n number i output after reaches input step says is known h at = arrived_at v u n i output after step input is known h at (bytes, cc)
   acted (events.Craft u v key body) n number i output after reaches input step says is known h at = arrived_at v u n i output after step input is known h at (crafted_bytes _ u _ i reaches)
   acted (events.CraftStatus u v a b base have) n number i output after reaches input step says is known h at =
-      arrived_at v u n i output after step input is known h at (crafted_frame arts n u (slot_alone (flow_of a b) base have None []), cc)
+      arrived_at v u n i output after step input is known h at (crafted_frame arts n u (slot_alone n.parts.lives (flow_of a b) base have None []), cc)
+  acted (events.Start u) n number i output after reaches input step says is known h at = absurd cc
+  acted (events.Stop u) n number i output after reaches input step says is known h at = absurd cc
 
 -- ---- one event more
 
@@ -123,7 +126,7 @@ all_more ms S T h = All-weaker (Contains S) (Contains (S ++ T)) (λ m there. Con
 abbrev numbers : List Message → List ℕ
 numbers ms = map (λ (m : Message). m.0) ms
 
-moved_on : (arts : Arts) (x : Setting) (s d : NodeId) (es : List Event) (js : List Entry) (w new : World) (e : Event) (j : Entry) (m : Move arts x es w e j new) → length es ≡ length js
+moved_on : (arts : Arts) (x : Setting) (s d : NodeId) (es : List Event) (js : List Entry) (w new : World) (e : Event) (j : Entry) (m : Move arts x w e j new) → length es ≡ length js
     → m.after.fixed.me ≡ acting e → PrioHold arts x s d es js w
     → Acted arts (IsTrue (is_correct x s)) s d (prio_sent es js s d) (prio_accepted_in s d e j.reply) (numbers (prio_delivered es js s d)) (acting e) m.after.parts.prio m.output.effects
     → PrioHold arts x s d (es ++ e ∷ []) (js ++ j ∷ []) new
@@ -181,8 +184,10 @@ quiet_craft s d key (events.Pass a b c) j is = absurd is
 quiet_craft s d key (events.Flip a b c f g) j is = absurd is
 quiet_craft s d key (events.Inject a b c) j is = absurd is
 quiet_craft s d key (events.CraftStatus a b c f g i) j is = absurd is
+quiet_craft s d key (events.Start a) j is = absurd is
+quiet_craft s d key (events.Stop a) j is = absurd is
 
-stayed_on : (arts : Arts) (x : Setting) (s d : NodeId) (es : List Event) (js : List Entry) (w new : World) (e : Event) (j : Entry) → length es ≡ length js → Spends x es w e j new → PrioHold arts x s d es js w
+stayed_on : (arts : Arts) (x : Setting) (s d : NodeId) (es : List Event) (js : List Entry) (w new : World) (e : Event) (j : Entry) → length es ≡ length js → Spends x w e j new → PrioHold arts x s d es js w
     → PrioHold arts x s d (es ++ e ∷ []) (js ++ j ∷ []) new
 stayed_on arts x s d es js w new e j same m h =
     let es2 = es ++ e ∷ [] in
@@ -203,7 +208,7 @@ stayed_on arts x s d es js w new e j same m h =
 starts : (arts : Arts) (x : Setting) (s d : NodeId) → PrioHold arts x s d [] [] (at_start x)
 starts arts x s d = record {
   node = λ n at.
-      let is = started x (nodes_of x.topology) d n at in
+      let is = started x (nodes_of x.topology) d n (plain_start x d n at).1 in
       subst (λ (m : NodeState). PrioIs s d [] m.parts.prio) (sym is.0)
       (record { me = refl; len = length-replicate (length (nodes_of x.topology)) []; seen = λ q i. absurd (let f : false ≡ true = i in cc); once = none_once });
   once = none_once;
@@ -211,25 +216,29 @@ starts arts x s d = record {
   messages = λ k b good src dst among. absurd (let f : false ≡ true = among in cc);
 }
 
-prio_on : (arts : Arts) (x : Setting) (es : List Event) (js : List Entry) (old : World) (e : Event) (j : Entry) (new : World) → SettingFits arts x
+prio_on : (arts : Arts) (x : Setting) (es : List Event) (js : List Entry) (old : World) (e : Event) (j : Entry) (new : World) → StaysUp arts x
     → Carries x.topology.format arts
-    → Signs arts x es js old → InRange x es e → (turn : Turn arts x es old e j new) → forged_in arts x es js old e j new turn ≡ None
+    → Signs arts x es js old → InRange x es e → (turn : Turn arts x old e j new) → forged_in arts x es js old e j new turn ≡ None
     → (s d : NodeId) → PrioHold arts x s d es js old → PrioHold arts x s d (es ++ e ∷ []) (js ++ j ∷ []) new
-prio_on arts x es js old e j new fits reads signs range (Moves m) unforged s d h =
-    let is = signs.nodes (acting e) m.node m.is_there in
-    let nothing = unforged_tag (has_forged_tag arts x old m.node m.input) (forged_object arts x es js m.output.answered) unforged in
-    let me : m.after.fixed.me ≡ acting e = ap (λ (f : Fixed). f.me) ((step_stays arts m.node m.input m.output m.after m.step).fixed ∙ is.fixed) in
-    moved_on arts x s d es js old new e j m signs.entries me h
-    (acted arts x s d fits reads es js old j e m.node (next_frame old e) m.input m.output m.after m.reaches (input_fits arts x es old m.node e m.input reads signs.bytes range m.reaches)
-    m.step m.journal is (new_known arts x es js m.output.answered nothing.1) h
-    (λ z. h.node m.node (subst (λ v. node_in old.nodes v ≡ Some m.node) z m.is_there)))
-prio_on arts x es js old e j new fits reads signs range (Stays m) unforged s d h = stayed_on arts x s d es js old new e j signs.entries m h
+prio_on arts x es js old e j new fits reads signs range turn unforged s d h = go (plain_turn arts x es js old new e j fits.plain turn unforged)
+  where
+    go : Plain arts x es js old e j new → PrioHold arts x s d (es ++ e ∷ []) (js ++ j ∷ []) new
+    go (Goes m none) =
+        let is = signs.nodes (acting e) m.node m.is_there in
+        let nothing = unforged_tag (has_forged_tag arts x old m.node m.input) (forged_object arts x es js m.output.answered) none in
+        let me : m.after.fixed.me ≡ acting e = ap (λ (f : Fixed). f.me) ((step_stays arts m.node m.input m.output m.after m.step).fixed ∙ is.fixed) in
+        moved_on arts x s d es js old new e j m signs.entries me h
+        (acted arts x s d fits reads es js old j e m.node (next_frame old e) m.input m.output m.after m.reaches
+        (input_fits arts x es old m.node e m.input reads signs.bytes range.fields m.reaches)
+        m.step m.journal is (new_known arts x es js m.output.answered nothing.1) h
+        (λ z. h.node m.node (subst (λ v. node_in old.nodes v ≡ Some m.node) z m.is_there)))
+    go (Rests spends) = stayed_on arts x s d es js old new e j signs.entries spends h
 
-prio_hold : (arts : Arts) (x : Setting) (es : List Event) (js : List Entry) (w : World) → SettingFits arts x → Carries x.topology.format arts
+prio_hold : (arts : Arts) (x : Setting) (es : List Event) (js : List Entry) (w : World) → StaysUp arts x → Carries x.topology.format arts
     → Clean arts x es js w → (s d : NodeId) → PrioHold arts x s d es js w
 prio_hold arts x es js w fits reads Starts s d = starts arts x s d
 prio_hold arts x es js w fits reads (Turned {es = es'} {js = js'} {old = old} {e = e} {j = j} run range turn unforged) s d =
-    prio_on arts x es' js' old e j w fits reads (signs arts x es' js' old fits reads run) range turn unforged s d (prio_hold arts x es' js' old fits reads run s d)
+    prio_on arts x es' js' old e j w fits reads (signs arts x es' js' old fits.fits reads run) range turn unforged s d (prio_hold arts x es' js' old fits reads run s d)
 
 -- the part, and what it comes from
 part_of : (arts : Arts) (x : Setting) (s d : NodeId) (es : List Event) (js : List Entry) (w : World) → PrioHold arts x s d es js w → PrioPart arts x s d es js w

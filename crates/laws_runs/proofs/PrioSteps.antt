@@ -47,7 +47,7 @@ use Rattle.laws_node.proofs.Own.{either}
 use Rattle.sp_runs.specs.Forgery.{is_among}
 use Rattle.sp_node_words.specs.Words.{refused_word}
 use Rattle.sp_runs.specs.Journals.{Says, reply_word}
-use Rattle.sp_runs.specs.Settings.{Setting, SettingFits}
+use Rattle.sp_runs.specs.Settings.{Setting, StaysUp}
 use Rattle.sp_runs.specs.Told.{Message, prio_accepted_in, prio_by, signed_by}
 use Rattle.sp_journal.specs.declared.entry.Entry.{Entry}
 use Rattle.sp_journal.specs.declared.entry.Reply.{Reply}
@@ -108,7 +108,7 @@ never_prio (bodies.Krel r) b is e = cc
 never_prio (bodies.Kack r) b is e = cc
 never_prio (bodies.Epoch r) b is e = cc
 
-module _ (C : Type 0) (x : Setting) (P : Kept → Type 0) (arts : Arts) (reads : ReadsBack arts) (fits : SettingFits arts x) (s d : NodeId) (S : List Message) (told : List ℕ) (u : NodeId) where
+module _ (C : Type 0) (x : Setting) (P : Kept → Type 0) (arts : Arts) (reads : ReadsBack arts) (fits : StaysUp arts x) (s d : NodeId) (S : List Message) (told : List ℕ) (u : NodeId) where
   -- nothing was signed
   unsigned : (p p2 : PrioState) (es : List Effect) → Mute es → flat_map signed_by es ≡ [] → p2.me ≡ p.me → p2.nodes ≡ p.nodes → p2.windows ≡ p.windows → (u ≡ d → PrioIs s d told p)
       → Acted arts C s d S [] told u p2 es
@@ -191,7 +191,7 @@ module _ (C : Type 0) (x : Setting) (P : Kept → Type 0) (arts : Arts) (reads :
       go None is_due r = unsigned n.parts.prio (prio.expired n.parts.prio (time_after n now)) _ (mute_append _ [] mute mute_none) plain refl refl refl h
       go (Some ack) is_due (Some refusal) = unsigned n.parts.prio (prio.expired n.parts.prio (time_after n now)) _ (mute_append _ [] mute mute_none) plain refl refl refl h
       go (Some ack) is_due None =
-          let good = ack_good arts (sizes_at x P u) n ack (arts_fit arts x P u n fits is) is_due is.holds in
+          let good = ack_good arts (sizes_at x P u) n ack (arts_fit arts x P u n fits.fits is) is_due is.holds in
           signed_other n.parts.prio (prio.expired n.parts.prio (time_after n now)) _ (bodies.Ack ack) (mute_append _ (Signed (arts.spell (bodies.Ack ack)) ∷ []) mute (mute_signed (arts.spell (bodies.Ack ack)) [] mute_none))
           (flat_map-append signed_by (expired_effects n.parts.prio (time_after n now)) (Signed (arts.spell (bodies.Ack ack)) ∷ []) ∙ rw none refl) good tt refl refl refl h
 
@@ -202,7 +202,7 @@ module _ (C : Type 0) (x : Setting) (P : Kept → Type 0) (arts : Arts) (reads :
       go : (r : Option SendRefused) → rel_refusal n dst ≡ r → output.effects ≡ (refused_send r (accepted (rel_number n dst) (rel_sent arts n dst payload))).effects
           → after ≡ kept_or r n (signed_once n (record n.parts { rel = pushed_in n.parts.rel (signed_now arts n (rel_body n dst payload)) })) → Acted arts C s d S [] told u after.parts.prio output.effects
       go None free e f =
-          let good = rel_good arts (sizes_at x P u) n dst payload (arts_fit arts x P u n fits is) short free is.holds in
+          let good = rel_good arts (sizes_at x P u) n dst payload (arts_fit arts x P u n fits.fits is) short free is.holds in
           subst (λ es. Acted arts C s d S [] told u after.parts.prio es) (sym e)
           (subst (λ (m : NodeState). Acted arts C s d S [] told u m.parts.prio (rel_sent arts n dst payload)) (sym f)
           (signed_other n.parts.prio n.parts.prio (rel_sent arts n dst payload) (rel_body n dst payload) (mute_signed _ [] mute_none) refl good tt refl refl refl h))
@@ -216,7 +216,7 @@ module _ (C : Type 0) (x : Setting) (P : Kept → Type 0) (arts : Arts) (reads :
       go : (r : Option SendRefused) → weight_refusal n v weight ≡ r → output.effects ≡ (refused_send r (accepted (weight_number n v) (weight_sent arts n v weight))).effects
           → after ≡ kept_or r n (signed_once n (record n.parts { weights = held n.parts.weights (signed_now arts n (weight_body n v weight)) })) → Acted arts C s d S [] told u after.parts.prio output.effects
       go None free e f =
-          let good = weight_good arts (sizes_at x P u) n v weight (arts_fit arts x P u n fits is) sizes.0 sizes.1 free is.holds in
+          let good = weight_good arts (sizes_at x P u) n v weight (arts_fit arts x P u n fits.fits is) sizes.0 sizes.1 free is.holds in
           subst (λ es. Acted arts C s d S [] told u after.parts.prio es) (sym e)
           (subst (λ (m : NodeState). Acted arts C s d S [] told u m.parts.prio (weight_sent arts n v weight)) (sym f)
           (signed_other n.parts.prio n.parts.prio (weight_sent arts n v weight) (weight_body n v weight) (mute_signed _ (weight_effects (weight_body n v weight)) (mute_weight (weight_body n v weight)))
@@ -247,7 +247,7 @@ module _ (C : Type 0) (x : Setting) (P : Kept → Type 0) (arts : Arts) (reads :
           → after ≡ kept_or r n (signed_once n (record n.parts { prio = admit_prio n.parts.prio (own_prio arts n m step.choice) None })) → Acted arts C s d S (sent_if r n m) told u after.parts.prio output.effects
       go None free e f =
           let both = either (prio_refusal n m) (no_paths step.choice) free in
-          let good = prio_good arts (sizes_at x P u) n m step.choice (arts_fit arts x P u n fits is) sizes free (step.is_choice both.0) is.holds in
+          let good = prio_good arts (sizes_at x P u) n m step.choice (arts_fit arts x P u n fits.fits is) sizes free (step.is_choice both.0) is.holds in
           let p = n.parts.prio in
           let o = own_prio arts n m step.choice in
           let body = prio_body n m (mask_in step.choice) in
@@ -296,11 +296,11 @@ not_accepted s d from to a b c payload (refusals.Expired now) reply e = let is :
 not_accepted s d from to a b c payload (refusals.NoPaths found) reply e = let is : replies.NoPaths found ≡ reply = cc in subst (λ r. prio_accepted_in s d (events.Prio from to a b c payload) r ≡ []) is refl
 not_accepted s d from to a b c payload (refusals.Low least) reply e = let is : replies.Low least ≡ reply = cc in subst (λ r. prio_accepted_in s d (events.Prio from to a b c payload) r ≡ []) is refl
 not_accepted s d from to a b c payload (refusals.Spent index) reply e = let is : replies.Spent index ≡ reply = cc in subst (λ r. prio_accepted_in s d (events.Prio from to a b c payload) r ≡ []) is refl
-not_accepted s d from to a b c payload refusals.BadEnd reply e = absurd (cc)
+not_accepted s d from to a b c payload refusals.BadEnd reply e = let is : replies.BadEnd ≡ reply = cc in subst (λ r. prio_accepted_in s d (events.Prio from to a b c payload) r ≡ []) is refl
 not_accepted s d from to a b c payload (refusals.NotReserved bound) reply e = absurd (cc)
 not_accepted s d from to a b c payload refusals.Memory reply e = absurd (cc)
 
-pub accepted_is : (C : Type 0) (x : Setting) (P : Kept → Type 0) (arts : Arts) (reads : ReadsBack arts) (fits : SettingFits arts x) (s d from : NodeId) (S : List Message) (told : List ℕ) (number : ℕ) (m : PrioSend) (n : NodeState) (choice : Choice) (output : Output) (j : Entry) (r : Option SendRefused)
+pub accepted_is : (C : Type 0) (x : Setting) (P : Kept → Type 0) (arts : Arts) (reads : ReadsBack arts) (fits : StaysUp arts x) (s d from : NodeId) (S : List Message) (told : List ℕ) (number : ℕ) (m : PrioSend) (n : NodeState) (choice : Choice) (output : Output) (j : Entry) (r : Option SendRefused)
     → Says x number output j → output ≡ refused_send r (accepted n.parts.prio.next (prio_told arts n m choice))
     → prio_accepted_in s d (events.Prio from m.dst m.prio m.expiry m.paths m.payload) j.reply ≡ sent_if C x P arts reads fits s d S told from r n m
 accepted_is C x P arts reads fits s d from S told number m n choice output j None says e =

@@ -1,11 +1,13 @@
 -- What reaches a node is in its ranges, since the schedule is and all frames are bytes.
 use Rattle.std.proofs.Common.{◌≡◌, ◌<◌, ◌≤◌, ℕ, zero, suc, ◌-◌, ◌^◌, Bool, true, false, cond, List, [], ◌∷◌, length, Option, Some, None, refl, sym, subst, arith}
 use Rattle.std.specs.Prelude.{bit_xor, nat_lt, option_map, slice_get, slice_index_or}
+use Rattle.std.specs.Option.{option_and_then}
 use Rattle.std.proofs.lemmas.List.Elements.{All-append, All-cons, All-head, All-nil, All-set, All-tail}
 use Rattle.std.proofs.lemmas.Nat.{xor_of_8}
 use Rattle.sp_base.specs.Spelling.{AreBytes}
 use Rattle.sp_base.specs.declared.id.NodeId.{NodeId}
 use Rattle.sp_frame.specs.Sections.{Contents}
+use Rattle.sp_msg.specs.Bodies.{payload_of}
 use Rattle.sp_msg.specs.declared.body.Body.{Body}
 use Rattle.sp_msg.specs.declared.body.Body.TheVariants as bodies
 use Rattle.sp_msg.specs.declared.kept.Kept.{Kept}
@@ -15,10 +17,11 @@ use Rattle.sp_rules.specs.Steps as steps
 use Rattle.sp_rules.specs.Steps.{Input}
 use Rattle.laws_node.specs.Asked.{payload_in}
 use Rattle.laws_node.specs.Inputs.{InputFits}
-use Rattle.sp_runs.specs.Inputs.{crafted_frame, crafted_head, crafted_object, crafts, flipped, input_of, object_alone, slot_alone}
-use Rattle.sp_runs.specs.Runs.{InRange}
+use Rattle.sp_rules.specs.declared.lives.Life.{Life}
+use Rattle.sp_runs.specs.Inputs.{crafted_contents, crafted_frame, crafted_head, crafted_object, dated, flipped, input_of, object_alone, slot_alone}
+use Rattle.sp_runs.specs.Runs.{AreFields}
 use Rattle.sp_runs.specs.Settings.{Setting}
-use Rattle.sp_runs.specs.Worlds.{Direction, World, frame_in, frames_in}
+use Rattle.sp_runs.specs.Worlds.{Direction, World, crafts, frame_in, frames_in}
 use Rattle.sp_schedule_crafts.specs.Objects.{body_of}
 use Rattle.sp_schedule_events.specs.declared.event.Event.{Event}
 use Rattle.sp_schedule_events.specs.declared.event.Event.TheVariants as events
@@ -30,16 +33,18 @@ pub record Came (ds : List Direction) (u v : NodeId) (number : ℕ) (take : List
   pub bytes : List ℕ
   pub place : ℕ
   pub is : input ≡ take bytes
-  pub there : slice_get (frames_in ds u v) place ≡ Some bytes
+  pub there : slice_get (frames_in ds u v) place ≡ Some (Some bytes)
 
 pub came : (ds : List Direction) (u v : NodeId) (number : ℕ) (take : List ℕ → Input) (input : Input) → option_map take (frame_in ds u v number) ≡ Some input
     → Came ds u v number take input
 came ds u v zero take input e = absurd cc
 came ds u v (suc before) take input e = go (slice_get (frames_in ds u v) before) refl e
   where
-    go : (o : Option (List ℕ)) → slice_get (frames_in ds u v) before ≡ o → option_map take o ≡ Some input → Came ds u v (suc before) take input
+    go : (o : Option (Option (List ℕ))) → slice_get (frames_in ds u v) before ≡ o → option_map take (option_and_then (λ frame. frame) o) ≡ Some input
+        → Came ds u v (suc before) take input
     go None at e = absurd cc
-    go (Some bytes) at e = record { bytes = bytes; place = before; is = cc; there = at }
+    go (Some None) at e = absurd cc
+    go (Some (Some bytes)) at e = record { bytes = bytes; place = before; is = cc; there = at }
 
 -- ---- bytes
 
@@ -68,23 +73,32 @@ flip_bytes back bit bytes most are =
 
 -- ---- a crafted frame
 
-one_object : (o : Kept) (body : Body) → o.body ≡ body → IsOfBytes o → AreOfBytes (object_alone body o)
-one_object o (bodies.Prio p) is of = All-cons IsOfBytes o [] of (All-nil IsOfBytes)
-one_object o (bodies.Rel r) is of = All-cons IsOfBytes o [] of (All-nil IsOfBytes)
-one_object o (bodies.Ack a) is of = All-cons IsOfBytes o [] of (All-nil IsOfBytes)
-one_object o (bodies.Weight w) is of = All-cons IsOfBytes o [] of (All-nil IsOfBytes)
-one_object o (bodies.Krel r) is of = All-nil IsOfBytes
-one_object o (bodies.Kack a) is of = All-nil IsOfBytes
-one_object o (bodies.Epoch e) is of = All-nil IsOfBytes
+pub dated_payload : (lives : List Life) (body : Body) → payload_of (dated lives body) ≡ payload_of body
+dated_payload lives (bodies.Prio p) = refl
+dated_payload lives (bodies.Rel r) = refl
+dated_payload lives (bodies.Ack a) = refl
+dated_payload lives (bodies.Weight w) = refl
+dated_payload lives (bodies.Krel r) = refl
+dated_payload lives (bodies.Kack a) = refl
+dated_payload lives (bodies.Epoch e) = refl
 
-plain_alone : (body : Body) (o : Kept) → IsPlain (object_alone body o)
-plain_alone (bodies.Prio p) o = record { document = refl; paths = refl; probe = refl }
-plain_alone (bodies.Rel r) o = record { document = refl; paths = refl; probe = refl }
-plain_alone (bodies.Ack a) o = record { document = refl; paths = refl; probe = refl }
-plain_alone (bodies.Weight w) o = record { document = refl; paths = refl; probe = refl }
-plain_alone (bodies.Krel r) o = record { document = refl; paths = refl; probe = refl }
-plain_alone (bodies.Kack a) o = record { document = refl; paths = refl; probe = refl }
-plain_alone (bodies.Epoch e) o = record { document = refl; paths = refl; probe = refl }
+one_object : (lives : List Life) (o : Kept) (body : Body) → o.body ≡ body → IsOfBytes o → AreOfBytes (object_alone lives body o)
+one_object lives o (bodies.Prio p) is of = All-cons IsOfBytes o [] of (All-nil IsOfBytes)
+one_object lives o (bodies.Rel r) is of = All-cons IsOfBytes o [] of (All-nil IsOfBytes)
+one_object lives o (bodies.Ack a) is of = All-cons IsOfBytes o [] of (All-nil IsOfBytes)
+one_object lives o (bodies.Weight w) is of = All-cons IsOfBytes o [] of (All-nil IsOfBytes)
+one_object lives o (bodies.Krel r) is of = All-nil IsOfBytes
+one_object lives o (bodies.Kack a) is of = All-nil IsOfBytes
+one_object lives o (bodies.Epoch e) is of = All-nil IsOfBytes
+
+plain_alone : (lives : List Life) (body : Body) (o : Kept) → IsPlain (object_alone lives body o)
+plain_alone lives (bodies.Prio p) o = record { document = refl; paths = refl; probe = refl }
+plain_alone lives (bodies.Rel r) o = record { document = refl; paths = refl; probe = refl }
+plain_alone lives (bodies.Ack a) o = record { document = refl; paths = refl; probe = refl }
+plain_alone lives (bodies.Weight w) o = record { document = refl; paths = refl; probe = refl }
+plain_alone lives (bodies.Krel r) o = record { document = refl; paths = refl; probe = refl }
+plain_alone lives (bodies.Kack a) o = record { document = refl; paths = refl; probe = refl }
+plain_alone lives (bodies.Epoch e) o = record { document = refl; paths = refl; probe = refl }
 
 crafted_bytes : (format : ℕ) (arts : Arts) (n : NodeState) (c : NodeId) (s : Contents) → Carries format arts → IsPlain s → AreOfBytes s
     → AreBytes (crafted_frame arts n c s)
@@ -98,14 +112,14 @@ no_bytes : AreBytes []
 no_bytes = All-nil (λ (b : ℕ). b < 256)
 
 abbrev pub FramesAreBytes : World → Type 0
-FramesAreBytes w = (u v : NodeId) (k : ℕ) (bytes : List ℕ) → slice_get (frames_in w.directions u v) k ≡ Some bytes → AreBytes bytes
+FramesAreBytes w = (u v : NodeId) (k : ℕ) (bytes : List ℕ) → slice_get (frames_in w.directions u v) k ≡ Some (Some bytes) → AreBytes bytes
 
 same_input : (a b : Input) → Some a ≡ Some b → a ≡ b
 same_input a b e = cc
 
 pub input_fits : (arts : Arts) (x : Setting) (es : List Event) (w : World) (n : NodeState) (e : Event) (input : Input) → Carries x.topology.format arts
-    → FramesAreBytes w → InRange x es e
-    → input_of arts x es w n e ≡ Some input → InputFits input
+    → FramesAreBytes w → AreFields x es e
+    → input_of arts x w n e ≡ Some input → InputFits input
 input_fits arts x es w n (events.Rel s d payload) input carries are range reaches = subst InputFits (same_input _ input reaches) range.2
 input_fits arts x es w n (events.Prio s d prio expiry paths payload) input carries are range reaches =
     subst InputFits (same_input _ input reaches) (range.2, range.3, range.4, range.6)
@@ -121,28 +135,38 @@ input_fits arts x es w n (events.Flip u v number back bit) input carries are ran
     let it = came w.directions u v number (λ bytes. steps.Datagram u (flipped back bit bytes)) input reaches in
     subst InputFits (sym it.is) (flip_bytes back bit it.bytes range.6 (are u v it.place it.bytes it.there))
 input_fits arts x es w n (events.Inject u v bytes) input carries are range reaches = subst InputFits (same_input _ input reaches) range.3
-input_fits arts x es w n (events.Craft c v key object) input carries are range reaches = go (nat_lt (crafts es key) x.total) reaches
+input_fits arts x es w n (events.Craft c v key object) input carries are range reaches = go (nat_lt (crafts w.crafted key) x.total) reaches
   where
+    said : Body
+    said = dated n.parts.lives (body_of object)
+
     o : Kept
-    o = crafted_object arts x es key (body_of object)
+    o = crafted_object arts x w.crafted key said
+
+    of : IsOfBytes o
+    of = (subst AreBytes (sym (dated_payload n.parts.lives (body_of object))) range.4, carries.signatures x.topology.height _ _ _)
 
     frame : List ℕ
-    frame = crafted_frame arts n c (object_alone (body_of object) o)
+    frame = crafted_frame arts n c (object_alone n.parts.lives said o)
 
     bytes : AreBytes frame
-    bytes = crafted_bytes x.topology.format arts n c (object_alone (body_of object) o) carries (plain_alone (body_of object) o) (one_object o (body_of object) refl (range.4, carries.signatures x.topology.height _ _ _))
+    bytes =
+        crafted_bytes x.topology.format arts n c (object_alone n.parts.lives said o) carries (plain_alone n.parts.lives said o)
+        (one_object n.parts.lives o said refl of)
 
     go : (t : Bool) → cond t (Some (steps.Datagram c frame)) None ≡ Some input → InputFits input
     go true e = subst InputFits (same_input (steps.Datagram c frame) input e) bytes
     go false e = absurd cc
 input_fits arts x es w n (events.CraftStatus c v s d base have) input carries are range reaches =
-    let contents = slot_alone (record { src = s; dst = d }) base have None [] in
+    let contents = slot_alone n.parts.lives (record { src = s; dst = d }) base have None [] in
     subst InputFits (same_input (steps.Datagram c (crafted_frame arts n c contents)) input reaches)
     (crafted_bytes x.topology.format arts n c contents carries (record { document = refl; paths = refl; probe = refl }) (All-nil IsOfBytes))
+input_fits arts x es w n (events.Start u) input carries are range reaches = absurd cc
+input_fits arts x es w n (events.Stop u) input carries are range reaches = absurd cc
 
 -- the payload that a client asks to be sent is bytes
-pub payload_fits : (arts : Arts) (x : Setting) (es : List Event) (w : World) (n : NodeState) (e : Event) (input : Input) → InRange x es e
-    → input_of arts x es w n e ≡ Some input → AreBytes (payload_in input)
+pub payload_fits : (arts : Arts) (x : Setting) (es : List Event) (w : World) (n : NodeState) (e : Event) (input : Input) → AreFields x es e
+    → input_of arts x w n e ≡ Some input → AreBytes (payload_in input)
 payload_fits arts x es w n (events.Rel s d payload) input range reaches = subst (λ (i : Input). AreBytes (payload_in i)) (same_input _ input reaches) range.3
 payload_fits arts x es w n (events.Prio s d prio expiry paths payload) input range reaches =
     subst (λ (i : Input). AreBytes (payload_in i)) (same_input _ input reaches) range.7
@@ -160,13 +184,15 @@ payload_fits arts x es w n (events.Flip u v number back bit) input range reaches
     subst (λ (i : Input). AreBytes (payload_in i)) (sym it.is) no_bytes
 payload_fits arts x es w n (events.Inject u v bytes) input range reaches =
     subst (λ (i : Input). AreBytes (payload_in i)) (same_input _ input reaches) no_bytes
-payload_fits arts x es w n (events.Craft c v key object) input range reaches = go (nat_lt (crafts es key) x.total) reaches
+payload_fits arts x es w n (events.Craft c v key object) input range reaches = go (nat_lt (crafts w.crafted key) x.total) reaches
   where
     frame : List ℕ
-    frame = crafted_frame arts n c (object_alone (body_of object) (crafted_object arts x es key (body_of object)))
+    frame = crafted_frame arts n c (crafted_contents arts x w.crafted n key (body_of object))
 
     go : (t : Bool) → cond t (Some (steps.Datagram c frame)) None ≡ Some input → AreBytes (payload_in input)
     go true e = subst (λ (i : Input). AreBytes (payload_in i)) (same_input (steps.Datagram c frame) input e) no_bytes
     go false e = absurd cc
 payload_fits arts x es w n (events.CraftStatus c v s d base have) input range reaches =
     subst (λ (i : Input). AreBytes (payload_in i)) (same_input _ input reaches) no_bytes
+payload_fits arts x es w n (events.Start u) input range reaches = absurd cc
+payload_fits arts x es w n (events.Stop u) input range reaches = absurd cc

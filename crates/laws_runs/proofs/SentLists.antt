@@ -20,7 +20,7 @@ use Rattle.laws_node.proofs.Boot.{nodes_hold}
 use Rattle.sp_rules.proofs.FlowJudged.{found_ends}
 use Rattle.laws_node.proofs.Reliable.{in_range, read}
 use Rattle.sp_runs.specs.Forgery.{is_among}
-use Rattle.sp_runs.specs.Settings.{Setting, SettingFits, is_correct, is_node}
+use Rattle.sp_runs.specs.Settings.{Setting, StaysUp, is_correct, is_node}
 use Rattle.sp_runs.specs.Told.{sent, signed}
 use Rattle.sp_runs.specs.Worlds.{World}
 use Rattle.sp_journal.specs.declared.entry.Entry.{Entry}
@@ -62,12 +62,12 @@ module _ (arts : Arts) (x : Setting) (s d : NodeId) (es : List Event) (js : List
         list_sent u flow (after + 1) os same are.1 (All-tail (Fits (sizes_at x (Good arts x es js) u)) o os all) (All-tail (λ m. IsRel m.body) o os plain),
       )
 
-pub lists_sent : (arts : Arts) (x : Setting) (s d : NodeId) (es : List Event) (js : List Entry) (w : World) → SettingFits arts x → FlowsHold arts x s d es js w
+pub lists_sent : (arts : Arts) (x : Setting) (s d : NodeId) (es : List Event) (js : List Entry) (w : World) → StaysUp arts x → FlowsHold arts x s d es js w
     → IsTrue (is_correct x s) → is_node x s ≡ true → is_node x d ≡ true → (u : NodeId) (n : NodeState) → NodeIs x (Good arts x es js) u n
     → AreSent (sent es js s d) (flow_at n s d).at.base (flow_at n s d).at.list
 lists_sent arts x s d es js w fits h correct from to u n is =
     let k = sizes_at x (Good arts x es js) u in
-    let nodes = nodes_hold x.topology.format x.topology.height 0 x.topology.nodes fits.topology.ranges.nodes in
+    let nodes = nodes_hold x.topology.format x.topology.height 0 x.topology.nodes fits.fits.topology.ranges.nodes in
     let row = read k n.signer.index n.parts.rel.flows (flow_of s d) (in_range x.topology.format (nodes_of x.topology) s nodes from) (in_range x.topology.format (nodes_of x.topology) d nodes to)
     is.holds.parts.rel.flows in
     let f = flow_at n s d in

@@ -1,6 +1,7 @@
 -- The part on links and signed objects: all that correct nodes keep, and all that their frames carry, is signed and known.
-use Rattle.std.proofs.Common.{◌≡◌, ◌<◌, ℕ, List, [], ◌∷◌, ◌++◌, length, Option, Some, None, Result, Ok, Err, refl, sym, ap, subst, ◌∙◌, inl, inr, arith}
-use Rattle.std.specs.Prelude.{IsTrue, slice_get}
+use Rattle.std.proofs.Common.{◌≡◌, ◌<◌, ℕ, true, false, List, [], ◌∷◌, ◌++◌, length, Option, Some, None, Result, Ok, Err, refl, sym, ap, ap₂, subst, ◌∙◌, inl, inr, arith}
+use Rattle.std.specs.Prelude.{◌⊎◌, IsTrue, slice_get}
+use Rattle.std.proofs.lemmas.Option.{same_Some}
 use Rattle.std.specs.List.{All}
 use Rattle.std.proofs.lemmas.List.{length_push}
 use Rattle.std.proofs.lemmas.List.Elements.{All-append}
@@ -22,6 +23,7 @@ use Rattle.sp_rules.specs.Steps as steps
 use Rattle.sp_rules.specs.Steps.{Input, NodeStep, Output, arrived, poll_output, refused_call, replied}
 use Rattle.sp_rules.specs.declared.node.NodeRefused.{NodeRefused}
 use Rattle.laws_node.specs.Inputs.{InputFits}
+use Rattle.laws_node.specs.Shapes.{shape_at_start}
 use Rattle.laws_node.specs.Asked.{NewKeep, OwnKeep, payload_in}
 use Rattle.laws_node.specs.Objects.{objects_in}
 use Rattle.laws_node.proofs.AskedLemmas.{none_new}
@@ -32,19 +34,26 @@ use Rattle.laws_node.proofs.Steps.{none_called, none_sent, step_holds, step_new}
 use Rattle.laws_runs.proofs.Lives.{step_stays}
 use Rattle.laws_node.proofs.Shapes.{shapes_stay}
 use Rattle.laws_node.proofs.Weaker.{node_weaker}
-use Rattle.sp_runs.specs.Forgery.{forged_object, has_forged_tag}
+use Rattle.sp_runs.specs.Forgery.{forged, forged_object, has_forged_tag}
 use Rattle.sp_runs.specs.Inputs.{acting, input_of}
-use Rattle.sp_runs.specs.Runs.{Clean, InRange, Starts, Turned, Moves, Stays, Move, directions_after}
-use Rattle.sp_runs.specs.Settings.{Setting, SettingFits, fixed_of}
-use Rattle.sp_runs.specs.Worlds.{Direction, World, frames_in}
+use Rattle.sp_runs.specs.Lives.{directions_missed, next_start, ready}
+use Rattle.sp_runs.specs.Runs.{AreFields, Clean, InRange, Lives, Starts, Turned, Moves, Stays, Move, directions_after}
+use Rattle.sp_runs.specs.Settings.{Setting, SettingFits, fixed_at, link_keys, node_at_start, signer_from}
+use Rattle.sp_runs.specs.Worlds.{Direction, World, frames_in, node_in}
 use Rattle.sp_journal.specs.declared.entry.Entry.{Entry}
 use Rattle.sp_schedule_events.specs.declared.event.Event.{Event}
 use Rattle.sp_schedule_events.specs.declared.event.Event.TheVariants as events
+use Rattle.laws_runs.specs.KeyFiles.{KeysStand}
 use Rattle.laws_runs.specs.Signs.{Good, NodeIs, Signs, SignsBegin, TurnsKeepSigns, sizes_at}
 use Rattle.laws_runs.specs.Premises.{Carries, HasGoodMessages, IsOfBytes}
 use Rattle.laws_runs.proofs.Acks.{step_ack}
 use Rattle.laws_runs.proofs.NoStarts.{in_keep, pieces_at, without}
 use Rattle.laws_runs.proofs.Unborn.{step_unborn}
+use Rattle.laws_runs.proofs.KeyFiles.{key_files_stand, ready_once}
+use Rattle.laws_runs.proofs.Ready.{readied_is, ready_frames, was_there}
+use Rattle.laws_runs.proofs.Running.{more_found, without_left}
+use Rattle.laws_runs.proofs.Begun.{start_is}
+use Rattle.laws_runs.proofs.LifeCases.{Exhausts, LifeCase, Nobody, Starts_now, Stops, life_case}
 use Rattle.laws_runs.proofs.Reaches.{input_fits, payload_fits}
 use Rattle.laws_runs.proofs.Tables.{frame_put, node_put}
 use Rattle.laws_runs.proofs.Goods.{all_of, of_all, where_keep, unforged_tag, new_known, good_new, new_less, good_more, own_known, arts_fit, starts}
@@ -91,7 +100,7 @@ new_have P arts n (steps.TakeRel src) output after reads are s = none_new _ outp
 new_have P arts n steps.TakePrio output after reads are s = none_new _ output.answered (ap (λ (o : Output). o.answered) s.0)
 
 -- the acting node keeps what it keeps
-acted : (arts : Arts) (x : Setting) (es : List Event) (js : List Entry) (w new : World) (e : Event) (j : Entry) (m : Move arts x es w e j new)
+acted : (arts : Arts) (x : Setting) (es : List Event) (js : List Entry) (w new : World) (e : Event) (j : Entry) (m : Move arts x w e j new)
     → SettingFits arts x → Carries x.topology.format arts → InputFits m.input → AreBytes (payload_in m.input) → length es ≡ length js
     → forged_object arts x es js m.output.answered ≡ None
     → NodeIs x (Good arts x es js) (acting e) m.node → NodeIs x (Good arts x (es ++ e ∷ []) (js ++ j ∷ [])) (acting e) m.after
@@ -102,7 +111,7 @@ acted arts x es js w new e j m fits carries reach asked same unforged is =
     let fit = arts_fit arts x P (acting e) m.node fits is in
     let stays = step_stays arts m.node m.input m.output m.after m.step in
     let me : m.node.fixed.me ≡ acting e = ap (λ (f : Fixed). f.me) is.fixed in
-    let signed_new : NewKeep (λ o. IsTrue (is_signed arts (fixed_of x (acting e)) o)) m.output.answered =
+    let signed_new : NewKeep (λ o. IsTrue (is_signed arts (fixed_at x (acting e) m.node.fixed.boot) o)) m.output.answered =
     subst (λ (f : Fixed). NewKeep (λ o. IsTrue (is_signed arts f o)) m.output.answered) is.fixed (step_new arts m.node m.input m.output m.after m.step) in
     let news = new_less P Q more m.output.answered (good_new arts x es js m.output.answered (new_known arts x es js m.output.answered unforged) signed_new
     (new_have IsOfBytes arts m.node m.input m.output m.after carries.reads reach m.step)
@@ -115,13 +124,21 @@ acted arts x es js w new e j m fits carries reach asked same unforged is =
     } in
     record {
       correct = is.correct;
-      fixed = stays.fixed ∙ is.fixed;
+      fixed = stays.fixed ∙ is.fixed ∙ ap (λ (f : Fixed). fixed_at x (acting e) f.boot) (sym stays.fixed);
       seed = stays.seed ∙ is.seed;
       total = stays.total ∙ is.total;
-      shape = shapes_stay arts m.node m.input m.output m.after m.step ∙ is.shape;
+      shape = shapes_stay arts m.node m.input m.output m.after m.step ∙ is.shape
+          ∙ ap₂ (λ (f : Fixed) (bound : ℕ). shape_at_start (fixed_at x (acting e) f.boot) (signer_from x (acting e) 0 bound) (link_keys x (acting e)) x.buffer x.store)
+          (sym stays.fixed) (sym stays.bound);
       holds = step_holds (sizes_at x Q (acting e)) arts m.node m.input m.output m.after fit reach news owns m.step (node_weaker (sizes_at x P (acting e)) Q more m.node is.holds);
       acks = step_ack arts m.node m.input m.output m.after m.step is.acks;
-      unborn = step_unborn arts m.node m.input m.output m.after m.step (without x P (acting e) m.node is) is.unborn;
+      plain = λ off.
+          let was = is.plain off in
+          record {
+            first = ap (λ (f : Fixed). f.boot) stays.fixed ∙ was.first;
+            whole = stays.bound ∙ was.whole;
+            unborn = step_unborn arts m.node m.input m.output m.after m.step (without x P (acting e) m.node off is) was.unborn;
+          };
     }
 
 -- a frame that a poll gave carries what the node keeps
@@ -147,13 +164,16 @@ polled_frame arts x P good n u v output bytes s reads is out reply read =
     gives (Some refused) e = absurd cc
 
 -- what holds of all frames that were made, and of a new one, holds of all
+abbrev pub EachFrame : (F : NodeId → NodeId → List ℕ → Type 0) → List Direction → Type 0
+EachFrame F ds = (u v : NodeId) (k : ℕ) (bytes : List ℕ) → slice_get (frames_in ds u v) k ≡ Some (Some bytes) → F u v bytes
+
 pub frames_after : (F : NodeId → NodeId → List ℕ → Type 0) (ds : List Direction) (e : Event) (r : steps.Reply)
     → ((a b : NodeId) (made : List ℕ) → e ≡ events.Poll a b → r ≡ steps.Frame made → F a b made)
-    → ((u v : NodeId) (k : ℕ) (bytes : List ℕ) → slice_get (frames_in ds u v) k ≡ Some bytes → F u v bytes)
-    → (u v : NodeId) (k : ℕ) (bytes : List ℕ) → slice_get (frames_in (directions_after ds e r) u v) k ≡ Some bytes → F u v bytes
-frames_after F ds (events.Poll a b) (steps.Frame made) new old u v k bytes at = elim (frame_put u v a b ds made k bytes at) [
+    → EachFrame F ds → EachFrame F (directions_after ds e r)
+frames_after F ds (events.Poll a b) (steps.Frame made) new old u v k bytes at = elim (frame_put u v a b ds (Some made) k (Some bytes) at) [
   | inl last ↦
-      subst (F u v) (sym last.2) (subst (λ (m : NodeId). F u m made) (sym last.1) (subst (λ (m : NodeId). F m b made) (sym last.0) (new a b made refl refl)))
+      let same : bytes ≡ made = same_Some bytes made last.2 in
+      subst (F u v) (sym same) (subst (λ (m : NodeId). F u m made) (sym last.1) (subst (λ (m : NodeId). F m b made) (sym last.0) (new a b made refl refl)))
   | inr was ↦ old u v k bytes was
 ]
 frames_after F ds (events.Poll a b) (steps.Arrived link items) new old u v k bytes at = old u v k bytes at
@@ -174,10 +194,32 @@ frames_after F ds (events.Flip a b c d f) r new old u v k bytes at = old u v k b
 frames_after F ds (events.Inject a b c) r new old u v k bytes at = old u v k bytes at
 frames_after F ds (events.Craft a b c d) r new old u v k bytes at = old u v k bytes at
 frames_after F ds (events.CraftStatus a b c d f g) r new old u v k bytes at = old u v k bytes at
+frames_after F ds (events.Start a) r new old u v k bytes at = old u v k bytes at
+frames_after F ds (events.Stop a) r new old u v k bytes at = old u v k bytes at
+
+-- and of all after a poll of a node that didn't run
+pub frames_missed : (F : NodeId → NodeId → List ℕ → Type 0) (ds : List Direction) (e : Event) → EachFrame F ds → EachFrame F (directions_missed ds e)
+frames_missed F ds (events.Poll a b) old u v k bytes at = elim (frame_put u v a b ds None k (Some bytes) at) [
+  | inl last ↦ absurd (let none : Some bytes ≡ None = last.2 in cc)
+  | inr was ↦ old u v k bytes was
+]
+frames_missed F ds (events.Rel a b p) old u v k bytes at = old u v k bytes at
+frames_missed F ds (events.Prio a b c d f p) old u v k bytes at = old u v k bytes at
+frames_missed F ds (events.Take a b) old u v k bytes at = old u v k bytes at
+frames_missed F ds (events.TakePrio a) old u v k bytes at = old u v k bytes at
+frames_missed F ds (events.Tick a b) old u v k bytes at = old u v k bytes at
+frames_missed F ds (events.Weight a b c) old u v k bytes at = old u v k bytes at
+frames_missed F ds (events.Pass a b c) old u v k bytes at = old u v k bytes at
+frames_missed F ds (events.Flip a b c d f) old u v k bytes at = old u v k bytes at
+frames_missed F ds (events.Inject a b c) old u v k bytes at = old u v k bytes at
+frames_missed F ds (events.Craft a b c d) old u v k bytes at = old u v k bytes at
+frames_missed F ds (events.CraftStatus a b c d f g) old u v k bytes at = old u v k bytes at
+frames_missed F ds (events.Start a) old u v k bytes at = old u v k bytes at
+frames_missed F ds (events.Stop a) old u v k bytes at = old u v k bytes at
 
 -- a frame that a poll gave is the node's
 pub polled : (arts : Arts) (x : Setting) (es : List Event) (w : World) (n : NodeState) (a b : NodeId) (input : Input) (output : Output) (after : NodeState) (made : List ℕ)
-    → input_of arts x es w n (events.Poll a b) ≡ Some input → NodeStep arts n input output after → output.reply ≡ steps.Frame made
+    → input_of arts x w n (events.Poll a b) ≡ Some input → NodeStep arts n input output after → output.reply ≡ steps.Frame made
     → output ≡ poll_output arts n b
 polled arts x es w n a b input output after made reaches step reply =
     let same : input ≡ steps.Poll b = cc in
@@ -201,7 +243,7 @@ made_bytes format arts n v output made carries of out reply =
 
 -- ---- a whole run
 
-no_frames : (u v : NodeId) (k : ℕ) (bytes : List ℕ) → slice_get (frames_in [] u v) k ≡ Some bytes → ⊥
+no_frames : (u v : NodeId) (k : ℕ) (bytes : List ℕ) → slice_get (frames_in [] u v) k ≡ Some (Some bytes) → ⊥
 no_frames u v k bytes e = absurd cc
 
 node_more : (x : Setting) (P Q : Kept → Type 0) (u : NodeId) (n : NodeState) → ((o : Kept) → P o → Q o) → NodeIs x P u n → NodeIs x Q u n
@@ -213,7 +255,7 @@ node_more x P Q u n less is = record {
   shape = is.shape;
   holds = node_weaker (sizes_at x P u) Q less n is.holds;
   acks = is.acks;
-  unborn = is.unborn;
+  plain = is.plain;
 }
 
 pub signs_begin : SignsBegin
@@ -224,8 +266,24 @@ signs_begin arts x fits = record {
   bytes = λ u v k bytes at. absurd (no_frames u v k bytes at);
 }
 
-pub turns_keep_signs : TurnsKeepSigns
-turns_keep_signs arts x es' js' old e j new fits reads h range (Moves m) unforged =
+-- the world in which a node acts
+pub signs_ready : (arts : Arts) (x : Setting) (es : List Event) (js : List Entry) (w : World) (e : Event) → KeysStand x es w → Signs arts x es js w
+    → Signs arts x es js (ready x w e)
+signs_ready arts x es js w e keys h = record {
+  entries = h.entries;
+  nodes = λ u n at.
+      let was = was_there x w e u n at in
+      readied_is x (Good arts x es js) es w u was.before n keys was.is_there was.readied (h.nodes u was.before was.is_there);
+  frames = subst (λ (ds : List Direction). (u v : NodeId) (k : ℕ) (bytes : List ℕ) (s : Contents) → slice_get (frames_in ds u v) k ≡ Some (Some bytes)
+      → arts.sections x.signature_len bytes ≡ Ok s → All (Good arts x es js) (objects_in (pieces_of s))) (sym (ready_frames x w e)) h.frames;
+  bytes = subst (EachFrame (λ u v bytes. AreBytes bytes)) (sym (ready_frames x w e)) h.bytes;
+}
+
+-- a node moves in the world in which it acts
+pub moves_keep : (arts : Arts) (x : Setting) (es : List Event) (js : List Entry) (old : World) (e : Event) (j : Entry) (new : World) → SettingFits arts x
+    → Carries x.topology.format arts → Signs arts x es js old → AreFields x es e → (m : Move arts x old e j new) → forged arts x es js old m.node m.input m.output ≡ None
+    → Signs arts x (es ++ e ∷ []) (js ++ j ∷ []) new
+moves_keep arts x es' js' old e j new fits reads h range m unforged =
     let reach = input_fits arts x es' old m.node e m.input reads h.bytes range m.reaches in
     let same = h.entries in
     let P = Good arts x es' js' in
@@ -244,34 +302,87 @@ turns_keep_signs arts x es' js' old e j new fits reads h range (Moves m) unforge
       frames = λ u v k bytes s at read. all_of Q (pieces_of s) (frames_after (λ (u v : NodeId) (bs : List ℕ). (s : Contents) → arts.sections x.signature_len bs ≡ Ok s → AllKeep Q (pieces_of s)) old.directions e m.output.reply
           (λ a b made poll reply s read. all_less P Q more (pieces_of s)
           (polled_frame arts x P (λ o is_it. is_it.good) m.node (acting e) b m.output made s reads is
-          (polled arts x es' old m.node a b m.input m.output m.after made (subst (λ (y : Event). input_of arts x es' old m.node y ≡ Some m.input) poll m.reaches) m.step reply) reply read))
+          (polled arts x es' old m.node a b m.input m.output m.after made (subst (λ (y : Event). input_of arts x old m.node y ≡ Some m.input) poll m.reaches) m.step reply) reply read))
           (λ u v k bs at s read. all_less P Q more (pieces_of s) (of_all P (pieces_of s) (h.frames u v k bs s at read))) u v k bytes at s read);
       bytes = frames_after (λ (u v : NodeId) (bs : List ℕ). AreBytes bs) old.directions e m.output.reply
           (λ a b made poll reply. made_bytes x.topology.format arts m.node b m.output made reads
           (all_less P IsOfBytes (λ o good. good.bytes) (pieces_of (contents_to m.node.fixed m.node.parts b)) (contents_kept (sizes_at x P (acting e)) m.node b is.holds))
-          (polled arts x es' old m.node a b m.input m.output m.after made (subst (λ (y : Event). input_of arts x es' old m.node y ≡ Some m.input) poll m.reaches) m.step reply) reply)
+          (polled arts x es' old m.node a b m.input m.output m.after made (subst (λ (y : Event). input_of arts x old m.node y ≡ Some m.input) poll m.reaches) m.step reply) reply)
           h.bytes;
     })
-turns_keep_signs arts x es' js' old e j new fits reads h range (Stays s) unforged =
+
+-- nodes that were there, or are new and good, and frames that were there
+pub stay_keep : (arts : Arts) (x : Setting) (es : List Event) (js : List Entry) (old : World) (e : Event) (j : Entry) (new : World) → Signs arts x es js old
+    → ((u : NodeId) (n : NodeState) → node_in new.nodes u ≡ Some n → (node_in old.nodes u ≡ Some n) ⊎ NodeIs x (Good arts x (es ++ e ∷ []) (js ++ j ∷ [])) u n)
+    → ((F : NodeId → NodeId → List ℕ → Type 0) → EachFrame F old.directions → EachFrame F new.directions)
+    → Signs arts x (es ++ e ∷ []) (js ++ j ∷ []) new
+stay_keep arts x es js old e j new h nodes frames =
     let same = h.entries in
-    let P = Good arts x es' js' in
-    let Q = Good arts x (es' ++ e ∷ []) (js' ++ j ∷ []) in
-    let more = good_more arts x es' js' e j same in
-    subst (Signs arts x (es' ++ e ∷ []) (js' ++ j ∷ [])) (sym s.world) (record {
-      entries = omega (arith, same, length_push es' e, length_push js' j);
-      nodes = λ u n at. node_more x P Q u n more (h.nodes u n at);
-      frames = λ u v k bytes c at read. all_of Q (pieces_of c) (all_less P Q more (pieces_of c) (of_all P (pieces_of c) (h.frames u v k bytes c at read)));
-      bytes = h.bytes;
-    })
+    let P = Good arts x es js in
+    let Q = Good arts x (es ++ e ∷ []) (js ++ j ∷ []) in
+    let more = good_more arts x es js e j same in
+    record {
+      entries = omega (arith, same, length_push es e, length_push js j);
+      nodes = λ u n at. elim (nodes u n at) [
+        | inl was ↦ node_more x P Q u n more (h.nodes u n was)
+        | inr new ↦ new
+      ];
+      frames = λ u v k bytes c at read. all_of Q (pieces_of c) (all_less P Q more (pieces_of c)
+          (of_all P (pieces_of c) (frames (λ (a b : NodeId) (bs : List ℕ). (s : Contents) → arts.sections x.signature_len bs ≡ Ok s → All P (objects_in (pieces_of s)))
+          (λ a b i bs there s is. h.frames a b i bs s there is) u v k bytes at c read)));
+      bytes = frames (λ a b bs. AreBytes bs) h.bytes;
+    }
+
+life_keeps : (arts : Arts) (x : Setting) (es : List Event) (js : List Entry) (old : World) (e : Event) (j : Entry) (new : World) → SettingFits arts x
+    → Carries x.topology.format arts → x.epochs ≡ true → KeysStand x es old → Signs arts x es js old → InRange x es e → LifeCase arts x old e j new
+    → Signs arts x (es ++ e ∷ []) (js ++ j ∷ []) new
+life_keeps arts x es js old e j new fits reads on keys h range (Starts_now u is start) =
+    subst (λ (f : Event). Signs arts x (es ++ f ∷ []) (js ++ j ∷ []) new) (sym is)
+    (stay_keep arts x es js old (events.Start u) j new h
+    (λ v n at. elim (more_found v n (node_at_start arts x u (next_start x old u)) old.nodes (subst (λ (w : World). node_in w.nodes v ≡ Some n) start.world at)) [
+      | inl was ↦ inl was
+      | inr it ↦ inr (start_is arts x es js old new u j fits reads on keys h.entries (subst (InRange x es) is range) start v n it)
+    ])
+    (λ F all. subst (λ (w : World). EachFrame F w.directions) (sym start.world) all))
+life_keeps arts x es js old e j new fits reads on keys h range (Exhausts u is none) =
+    stay_keep arts x es js old e j new h
+    (λ v n at. inl (subst (λ (w : World). node_in w.nodes v ≡ Some n) none.world at))
+    (λ F all. subst (λ (w : World). EachFrame F w.directions) (sym none.world) all)
+life_keeps arts x es js old e j new fits reads on keys h range (Stops u is stop) =
+    let there = signs_ready arts x es js old (events.Stop u) keys h in
+    stay_keep arts x es js (ready x old (events.Stop u)) e j new there
+    (λ v n at. inl (without_left v u n (ready x old (events.Stop u)).nodes (subst (λ (w : World). node_in w.nodes v ≡ Some n) stop.world at)
+    (ready_once x es old (events.Stop u) on keys)))
+    (λ F all. subst (λ (w : World). EachFrame F w.directions) (sym stop.world) all)
+life_keeps arts x es js old e j new fits reads on keys h range (Nobody other down) =
+    stay_keep arts x es js old e j new h
+    (λ u n at. inl (subst (λ (w : World). node_in w.nodes u ≡ Some n) down.world at))
+    (λ F all. subst (λ (w : World). EachFrame F w.directions) (sym down.world) (frames_missed F old.directions e all))
+
+pub turns_keep_signs : TurnsKeepSigns
+turns_keep_signs arts x es js old e j new fits reads keys h range (Moves m) unforged =
+    moves_keep arts x es js (ready x old e) e j new fits reads (signs_ready arts x es js old e keys h) range.fields m unforged
+turns_keep_signs arts x es js old e j new fits reads keys h range (Stays s) unforged =
+    stay_keep arts x es js old e j new h
+    (λ u n at. inl (subst (λ (w : World). node_in w.nodes u ≡ Some n) s.world at))
+    (λ F all. subst (λ (w : World). EachFrame F w.directions) (sym s.world) all)
+turns_keep_signs arts x es js old e j new fits reads keys h range (Lives on life) unforged =
+    life_keeps arts x es js old e j new fits reads on keys h range (life_case arts x old e j new life)
 
 pub signs : (arts : Arts) (x : Setting) (es : List Event) (js : List Entry) (w : World) → SettingFits arts x → Carries x.topology.format arts
     → Clean arts x es js w → Signs arts x es js w
 signs arts x es js w fits reads Starts = signs_begin arts x fits
 signs arts x es js w fits reads (Turned {es = es'} {js = js'} {old = old} {e = e} {j = j} run range turn unforged) =
-    turns_keep_signs arts x es' js' old e j w fits reads (signs arts x es' js' old fits reads run) range turn unforged
+    turns_keep_signs arts x es' js' old e j w fits reads (key_files_stand arts x es' js' old fits run) (signs arts x es' js' old fits reads run) range turn unforged
+
+-- the same in the world in which a node acts
+pub signs_there : (arts : Arts) (x : Setting) (es : List Event) (js : List Entry) (w : World) (e : Event) → SettingFits arts x → Carries x.topology.format arts
+    → Clean arts x es js w → Signs arts x es js (ready x w e)
+signs_there arts x es js w e fits reads run = signs_ready arts x es js w e (key_files_stand arts x es js w fits run) (signs arts x es js w fits reads run)
 
 -- what reaches a node after a run without forgery is in its ranges
 pub reached : (arts : Arts) (x : Setting) (es : List Event) (js : List Entry) (w new : World) (e : Event) (j : Entry) → SettingFits arts x
     → Carries x.topology.format arts
-    → Clean arts x es js w → InRange x es e → (m : Move arts x es w e j new) → InputFits m.input
-reached arts x es js w new e j fits carries run range m = input_fits arts x es w m.node e m.input carries (signs arts x es js w fits carries run).bytes range m.reaches
+    → Clean arts x es js w → InRange x es e → (m : Move arts x (ready x w e) e j new) → InputFits m.input
+reached arts x es js w new e j fits carries run range m =
+    input_fits arts x es (ready x w e) m.node e m.input carries (signs_there arts x es js w e fits carries run).bytes range.fields m.reaches

@@ -21,52 +21,52 @@ made es u v number count some = (some, omega (arith, count))
 
 in_range : AreInRange (line []) [] message
 in_range = (
-  (refl, refl, omega arith, two_bytes),
+  record { fields = (refl, refl, omega arith, two_bytes); may = refl },
   tt,
   (
-    (refl, refl),
+    record { fields = (refl, refl); may = refl },
     tt,
     (
-      (refl, refl, refl, made (take 2 message) (node 2) (node 1) 1 refl (omega arith)),
+      record { fields = (refl, refl, refl, made (take 2 message) (node 2) (node 1) 1 refl (omega arith)); may = refl },
       tt,
       (
-        (refl, refl),
+        record { fields = (refl, refl); may = refl },
         tt,
         (
-          (refl, refl, refl, made (take 4 message) (node 1) (node 2) 1 refl (omega arith)),
+          record { fields = (refl, refl, refl, made (take 4 message) (node 1) (node 2) 1 refl (omega arith)); may = refl },
           tt,
           (
-            (refl, refl),
+            record { fields = (refl, refl); may = refl },
             tt,
             (
-              (refl, refl, refl, made (take 6 message) (node 3) (node 2) 1 refl (omega arith)),
+              record { fields = (refl, refl, refl, made (take 6 message) (node 3) (node 2) 1 refl (omega arith)); may = refl },
               tt,
               (
-                (refl, refl),
+                record { fields = (refl, refl); may = refl },
                 tt,
                 (
-                  (refl, refl),
+                  record { fields = (refl, refl); may = refl },
                   tt,
                   (
-                    (refl, refl, refl, made (take 9 message) (node 2) (node 3) 1 refl (omega arith)),
+                    record { fields = (refl, refl, refl, made (take 9 message) (node 2) (node 3) 1 refl (omega arith)); may = refl },
                     tt,
                     (
-                      (refl, refl),
+                      record { fields = (refl, refl); may = refl },
                       tt,
                       (
-                        (refl, omega arith),
+                        record { fields = (refl, omega arith); may = refl },
                         tt,
                         (
-                          (refl, refl),
+                          record { fields = (refl, refl); may = refl },
                           tt,
                           (
-                            (refl, refl, refl, made (take 13 message) (node 3) (node 2) 2 refl (omega arith)),
+                            record { fields = (refl, refl, refl, made (take 13 message) (node 3) (node 2) 2 refl (omega arith)); may = refl },
                             tt,
                             (
-                              (refl, refl),
+                              record { fields = (refl, refl); may = refl },
                               tt,
                               (
-                                (refl, refl, refl, made (take 15 message) (node 2) (node 1) 2 refl (omega arith)),
+                                record { fields = (refl, refl, refl, made (take 15 message) (node 2) (node 1) 2 refl (omega arith)); may = refl },
                                 tt,
                                 tt,
                               ),
@@ -89,7 +89,7 @@ in_range = (
 pub stories_are_played : StoriesArePlayed
 unfolding ids read_body_in body_at_in number_at of_fields field_at
 stories_are_played = record {
-  is_run = plays_are_clean (line []) (begins (line [])) message Starts refl in_range refl;
+  is_run = plays_are_clean (line []) (begins (line [])) message refl Starts refl in_range refl;
   all_of_it = refl;
   replies_are = refl;
   is_delivered = refl;

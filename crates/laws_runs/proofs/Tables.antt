@@ -1,5 +1,5 @@
 -- What is found in a table after a row was replaced, or put.
-use Rattle.std.proofs.Common.{◌≡◌, ℕ, Bool, true, false, cond, eqb, List, [], ◌∷◌, ◌++◌, Some, refl, sym, ap, subst, ◌∙◌, inl, inr}
+use Rattle.std.proofs.Common.{◌≡◌, ℕ, Bool, true, false, cond, eqb, List, [], ◌∷◌, ◌++◌, Option, Some, refl, sym, ap, subst, ◌∙◌, inl, inr}
 use Rattle.std.specs.Prelude.{◌⊎◌, ◌&&◌}
 use Rattle.std.specs.List.{find, slice_get}
 use Rattle.std.proofs.lemmas.Bool.{cases_Bool, cases_eq, eq-eqb, eqb-true, ne_eqb}
@@ -66,24 +66,24 @@ together : (x y : Bool) → x ≡ true → y ≡ true → (x && y) ≡ true
 together x y e f = rw (e, f) refl
 
 -- a frame of a direction is the one that was put last, or was there
-pub frame_put : (u v a b : NodeId) (ds : List Direction) (bytes : List ℕ) (k : ℕ) (x : List ℕ) → slice_get (frames_in (with_frame ds a b bytes) u v) k ≡ Some x
-    → ((u ≡ a) × (v ≡ b) × (x ≡ bytes)) ⊎ (slice_get (frames_in ds u v) k ≡ Some x)
-frame_put u v a b ds bytes k x e =
-    let row : Direction = record { from = a; to = b; frames = frames_in ds a b ++ bytes ∷ [] } in
+pub frame_put : (u v a b : NodeId) (ds : List Direction) (frame : Option (List ℕ)) (k : ℕ) (x : Option (List ℕ)) → slice_get (frames_in (with_frame ds a b frame) u v) k ≡ Some x
+    → ((u ≡ a) × (v ≡ b) × (x ≡ frame)) ⊎ (slice_get (frames_in ds u v) k ≡ Some x)
+frame_put u v a b ds frame k x e =
+    let row : Direction = record { from = a; to = b; frames = frames_in ds a b ++ frame ∷ [] } in
     elim (cases_Bool (is_from_to u v row)) [
       | inl t ↦
           let ends = from_to u v row t in
           let ua : u ≡ a = sym (same_node a u ends.0) in
           let vb : v ≡ b = sym (same_node b v ends.1) in
-          let here : frames_in (with_frame ds a b bytes) a b ≡ frames_in ds a b ++ bytes ∷ [] =
+          let here : frames_in (with_frame ds a b frame) a b ≡ frames_in ds a b ++ frame ∷ [] =
           ap (λ (d : Direction). d.frames) (first_where-put (is_from_to a b) (record { from = a; to = b; frames = [] }) row ds (together _ _ (eq-eqb a.0 a.0 refl) (eq-eqb b.0 b.0 refl))) in
-          let e1 : slice_get (frames_in (with_frame ds a b bytes) a b) k ≡ Some x = rw (ua, vb) at e in
-          elim (get_push (frames_in ds a b) bytes k x (sym (ap (λ fs. slice_get fs k) here) ∙ e1)) [
+          let e1 : slice_get (frames_in (with_frame ds a b frame) a b) k ≡ Some x = rw (ua, vb) at e in
+          elim (get_push (frames_in ds a b) frame k x (sym (ap (λ fs. slice_get fs k) here) ∙ e1)) [
             | inl was ↦ inr (rw (ua, vb) was)
             | inr last ↦ inl (ua, vb, last.1)
           ]
       | inr t ↦
-          let other : frames_in (with_frame ds a b bytes) u v ≡ frames_in ds u v =
+          let other : frames_in (with_frame ds a b frame) u v ≡ frames_in ds u v =
           ap (λ (d : Direction). d.frames) (first_where-put_other (is_from_to a b) (is_from_to u v) (record { from = u; to = v; frames = [] }) row ds
           (λ d is. apart d (from_to a b d is) t) t) in
           inr (sym (ap (λ fs. slice_get fs k) other) ∙ e)

@@ -16,7 +16,7 @@ use Rattle.laws_node.specs.Flows.{AckKept, IsAckOf}
 use Rattle.laws_node.proofs.Boot.{nodes_hold}
 use Rattle.laws_node.proofs.Reliable.{in_range, read}
 use Rattle.sp_runs.specs.Forgery.{is_among}
-use Rattle.sp_runs.specs.Settings.{Setting, SettingFits, is_correct, is_node}
+use Rattle.sp_runs.specs.Settings.{Setting, StaysUp, is_correct, is_node}
 use Rattle.sp_runs.specs.Told.{signed}
 use Rattle.sp_journal.specs.declared.entry.Entry.{Entry}
 use Rattle.sp_schedule_events.specs.declared.event.Event.{Event}
@@ -58,15 +58,15 @@ module _ (arts : Arts) (x : Setting) (s d : NodeId) (es : List Event) (js : List
       go (bodies.Kack m) body kind number = absurd kind
       go (bodies.Epoch m) body kind number = absurd kind
 
-pub vouched : (arts : Arts) (x : Setting) (s d : NodeId) (es : List Event) (js : List Entry) → SettingFits arts x → is_node x s ≡ true → is_node x d ≡ true → IsTrue (is_correct x d)
+pub vouched : (arts : Arts) (x : Setting) (s d : NodeId) (es : List Event) (js : List Entry) → StaysUp arts x → is_node x s ≡ true → is_node x d ≡ true → IsTrue (is_correct x d)
     → (u : NodeId) (n : NodeState) → NodeIs x (Good arts x es js) u n → RelAck n.parts.rel → 1 ≤ (flow_at n s d).at.base → IsVouchedFor arts s d es js (flow_at n s d)
 vouched arts x s d es js fits from to correct u n is acks some =
     let k = sizes_at x (Good arts x es js) u in
-    let nodes = nodes_hold x.topology.format x.topology.height 0 x.topology.nodes fits.topology.ranges.nodes in
+    let nodes = nodes_hold x.topology.format x.topology.height 0 x.topology.nodes fits.fits.topology.ranges.nodes in
     let row = read k n.signer.index n.parts.rel.flows (flow_of s d) (in_range x.topology.format (nodes_of x.topology) s nodes from) (in_range x.topology.format (nodes_of x.topology) d nodes to)
     is.holds.parts.rel.flows in
     let numbered = (flow_ack n.parts.rel (flow_of s d) acks).ack some in
     let kept : AckKept k (ends (flow_at n s d)) numbered.ack = subst (λ o. IfSome o (AckKept k (ends (flow_at n s d)))) numbered.kept row.ack in
     let none : NamesNone numbered.ack.body =
-    subst (λ o. IfSome o (λ (m : Kept). NamesNone m.body)) numbered.kept (flow_unborn n.parts.rel (flow_of s d) is.unborn.flows).ack in
+    subst (λ o. IfSome o (λ (m : Kept). NamesNone m.body)) numbered.kept (flow_unborn n.parts.rel (flow_of s d) (is.plain fits.plain).unborn.flows).ack in
     one_vouched arts x s d es js correct (flow_at n s d) numbered.ack numbered.kept numbered.number (found_ends n.parts.rel.flows (flow_of s d)) none u kept

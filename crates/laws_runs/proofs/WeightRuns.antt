@@ -20,8 +20,8 @@ use Rattle.laws_node.proofs.LastWeights.{At, HasRows, said as row_said}
 use Rattle.laws_node.proofs.UpdateRows.{ends_differ, nothing_held}
 use Rattle.sp_runs.specs.Forgery.{forged_object, has_forged_tag, is_among}
 use Rattle.sp_runs.specs.Inputs.{acting}
-use Rattle.sp_runs.specs.Runs.{Clean, Starts, Turned, Moves, Stays, Move, Spends, InRange, Turn, forged_in}
-use Rattle.sp_runs.specs.Settings.{Setting, SettingFits, is_correct}
+use Rattle.sp_runs.specs.Runs.{Clean, Starts, Turned, Move, Spends, InRange, Turn, forged_in}
+use Rattle.sp_runs.specs.Settings.{Setting, StaysUp, is_correct}
 use Rattle.sp_runs.specs.Told.{effects_at, signed, signed_by, told_at}
 use Rattle.sp_runs.specs.Worlds.{World, at_start, node_in}
 use Rattle.sp_journal.specs.declared.entry.Entry.{Entry as JournalEntry}
@@ -33,7 +33,8 @@ use Rattle.laws_runs.specs.Weights.{EachHeld, IsSaid, WeightsAreKept, TurnsKeepW
 use Rattle.laws_runs.specs.Signs.{Good, Known, Signs}
 use Rattle.laws_runs.proofs.FlowRuns.{here_is, none_either}
 use Rattle.laws_runs.proofs.Lists.{among_left, as_they_are, told_more}
-use Rattle.laws_runs.proofs.Goods.{new_known, own_known, started, unforged_tag}
+use Rattle.laws_runs.proofs.Goods.{new_known, own_known, plain_start, started, unforged_tag}
+use Rattle.laws_runs.proofs.Plain.{Goes, Plain, Rests, plain_turn}
 use Rattle.laws_runs.proofs.Reaches.{input_fits}
 use Rattle.laws_runs.proofs.Signed.{signs}
 use Rattle.laws_runs.proofs.Tables.{node_put, same_node}
@@ -63,7 +64,7 @@ known_weights arts x es js Q less (a ∷ others) h = (
   known_weights arts x es js Q less others h.1,
 )
 
-moved_on : (arts : Arts) (x : Setting) (es : List Event) (js : List JournalEntry) (w new : World) (e : Event) (j : JournalEntry) (m : Move arts x es w e j new) → length es ≡ length js
+moved_on : (arts : Arts) (x : Setting) (es : List Event) (js : List JournalEntry) (w new : World) (e : Event) (j : JournalEntry) (m : Move arts x w e j new) → length es ≡ length js
     → m.after.fixed.me ≡ acting e → WeightsHold arts x es js w → WTurns (IsSaid arts x (es ++ e ∷ []) (js ++ j ∷ [])) m.node.parts.weights m.output.effects m.after.parts.weights → WeightsHold arts x (es ++ e ∷ []) (js ++ j ∷ []) new
 moved_on arts x es js w new e j m same me h turns =
     let es2 = es ++ e ∷ [] in
@@ -101,7 +102,7 @@ moved_on arts x es js w new e j m same me h turns =
       ];
     }
 
-stayed_on : (arts : Arts) (x : Setting) (es : List Event) (js : List JournalEntry) (w new : World) (e : Event) (j : JournalEntry) → length es ≡ length js → Spends x es w e j new → WeightsHold arts x es js w → WeightsHold arts x (es ++ e ∷ []) (js ++ j ∷ []) new
+stayed_on : (arts : Arts) (x : Setting) (es : List Event) (js : List JournalEntry) (w new : World) (e : Event) (j : JournalEntry) → length es ≡ length js → Spends x w e j new → WeightsHold arts x es js w → WeightsHold arts x (es ++ e ∷ []) (js ++ j ∷ []) new
 stayed_on arts x es js w new e j same m h =
     let es2 = es ++ e ∷ [] in
     let js2 = js ++ j ∷ [] in
@@ -117,34 +118,38 @@ stayed_on arts x es js w new e j same m h =
 
 starts : (arts : Arts) (x : Setting) → WeightsHold arts x [] [] (at_start x)
 starts arts x = record {
-  rows = λ u n at. subst (λ (y : NodeState). HasRows y.parts.weights) (sym (started x (nodes_of x.topology) u n at).0) (record { rows = length-replicate (2 * length x.topology.edges) None });
-  edges = λ u n at. ap (λ (y : NodeState). y.parts.weights.edges) (started x (nodes_of x.topology) u n at).0;
-  last = λ u n edge end row at there. ap (λ (y : NodeState). row_said y.parts.weights row) (started x (nodes_of x.topology) u n at).0 ∙ nothing_held (2 * length x.topology.edges) row;
+  rows = λ u n at. subst (λ (y : NodeState). HasRows y.parts.weights) (sym (started x (nodes_of x.topology) u n (plain_start x u n at).1).0) (record { rows = length-replicate (2 * length x.topology.edges) None });
+  edges = λ u n at. ap (λ (y : NodeState). y.parts.weights.edges) (started x (nodes_of x.topology) u n (plain_start x u n at).1).0;
+  last = λ u n edge end row at there. ap (λ (y : NodeState). row_said y.parts.weights row) (started x (nodes_of x.topology) u n (plain_start x u n at).1).0 ∙ nothing_held (2 * length x.topology.edges) row;
   said = λ u. tt;
 }
 
 weights_on : (arts : Arts) (x : Setting) (es : List Event) (js : List JournalEntry) (old : World) (e : Event) (j : JournalEntry) (new : World)
-    → SettingFits arts x → Carries x.topology.format arts
-    → Signs arts x es js old → InRange x es e → (turn : Turn arts x es old e j new) → forged_in arts x es js old e j new turn ≡ None
+    → StaysUp arts x → Carries x.topology.format arts
+    → Signs arts x es js old → InRange x es e → (turn : Turn arts x old e j new) → forged_in arts x es js old e j new turn ≡ None
     → WeightsHold arts x es js old → WeightsHold arts x (es ++ e ∷ []) (js ++ j ∷ []) new
-weights_on arts x es js old e j new fits reads signs range (Moves m) unforged h =
-    let same = signs.entries in
-    let is = signs.nodes (acting e) m.node m.is_there in
-    let nothing = unforged_tag (has_forged_tag arts x old m.node m.input) (forged_object arts x es js m.output.answered) unforged in
-    let before : m.node.fixed.me ≡ acting e = ap (λ (f : Fixed). f.me) is.fixed in
-    let me : m.after.fixed.me ≡ acting e = ap (λ (f : Fixed). f.me) ((step_stays arts m.node m.input m.output m.after m.step).fixed ∙ is.fixed) in
-    let Q = IsSaid arts x (es ++ e ∷ []) (js ++ j ∷ []) in
-    moved_on arts x es js old new e j m same me h
-    (turned x arts (Good arts x es js) Q (acting e) m.node m.input m.output m.after m.step (input_fits arts x es old m.node e m.input reads signs.bytes range m.reaches) is
-    (known_weights arts x es js Q (said_more arts x es js e j same) m.output.answered (new_known arts x es js m.output.answered nothing.1))
-    (λ u own correct. own_known arts x es js old new e j m same before (bodies.Weight u) own) (h.rows (acting e) m.node m.is_there))
-weights_on arts x es js old e j new fits reads signs range (Stays m) unforged h = stayed_on arts x es js old new e j signs.entries m h
+weights_on arts x es js old e j new fits reads signs range turn unforged h = go (plain_turn arts x es js old new e j fits.plain turn unforged)
+  where
+    go : Plain arts x es js old e j new → WeightsHold arts x (es ++ e ∷ []) (js ++ j ∷ []) new
+    go (Goes m none) =
+        let same = signs.entries in
+        let is = signs.nodes (acting e) m.node m.is_there in
+        let nothing = unforged_tag (has_forged_tag arts x old m.node m.input) (forged_object arts x es js m.output.answered) none in
+        let before : m.node.fixed.me ≡ acting e = ap (λ (f : Fixed). f.me) is.fixed in
+        let me : m.after.fixed.me ≡ acting e = ap (λ (f : Fixed). f.me) ((step_stays arts m.node m.input m.output m.after m.step).fixed ∙ is.fixed) in
+        let Q = IsSaid arts x (es ++ e ∷ []) (js ++ j ∷ []) in
+        moved_on arts x es js old new e j m same me h
+        (turned x fits.plain arts (Good arts x es js) Q (acting e) m.node m.input m.output m.after m.step
+        (input_fits arts x es old m.node e m.input reads signs.bytes range.fields m.reaches) is
+        (known_weights arts x es js Q (said_more arts x es js e j same) m.output.answered (new_known arts x es js m.output.answered nothing.1))
+        (λ u own correct. own_known arts x es js old new e j m same before (bodies.Weight u) own) (h.rows (acting e) m.node m.is_there))
+    go (Rests spends) = stayed_on arts x es js old new e j signs.entries spends h
 
-weights_hold : (arts : Arts) (x : Setting) (es : List Event) (js : List JournalEntry) (w : World) → SettingFits arts x → Carries x.topology.format arts
+weights_hold : (arts : Arts) (x : Setting) (es : List Event) (js : List JournalEntry) (w : World) → StaysUp arts x → Carries x.topology.format arts
     → Clean arts x es js w → WeightsHold arts x es js w
 weights_hold arts x es js w fits reads Starts = starts arts x
 weights_hold arts x es js w fits reads (Turned {es = es'} {js = js'} {old = old} {e = e} {j = j} run range turn unforged) =
-    weights_on arts x es' js' old e j w fits reads (signs arts x es' js' old fits reads run) range turn unforged (weights_hold arts x es' js' old fits reads run)
+    weights_on arts x es' js' old e j w fits reads (signs arts x es' js' old fits.fits reads run) range turn unforged (weights_hold arts x es' js' old fits reads run)
 
 -- the part, and what it comes from
 part_of : (arts : Arts) (x : Setting) (es : List Event) (js : List JournalEntry) (w : World) → WeightsHold arts x es js w → WeightPart arts x es js w
@@ -166,13 +171,13 @@ of_part arts x es js w signs c = record {
   said = c.said;
 }
 
-claims_of : (arts : Arts) (x : Setting) (es : List Event) (js : List JournalEntry) (w : World) → SettingFits arts x → WeightsHold arts x es js w → WeightClaims arts x es js w
+claims_of : (arts : Arts) (x : Setting) (es : List Event) (js : List JournalEntry) (w : World) → StaysUp arts x → WeightsHold arts x es js w → WeightClaims arts x es js w
 claims_of arts x es js w fits h = record {
   effective_is = λ u n edge e at there.
       let s = n.parts.weights in
       let edges = h.edges u n at in
       let here : slice_get s.edges edge ≡ Some e = ap (λ es. slice_get es edge) edges ∙ there in
-      let differ = ends_differ x.topology.format _ (0, 0) x.topology.edges edge e fits.topology.ranges.graph.are_edges there in
+      let differ = ends_differ x.topology.format _ (0, 0) x.topology.edges edge e fits.fits.topology.ranges.graph.are_edges there in
       let low_is : row_of edge e e.low.0 ≡ Some (2 * edge) = let t : (e.low.0 == e.low.0) ≡ true = eq-eqb e.low.0 e.low.0 refl in rw t refl in
       let high_is : row_of edge e e.high.0 ≡ Some (2 * edge + 1) =
       let f : (e.low.0 == e.high.0) ≡ false = ne_eqb e.low.0 e.high.0 (λ same. omega (arith, same, differ)) in let t : (e.high.0 == e.high.0) ≡ true = eq-eqb e.high.0 e.high.0 refl in rw (f, t) refl in

@@ -296,7 +296,7 @@ module _ (P : WeightBody → Type 0) where
 
 -- ---- all cases
 
-module _ (x : Setting) (arts : Arts) (K : Kept → Type 0) (P : WeightBody → Type 0) (u : NodeId) where
+module _ (x : Setting) (off : x.epochs ≡ false) (arts : Arts) (K : Kept → Type 0) (P : WeightBody → Type 0) (u : NodeId) where
   abbrev Done : NodeState → Output → NodeState → Type 0
   Done n output after = WTurns P n.parts.weights output.effects after.parts.weights
 
@@ -319,9 +319,9 @@ module _ (x : Setting) (arts : Arts) (K : Kept → Type 0) (P : WeightBody → T
       go : (r : Option NodeRefused) → NewKeep (λ y. (w : WeightBody) → y.body ≡ bodies.Weight w → P w) (refused_call r (arrived arts n v bytes)).answered → output.effects ≡ (refused_call r (arrived arts n v bytes)).effects
           → after ≡ kept_or r n (called n (with_link n v (link_after arts n v bytes)) (handled arts n v bytes).parts) → Done n output after
       go None new e f = by n output after (called n (with_link n v (link_after arts n v bytes)) (handled arts n v bytes).parts) (handled arts n v bytes).effects e f
-          (let met = met_as_it_was arts n v bytes (without x K u n is) in
+          (let met = met_as_it_was arts n v bytes (without x K u n off is) in
           subst (λ (p : Parts). WTurns P p.weights (handled arts n v bytes).effects (handled arts n v bytes).parts.weights) met
-          (all_turns P arts (arrival_at n v) (parts_met arts n v bytes) (pieces_at arts n v bytes) (no_starts_at arts n v bytes (without x K u n is)) new
+          (all_turns P arts (arrival_at n v) (parts_met arts n v bytes) (pieces_at arts n v bytes) (no_starts_at arts n v bytes (without x K u n off is)) new
           (subst (λ (p : Parts). HasRows p.weights) (sym met) h)))
       go (Some refused) new e f = by n output after n [] e f (plain n [] no_none h)
   turned n (steps.Tick now) output after step input is new own h =

@@ -1,6 +1,6 @@
 -- Each answer to an event in its range has words.
 use Rattle.std.proofs.Common.{◌≡◌, ◌≢◌, ◌<◌, ℕ, ◌==◌, ◌&&◌, Bool, true, false, cond, not, nat_lt, List, [], ◌∷◌, length, Option, Some, None, refl, sym, ap, subst, ◌∙◌, inl, inr, arith}
-use Rattle.std.specs.Prelude.{IsTrue, slice_get, position}
+use Rattle.std.specs.Prelude.{◌⊎◌, IsTrue, slice_get, position}
 use Rattle.std.specs.List.{All, list_any, position_or_len}
 use Rattle.std.proofs.lemmas.Bool.{cases_Bool, eq-eqb, ne_eqb}
 use Rattle.std.proofs.lemmas.Bool.Decides.{nat_tests}
@@ -32,23 +32,25 @@ use Rattle.sp_topology.specs.Neighbours.{joins}
 use Rattle.laws_node.specs.Shapes.{Shape}
 use Rattle.laws_node.specs.Sizes.{Sizes}
 use Rattle.laws_node.specs.Stores.{EntryHolds, IsPrio}
-use Rattle.sp_runs.specs.Inputs.{acting, crafted_frame, crafted_object, crafts, flipped, input_of, object_alone, slot_alone}
+use Rattle.sp_runs.specs.Inputs.{acting, crafted_contents, crafted_frame, flipped, input_of, slot_alone}
 use Rattle.sp_node_words.specs.Words.{refused_word}
 use Rattle.sp_runs.specs.Journals.{body_word, message_word, reply_word}
-use Rattle.sp_runs.specs.Runs.{InRange, is_hop, is_other}
+use Rattle.sp_runs.specs.Lives.{ready}
+use Rattle.sp_runs.specs.Runs.{AreFields, is_hop, is_other}
 use Rattle.sp_runs.specs.Settings.{Setting, is_correct, is_node, is_one_of}
-use Rattle.sp_runs.specs.Worlds.{node_in}
+use Rattle.sp_runs.specs.Worlds.{World, crafts, node_in}
 use Rattle.sp_schedule_crafts.specs.Objects.{body_of}
 use Rattle.sp_schedule_events.specs.declared.event.Event.{Event}
 use Rattle.sp_schedule_events.specs.declared.event.Event.TheVariants as events
 use Rattle.laws_runs.specs.Calls.{EachReplyHasWords, NeighboursAreAnswered}
-use Rattle.laws_runs.proofs.NoStarts.{none_unmet, without}
 use Rattle.laws_runs.proofs.Counts.{few_calls}
 use Rattle.laws_runs.specs.Signs.{Good, NodeIs, sizes_at}
 use Rattle.laws_runs.proofs.Lists.{both}
 use Rattle.laws_runs.proofs.Neighbours.{hop_back, neighbour_there}
+use Rattle.laws_runs.proofs.KeyFiles.{key_files_stand}
 use Rattle.laws_runs.proofs.Reaches.{came}
-use Rattle.laws_runs.proofs.Signed.{signs}
+use Rattle.laws_runs.proofs.Ready.{As_was, Extended, HasLeft, Readied, ready_left, was_there}
+use Rattle.laws_runs.proofs.Signed.{signs, signs_there}
 
 -- ---- polls and datagrams
 
@@ -72,11 +74,15 @@ both_have (Some r) b first second = first
 told : {X : Type 0} (y : X) → Some y ≡ None → ⊥
 told y e = cc
 
--- all indexes are reserved
-signer_words : (s : Signer) → s.bound ≡ s.total → HasWords (signer_refusal s)
-signer_words s whole = elim (cases_Bool (s.index == s.total)) [
+signer_words : (s : Signer) → HasLeft s → HasWords (signer_refusal s)
+signer_words s left = elim (cases_Bool (s.index == s.total)) [
   | inl t ↦ rw t (told _)
-  | inr t ↦ let same : (s.index == s.bound) ≡ false = ap (λ k. s.index == k) whole ∙ t in rw (t, same) tt
+  | inr t ↦
+      let other : (s.index == s.bound) ≡ false = elim left [
+        | inl whole ↦ ap (λ k. s.index == k) whole ∙ t
+        | inr below ↦ ne_eqb s.index s.bound (λ same. absurd (omega (arith, same, below)))
+      ] in
+      rw (t, other) tt
 ]
 
 -- ---- who is there
@@ -113,20 +119,21 @@ sent_words x number k effects (Some r) h = h
 
 -- ---- what the start of a node fixes
 
-all_reserved : (x : Setting) (P : Kept → Type 0) (u : NodeId) (n : NodeState) → NodeIs x P u n → n.signer.bound ≡ n.signer.total
-all_reserved x P u n is = ap (λ (s : Shape). s.bound) is.shape ∙ sym (ap (λ (s : Shape). s.total) is.shape)
+life_words : (unmet : Bool) → HasWords (no_life unmet)
+life_words true = told _
+life_words false = tt
 
-rel_words : (x : Setting) (P : Kept → Type 0) (u dst : NodeId) (n : NodeState) → NodeIs x P u n → IsAnother x u dst → HasWords (rel_refusal n dst)
-rel_words x P u dst n is ends =
+rel_words : (x : Setting) (P : Kept → Type 0) (u dst : NodeId) (n : NodeState) → HasLeft n.signer → NodeIs x P u n → IsAnother x u dst → HasWords (rel_refusal n dst)
+rel_words x P u dst n left is ends =
     let me : n.parts.rel.me ≡ u = ap (λ (s : Shape). s.rel.me) is.shape in
     let nodes : n.parts.rel.nodes ≡ nodes_of x.topology = ap (λ (s : Shape). s.rel.nodes) is.shape in
     let known : (v : NodeId) → is_node x v ≡ true → rel.is_node n.parts.rel v ≡ true =
     λ v h. ap (λ (ns : List NodeId). list_any (λ m. m.0 == v.0) ns) nodes ∙ h in
     both_have (no_life (is_unmet n dst)) (or_else (no_room (room n.parts.rel dst)) (signer_refusal n.signer))
-    (subst (λ (t : Bool). HasWords (no_life t)) (sym (none_unmet n dst (without x P u n is))) tt)
+    (life_words (is_unmet n dst))
     (both_have (no_room (room n.parts.rel dst)) (signer_refusal n.signer)
     (room_words n.parts.rel dst (known n.parts.rel.me (ap (is_node x) me ∙ ends.mine)) (known dst ends.there) (ap (λ (v : NodeId). v.0 == dst.0) me ∙ ends.other))
-    (signer_words n.signer (all_reserved x P u n is)))
+    (signer_words n.signer left))
 
 -- ---- a priority message
 
@@ -134,20 +141,22 @@ paths_words : (r : Choice) → HasWords (no_paths r)
 paths_words (Mask mask) = tt
 paths_words (OnlyPaths found) = told _
 
-prio_words : (x : Setting) (P : Kept → Type 0) (u : NodeId) (n : NodeState) (m : PrioSend) (choice : Choice) → NodeIs x P u n → IsAnother x u m.dst
+prio_words : (x : Setting) (P : Kept → Type 0) (u : NodeId) (n : NodeState) (m : PrioSend) (choice : Choice) → HasLeft n.signer → NodeIs x P u n → IsAnother x u m.dst
     → HasWords (send_prio_refusal n m choice)
-prio_words x P u n m choice is ends =
+prio_words x P u n m choice left is ends =
     let me : n.fixed.me ≡ u = ap (λ f. f.me) is.fixed in
     let nodes : n.parts.prio.nodes ≡ nodes_of x.topology = ap (λ (s : Shape). s.prio.nodes) is.shape in
     let known : prio.is_node n.parts.prio.nodes m.dst.0 ≡ true = ap (λ (ns : List NodeId). prio.is_node ns m.dst.0) nodes ∙ ends.there in
     let other : (m.dst.0 == n.fixed.me.0) ≡ false = ne_eqb m.dst.0 n.fixed.me.0 (λ same.
     let wrong : (u.0 == m.dst.0) ≡ true = eq-eqb u.0 m.dst.0 (ap (λ (v : NodeId). v.0) (sym me) ∙ sym same) in
     let e : true ≡ false = sym wrong ∙ ends.other in cc) in
-    let unmet : is_unmet n m.dst ≡ false = none_unmet n m.dst (without x P u n is) in
     both_have (prio_refusal n m) (no_paths choice)
-    (elim (cases_Bool (nat_lt m.expiry n.now)) [
-      | inl t ↦ rw (other, known, unmet, t) (told _)
-      | inr t ↦ rw (other, known, unmet, t) (signer_words n.signer (all_reserved x P u n is))
+    (elim (cases_Bool (is_unmet n m.dst)) [
+      | inl unmet ↦ rw (other, known, unmet) (told _)
+      | inr met ↦ elim (cases_Bool (nat_lt m.expiry n.now)) [
+        | inl t ↦ rw (other, known, met, t) (told _)
+        | inr t ↦ rw (other, known, met, t) (signer_words n.signer left)
+      ]
     ])
     (paths_words choice)
 
@@ -165,18 +174,18 @@ some_place {X = X} test xs some =
       | inr t ↦ let rest = place_within ys (rw t at there) in rw t (omega (arith, rest))
     ]
 
-weight_at_words : (n : NodeState) (edge weight : ℕ) → n.signer.bound ≡ n.signer.total → HasWords (weight_refusal_at n (Some edge) weight)
+weight_at_words : (n : NodeState) (edge weight : ℕ) → HasLeft n.signer → HasWords (weight_refusal_at n (Some edge) weight)
 weight_at_words n edge weight whole = elim (cases_Bool (nat_lt weight (minimum n.parts.weights edge))) [
   | inl t ↦ rw t (told _)
   | inr t ↦ rw t (signer_words n.signer whole)
 ]
 
-weight_words : (x : Setting) (P : Kept → Type 0) (u v : NodeId) (n : NodeState) (weight : ℕ) → NodeIs x P u n → is_hop x u v ≡ true
+weight_words : (x : Setting) (P : Kept → Type 0) (u v : NodeId) (n : NodeState) (weight : ℕ) → HasLeft n.signer → NodeIs x P u n → is_hop x u v ≡ true
     → HasWords (weight_refusal n v weight)
-weight_words x P u v n weight is hop =
+weight_words x P u v n weight left is hop =
     let there = some_place (joins u.0 v.0) x.topology.edges hop in
     let edge : edge_to n.fixed v ≡ Some there.0 = ap (λ f. edge_to f v) is.fixed ∙ there.1 in
-    subst (λ (o : Option ℕ). HasWords (weight_refusal_at n o weight)) (sym edge) (weight_at_words n there.0 weight (all_reserved x P u n is))
+    subst (λ (o : Option ℕ). HasWords (weight_refusal_at n o weight)) (sym edge) (weight_at_words n there.0 weight left)
 
 -- ---- what is taken
 
@@ -220,37 +229,50 @@ one_input a b e = cc
 node_of : (x : Setting) (u : NodeId) → IsTrue (is_correct x u) → is_node x u ≡ true
 node_of x u correct = (both (is_node x u) (not (is_one_of x.bad u)) correct).0
 
+-- a node with more indexes answers the same neighbours
+pub answered_too : (x : Setting) (w : World) (b n : NodeState) (v : NodeId) → Readied x w b n → call_refusal b v ≡ None → call_refusal n v ≡ None
+answered_too x w b n v (As_was same) answers = ap (λ (k : NodeState). call_refusal k v) same ∙ answers
+answered_too x w b n v (Extended on few same) answers = ap (λ (k : NodeState). call_refusal k v) same ∙ answers
+
 pub each_reply_has_words : EachReplyHasWords
-each_reply_has_words arts x es js w fits carries run few e n after input output range at reaches step number = go e range at reaches
+each_reply_has_words arts x es js w fits carries run few e n after input output range at reaches step number = go e range.fields at reaches
   where
     words : Output → Type 0
     words o = reply_word x number o.reply ≢ None
 
-    is_at : (u : NodeId) → node_in w.nodes u ≡ Some n → NodeIs x (Good arts x es js) u n
-    is_at u there = (signs arts x es js w fits carries run).nodes u n there
+    there_in : World
+    there_in = ready x w e
 
-    answers : (u v : NodeId) → node_in w.nodes u ≡ Some n → is_hop x u v ≡ true → call_refusal n v ≡ None
-    answers u v there hop = neighbours_are_answered arts x es js w fits carries run few u v n there hop
+    left : HasLeft n.signer
+    left = ready_left arts x (Good arts x es js) es w e n (key_files_stand arts x es js w fits run) (signs arts x es js w fits carries run).nodes at
 
-    back : (u v : NodeId) → node_in w.nodes v ≡ Some n → is_hop x u v ≡ true → call_refusal n u ≡ None
+    is_at : (u : NodeId) → node_in there_in.nodes u ≡ Some n → NodeIs x (Good arts x es js) u n
+    is_at u there = (signs_there arts x es js w e fits carries run).nodes u n there
+
+    answers : (u v : NodeId) → node_in there_in.nodes u ≡ Some n → is_hop x u v ≡ true → call_refusal n v ≡ None
+    answers u v there hop =
+        let was = was_there x w e u n there in
+        answered_too x w was.before n v was.readied (neighbours_are_answered arts x es js w fits carries run few u v was.before was.is_there hop)
+
+    back : (u v : NodeId) → node_in there_in.nodes v ≡ Some n → is_hop x u v ≡ true → call_refusal n u ≡ None
     back u v there hop = answers v u there (hop_back x v u ∙ hop)
 
-    crafted : (c v key : NodeId) (body : Body) → node_in w.nodes v ≡ Some n → is_hop x c v ≡ true → (t : Bool) (bytes : List ℕ)
+    crafted : (c v key : NodeId) (body : Body) → node_in there_in.nodes v ≡ Some n → is_hop x c v ≡ true → (t : Bool) (bytes : List ℕ)
         → cond t (Some (steps.Datagram c bytes)) None ≡ Some input → words output
     crafted c v key body there hop true bytes is = arrived_words arts x n c bytes input output after number (one_input (steps.Datagram c bytes) input is) (back c v there hop) step
     crafted c v key body there hop false bytes is = absurd cc
 
-    go : (f : Event) → InRange x es f → node_in w.nodes (acting f) ≡ Some n → input_of arts x es w n f ≡ Some input → words output
+    go : (f : Event) → AreFields x es f → node_in there_in.nodes (acting f) ≡ Some n → input_of arts x there_in n f ≡ Some input → words output
     go (events.Rel s d payload) range there is =
         let moves = stepped arts n input (steps.SendRel d payload) output after is step in
         let ends = another x s d (node_of x s range.0) range.1 in
-        subst words (sym moves.0) (sent_words x number _ _ (rel_refusal n d) (rel_words x (Good arts x es js) s d n (is_at s there) ends))
+        subst words (sym moves.0) (sent_words x number _ _ (rel_refusal n d) (rel_words x (Good arts x es js) s d n left (is_at s there) ends))
     go (events.Prio s d p expiry paths payload) range there is =
         let m : PrioSend = record { dst = d; prio = p; expiry = expiry; paths = paths; payload = payload } in
         let moves = stepped arts n input (steps.SendPrio m) output after is step in
         let ends = another x s d (node_of x s range.0) range.1 in
         subst words (sym moves.output_is)
-        (sent_words x number _ _ (send_prio_refusal n m moves.choice) (prio_words x (Good arts x es js) s n m moves.choice (is_at s there) ends))
+        (sent_words x number _ _ (send_prio_refusal n m moves.choice) (prio_words x (Good arts x es js) s n m moves.choice left (is_at s there) ends))
     go (events.Take d s) range there is = subst words (sym (stepped arts n input (steps.TakeRel s) output after is step).0) (told _)
     go (events.TakePrio d) range there is =
         let moves = stepped arts n input steps.TakePrio output after is step in
@@ -260,19 +282,22 @@ each_reply_has_words arts x es js w fits carries run few e n after input output 
     go (events.Weight u v weight) range there is =
         let moves = stepped arts n input (steps.SetWeight v weight) output after is step in
         subst words (sym moves.0)
-        (sent_words x number _ _ (weight_refusal n v weight) (weight_words x (Good arts x es js) u v n weight (is_at u there) range.1))
+        (sent_words x number _ _ (weight_refusal n v weight) (weight_words x (Good arts x es js) u v n weight left (is_at u there) range.1))
     go (events.Poll u v) range there is =
         frame_words arts x n v output number (answers u v there range.1) (stepped arts n input (steps.Poll v) output after is step).0
     go (events.Pass u v k) range there is =
-        let it = came w.directions u v k (steps.Datagram u) input is in
+        let it = came there_in.directions u v k (steps.Datagram u) input is in
         arrived_words arts x n u it.bytes input output after number it.is (back u v there range.2) step
     go (events.Flip u v k far bit) range there is =
-        let it = came w.directions u v k (λ bytes. steps.Datagram u (flipped far bit bytes)) input is in
+        let it = came there_in.directions u v k (λ bytes. steps.Datagram u (flipped far bit bytes)) input is in
         arrived_words arts x n u (flipped far bit it.bytes) input output after number it.is (back u v there range.2) step
     go (events.Inject u v bytes) range there is =
         arrived_words arts x n u bytes input output after number (one_input (steps.Datagram u bytes) input is) (back u v there range.1) step
     go (events.Craft c v key object) range there is =
-        crafted c v key (body_of object) there range.1 (nat_lt (crafts es key) x.total) (crafted_frame arts n c (object_alone (body_of object) (crafted_object arts x es key (body_of object)))) is
+        crafted c v key (body_of object) there range.1 (nat_lt (crafts there_in.crafted key) x.total)
+        (crafted_frame arts n c (crafted_contents arts x there_in.crafted n key (body_of object))) is
     go (events.CraftStatus c v s d base have) range there is =
-        let bytes = crafted_frame arts n c (slot_alone (record { src = s; dst = d }) base have None []) in
+        let bytes = crafted_frame arts n c (slot_alone n.parts.lives (record { src = s; dst = d }) base have None []) in
         arrived_words arts x n c bytes input output after number (one_input (steps.Datagram c bytes) input is) (back c v there range.1) step
+    go (events.Start u) range there is = absurd cc
+    go (events.Stop u) range there is = absurd cc

@@ -10,8 +10,9 @@ use Rattle.sp_rules.specs.declared.node.TheConstants.{MAX_CALLS}
 use Rattle.laws_node.specs.Nodes.{IsKept}
 use Rattle.sp_runs.specs.Inputs.{acting, input_of}
 use Rattle.sp_runs.specs.Journals.{reply_word}
+use Rattle.sp_runs.specs.Lives.{ready}
 use Rattle.sp_runs.specs.Runs.{Clean, InRange, is_hop, polls}
-use Rattle.sp_runs.specs.Settings.{Setting, SettingFits, fixed_of}
+use Rattle.sp_runs.specs.Settings.{Setting, SettingFits, fixed_at}
 use Rattle.sp_runs.specs.Worlds.{World, frames_in, node_in}
 use Rattle.sp_journal.specs.declared.entry.Entry.{Entry}
 use Rattle.sp_schedule_events.specs.declared.event.Event.{Event}
@@ -25,13 +26,14 @@ NeighboursAreAnswered = (arts : Arts) (x : Setting) (es : List Event) (js : List
     → Clean arts x es js w
     → length es < MAX_CALLS → (u v : NodeId) (n : NodeState) → node_in w.nodes u ≡ Some n → IsTrue (is_hop x u v) → call_refusal n v ≡ None
 
--- each answer to an event in its range has words: no call is refused for its ends or for want of reserved indexes, no node is worn, and what is
+-- each answer to an event in its range has words, in the world in which its node acts: no call is refused for its ends or for want of reserved indexes, no node is worn, and what is
 -- taken of a priority inbox is a priority message
 abbrev pub EachReplyHasWords : Type 0
 EachReplyHasWords = (arts : Arts) (x : Setting) (es : List Event) (js : List Entry) (w : World) → SettingFits arts x → Carries x.topology.format arts
     → Clean arts x es js w
-    → length es < MAX_CALLS → (e : Event) (n after : NodeState) (input : Input) (output : Output) → InRange x es e → node_in w.nodes (acting e) ≡ Some n
-    → input_of arts x es w n e ≡ Some input → NodeStep arts n input output after → (number : ℕ) → reply_word x number output.reply ≢ None
+    → length es < MAX_CALLS → (e : Event) (n after : NodeState) (input : Input) (output : Output) → InRange x es e
+    → node_in (ready x w e).nodes (acting e) ≡ Some n
+    → input_of arts x (ready x w e) n e ≡ Some input → NodeStep arts n input output after → (number : ℕ) → reply_word x number output.reply ≢ None
 
 -- ---- links
 
@@ -55,7 +57,7 @@ FramesAreCounted = (arts : Arts) (x : Setting) (es : List Event) (js : List Entr
 -- u made the frame for its neighbour v in a state within its bounds
 pub record IsMadeFrame (arts : Arts) (x : Setting) (u v : NodeId) (bytes : List ℕ) : Type 0 where
   pub node : NodeState
-  pub fixed : node.fixed ≡ fixed_of x u
+  pub fixed : node.fixed ≡ fixed_at x u node.fixed.boot
   pub kept : IsKept arts node
   pub neighbour : is_neighbour node v ≡ true
   pub frame : bytes ≡ frame_to arts node v
@@ -63,4 +65,4 @@ pub record IsMadeFrame (arts : Arts) (x : Setting) (u v : NodeId) (bytes : List 
 abbrev pub FramesAreMade : Type 0
 FramesAreMade = (arts : Arts) (x : Setting) (es : List Event) (js : List Entry) (w : World) → SettingFits arts x → Carries x.topology.format arts
     → Clean arts x es js w
-    → (u v : NodeId) (place : ℕ) (bytes : List ℕ) → slice_get (frames_in w.directions u v) place ≡ Some bytes → IsMadeFrame arts x u v bytes
+    → (u v : NodeId) (place : ℕ) (bytes : List ℕ) → slice_get (frames_in w.directions u v) place ≡ Some (Some bytes) → IsMadeFrame arts x u v bytes

@@ -5,7 +5,7 @@ use Rattle.sp_frame.specs.declared.refused.FrameRefused.{FrameRefused}
 use Rattle.sp_msg.specs.Views.{signer_of}
 use Rattle.sp_rules.specs.Arts.{Arts}
 use Rattle.sp_runs.specs.Runs.{Clean, InRange, Turn, forged_in}
-use Rattle.sp_runs.specs.Settings.{Setting, SettingFits, is_correct, is_node}
+use Rattle.sp_runs.specs.Settings.{Setting, StaysUp, is_correct, is_node}
 use Rattle.sp_runs.specs.Worlds.{World}
 use Rattle.sp_journal.specs.declared.entry.Entry.{Entry}
 use Rattle.sp_schedule_crafts.specs.Objects.{body_of}
@@ -30,10 +30,10 @@ AreLong arts x = (key : NodeId) → IsTrue (is_node x key) → (index : ℕ) (me
     → length (arts.sign x.topology.height (x.seed key.0) index message) ≡ x.signature_len
 
 abbrev pub OwnCraftsForgeNothing : Type 0
-OwnCraftsForgeNothing = (arts : Arts) (x : Setting) (es : List Event) (js : List Entry) (w : World) → SettingFits arts x → Carries x.topology.format arts
+OwnCraftsForgeNothing = (arts : Arts) (x : Setting) (es : List Event) (js : List Entry) (w : World) → StaysUp arts x → Carries x.topology.format arts
     → AreLong arts x
     → Clean arts x es js w → (e : Event) (j : Entry) (new : World) → InRange x es e → IsGoodCraft arts e → NamesNoCorrectNode x e
-    → (turn : Turn arts x es w e j new)
+    → (turn : Turn arts x w e j new)
     → forged_in arts x es js w e j new turn ≡ None
 
 -- it is refused by its length, its name or its version
@@ -43,4 +43,4 @@ IsNoFrame arts bytes = (refused : FrameRefused) × (arts.opened bytes ≡ Err re
 -- from whosever address it comes
 abbrev pub NoFrameIsForged : Type 0
 NoFrameIsForged = (arts : Arts) (x : Setting) (es : List Event) (js : List Entry) (w new : World) (u v : NodeId) (bytes : List ℕ) (j : Entry)
-    → IsNoFrame arts bytes → (turn : Turn arts x es w (events.Inject u v bytes) j new) → forged_in arts x es js w (events.Inject u v bytes) j new turn ≡ None
+    → IsNoFrame arts bytes → (turn : Turn arts x w (events.Inject u v bytes) j new) → forged_in arts x es js w (events.Inject u v bytes) j new turn ≡ None

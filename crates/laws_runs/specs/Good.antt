@@ -6,7 +6,7 @@ use Rattle.sp_journal.specs.declared.entry.Entry.{Entry}
 use Rattle.sp_rules.specs.Arts.{Arts}
 use Rattle.sp_runs.specs.Held.{AreShares, held}
 use Rattle.sp_runs.specs.Runs.{Clean}
-use Rattle.sp_runs.specs.Settings.{Setting, SettingFits, is_correct}
+use Rattle.sp_runs.specs.Settings.{Setting, StaysUp, is_correct}
 use Rattle.sp_runs.specs.Told.{delivered, effects_at, prio_delivered, sent}
 use Rattle.sp_runs.specs.Worlds.{World}
 use Rattle.sp_schedule_events.specs.declared.event.Event.{Event}
@@ -33,12 +33,12 @@ AreGood x es js = (n : ℕ) → IsGood x (take n es) (take n js)
 
 -- of each run without forgery
 abbrev pub RunsAreGood : Type 0
-RunsAreGood = (arts : Arts) (x : Setting) (es : List Event) (js : List Entry) (w : World) → SettingFits arts x → Carries x.topology.format arts
+RunsAreGood = (arts : Arts) (x : Setting) (es : List Event) (js : List Entry) (w : World) → StaysUp arts x → Carries x.topology.format arts
     → Clean arts x es js w
     → AreGood x es js
 
 -- and so what its effects say that a place holds is what the node has there
 abbrev pub PlacesAreTold : Type 0
-PlacesAreTold = (arts : Arts) (x : Setting) (es : List Event) (js : List Entry) (w : World) → SettingFits arts x → Carries x.topology.format arts
+PlacesAreTold = (arts : Arts) (x : Setting) (es : List Event) (js : List Entry) (w : World) → StaysUp arts x → Carries x.topology.format arts
     → Clean arts x es js w
     → SharePart x es js w

@@ -1,5 +1,6 @@
 pub mod Premises
 pub mod Unborn
+pub mod KeyFiles
 pub mod Signs
 pub mod Laws
 pub mod Acknowledged

@@ -14,7 +14,7 @@ use Rattle.sp_rules.specs.Store.{Store, priority, said, source}
 use Rattle.sp_rules.specs.declared.store.Entry.{Entry}
 use Rattle.sp_runs.specs.Held.{AreShares, Held, ShareIf}
 use Rattle.sp_runs.specs.Runs.{InRange, Turn, forged_in}
-use Rattle.sp_runs.specs.Settings.{Setting, SettingFits}
+use Rattle.sp_runs.specs.Settings.{Setting, StaysUp}
 use Rattle.sp_runs.specs.Told.{effects_at}
 use Rattle.sp_runs.specs.Worlds.{World, node_in}
 use Rattle.sp_journal.specs.declared.entry.Entry.{Entry as JournalEntry}
@@ -121,8 +121,8 @@ pub record SharePart (x : Setting) (es : List Event) (js : List JournalEntry) (w
 -- each turn of which nothing is forged keeps it, where signed objects are as they are in a run; and each eviction leaves a share
 pub record TurnsKeepShares : Type 0 where
   pub turn : (arts : Arts) (x : Setting) (es : List Event) (js : List JournalEntry) (old : World) (e : Event) (j : JournalEntry) (new : World)
-      → SettingFits arts x → Carries x.topology.format arts
-      → Signs arts x es js old → InRange x es e → (turn : Turn arts x es old e j new) → forged_in arts x es js old e j new turn ≡ None
+      → StaysUp arts x → Carries x.topology.format arts
+      → Signs arts x es js old → InRange x es e → (turn : Turn arts x old e j new) → forged_in arts x es js old e j new turn ≡ None
       → SharePart x es js old → SharePart x (es ++ e ∷ []) (js ++ j ∷ []) new
   pub claims : (x : Setting) (es : List Event) (js : List JournalEntry) (w : World) → SharePart x es js w
       → (u : NodeId) (place : ℕ) → AreShares x.store place [] (effects_at es js u)

@@ -9,7 +9,7 @@ use Rattle.sp_rules.specs.Node.{NodeState}
 use Rattle.sp_rules.specs.Prio.{window_in}
 use Rattle.sp_rules.specs.Window.{is_in, is_seen}
 use Rattle.sp_runs.specs.Runs.{Clean, InRange, Turn, forged_in}
-use Rattle.sp_runs.specs.Settings.{Setting, SettingFits, is_correct}
+use Rattle.sp_runs.specs.Settings.{Setting, StaysUp, is_correct}
 use Rattle.sp_runs.specs.Told.{prio_delivered, prio_sent, signed}
 use Rattle.sp_runs.specs.Worlds.{World, node_in}
 use Rattle.sp_journal.specs.declared.entry.Entry.{Entry}
@@ -39,13 +39,13 @@ pub record PrioPart (arts : Arts) (x : Setting) (s d : NodeId) (es : List Event)
 
 -- of each run without forgery
 abbrev pub PriorityIsKept : Type 0
-PriorityIsKept = (arts : Arts) (x : Setting) (es : List Event) (js : List Entry) (w : World) → SettingFits arts x → Carries x.topology.format arts
+PriorityIsKept = (arts : Arts) (x : Setting) (es : List Event) (js : List Entry) (w : World) → StaysUp arts x → Carries x.topology.format arts
     → Clean arts x es js w
     → (s d : NodeId) → IsTrue (is_correct x d) → PrioClaims x s d es js
 
 -- each turn of which nothing is forged keeps it, where signed objects are as they are in a run
 abbrev pub TurnsKeepPriority : Type 0
 TurnsKeepPriority = (arts : Arts) (x : Setting) (es : List Event) (js : List Entry) (old : World) (e : Event) (j : Entry) (new : World)
-    → SettingFits arts x → Carries x.topology.format arts
-    → Signs arts x es js old → InRange x es e → (turn : Turn arts x es old e j new) → forged_in arts x es js old e j new turn ≡ None
+    → StaysUp arts x → Carries x.topology.format arts
+    → Signs arts x es js old → InRange x es e → (turn : Turn arts x old e j new) → forged_in arts x es js old e j new turn ≡ None
     → (s d : NodeId) → PrioPart arts x s d es js old → PrioPart arts x s d (es ++ e ∷ []) (js ++ j ∷ []) new

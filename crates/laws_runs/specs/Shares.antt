@@ -5,7 +5,7 @@ use Rattle.sp_rules.specs.Arts.{Arts}
 use Rattle.sp_runs.specs.Held.{AreShares}
 use Rattle.sp_runs.specs.Told.{effects_at}
 use Rattle.sp_runs.specs.Runs.{Clean}
-use Rattle.sp_runs.specs.Settings.{Setting, SettingFits}
+use Rattle.sp_runs.specs.Settings.{Setting, StaysUp}
 use Rattle.sp_runs.specs.Worlds.{World}
 use Rattle.sp_journal.specs.declared.entry.Entry.{Entry}
 use Rattle.sp_schedule_events.specs.declared.event.Event.{Event}
@@ -13,6 +13,6 @@ use Rattle.laws_runs.specs.Premises.{Carries}
 
 -- at each place of each node
 abbrev pub EvictionsLeaveShares : Type 0
-EvictionsLeaveShares = (arts : Arts) (x : Setting) (es : List Event) (js : List Entry) (w : World) → SettingFits arts x → Carries x.topology.format arts
+EvictionsLeaveShares = (arts : Arts) (x : Setting) (es : List Event) (js : List Entry) (w : World) → StaysUp arts x → Carries x.topology.format arts
     → Clean arts x es js w
     → (u : NodeId) (place : ℕ) → AreShares x.store place [] (effects_at es js u)

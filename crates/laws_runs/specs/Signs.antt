@@ -1,5 +1,5 @@
 -- The part on signed objects: what correct nodes keep and send bears valid signatures, and a correct signer made it in this run.
-use Rattle.std.specs.Prelude.{ℕ, ◌≡◌, ◌≤◌, true, IsTrue, List, [], ◌∷◌, ◌++◌, length, None, Ok, Some, slice_get}
+use Rattle.std.specs.Prelude.{ℕ, ◌≡◌, ◌≤◌, true, false, IsTrue, List, [], ◌∷◌, ◌++◌, length, None, Ok, Some, slice_get}
 use Rattle.sp_base.specs.Spelling.{AreBytes}
 use Rattle.sp_base.specs.declared.id.NodeId.{NodeId}
 use Rattle.sp_frame.specs.Sections.{Contents}
@@ -14,12 +14,13 @@ use Rattle.laws_node.specs.Shapes.{shape_at_start, shape_of}
 use Rattle.laws_node.specs.Sizes.{Sizes}
 use Rattle.sp_rules.specs.Pieces.{pieces_of}
 use Rattle.sp_runs.specs.Forgery.{is_among}
-use Rattle.sp_runs.specs.Settings.{Setting, SettingFits, first_signer, fixed_of, is_correct, link_keys}
+use Rattle.sp_runs.specs.Settings.{Setting, SettingFits, fixed_at, is_correct, link_keys, signer_from}
 use Rattle.sp_runs.specs.Told.{signed}
 use Rattle.sp_runs.specs.Worlds.{World, at_start, frames_in, node_in}
 use Rattle.sp_journal.specs.declared.entry.Entry.{Entry}
 use Rattle.sp_schedule_events.specs.declared.event.Event.{Event}
 use Rattle.laws_runs.specs.Premises.{Carries, IsOfBytes}
+use Rattle.laws_runs.specs.KeyFiles.{KeysStand}
 use Rattle.laws_runs.specs.Unborn.{Unborn}
 use Rattle.std.specs.List.{All}
 use Rattle.laws_node.specs.Objects.{objects_in}
@@ -65,26 +66,32 @@ pub record FlowAck (f : FlowState) : Type 0 where
   -- no more waits for clients than came
   pub inbox : length f.inbox ≤ f.at.have
 
+-- a node that started before the first event
+pub record IsPlainNode (x : Setting) (n : NodeState) : Type 0 where
+  pub first : n.fixed.boot ≡ 1
+  pub whole : n.signer.bound ≡ x.total
+  pub unborn : Unborn n.parts
+
 -- a node of this setting, within its bounds, which keeps messages that are asked this alone
 pub record NodeIs (x : Setting) (P : Kept → Type 0) (u : NodeId) (n : NodeState) : Type 0 where
   pub correct : IsTrue (is_correct x u)
-  pub fixed : n.fixed ≡ fixed_of x u
+  pub fixed : n.fixed ≡ fixed_at x u n.fixed.boot
   pub seed : n.signer.seed ≡ x.seed u.0
   pub total : n.signer.total ≡ x.total
   -- with its rows and bounds as at its start
-  pub shape : shape_of n ≡ shape_at_start (fixed_of x u) (first_signer x u) (link_keys x u) x.buffer x.store
+  pub shape : shape_of n ≡ shape_at_start (fixed_at x u n.fixed.boot) (signer_from x u 0 n.signer.bound) (link_keys x u) x.buffer x.store
   pub holds : NodeHolds (sizes_at x P u) n
   pub acks : All FlowAck n.parts.rel.flows
-  -- which knows of no start
-  pub unborn : Unborn n.parts
+  -- without epochs it is in its first life, has all indexes of its key, and knows of no start
+  pub plain : x.epochs ≡ false → IsPlainNode x n
 
 -- all that nodes keep, and all that their frames carry, is good, and their frames are bytes
 pub record Signs (arts : Arts) (x : Setting) (es : List Event) (js : List Entry) (w : World) : Type 0 where
   pub entries : length es ≡ length js
   pub nodes : (u : NodeId) (n : NodeState) → node_in w.nodes u ≡ Some n → NodeIs x (Good arts x es js) u n
-  pub frames : (u v : NodeId) (k : ℕ) (bytes : List ℕ) (s : Contents) → slice_get (frames_in w.directions u v) k ≡ Some bytes
+  pub frames : (u v : NodeId) (k : ℕ) (bytes : List ℕ) (s : Contents) → slice_get (frames_in w.directions u v) k ≡ Some (Some bytes)
       → arts.sections x.signature_len bytes ≡ Ok s → All (Good arts x es js) (objects_in (pieces_of s))
-  pub bytes : (u v : NodeId) (k : ℕ) (bytes : List ℕ) → slice_get (frames_in w.directions u v) k ≡ Some bytes → AreBytes bytes
+  pub bytes : (u v : NodeId) (k : ℕ) (bytes : List ℕ) → slice_get (frames_in w.directions u v) k ≡ Some (Some bytes) → AreBytes bytes
 
 -- ---- the laws: it holds at the start, and each turn of which nothing is forged keeps it
 
@@ -94,5 +101,5 @@ SignsBegin = (arts : Arts) (x : Setting) → SettingFits arts x → Signs arts x
 abbrev pub TurnsKeepSigns : Type 0
 TurnsKeepSigns = (arts : Arts) (x : Setting) (es : List Event) (js : List Entry) (old : World) (e : Event) (j : Entry) (new : World)
     → SettingFits arts x → Carries x.topology.format arts
-    → Signs arts x es js old → InRange x es e → (turn : Turn arts x es old e j new) → forged_in arts x es js old e j new turn ≡ None
+    → KeysStand x es old → Signs arts x es js old → InRange x es e → (turn : Turn arts x old e j new) → forged_in arts x es js old e j new turn ≡ None
     → Signs arts x (es ++ e ∷ []) (js ++ j ∷ []) new

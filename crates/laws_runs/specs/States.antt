@@ -14,7 +14,7 @@ use Rattle.laws_node.specs.Nodes.{KeepsOnly}
 use Rattle.laws_node.specs.Objects.{objects_in}
 use Rattle.sp_runs.specs.Forgery.{is_among}
 use Rattle.sp_runs.specs.Runs.{Clean}
-use Rattle.sp_runs.specs.Settings.{Setting, SettingFits, fixed_of, is_correct}
+use Rattle.sp_runs.specs.Settings.{Setting, SettingFits, StaysUp, fixed_at, fixed_of, is_correct}
 use Rattle.sp_runs.specs.Told.{signed}
 use Rattle.sp_runs.specs.Worlds.{World, frames_in, node_in}
 use Rattle.sp_journal.specs.declared.entry.Entry.{Entry}
@@ -28,11 +28,17 @@ pub record NodeClaims (x : Setting) (w : World) : Type 0 where
   pub there : (u : NodeId) → IsTrue (is_correct x u) → (n : NodeState) × (node_in w.nodes u ≡ Some n)
   pub correct : (u : NodeId) (n : NodeState) → node_in w.nodes u ≡ Some n → IsTrue (is_correct x u) × (n.fixed ≡ fixed_of x u)
 
--- of each run without forgery
+-- of each run without forgery and without epochs
 abbrev pub CorrectNodesAreThere : Type 0
-CorrectNodesAreThere = (arts : Arts) (x : Setting) (es : List Event) (js : List Entry) (w : World) → SettingFits arts x → Carries x.topology.format arts
+CorrectNodesAreThere = (arts : Arts) (x : Setting) (es : List Event) (js : List Entry) (w : World) → StaysUp arts x → Carries x.topology.format arts
     → Clean arts x es js w
     → NodeClaims x w
+
+-- with epochs too, only correct nodes run, each as the header makes it for its boot
+abbrev pub OnlyCorrectNodesRun : Type 0
+OnlyCorrectNodesRun = (arts : Arts) (x : Setting) (es : List Event) (js : List Entry) (w : World) → SettingFits arts x → Carries x.topology.format arts
+    → Clean arts x es js w
+    → (u : NodeId) (n : NodeState) → node_in w.nodes u ≡ Some n → IsTrue (is_correct x u) × (n.fixed ≡ fixed_at x u n.fixed.boot)
 
 -- ---- what is signed
 
@@ -52,7 +58,7 @@ pub record SignClaims (arts : Arts) (x : Setting) (es : List Event) (js : List E
   -- each message that a correct node keeps
   pub kept : (u : NodeId) (n : NodeState) → node_in w.nodes u ≡ Some n → KeepsOnly (is_good_in arts x es js) n
   -- and each object of a frame that one made
-  pub sent : (u v : NodeId) (k : ℕ) (bytes : List ℕ) (s : Contents) → slice_get (frames_in w.directions u v) k ≡ Some bytes
+  pub sent : (u v : NodeId) (k : ℕ) (bytes : List ℕ) (s : Contents) → slice_get (frames_in w.directions u v) k ≡ Some (Some bytes)
       → arts.sections x.signature_len bytes ≡ Ok s → All (λ o. IsTrue (is_good_in arts x es js o)) (objects_in (pieces_of s))
 
 abbrev pub WhatIsKeptWasSigned : Type 0
@@ -71,5 +77,5 @@ BeginningsAreClean = (arts : Arts) (x : Setting) (es : List Event) (js : List En
 
 -- the events of a run and their journal lead to one world, though the paths of a message are chosen freely among the cheapest ones
 abbrev pub RunsAreDetermined : Type 0
-RunsAreDetermined = (arts : Arts) (x : Setting) (es : List Event) (js : List Entry) (w v : World) → SettingFits arts x → Carries x.topology.format arts
+RunsAreDetermined = (arts : Arts) (x : Setting) (es : List Event) (js : List Entry) (w v : World) → StaysUp arts x → Carries x.topology.format arts
     → Clean arts x es js w → Clean arts x es js v → w ≡ v

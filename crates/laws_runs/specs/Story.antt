@@ -15,7 +15,7 @@ use Rattle.laws_node.specs.Story.{node, row, toys}
 use Rattle.sp_runs.specs.Forgery.{forged}
 use Rattle.sp_runs.specs.Inputs.{acting, input_of}
 use Rattle.sp_runs.specs.Journals.{reply_word}
-use Rattle.sp_runs.specs.Runs.{Clean, directions_after, next_frame}
+use Rattle.sp_runs.specs.Runs.{Clean, crafted_after, directions_after, next_frame}
 use Rattle.sp_runs.specs.Settings.{Setting}
 use Rattle.sp_runs.specs.Told.{delivered}
 use Rattle.sp_runs.specs.Worlds.{World, at_start, node_in, with_node}
@@ -73,7 +73,12 @@ after_words x p e n i (Some reply) (Some what) = record p { forged = Some what; 
 after_words x p e n i (Some reply) None = record {
   events = p.events ++ e ∷ [];
   journal = p.journal ++ (record { reply = reply; effects = (output_of n i).effects }) ∷ [];
-  world = record { nodes = with_node p.world.nodes (acting e) (after n i); directions = directions_after p.world.directions e (output_of n i).reply };
+  world = record {
+    keys = p.world.keys;
+    nodes = with_node p.world.nodes (acting e) (after n i);
+    directions = directions_after p.world.directions e (output_of n i).reply;
+    crafted = crafted_after p.world.crafted e;
+  };
   forged = None;
   goes_on = true;
 }
@@ -85,7 +90,7 @@ after_input x p e n (Some i) =
 
 abbrev pub at_acting : Setting → Played → Event → Option NodeState → Played
 at_acting x p e None = stuck p
-at_acting x p e (Some n) = after_input x p e n (input_of toys x p.events p.world n e)
+at_acting x p e (Some n) = after_input x p e n (input_of toys x p.world n e)
 
 abbrev pub one_more : Setting → Bool → Played → Event → Played
 one_more x false p e = p
@@ -115,6 +120,7 @@ line bad = record {
   total = 1024;
   link_key = λ e. (100 + e) ∷ [];
   digest = λ bytes. [];
+  epochs = false;
 }
 
 -- the message 68 69 from 1 to 3

@@ -12,8 +12,8 @@ use Rattle.sp_journal.specs.declared.entry.Entry.{Entry}
 use Rattle.sp_schedule_events.specs.declared.event.Event.{Event}
 use Rattle.laws_runs.specs.Premises.{Carries}
 
--- whatever the weights are, there is a choice of edges for a priority message of a correct node to any other: the cheapest disjoint paths, or how many
--- there are
+-- whatever the weights are, there is a choice of edges for a priority message of a correct node to any other: the cheapest disjoint paths, or how
+-- many there are
 abbrev pub HaveChoices : Setting → Type 0
 HaveChoices x = (weights : WeightState) (s d : NodeId) (paths : ℕ) → IsTrue (is_correct x s) → IsTrue (is_other x s d)
     → (choice : Choice) × IsChoice (graph_of x.topology weights) s d paths choice
@@ -22,7 +22,7 @@ HaveChoices x = (weights : WeightState) (s d : NodeId) (paths : ℕ) → IsTrue 
 pub record Happens (arts : Arts) (x : Setting) (es : List Event) (old : World) (event : Event) : Type 0 where
   pub entry : Entry
   pub new : World
-  pub turn : Turn arts x es old event entry new
+  pub turn : Turn arts x old event entry new
 
 -- after fewer events than a node answers calls
 abbrev pub EachEventHasATurn : Type 0

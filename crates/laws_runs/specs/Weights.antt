@@ -12,7 +12,7 @@ use Rattle.sp_rules.specs.Weights.{effective, held_in, row_of, weight_of}
 use Rattle.sp_runs.specs.Forgery.{is_among}
 use Rattle.sp_runs.specs.Weights.{effective_weight}
 use Rattle.sp_runs.specs.Runs.{Clean, InRange, Turn, forged_in}
-use Rattle.sp_runs.specs.Settings.{Setting, SettingFits, is_correct}
+use Rattle.sp_runs.specs.Settings.{Setting, StaysUp, is_correct}
 use Rattle.sp_runs.specs.Told.{effects_at, signed}
 use Rattle.sp_runs.specs.Worlds.{World, node_in}
 use Rattle.sp_journal.specs.declared.entry.Entry.{Entry}
@@ -39,7 +39,7 @@ pub record WeightClaims (arts : Arts) (x : Setting) (es : List Event) (js : List
 
 -- of each run without forgery
 abbrev pub WeightsAreKept : Type 0
-WeightsAreKept = (arts : Arts) (x : Setting) (es : List Event) (js : List Entry) (w : World) → SettingFits arts x → Carries x.topology.format arts
+WeightsAreKept = (arts : Arts) (x : Setting) (es : List Event) (js : List Entry) (w : World) → StaysUp arts x → Carries x.topology.format arts
     → Clean arts x es js w
     → WeightClaims arts x es js w
 
@@ -53,9 +53,9 @@ pub record WeightPart (arts : Arts) (x : Setting) (es : List Event) (js : List E
 -- each turn of which nothing is forged keeps it, where signed objects are as they are in a run; and the claims follow
 pub record TurnsKeepWeights : Type 0 where
   pub turn : (arts : Arts) (x : Setting) (es : List Event) (js : List Entry) (old : World) (e : Event) (j : Entry) (new : World)
-      → SettingFits arts x → Carries x.topology.format arts
-      → Signs arts x es js old → InRange x es e → (turn : Turn arts x es old e j new) → forged_in arts x es js old e j new turn ≡ None
+      → StaysUp arts x → Carries x.topology.format arts
+      → Signs arts x es js old → InRange x es e → (turn : Turn arts x old e j new) → forged_in arts x es js old e j new turn ≡ None
       → WeightPart arts x es js old → WeightPart arts x (es ++ e ∷ []) (js ++ j ∷ []) new
-  pub claims : (arts : Arts) (x : Setting) (es : List Event) (js : List Entry) (w : World) → SettingFits arts x → Signs arts x es js w
+  pub claims : (arts : Arts) (x : Setting) (es : List Event) (js : List Entry) (w : World) → StaysUp arts x → Signs arts x es js w
       → WeightPart arts x es js w
       → WeightClaims arts x es js w

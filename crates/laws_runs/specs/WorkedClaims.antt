@@ -33,7 +33,7 @@ use Rattle.laws_runs.specs.WorkedBounds.{at_boot, update, with_flows, with_weigh
 
 -- only these nodes are there, and no frame
 abbrev pub world : List NodeState → World
-world nodes = record { nodes = nodes; directions = [] }
+world nodes = record { keys = []; nodes = nodes; directions = []; crafted = [] }
 
 abbrev pub entry : Reply → List Effect → Entry
 entry reply tells = record { reply = reply; effects = tells }
@@ -153,7 +153,12 @@ head = record { from = node 2; to = node 3; boot = 1; echo = 1; counter = 1; top
 
 -- 2 made a frame with that message
 abbrev pub sends : Kept → World
-sends o = record { nodes = []; directions = (record { from = node 2; to = node 3; frames = toy_frame head (slot_alone flow 0 1 None (o ∷ [])) ∷ [] }) ∷ [] }
+sends o = record {
+  keys = [];
+  nodes = [];
+  directions = (record { from = node 2; to = node 3; frames = Some (toy_frame head (slot_alone [] flow 0 1 None (o ∷ []))) ∷ [] }) ∷ [];
+  crafted = [];
+}
 
 pub record SignaturesAreWorked : Type 0 where
   -- whatever of 1 stands in a list then is that message

@@ -4,12 +4,13 @@
 ghost use Rattle.laws_runs.specs.Calls.{EachReplyHasWords, FramesAreCounted, FramesAreMade, LinksHaveTheirKeys, NeighboursAreAnswered};
 ghost use Rattle.laws_runs.specs.Flows.{FlowsAreKept, TurnsKeepFlows};
 ghost use Rattle.laws_runs.specs.Good.{PlacesAreTold, RunsAreGood};
+ghost use Rattle.laws_runs.specs.KeyFiles.{KeyFilesStand};
 ghost use Rattle.laws_runs.specs.Laws.{BoundsFollow, BuffersStayBounded, OnlyTheAdversaryForges};
 ghost use Rattle.laws_runs.specs.Priority.{PriorityIsKept, TurnsKeepPriority};
 ghost use Rattle.laws_runs.specs.Places.{TurnsKeepShares};
 ghost use Rattle.laws_runs.specs.Shares.{EvictionsLeaveShares};
 ghost use Rattle.laws_runs.specs.Signs.{SignsBegin, TurnsKeepSigns};
-ghost use Rattle.laws_runs.specs.States.{BeginningsAreClean, CorrectNodesAreThere, RunsAreDetermined, WhatIsKeptWasSigned};
+ghost use Rattle.laws_runs.specs.States.{BeginningsAreClean, CorrectNodesAreThere, OnlyCorrectNodesRun, RunsAreDetermined, WhatIsKeptWasSigned};
 ghost use Rattle.laws_runs.specs.Weights.{TurnsKeepWeights, WeightsAreKept};
 ghost use Rattle.laws_runs.specs.Crafts.{NoFrameIsForged, OwnCraftsForgeNothing};
 ghost use Rattle.laws_runs.specs.Story.{StoriesArePlayed};
@@ -46,9 +47,16 @@ pub fn weights_are_kept()
     ensures { WeightsAreKept }
 {}
 
-/// A law: after each event exactly the correct nodes have a state, each as the header made it.
+/// A law: in a run with epochs each node that runs is started and runs once, and has the boot and the bound of its key file.
+pub fn key_files_stand()
+    ensures { KeyFilesStand }
+{}
+
+/// A law: after each event exactly the correct nodes have a state, each as the header made it. With epochs only correct nodes have one, each as the
+/// header makes it for the boot of its life.
 pub fn correct_nodes_are_there()
-    ensures { CorrectNodesAreThere }
+    ensures there { CorrectNodesAreThere }
+    ensures only { OnlyCorrectNodesRun }
 {}
 
 /// A law: whatever a correct node keeps, and whatever its frames carry, bears its signer's valid signature, and was signed by it in this

@@ -1,5 +1,5 @@
 -- The journal of a run tells no more deliveries of an event than a frame has bytes.
-use Rattle.std.proofs.Common.{◌≡◌, ◌≤◌, ℕ, suc, ◌+◌, ◌-◌, ◌*◌, ◌==◌, Bool, true, false, cond, List, [], ◌∷◌, ◌++◌, length, length-append, map, filter, Option, Some, None, Result, Ok, Err, refl, sym, ap, inl, inr, arith, nat_lt}
+use Rattle.std.proofs.Common.{◌≡◌, ◌≤◌, ℕ, suc, ◌+◌, ◌-◌, ◌*◌, ◌==◌, Bool, true, false, cond, List, [], ◌∷◌, ◌++◌, length, length-append, map, filter, Option, Some, None, Result, Ok, Err, refl, sym, ap, subst, inl, inr, arith, nat_lt}
 use Rattle.std.specs.List.{flat_map}
 use Rattle.std.specs.Prelude.{IfSome}
 use Rattle.std.proofs.lemmas.Bool.{cases_Bool}
@@ -32,11 +32,12 @@ use Rattle.sp_frame.specs.declared.refused.SectionRefused.{SectionRefused}
 use Rattle.sp_journal.specs.JournalText.{is_delivered, is_delivered_prio}
 use Rattle.sp_journal.specs.declared.entry.Entry.{Entry}
 use Rattle.sp_msg.specs.declared.effect.Effect.{Effect}
+use Rattle.sp_msg.specs.declared.effect.Effect.TheVariants.{Signed}
 use Rattle.sp_msg.specs.declared.kept.Kept.{Kept}
 use Rattle.sp_node_format.specs.Format.{format_in}
 use Rattle.sp_rules.proofs.ArrivalLemmas.{of_frame}
 use Rattle.sp_rules.specs.Arrivals.{arrival_at, handled, parts_met, pieces_in, pieces_where, reply_at, sections_in}
-use Rattle.sp_rules.specs.Node.{NodeState, call_refusal, link_in}
+use Rattle.sp_rules.specs.Node.{NodeState, call_refusal, link_in, own_epoch, start_effects}
 use Rattle.sp_rules.specs.Parts.{Fixed}
 use Rattle.sp_rules.specs.Pieces.{Piece, pieces_of}
 use Rattle.sp_rules.specs.Sends.{send_prio_refusal}
@@ -47,13 +48,15 @@ use Rattle.sp_rules.specs.declared.node.LinkReply.{LinkReply}
 use Rattle.sp_rules.specs.declared.node.LinkReply.TheVariants as links
 use Rattle.sp_rules.specs.declared.node.NodeRefused.{NodeRefused}
 use Rattle.sp_msg.specs.declared.refused.SendRefused.{SendRefused}
-use Rattle.sp_runs.specs.Runs.{Clean, InRange, Moves, Stays, Starts, Turn, Turned}
+use Rattle.sp_runs.specs.Lives.{next_start}
+use Rattle.sp_runs.specs.Runs.{Clean, InRange, Lives, Moves, Stays, Starts, Turn, Turned}
 use Rattle.sp_runs.specs.Scenarios.{setting_of}
-use Rattle.sp_runs.specs.Settings.{Setting, SettingFits}
+use Rattle.sp_runs.specs.Settings.{Setting, SettingFits, fixed_at}
 use Rattle.sp_runs.specs.Worlds.{World}
 use Rattle.sp_schedule_events.specs.declared.event.Event.{Event}
 use Rattle.laws_runs_format.specs.Arts.{arts_of}
 use Rattle.laws_runs_format.specs.Journals.{JournalsAreCountable}
+use Rattle.laws_runs.proofs.LifeCases.{Exhausts, LifeCase, Nobody, Starts_now, Stops, life_case}
 use Rattle.laws_runs_format.proofs.EffectCounts.{TellsDeliveries, step_most}
 use Rattle.laws_runs_format.proofs.FrameBytes.{objects_are, prio_objects, slot_objects}
 use Rattle.laws_runs_format.proofs.Headers.{headers_fit}
@@ -256,13 +259,27 @@ module _ (p : Effect → Bool) (tells : TellsDeliveries p) where
 
   one_turn : (x : Setting) (es : List Event) (js : List Entry) (old new : World) (e : Event) (j : Entry) → SettingFits (arts_of x) x
       → Clean (arts_of x) x es js old → InRange x es e
-      → Turn (arts_of x) x es old e j new → length (filter p j.effects) ≤ MAX_FRAME_BYTES
+      → Turn (arts_of x) x old e j new → length (filter p j.effects) ≤ MAX_FRAME_BYTES
   one_turn x es js old new e j fits run range (Moves m) =
       let most = step_most p tells (arts_of x) m.node m.after m.input m.output m.step in
       let fit = reached (arts_of x) x es js old new e j fits (format_carries x.topology.format) run range m in
       let few = answered_few x.topology.format m.node m.after m.input m.output fit m.step in
       rw m.journal.effects (omega (arith, most, few))
   one_turn x es js old new e j fits run range (Stays s) = rw s.effects (omega arith)
+  one_turn x es js old new e j fits run range (Lives on l) = life (life_case (arts_of x) x old e j new l)
+    where
+      start : (u : NodeId) (boot : ℕ) → length (filter p (start_effects (arts_of x) (fixed_at x u boot))) ≤ MAX_FRAME_BYTES
+      start u boot = go x.epochs
+        where
+          go : (on : Bool) → length (filter p (cond on (Signed ((arts_of x).spell (own_epoch (fixed_at x u boot))) ∷ []) [])) ≤ MAX_FRAME_BYTES
+          go true = rw (tells.signed ((arts_of x).spell (own_epoch (fixed_at x u boot)))) (omega arith)
+          go false = omega arith
+
+      life : LifeCase (arts_of x) x old e j new → length (filter p j.effects) ≤ MAX_FRAME_BYTES
+      life (Starts_now u is s) = subst (λ (effects : List Effect). length (filter p effects) ≤ MAX_FRAME_BYTES) (sym s.effects) (start u (next_start x old u).boot)
+      life (Exhausts u is none) = rw none.effects (omega arith)
+      life (Stops u is stop) = rw stop.effects (omega arith)
+      life (Nobody other down) = rw down.effects (omega arith)
 
   pub all_few : (x : Setting) (es : List Event) (js : List Entry) (w : World) → SettingFits (arts_of x) x → Clean (arts_of x) x es js w
       → length (flat_map (λ (j : Entry). filter p j.effects) js) ≤ MAX_FRAME_BYTES * length js

@@ -90,7 +90,11 @@ all_harmless x number bad =
     (All-append P (hostile number) (cycles ++ takes) (hostile_harmless x number bad)
     (All-append P cycles takes (turns_harmless x cycle (cycle_harmless x) 1 130) (takes_harmless x))))
 
+no_epochs : (number : ℕ) → (generated_scenario number).epochs ≡ false
+unfolding generated_scenario
+no_epochs number = refl
+
 pub generated_forge_nothing : GeneratedForgeNothing
 generated_forge_nothing number =
-    harmless_schedules_forge_nothing (generated_scenario number) (generated_events number) (are_schedules number)
+    harmless_schedules_forge_nothing (generated_scenario number) (generated_events number) (are_schedules number) (no_epochs number)
     (all_harmless (setting_of (generated_scenario number)) number (compromised (generated_scenario number) (node 4) (four_is_bad number)))

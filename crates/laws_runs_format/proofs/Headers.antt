@@ -15,7 +15,7 @@ use Rattle.laws_node.specs.Sizes.{most_indexes}
 use Rattle.laws_runs.proofs.Lists.{both}
 use Rattle.sp_runs.specs.Scenarios.{node_key, node_seed, setting_of, topology_of}
 use Rattle.sp_runs.specs.Settings.{first_signer, fixed_of, is_one_of}
-use Rattle.laws_runs_format.specs.Headers.{HeadersFit, SignaturesAreLong}
+use Rattle.laws_runs_format.specs.Headers.{HeadersFit, PlainHeadersFit, SignaturesAreLong}
 use Rattle.laws_runs_format.proofs.Topologies.{topologies_fit}
 
 short : (h : LmsHeight) → signature_len (param_of h) < 65536
@@ -37,6 +37,7 @@ keys_are h seed u (id ∷ ids) there = elim (cases_Bool (eqb id u.0)) [
 pub headers_fit : HeadersFit
 headers_fit s good = record {
   topology = topologies_fit s good;
+  format = good.epochs;
   short = short s.height;
   total = few s.height;
   each = λ u correct. format_fits (fixed_of (setting_of s) u) (first_signer (setting_of s) u) (record {
@@ -54,3 +55,6 @@ signatures_are_long s key there = (format_fits (fixed_of (setting_of s) key) (fi
   total = refl;
   is_mine = keys_are s.height s.seed key (range_with_len 1 s.graph.nodes) there;
 })).long
+
+pub plain_headers_fit : PlainHeadersFit
+plain_headers_fit s good plain = record { fits = headers_fit s good; plain = plain }

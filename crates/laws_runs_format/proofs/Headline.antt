@@ -1,7 +1,7 @@
 -- All laws of runs, of what a schedule's header makes.
 use Rattle.std.proofs.Common.{List}
 use Rattle.sp_runs.specs.Scenarios.{setting_of}
-use Rattle.sp_runs.specs.Settings.{Setting, SettingFits}
+use Rattle.sp_runs.specs.Settings.{Setting, SettingFits, StaysUp}
 use Rattle.sp_runs.specs.Runs.{Clean}
 use Rattle.sp_runs.specs.Worlds.{World}
 use Rattle.sp_journal.specs.declared.entry.Entry.{Entry}
@@ -11,38 +11,58 @@ use Rattle.laws_runs.proofs.Beginnings.{beginnings_are_clean}
 use Rattle.laws_runs.proofs.Bounds.{buffers_stay_bounded}
 use Rattle.laws_runs.proofs.Determined.{runs_are_determined}
 use Rattle.laws_runs.proofs.FlowRuns.{flows_are_kept}
+use Rattle.laws_runs.proofs.KeyFiles.{key_files_stand}
 use Rattle.laws_runs.proofs.Kept.{what_is_kept_was_signed}
 use Rattle.laws_runs.proofs.PlaceRuns.{evictions_leave_shares}
 use Rattle.laws_runs.proofs.PrioRuns.{priority_is_kept}
-use Rattle.laws_runs.proofs.There.{correct_nodes_are_there}
+use Rattle.laws_runs.proofs.There.{correct_nodes_are_there, only_correct_nodes_run}
 use Rattle.laws_runs.proofs.WeightRuns.{weights_are_kept}
 use Rattle.laws_runs_format.specs.Arts.{arts_of}
-use Rattle.laws_runs_format.specs.Headline.{Claims, EveryRun}
-use Rattle.laws_runs_format.proofs.Headers.{headers_fit}
+use Rattle.laws_runs_format.specs.Headline.{Claims, EveryLife, EveryRun, LivesClaims}
+use Rattle.laws_runs_format.proofs.Headers.{headers_fit, plain_headers_fit}
 use Rattle.laws_runs_format.proofs.Opens.{schedules_deliver, schedules_return}
 use Rattle.laws_runs_format.proofs.ReadBack.{format_carries}
 
-all_claims : (x : Setting) (es : List Event) (js : List Entry) (w : World) → SettingFits (arts_of x) x → Carries x.topology.format (arts_of x)
+all_claims : (x : Setting) (es : List Event) (js : List Entry) (w : World) → StaysUp (arts_of x) x → Carries x.topology.format (arts_of x)
     → Clean (arts_of x) x es js w → Claims x es js w
 all_claims x es js w fits carries run = record {
   nodes = correct_nodes_are_there (arts_of x) x es js w fits carries run;
   reliable = λ s d there correct apart. flows_are_kept (arts_of x) x es js w fits carries run s d there correct apart;
   priority = λ s d correct. priority_is_kept (arts_of x) x es js w fits carries run s d correct;
-  bounded = λ u n at. buffers_stay_bounded (arts_of x) x es js w fits carries run u n at;
+  bounded = λ u n at. buffers_stay_bounded (arts_of x) x es js w fits.fits carries run u n at;
   shares = λ u place. evictions_leave_shares (arts_of x) x es js w fits carries run u place;
   weights = weights_are_kept (arts_of x) x es js w fits carries run;
-  signed = what_is_kept_was_signed (arts_of x) x es js w fits carries run;
+  signed = what_is_kept_was_signed (arts_of x) x es js w fits.fits carries run;
 }
 
 pub every_run : EveryRun
-every_run s es js w graph some run =
+every_run s es js w graph plain some run =
     let x = setting_of s in
-    let fits : SettingFits (arts_of x) x = headers_fit s graph in
+    let fits : StaysUp (arts_of x) x = plain_headers_fit s graph plain in
     let carries = format_carries x.topology.format in
     record {
       reached = λ n. beginnings_are_clean (arts_of x) x es js w run n;
       one = λ n v u first second. runs_are_determined (arts_of x) x _ _ v u fits carries first second;
-      delivered = schedules_deliver s graph some;
-      returned = schedules_return s graph some;
+      delivered = schedules_deliver s graph plain some;
+      returned = schedules_return s graph plain some;
       claims = λ n v beginning. all_claims x _ _ v fits carries beginning;
+    }
+
+-- ---- with epochs too
+
+lives_claims : (x : Setting) (es : List Event) (js : List Entry) (w : World) → SettingFits (arts_of x) x → Carries x.topology.format (arts_of x)
+    → Clean (arts_of x) x es js w → LivesClaims x es js w
+lives_claims x es js w fits carries run = record {
+  nodes = only_correct_nodes_run (arts_of x) x es js w fits carries run;
+  keys = key_files_stand (arts_of x) x es js w fits run;
+  bounded = λ u n at. buffers_stay_bounded (arts_of x) x es js w fits carries run u n at;
+  signed = what_is_kept_was_signed (arts_of x) x es js w fits carries run;
+}
+
+pub every_life : EveryLife
+every_life s es js w graph run =
+    let x = setting_of s in
+    record {
+      reached = λ n. beginnings_are_clean (arts_of x) x es js w run n;
+      claims = λ n v beginning. lives_claims x _ _ v (headers_fit s graph) (format_carries x.topology.format) beginning;
     }

@@ -23,7 +23,7 @@ use Rattle.laws_progress.proofs.Delivery.{acknowledgements_return, delivery_is_c
 use Rattle.laws_runs_format.specs.Arts.{arts_of}
 use Rattle.laws_runs_format.specs.ComesThrough.{FormatComesThrough}
 use Rattle.laws_runs_format.specs.Delivery.{SchedulesDeliver, SchedulesReturn}
-use Rattle.laws_runs_format.proofs.Headers.{headers_fit}
+use Rattle.laws_runs_format.proofs.Headers.{plain_headers_fit}
 use Rattle.laws_runs_format.proofs.ReadBack.{format_carries}
 
 -- ---- it opens
@@ -68,11 +68,11 @@ format_comes_through format height = record {
 }
 
 pub schedules_deliver : SchedulesDeliver
-schedules_deliver s good some =
+schedules_deliver s good plain some =
     let x = setting_of s in
-    delivery_is_counted (arts_of x) x (headers_fit s good) (format_comes_through x.topology.format s.height) some
+    delivery_is_counted (arts_of x) x (plain_headers_fit s good plain) (format_comes_through x.topology.format s.height) some
 
 pub schedules_return : SchedulesReturn
-schedules_return s good some =
+schedules_return s good plain some =
     let x = setting_of s in
-    acknowledgements_return (arts_of x) x (headers_fit s good) (format_comes_through x.topology.format s.height) some
+    acknowledgements_return (arts_of x) x (plain_headers_fit s good plain) (format_comes_through x.topology.format s.height) some

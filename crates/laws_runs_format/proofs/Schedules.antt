@@ -13,7 +13,7 @@ use Rattle.sp_topology.specs.declared.topology.NodeKey.{NodeKey}
 use Rattle.sp_schedule.specs.Scenarios.{AreInRange, IsSchedule, None_yet, One_more}
 use Rattle.sp_base.specs.Formats.{by_format}
 use Rattle.sp_base.specs.declared.format.TheConstants.{FORMAT_1}
-use Rattle.sp_base.specs.declared.limits.TheConstants.{MAX_EDGES}
+use Rattle.sp_base.specs.declared.limits.TheConstants.{MAX_EDGES, MAX_EVENTS}
 use Rattle.sp_msg.proofs.GoodFields.{GoodMask, ack_is_good, prio_is_good, rel_is_good, weight_is_good}
 use Rattle.sp_msg.specs.Fields.{IsInRange, free, ranged}
 use Rattle.sp_msg.specs.declared.mask.Mask.{Mask}
@@ -27,7 +27,7 @@ use Rattle.sp_schedule_events.specs.Scenarios.{are_joined, differ}
 use Rattle.sp_schedule_events.specs.declared.event.Event.{Event}
 use Rattle.sp_schedule_events.specs.declared.event.Event.TheVariants as events
 use Rattle.sp_schedule_events.specs.declared.scenario.Scenario.{Scenario}
-use Rattle.sp_runs.specs.Runs.{InRange, IsMade, is_other, is_poll, polls}
+use Rattle.sp_runs.specs.Runs.{AreFields, InRange, IsMade, is_other, is_poll, polls}
 use Rattle.sp_runs.specs.Scenarios.{IsHeader, node_key, setting_of}
 use Rattle.sp_runs.specs.Settings.{is_correct, is_node}
 use Rattle.laws_runs.proofs.Counts.{poll_more}
@@ -38,7 +38,7 @@ use Rattle.laws_runs_format.specs.Schedules.{ScheduledEventsAreInRange}
 -- ---- the header
 
 pub header_of : (s : Scenario) (es : List Event) → IsSchedule s es → IsHeader s
-header_of s es good = record { format = good.scenario.format; graph = good.scenario.graph }
+header_of s es good = record { format = good.scenario.format; graph = good.scenario.graph; epochs = good.scenario.epochs }
 
 -- ---- nodes
 
@@ -79,6 +79,8 @@ same_poll a b (events.Flip u v n c d) = refl
 same_poll a b (events.Inject u v p) = refl
 same_poll a b (events.Craft u v k o) = refl
 same_poll a b (events.CraftStatus u v c d f g) = refl
+same_poll a b (events.Start u) = refl
+same_poll a b (events.Stop u) = refl
 
 same_count : (a b : NodeId) (es : List Event) → count_by (lined.is_poll a.0 b.0) es ≡ polls es a b
 same_count a b [] = refl
@@ -112,6 +114,8 @@ poll_joins s es a b (events.Flip u v n c d) is t = absurd cc
 poll_joins s es a b (events.Inject u v p) is t = absurd cc
 poll_joins s es a b (events.Craft u v k o) is t = absurd cc
 poll_joins s es a b (events.CraftStatus u v c d f g) is t = absurd cc
+poll_joins s es a b (events.Start u) is t = absurd cc
+poll_joins s es a b (events.Stop u) is t = absurd cc
 
 -- a frame was made between neighbours alone
 polled_joins : (s : Scenario) (es : List Event) → AreInRange s es → (a b : NodeId) → 1 ≤ polls es a b → are_joined s a.0 b.0 ≡ true
@@ -142,7 +146,7 @@ good_mask format mask high low = record { high = high_in (format == FORMAT_1) hi
     low_in false small = small
 
 crafted_in : (s : Scenario) (es : List Event) (c v key : NodeId) (object : CraftedObject) → Lined s es (events.Craft c v key object)
-    → InRange (setting_of s) es (events.Craft c v key object)
+    → AreFields (setting_of s) es (events.Craft c v key object)
 crafted_in s es c v key (crafted.Rel r) is =
     let to = is.values.2 in
     let by = to.3 in
@@ -210,13 +214,13 @@ crafted_in s es c v key (crafted.Weight w) is =
       All-nil (λ (b : ℕ). b < 256),
     )
 
-pub in_range : (s : Scenario) (es : List Event) (e : Event) → AreInRange s es → Lined s es e → InRange (setting_of s) es e
-in_range s es (events.Rel a b payload) are is =
+fields_in : (s : Scenario) (es : List Event) (e : Event) → AreInRange s es → length es < MAX_EVENTS → Lined s es e → AreFields (setting_of s) es e
+fields_in s es (events.Rel a b payload) are few is =
     let from = is.values in
     let to = from.3 in
     let bytes = to.2.0 in
     (correct_is s a from.0 from.1 from.2, other_is s a b to.0 to.1 is.joined, bytes.1, bytes.2)
-in_range s es (events.Prio a b prio expiry paths payload) are is =
+fields_in s es (events.Prio a b prio expiry paths payload) are few is =
     let from = is.values in
     let to = from.3 in
     let level = to.2 in
@@ -232,24 +236,24 @@ in_range s es (events.Prio a b prio expiry paths payload) are is =
       bytes.1,
       bytes.2,
     )
-in_range s es (events.Take a b) are is =
+fields_in s es (events.Take a b) are few is =
     let at = is.values in
     let from = at.3 in
     (correct_is s a at.0 at.1 at.2, other_is s a b from.0 from.1 is.joined)
-in_range s es (events.TakePrio a) are is = correct_is s a is.values.0 is.values.1 is.values.2
-in_range s es (events.Tick a now) are is = let at = is.values in (correct_is s a at.0 at.1 at.2, omega (arith, at.3.1))
-in_range s es (events.Weight a b weight) are is =
+fields_in s es (events.TakePrio a) are few is = correct_is s a is.values.0 is.values.1 is.values.2
+fields_in s es (events.Tick a now) are few is = let at = is.values in (correct_is s a at.0 at.1 at.2, omega (arith, at.3.1))
+fields_in s es (events.Weight a b weight) are few is =
     let at = is.values in
     let to = at.3 in
     let number = to.2 in
     (correct_is s a at.0 at.1 at.2, is.joined, number.0, number.1)
-in_range s es (events.Poll a b) are is = let at = is.values in (correct_is s a at.0 at.1 at.2, is.joined)
-in_range s es (events.Pass a b number) are is =
+fields_in s es (events.Poll a b) are few is = let at = is.values in (correct_is s a at.0 at.1 at.2, is.joined)
+fields_in s es (events.Pass a b number) are few is =
     let from = is.values in
     let to = from.3 in
     let there = made es a b number is.joined in
     (correct_is s a from.0 from.1 from.2, correct_is s b to.0 to.1 to.2, polled_joins s es are a b (omega (arith, there.0, there.1)), there)
-in_range s es (events.Flip a b number back bit) are is =
+fields_in s es (events.Flip a b number back bit) are few is =
     let from = is.values in
     let to = from.3 in
     let there = made es a b number is.joined in
@@ -263,11 +267,11 @@ in_range s es (events.Flip a b number back bit) are is =
       far.1,
       changed.1,
     )
-in_range s es (events.Inject a b bytes) are is =
+fields_in s es (events.Inject a b bytes) are few is =
     let to = is.values.2 in
     let came = to.3.0 in
     (correct_is s b to.0 to.1 to.2, is.joined, came.1, came.2)
-in_range s es (events.CraftStatus c v a b base have) are is =
+fields_in s es (events.CraftStatus c v a b base have) are few is =
     let to = is.values.2 in
     let src = to.3 in
     let dst = src.2 in
@@ -281,7 +285,12 @@ in_range s es (events.CraftStatus c v a b base have) are is =
       omega (arith, low.1),
       omega (arith, high.1),
     )
-in_range s es (events.Craft c v key object) are is = crafted_in s es c v key object is
+fields_in s es (events.Craft c v key object) are few is = crafted_in s es c v key object is
+fields_in s es (events.Start u) are few is = let at = is.values in (correct_is s u at.0 at.1 at.2, few)
+fields_in s es (events.Stop u) are few is = correct_is s u is.values.0 is.values.1 is.values.2
+
+pub in_range : (s : Scenario) (es : List Event) (e : Event) → AreInRange s es → length es < MAX_EVENTS → Lined s es e → InRange (setting_of s) es e
+in_range s es e are few is = record { fields = fields_in s es e are few is; may = is.may }
 
 -- ---- one event of many
 
@@ -314,4 +323,6 @@ part_in_range s all es rest e (One_more {before = before} last are is) same = el
 pub scheduled_events_are_in_range : ScheduledEventsAreInRange
 scheduled_events_are_in_range s all es rest e good same =
     let part = part_in_range s all es rest e good.events same in
-    in_range s es e part.0 part.1
+    let whole : length all ≡ length (es ++ e ∷ rest) = ap (λ (xs : List Event). length xs) same in
+    let most = good.count in
+    in_range s es e part.0 (omega (arith, whole, length-append es (e ∷ rest), most)) part.1

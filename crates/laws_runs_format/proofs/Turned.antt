@@ -9,7 +9,7 @@ use Rattle.laws_runs_format.specs.Arts.{arts_of}
 use Rattle.laws_runs_format.specs.Turns.{ScheduledEventsHaveTurns}
 
 pub scheduled_events_have_turns : ScheduledEventsHaveTurns
-scheduled_events_have_turns s es js w graph run few e range =
+scheduled_events_have_turns s es js w good run few e range =
     let x = setting_of s in
-    each_event_has_a_turn (arts_of x) x es js w (headers_fit s graph) (format_carries x.topology.format)
+    each_event_has_a_turn (arts_of x) x es js w (headers_fit s good) (format_carries x.topology.format)
     (λ weights u v paths there other. each_request_has_a_choice (graph_of x.topology weights) u v paths) run few e range

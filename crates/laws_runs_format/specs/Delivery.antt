@@ -1,5 +1,5 @@
 -- Counted delivery over this format, in every setting that a schedule's header makes: nothing is asked of what the format writes, and of the header its ranges.
-use Rattle.std.specs.Prelude.{◌≤◌}
+use Rattle.std.specs.Prelude.{◌≡◌, ◌≤◌, false}
 use Rattle.sp_runs.specs.Scenarios.{IsHeader, setting_of}
 use Rattle.sp_schedule_events.specs.declared.scenario.Scenario.{Scenario}
 use Rattle.laws_progress.specs.Delivery.{DeliversInRounds, ReturnsInRounds}
@@ -7,8 +7,8 @@ use Rattle.laws_runs_format.specs.Arts.{arts_of}
 
 -- what was accepted is delivered after hops + b + 1 complete rounds
 abbrev pub SchedulesDeliver : Type 0
-SchedulesDeliver = (s : Scenario) → IsHeader s → 1 ≤ s.limits.buffer → DeliversInRounds (arts_of (setting_of s)) (setting_of s)
+SchedulesDeliver = (s : Scenario) → IsHeader s → s.epochs ≡ false → 1 ≤ s.limits.buffer → DeliversInRounds (arts_of (setting_of s)) (setting_of s)
 
 -- and what was acknowledged has returned after hops + 1
 abbrev pub SchedulesReturn : Type 0
-SchedulesReturn = (s : Scenario) → IsHeader s → 1 ≤ s.limits.buffer → ReturnsInRounds (arts_of (setting_of s)) (setting_of s)
+SchedulesReturn = (s : Scenario) → IsHeader s → s.epochs ≡ false → 1 ≤ s.limits.buffer → ReturnsInRounds (arts_of (setting_of s)) (setting_of s)

@@ -22,4 +22,4 @@ pub record HasLength (bytes : List ℕ) : Type 0 where
 abbrev pub FramesHaveTheirLength : Type 0
 FramesHaveTheirLength = (s : Scenario) (es : List Event) (js : List Entry) (w : World) → IsHeader s
     → Clean (arts_of (setting_of s)) (setting_of s) es js w
-    → (u v : NodeId) (place : ℕ) (bytes : List ℕ) → slice_get (frames_in w.directions u v) place ≡ Some bytes → HasLength bytes
+    → (u v : NodeId) (place : ℕ) (bytes : List ℕ) → slice_get (frames_in w.directions u v) place ≡ Some (Some bytes) → HasLength bytes

@@ -1,5 +1,5 @@
 -- The headline: what holds of every run of a schedule without forgery, after each of its events, whatever compromised nodes send.
-use Rattle.std.specs.Prelude.{ℕ, ◌≡◌, ◌≤◌, IsTrue, List, [], Some, take}
+use Rattle.std.specs.Prelude.{ℕ, ◌≡◌, ◌≤◌, false, IsTrue, List, [], Some, take}
 use Rattle.sp_base.specs.declared.id.NodeId.{NodeId}
 use Rattle.sp_journal.specs.declared.entry.Entry.{Entry}
 use Rattle.sp_rules.specs.Node.{NodeState}
@@ -7,13 +7,14 @@ use Rattle.sp_runs.specs.Bounds.{IsBounded}
 use Rattle.sp_runs.specs.Held.{AreShares}
 use Rattle.sp_runs.specs.Runs.{Clean}
 use Rattle.sp_runs.specs.Scenarios.{IsHeader, setting_of}
-use Rattle.sp_runs.specs.Settings.{Setting, is_correct, is_node}
+use Rattle.sp_runs.specs.Settings.{Setting, fixed_at, is_correct, is_node}
 use Rattle.sp_runs.specs.Told.{effects_at}
 use Rattle.sp_runs.specs.Worlds.{World, node_in}
 use Rattle.sp_schedule_events.specs.declared.event.Event.{Event}
 use Rattle.sp_schedule_events.specs.declared.scenario.Scenario.{Scenario}
 use Rattle.laws_progress.specs.Delivery.{DeliversInRounds, ReturnsInRounds}
 use Rattle.laws_runs.specs.Flows.{FlowClaims}
+use Rattle.laws_runs.specs.KeyFiles.{KeysStand}
 use Rattle.laws_runs.specs.Priority.{PrioClaims}
 use Rattle.laws_runs.specs.States.{NodeClaims, SignClaims}
 use Rattle.laws_runs.specs.Weights.{WeightClaims}
@@ -46,7 +47,29 @@ pub record RunClaims (x : Setting) (es : List Event) (js : List Entry) : Type 0 
   pub delivered : DeliversInRounds (arts_of x) x
   pub returned : ReturnsInRounds (arts_of x) x
 
--- of each run of a header in its ranges. Nothing else is asked
+-- of each run of a header in its ranges without epochs. Nothing else is asked
 abbrev pub EveryRun : Type 0
-EveryRun = (s : Scenario) (es : List Event) (js : List Entry) (w : World) → IsHeader s → 1 ≤ s.limits.buffer
+EveryRun = (s : Scenario) (es : List Event) (js : List Entry) (w : World) → IsHeader s → s.epochs ≡ false → 1 ≤ s.limits.buffer
     → Clean (arts_of (setting_of s)) (setting_of s) es js w → RunClaims (setting_of s) es js
+
+-- ---- with epochs too
+
+-- what holds of every run of these events, whether nodes start and stop or not
+pub record LivesClaims (x : Setting) (es : List Event) (js : List Entry) (w : World) : Type 0 where
+  -- only correct nodes run, each as the header makes it for the boot of its life
+  pub nodes : (u : NodeId) (n : NodeState) → node_in w.nodes u ≡ Some n → IsTrue (is_correct x u) × (n.fixed ≡ fixed_at x u n.fixed.boot)
+  -- each that runs has the boot of its key file, and signs below its bound
+  pub keys : KeysStand x es w
+  -- no buffer of a correct node is above its bound
+  pub bounded : (u : NodeId) (n : NodeState) → node_in w.nodes u ≡ Some n → IsBounded x u n
+  -- whatever a correct node keeps or sends bears its signer's valid signature, and a correct signer signed it in this run, in one of its lives
+  pub signed : SignClaims (arts_of x) x es js w
+
+pub record RunLives (x : Setting) (es : List Event) (js : List Entry) : Type 0 where
+  pub reached : (n : ℕ) → (w : World) × Clean (arts_of x) x (take n es) (take n js) w
+  pub claims : (n : ℕ) (w : World) → Clean (arts_of x) x (take n es) (take n js) w → LivesClaims x (take n es) (take n js) w
+
+-- of each run of a header in its ranges
+abbrev pub EveryLife : Type 0
+EveryLife = (s : Scenario) (es : List Event) (js : List Entry) (w : World) → IsHeader s
+    → Clean (arts_of (setting_of s)) (setting_of s) es js w → RunLives (setting_of s) es js

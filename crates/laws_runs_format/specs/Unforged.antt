@@ -1,5 +1,5 @@
 -- Schedules of which no event is forged: what that means, and which schedules are such whatever their runs answer.
-use Rattle.std.specs.Prelude.{ℕ, ◌≡◌, ◌∷◌, ◌++◌, List}
+use Rattle.std.specs.Prelude.{ℕ, ◌≡◌, ◌∷◌, ◌++◌, false, List}
 use Rattle.std.specs.List.{All}
 use Rattle.sp_journal.specs.declared.entry.Entry.{Entry}
 use Rattle.sp_runs.specs.Runs.{Clean, IsForgedAt}
@@ -28,9 +28,9 @@ IsHarmless x (events.Craft c v key body) = NamesNoCorrectNode x (events.Craft c 
 IsHarmless x (events.CraftStatus c v s d base have) = NamesNoCorrectNode x (events.CraftStatus c v s d base have)
 IsHarmless x _ = Unit {0}
 
--- a good schedule of harmless events
+-- a good schedule of harmless events, without epochs
 abbrev pub HarmlessSchedulesForgeNothing : Type 0
-HarmlessSchedulesForgeNothing = (s : Scenario) (es : List Event) → IsSchedule s es → All (IsHarmless (setting_of s)) es → NothingForged s es
+HarmlessSchedulesForgeNothing = (s : Scenario) (es : List Event) → IsSchedule s es → s.epochs ≡ false → All (IsHarmless (setting_of s)) es → NothingForged s es
 
 -- so the schedule of each number
 abbrev pub GeneratedForgeNothing : Type 0

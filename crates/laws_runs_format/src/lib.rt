@@ -5,8 +5,8 @@ ghost use Rattle.laws_runs_format.specs.Audited.{ClaimedRunsPassAudits, RunsPass
 ghost use Rattle.laws_runs_format.specs.ComesThrough.{FormatComesThrough};
 ghost use Rattle.laws_runs_format.specs.Delivery.{SchedulesDeliver, SchedulesReturn};
 ghost use Rattle.laws_runs_format.specs.FormatCarries.{FormatCarries};
-ghost use Rattle.laws_runs_format.specs.Headline.{EveryRun};
-ghost use Rattle.laws_runs_format.specs.Headers.{HeadersFit, SignaturesAreLong, TopologiesFit};
+ghost use Rattle.laws_runs_format.specs.Headline.{EveryLife, EveryRun};
+ghost use Rattle.laws_runs_format.specs.Headers.{HeadersFit, PlainHeadersFit, SignaturesAreLong, TopologiesFit};
 ghost use Rattle.laws_runs_format.specs.Hostile.{OnlyHostileEventsAreForged};
 ghost use Rattle.laws_runs_format.specs.Journals.{JournalsAreCountable};
 ghost use Rattle.laws_runs_format.specs.Frames.{FramesHaveTheirLength};
@@ -29,14 +29,17 @@ pub fn this_format_comes_through()
 pub fn headers_fit()
     ensures topology { TopologiesFit }
     ensures setting { HeadersFit }
+    ensures plain { PlainHeadersFit }
     ensures signatures { SignaturesAreLong }
 {}
 
 /// The headline: of every run of a schedule without forgery, after each of its events, deliveries are a prefix of what was sent, priority messages are
 /// authentic and come once, buffers are bounded, evictions leave fair shares, weights
-/// are what their ends said, and what was accepted is delivered after a counted number of rounds of a correct path.
+/// are what their ends said, and what was accepted is delivered after a counted number of rounds of a correct path. So it is without epochs. Where nodes
+/// start and stop, only correct nodes run, with the boots and bounds of their key files, buffers are bounded, and what is kept was signed.
 pub fn every_run()
-    ensures { EveryRun }
+    ensures plain { EveryRun }
+    ensures lives { EveryLife }
 {}
 
 /// A law: an auditor, who knows the events and the journal alone, finds no broken promise in any run of a schedule without forgery; and so in none that

@@ -15,7 +15,7 @@ use std::alloc::Global;
 const END: &[u8] = b"\nend\n";
 
 /// The line `good`, or `broken EVENT` with the first event that breaks a promise, or `unread` where there is no whole schedule, or no journal with an entry
-/// for each of its events.
+/// for each of its events, or the schedule has epochs: such a run isn't audited.
 pub fn checked(alloc: Global, text: &[u8]) -> Result<String, Memory> {
     let (schedule, journal) = parts(text);
     let Some((scenario, events)) = schedule_of(alloc, schedule)? else {
@@ -63,7 +63,7 @@ fn judged(
     events: &[Event],
     journal: &[Entry],
 ) -> Result<String, Memory> {
-    if events.len() != journal.len() || events.len() > MAX_EVENTS {
+    if scenario.epochs || events.len() != journal.len() || events.len() > MAX_EVENTS {
         return Ok(String::from_str(alloc, "unread\n")?);
     }
     match audit(alloc, scenario, events, journal) {

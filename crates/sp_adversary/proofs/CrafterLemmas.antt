@@ -12,10 +12,12 @@ use Rattle.sp_hss.specs.Signer.{Signer}
 use Rattle.sp_msg.specs.Bodies.{encoded_in}
 use Rattle.sp_msg.specs.declared.body.Body.{Body}
 use Rattle.sp_runs.specs.Scenarios.{node_seed}
+use Rattle.sp_runs.specs.Worlds as worlds
+use Rattle.sp_runs.specs.Worlds.{crafts, is_key}
 use Rattle.sp_sign.specs.Heights.{param_of}
 use Rattle.sp_topology.specs.declared.topology.LmsHeight.{LmsHeight}
 use Rattle.sp_topology.specs.declared.topology.LmsHeight.TheVariants.{Five, Ten}
-use Rattle.sp_adversary.specs.Crafters.{Crafters, Used, is_used, used}
+use Rattle.sp_adversary.specs.Crafters.{Crafters}
 use Rattle.sp_adversary.specs.Crafting.{Crafts}
 use Rattle.sp_adversary.specs.Keys.{whole_signer}
 use Rattle.sp_adversary.specs.Signers.{AreWhole, IsWhole, Signs, is_crafter, used_of}
@@ -29,19 +31,19 @@ seen format height seed items = record { format = format; height = height; seed 
 
 -- ---- rows
 
-place_len : (key : NodeId) (items : List Crafter) → position_or_len (is_used key) (map used_of items) ≡ position_or_len (is_crafter key) items
+place_len : (key : NodeId) (items : List Crafter) → position_or_len (is_key key) (map used_of items) ≡ position_or_len (is_crafter key) items
 place_len key [] = refl
 place_len key (c ∷ items) = ap (λ n. cond (not (c.key.0 == key.0)) (1 + n) 0) (place_len key items)
 
-same_place : (key : NodeId) (items : List Crafter) → position (is_used key) (map used_of items) ≡ position (is_crafter key) items
+same_place : (key : NodeId) (items : List Crafter) → position (is_key key) (map used_of items) ≡ position (is_crafter key) items
 same_place key items =
     ap₂ (λ (p l : ℕ). cond (nat_lt p l) (Some p) None) (place_len key items) (length-map items used_of)
 
 -- the row of a key that was used
 count_at : (format : ℕ) (height : LmsHeight) (seed : List ℕ) (items : List Crafter) (place : ℕ) (key : NodeId) (row : Crafter) → position (is_crafter key) items ≡ Some place
-    → row ≡ get_or items place row → used (seen format height seed items) key ≡ row.signer.index
+    → row ≡ get_or items place row → crafts (map used_of items) key ≡ row.signer.index
 count_at format height seed items place key row at read =
-    ap (λ (u : Used). u.count) (first_where-read (is_used key) (record { key = key; count = 0 }) (map used_of items) place (used_of row)
+    ap (λ (u : worlds.Crafted). u.count) (first_where-read (is_key key) (record { key = key; count = 0 }) (map used_of items) place (used_of row)
     (same_place key items ∙ at)
     (ap used_of read ∙ sym (get_or-map used_of items place row (used_of row) (is_first (is_crafter key) items place row at).within)))
 
@@ -80,16 +82,16 @@ crafted_at format height seed items place key row body (Ok (answers.Signed o)) a
           ∙ ap (λ (h : _). record { body = body; signature = signature h row.signer.seed row.signer.index (encoded_in format body) }) high
           ∙ ap (λ (s : List ℕ). record { body = body; signature = signature (param_of height) s row.signer.index (encoded_in format body) }) seeded
           ∙ ap (λ (i : ℕ). record { body = body; signature = signature (param_of height) (node_seed seed key.0) i (encoded_in format body) }) (sym count),
-      ap (λ (ks : List Used). record { format = format; height = height; seed = seed; keys = ks })
+      ap (λ (ks : List worlds.Crafted). record { format = format; height = height; seed = seed; keys = ks })
           (map-set used_of items place (record { key = row.key; signer = after })
           ∙ ap₂ (λ (k : NodeId) (i : ℕ). set (map used_of items) place (record { key = k; count = i })) mine
           (ap (λ (s : Signer). s.index) signs.2 ∙ ap (λ (n : ℕ). n + 1) (sym count))
-          ∙ sym (put_where-position (is_used key) _ (map used_of items) place (same_place key items ∙ at))),
+          ∙ sym (put_where-position (is_key key) _ (map used_of items) place (same_place key items ∙ at))),
     )
 crafted_at format height seed items place key row body (Ok (answers.Spent spent)) after whole at read signs =
     let count = count_at format height seed items place key row at read in
     let bound : row.signer.bound ≡ total (param_of height) = ap (λ (s : Signer). s.bound) (whole_row height seed items place key row whole at read) in
-    (count ∙ signs.0 ∙ bound, signs.1 ∙ bound, ap (seen format height seed) (sym (unchanged items place row after read signs.2)))
+    (omega (arith, count, signs.0, bound), signs.1 ∙ bound, ap (seen format height seed) (sym (unchanged items place row after read signs.2)))
 crafted_at format height seed items place key row body (Err refused) after whole at read signs = ap (seen format height seed) (sym (unchanged items place row after read signs))
 
 -- ---- a key that wasn't
@@ -103,15 +105,15 @@ pub crafted_first : (format : ℕ) (height : LmsHeight) (seed : List ℕ) (items
     → Crafts (seen format height seed items) key body (Ok crafted) (seen format height seed (items ++ record { key = key; signer = after } ∷ []))
 crafted_first format height seed items key body (answers.Signed o) after at signs =
     let absent = same_place key items ∙ at in
-    let count : used (seen format height seed items) key ≡ 0 =
-    ap (λ (u : Used). u.count) (first_where-no_position (is_used key) (record { key = key; count = 0 }) (map used_of items) absent) in
+    let count : crafts (map used_of items) key ≡ 0 =
+    ap (λ (u : worlds.Crafted). u.count) (first_where-no_position (is_key key) (record { key = key; count = 0 }) (map used_of items) absent) in
     let some = some_left height in (
       omega (arith, count, some),
       signs.1 ∙ ap (λ (i : ℕ). record { body = body; signature = signature (param_of height) (node_seed seed key.0) i (encoded_in format body) }) (sym count),
-      ap (λ (ks : List Used). record { format = format; height = height; seed = seed; keys = ks })
+      ap (λ (ks : List worlds.Crafted). record { format = format; height = height; seed = seed; keys = ks })
           (map_push used_of items (record { key = key; signer = after })
           ∙ ap (λ (i : ℕ). map used_of items ++ record { key = key; count = i } ∷ []) (ap (λ (s : Signer). s.index) signs.2 ∙ ap (λ (n : ℕ). n + 1) (sym count))
-          ∙ sym (put_where-no_position (is_used key) _ (map used_of items) absent)),
+          ∙ sym (put_where-no_position (is_key key) _ (map used_of items) absent)),
     )
 crafted_first format height seed items key body (answers.Spent spent) after at signs =
     let some = some_left height in

@@ -1,3 +1,4 @@
 pub mod Seals
 pub mod CrafterLemmas
 pub mod Counting
+pub mod Holding

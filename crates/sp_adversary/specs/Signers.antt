@@ -7,15 +7,15 @@ use Rattle.sp_hss.specs.KeyTree.{signature}
 use Rattle.sp_hss.specs.Signer.{Signer}
 use Rattle.sp_msg.specs.Bodies.{encoded_in}
 use Rattle.sp_msg.specs.declared.body.Body.{Body}
+use Rattle.sp_runs.specs.Worlds as worlds
 use Rattle.sp_topology.specs.declared.topology.LmsHeight.{LmsHeight}
-use Rattle.sp_adversary.specs.Crafters.{Used}
 use Rattle.sp_adversary.specs.Keys.{whole_signer}
 use Rattle.sp_adversary.specs.declared.crafters.Crafted.{Crafted}
 use Rattle.sp_adversary.specs.declared.crafters.Crafted.TheVariants as answers
 use Rattle.sp_adversary.specs.declared.crafters.Crafter.{Crafter}
 
 -- the key, and the index that comes next
-abbrev pub used_of : Crafter → Used
+abbrev pub used_of : Crafter → worlds.Crafted
 used_of c = record { key = c.key; count = c.signer.index }
 
 -- the signer is that of the key, with all its indexes

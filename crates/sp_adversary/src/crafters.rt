@@ -1,6 +1,7 @@
 // The crafting signers: one for each key that messages are crafted with. It isn't the node's own, though both sign with one key.
 ghost use Rattle.std.specs.Prelude.{◌≡◌, ◌<◌, IfSome, length, position};
-ghost use Rattle.sp_adversary.specs.Crafting.{Crafts, HasRoom, no_crafts};
+ghost use Rattle.sp_adversary.specs.Crafters.{no_crafts};
+ghost use Rattle.sp_adversary.specs.Crafting.{Crafts, HasRoom};
 ghost use Rattle.sp_adversary.specs.Signers.{Signs, is_crafter};
 ghost use Rattle.sp_hss.specs.KeyTree.{total};
 ghost use Rattle.sp_msg.specs.Bodies.{HasGoodFieldsIn};

@@ -6,8 +6,10 @@ ghost use Rattle.sp_frame.specs.Writing.{IsWritable, IsWritableSlot, out_report}
 ghost use Rattle.sp_frame.specs.declared.frame.TheConstants.{TAG_BYTES};
 ghost use Rattle.sp_hmac.specs.Hmac.{hmac};
 ghost use Rattle.sp_node_format.specs.Format.{format_in};
-ghost use Rattle.sp_runs.specs.Inputs.{contents_with, counter_after, object_alone, sealed_frame, slot_alone};
+ghost use Rattle.sp_adversary.specs.Boots.{object_with, slot_with};
+ghost use Rattle.sp_runs.specs.Inputs.{contents_with, counter_after, sealed_frame};
 
+use crate::boots::EndBoots;
 use sp_base::{Bytes, Flow, Four, Memory, NodeId};
 use sp_frame::{Head, OutSections, OutSlot, TAG_BYTES, write};
 use sp_msg::{Body, Kept};
@@ -39,7 +41,7 @@ pub fn crafted_head(
     }
 }
 
-/// A frame with one message in its section, under the tag of this key. Only want of memory refuses.
+/// A frame with one message in its section, under the tag of this key. A slot names the boots that its message names. Only want of memory refuses.
 #[tactic(auto, using(crate::proofs::Seals::sealed_is, crate::proofs::Seals::long_enough))]
 pub fn object_frame(
     alloc: Global,
@@ -48,29 +50,30 @@ pub fn object_frame(
     object: &Kept,
 ) -> Result<Bytes, Memory>
     requires { IsWritable head.now.format object.now }
-    ensures { IfOk result (λ bytes. bytes ≡ sealed_frame (format_in head.now.format) head.now key.now (object_alone object.now.body object.now)) }
+    ensures { IfOk result (λ bytes. bytes ≡ sealed_frame (format_in head.now.format) head.now key.now (object_with object.now.body object.now)) }
 {
     let mut frame = with_object(alloc, head, object)?;
     seal(key, &mut frame);
     Ok(frame)
 }
 
-/// A frame with a report on a flow and no message, under the tag of this key. Only want of memory refuses.
+/// A frame with a report on a flow, which names these boots, and no message, under the tag of this key. Only want of memory refuses.
 #[tactic(auto, using(crate::proofs::Seals::sealed_is, crate::proofs::Seals::long_enough))]
 pub fn status_frame(
     alloc: Global,
     head: &Head,
     key: &[u8; 32],
     flow: Flow,
+    boots: EndBoots,
     base: u64,
     have: u64,
 ) -> Result<Bytes, Memory>
-    ensures { IfOk result (λ bytes. bytes ≡ sealed_frame (format_in head.now.format) head.now key.now (slot_alone flow base have Nothing [])) }
+    ensures { IfOk result (λ bytes. bytes ≡ sealed_frame (format_in head.now.format) head.now key.now (slot_with boots flow base have Nothing [])) }
 {
     let slot = OutSlot {
         flow,
-        sboot: 0,
-        dboot: 0,
+        sboot: boots.sboot,
+        dboot: boots.dboot,
         base,
         have,
         ack: None,
@@ -84,40 +87,49 @@ pub fn status_frame(
 /// The bytes of a frame with one message in its section, with zeros in the place of its tag.
 fn with_object(alloc: Global, head: &Head, object: &Kept) -> Result<Bytes, Memory>
     requires { IsWritable head.now.format object.now }
-    ensures { IfOk result (λ bytes. bytes ≡ frame_bytes head.now (object_alone object.now.body object.now) (replicate 32 0)) }
+    ensures { IfOk result (λ bytes. bytes ≡ frame_bytes head.now (object_with object.now.body object.now) (replicate 32 0)) }
 {
     match &object.body {
         Body::Prio(_) => with_parts(alloc, head, None, Four::new().with((1, object)), None),
         Body::Weight(_) => with_parts(alloc, head, Some(object), Four::new(), None),
         Body::Ack(ack) => {
             let flow = Flow::between(ack.src, ack.dst);
-            in_slot(alloc, head, flow, Some(object), Four::new())
+            let boots = EndBoots {
+                sboot: ack.sboot,
+                dboot: ack.dboot,
+            };
+            in_slot(alloc, head, flow, boots, Some(object), Four::new())
         }
         Body::Rel(rel) => {
             let flow = Flow::between(rel.src, rel.dst);
-            in_slot(alloc, head, flow, None, Four::new().with(object))
+            let boots = EndBoots {
+                sboot: rel.sboot,
+                dboot: rel.dboot,
+            };
+            in_slot(alloc, head, flow, boots, None, Four::new().with(object))
         }
         _ => with_parts(alloc, head, None, Four::new(), None),
     }
 }
 
-/// The same of one in the slot of its flow, as the acknowledgement or as a message.
+/// The same of one in the slot of its flow, as the acknowledgement or as a message, with a report of these boots.
 fn in_slot<'a>(
     alloc: Global,
     head: &Head,
     flow: Flow,
+    boots: EndBoots,
     ack: Option<&'a Kept>,
     rels: Four<&'a Kept>,
 ) -> Result<Bytes, Memory>
     requires ack { IfSome ack (λ o. IsWritable head.now.format o.now) }
     requires rels { All (λ o. IsWritable head.now.format o.now) rels }
     ensures { IfOk result (λ bytes. bytes ≡ frame_bytes head.now
-        (slot_alone flow 0 0 (option_map (λ o. o.now) ack.entry) (map (λ o. o.now) rels.entry)) (replicate 32 0)) }
+        (slot_with boots flow 0 0 (option_map (λ o. o.now) ack.entry) (map (λ o. o.now) rels.entry)) (replicate 32 0)) }
 {
     let slot = OutSlot {
         flow,
-        sboot: 0,
-        dboot: 0,
+        sboot: boots.sboot,
+        dboot: boots.dboot,
         base: 0,
         have: 0,
         ack,

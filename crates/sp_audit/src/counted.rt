@@ -1,5 +1,5 @@
 // How often a path was served: complete rounds one after another.
-ghost use Rattle.std.specs.Prelude.{◌≡◌, ◌+◌, ◌≤◌, IfErr, IfOk, drop, length, take};
+ghost use Rattle.std.specs.Prelude.{◌≡◌, ◌+◌, ◌≤◌, false, IfErr, IfOk, drop, length, take};
 ghost use Rattle.sp_audit.specs.Ends.{AreMade, IsFirstEnd};
 ghost use Rattle.sp_audit.specs.Counted.{IsCount, IsNoPath};
 ghost use Rattle.sp_runs.specs.Scenarios.{setting_of};
@@ -17,6 +17,7 @@ use sp_base::{Flow, NodeId};
 use sp_schedule_events::{Event, Scenario};
 
 /// How many complete rounds of the path follow one after another among the events from this number on, counted from 1: so many do and one more don't.
+/// It is asked of headers without epochs alone: of others no delivery is counted.
 /// It refuses with `NotPath` exactly where the nodes aren't a path of correct nodes, each joined to the next, at least two. It takes no memory.
 pub fn rounds(
     scenario: &Scenario,
@@ -24,6 +25,7 @@ pub fn rounds(
     path: &[NodeId],
     from: usize,
 ) -> Result<u32, AuditRefused>
+    requires plain { scenario.now.epochs ≡ false }
     requires few { length events.now ≤ MAX_EVENTS }
     requires first { 1 ≤ from }
     ensures counted { IfOk result (IsCount (setting_of scenario.now) events.now path.now from) }

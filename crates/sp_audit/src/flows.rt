@@ -1,5 +1,5 @@
 // How many flows may wait for their turn at a node.
-ghost use Rattle.std.specs.Prelude.{◌≡◌, ◌≤◌, ◌&&◌, ◌==◌, not, if◌then◌else◌};
+ghost use Rattle.std.specs.Prelude.{◌≡◌, ◌≤◌, ◌&&◌, ◌==◌, false, not, if◌then◌else◌};
 ghost use Rattle.std.specs.List.{count_by, list_any};
 ghost use Rattle.sp_audit.specs.Counted.{may_wait};
 ghost use Rattle.sp_rules.specs.Parts.{nodes_of};
@@ -12,8 +12,9 @@ use sp_base::{Flow, NodeId};
 use sp_schedule_events::{Event, Scenario};
 
 /// How many flows may ever wait for their turn at a node, at least 1: those between correct nodes that a client sends to among these events, and each
-/// that has a compromised end.
+/// that has a compromised end. It is asked of headers without epochs alone.
 pub fn flow_count(scenario: &Scenario, events: &[Event]) -> usize
+    requires { scenario.now.epochs ≡ false }
     ensures some { 1 ≤ result }
     ensures counted { result ≡ flow_count (setting_of scenario.now) events.now }
 {

@@ -1,4 +1,4 @@
-//! An auditor for anybody's run: it judges events and their journal by the definitions alone.
+//! An auditor for anybody's run without epochs: it judges events and their journal by the definitions alone.
 #![tactic(auto)]
 
 mod correct;

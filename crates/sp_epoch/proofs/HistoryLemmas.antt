@@ -13,14 +13,7 @@ use Rattle.sp_epoch.specs.Numbers.{IsOneOf, after_more, after_start, numbers_at,
 use Rattle.sp_epoch.specs.Calls.{Starts}
 use Rattle.sp_epoch.specs.Histories.{And_then, BootsRise, Call, Does, DoesAll, More, Nothing_more, RangesRise, Start, boots_of, ranges_of}
 use Rattle.sp_epoch.specs.Laws.{NothingIsGivenTwice, SomeCallsAreAHistory, node_1}
-
--- ---- the numbers of a node after those of one became others
-
-set_same : (old : List Numbers) (i k : ℕ) (n : Numbers) → i < length old → k ≡ i → slice_index_or (slice_set old i n) k first_numbers ≡ n
-set_same old i k n inside same = ap (λ (j : ℕ). slice_index_or (slice_set old i n) j first_numbers) same ∙ get_or-set_same old i n first_numbers inside
-
-at_own : (old : List Numbers) (u v : NodeId) (n : Numbers) → IsOneOf old u → v.0 ≡ u.0 → numbers_at (with_numbers old u n) v ≡ n
-at_own old u v n one same = set_same old (u.0 - 1) (v.0 - 1) n (omega (arith, one.0, one.1)) (ap (λ (i : ℕ). i - 1) same)
+use Rattle.sp_epoch.proofs.NumberLemmas.{at_own, set_same}
 
 -- no lower
 record NoLower (low high : Numbers) : Type 0 where

@@ -7,7 +7,13 @@ use Rattle.sp_epoch.specs.declared.refused.EpochRefused.{EpochRefused}
 use Rattle.sp_epoch.specs.declared.refused.EpochRefused.TheVariants.{Exhausted, Memory}
 use Rattle.sp_epoch.specs.Numbers.{after_more, after_start, next_bound, numbers_at, started_at, with_numbers}
 
--- A start is given exactly where an index of this total isn't reserved yet. Else all indexes are reserved: it is refused with their bound, and no number changes
+-- A start is given exactly where an index of this total isn't reserved yet. Else all indexes are reserved, and it is refused with their bound
+abbrev pub IsNext : (total : ℕ) → NodeId → List Numbers → Result Started EpochRefused → Type 0
+IsNext total u all (Ok started) = ((numbers_at all u).bound < total) × (started ≡ started_at total (numbers_at all u))
+IsNext total u all (Err (Exhausted bound)) = (total ≤ (numbers_at all u).bound) × (bound ≡ (numbers_at all u).bound)
+IsNext total u all (Err Memory) = ⊥
+
+-- the same, taken: a start that is refused changes no number
 abbrev pub Starts : (total : ℕ) → NodeId → (old new : List Numbers) → Result Started EpochRefused → Type 0
 Starts total u old new (Ok started) =
     ((numbers_at old u).bound < total) × (started ≡ started_at total (numbers_at old u)) × (new ≡ with_numbers old u (after_start total (numbers_at old u)))

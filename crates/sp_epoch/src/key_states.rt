@@ -2,7 +2,7 @@
 ghost use Rattle.std.specs.Prelude.{◌≡◌, ◌<◌, ◌^◌, IfErr, IfOk, replicate};
 ghost use Rattle.sp_keystate.specs.States.{first_numbers};
 ghost use Rattle.sp_epoch.specs.Numbers.{IsOneOf, numbers_at};
-ghost use Rattle.sp_epoch.specs.Calls.{Reserves, Starts};
+ghost use Rattle.sp_epoch.specs.Calls.{IsNext, Reserves, Starts};
 
 use crate::row::Row;
 use crate::{EpochRefused, Started};
@@ -44,6 +44,15 @@ impl KeyStates {
         ensures { result ≡ (numbers_at self.now u).serial }
     {
         self.rows[usize::from(u.0) - 1].serial()
+    }
+
+    /// What `start` would answer, with nothing taken.
+    pub fn next(&self, u: NodeId, total: u64) -> Result<Started, EpochRefused>
+        requires node { IsOneOf self.now u }
+        requires serial { (numbers_at self.now u).serial < 2 ^ 62 }
+        ensures { IsNext total u self.now result }
+    {
+        self.rows[usize::from(u.0) - 1].next(total)
     }
 
     /// Starts a node whose key has so many indexes in all: it takes the next boot, and reserves 32 indexes more, or as many as there are. Where all

@@ -47,6 +47,29 @@ impl Row {
         self.state.serial
     }
 
+    /// What `start` would answer.
+    pub fn next(&self, total: u64) -> Result<Started, EpochRefused>
+        requires { self.now.serial < 2 ^ 62 }
+        ensures given { OnOk result (self.now.bound < total) }
+        ensures gives { IfOk result (λ started. started ≡ started_at total self.now) }
+        ensures refused { OnErr result (total ≤ self.now.bound) }
+        ensures exhausted { IfErr result (λ refused. refused ≡ refusals.Exhausted self.now.bound) }
+    {
+        let first = self.state.bound;
+        if first >= total {
+            return Err(EpochRefused::Exhausted { bound: first });
+        }
+        Ok(Started {
+            boot: self.state.boot + 1,
+            index: first,
+            bound: if total - first > RESERVED {
+                first + RESERVED
+            } else {
+                total
+            },
+        })
+    }
+
     /// Takes the next boot and reserves indexes, where one of this total isn't reserved yet.
     pub fn start(&mut self, total: u64) -> Result<Started, EpochRefused>
         requires { self.old.serial < 2 ^ 62 }

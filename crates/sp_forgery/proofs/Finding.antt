@@ -1,5 +1,5 @@
 -- What a walk over a datagram's objects finds is what of it is forged.
-use Rattle.std.proofs.Common.{◌≡◌, ◌≢◌, ℕ, Bool, false, cond, List, [], map, None, Result, Ok, Err, refl, sym, ap, ◌∙◌}
+use Rattle.std.proofs.Common.{◌≡◌, ◌≢◌, ℕ, Bool, List, [], map, None, Result, Ok, Err, refl, sym, ap, ◌∙◌}
 use Rattle.sp_base.specs.declared.id.NodeId.{NodeId}
 use Rattle.sp_frame.specs.Frames.{opened_in, sections_part}
 use Rattle.sp_frame.specs.Sections.{Contents, sections_of_in}
@@ -24,7 +24,7 @@ use Rattle.sp_journal.specs.declared.entry.Entry.{Entry}
 use Rattle.sp_schedule_events.specs.declared.event.Event.{Event}
 use Rattle.sp_node_format.specs.Format.{format_in}
 use Rattle.sp_forgery.specs.Found.{found_at}
-use Rattle.sp_forgery.specs.Turns.{forged_in_turn, without_epoch}
+use Rattle.sp_forgery.specs.Turns.{forged_in_turn, handled_of}
 use Rattle.laws_node.proofs.Objects.{objects_are_answered}
 use Rattle.laws_node.specs.Objects.{objects_in}
 use Rattle.sp_forgery.proofs.Turns.{in_turn, none_left}
@@ -33,14 +33,14 @@ same_sections : (format : ℕ) (n : NodeState) (bytes : List ℕ)
     → sections_in (format_in format) n.fixed bytes ≡ sections_of_in format n.fixed.signature_len (sections_part bytes)
 same_sections format n bytes = refl
 
--- the pieces that a node without epochs handles
-abbrev plain_pieces : Result Contents SectionRefused → List Piece
-plain_pieces (Ok contents) = pieces_of (without_epoch contents)
-plain_pieces (Err refused) = []
+-- the pieces that a node handles
+abbrev pieces_for : (epochs : Bool) → Result Contents SectionRefused → List Piece
+pieces_for epochs (Ok contents) = pieces_of (handled_of epochs contents)
+pieces_for epochs (Err refused) = []
 
-pieces_are_plain : (f : Fixed) (r : Result Contents SectionRefused) → f.epochs ≡ false → pieces_in f r ≡ plain_pieces r
-pieces_are_plain f (Ok contents) plain = ap (λ (epochs : Bool). pieces_of (cond epochs contents (without_epoch contents))) plain
-pieces_are_plain f (Err refused) plain = refl
+pieces_are_for : (epochs : Bool) (f : Fixed) (r : Result Contents SectionRefused) → f.epochs ≡ epochs → pieces_in f r ≡ pieces_for epochs r
+pieces_are_for epochs f (Ok contents) same = ap (λ (e : Bool). pieces_of (handled_of e contents)) same
+pieces_are_for epochs f (Err refused) same = refl
 
 -- bytes that are no frame aren't fresh
 no_fresh : (arts : Arts) (f : Fixed) (l : Link) (bytes : List ℕ) (refused : FrameRefused) → of_frame arts f l bytes (Err refused) ≢ links.Fresh
@@ -58,27 +58,27 @@ module _ (x : Setting) (es : List Event) (js : List Entry) where
   arts = format_in format
 
   found_there : (o : Result (List ℕ) FrameRefused) (r : Result Contents SectionRefused) (items : List Item) → ((refused : FrameRefused) → o ≢ Err refused)
-      → found_at x es js o r items ≡ forged_in_turn x es js (objects_in (plain_pieces r)) items
+      → found_at x es js o r items ≡ forged_in_turn x es js (objects_in (pieces_for x.epochs r)) items
   found_there (Ok frame) (Ok contents) items good = refl
   found_there (Ok frame) (Err refused) items good = sym (none_left x es js items)
   found_there (Err refused) r items good = absurd (good refused refl)
 
-  pub fresh_is : (n : NodeState) (u : NodeId) (bytes : List ℕ) (len : ℕ) (items : List Item) → n.fixed.signature_len ≡ len → n.fixed.epochs ≡ false
+  pub fresh_is : (n : NodeState) (u : NodeId) (bytes : List ℕ) (len : ℕ) (items : List Item) → n.fixed.signature_len ≡ len → n.fixed.epochs ≡ x.epochs
       → links.Fresh ≡ reply_at arts n u bytes
       → items ≡ map (λ a. a.1) (handled arts n u bytes).answered
       → found_at x es js (opened_in format bytes) (sections_of_in format len (sections_part bytes)) items ≡ forged_object arts x es js (handled arts n u bytes).answered
-  fresh_is n u bytes len items long plain fresh are =
+  fresh_is n u bytes len items long same fresh are =
       let good : (refused : FrameRefused) → opened_in format bytes ≢ Err refused =
       λ refused e. no_fresh arts n.fixed (link_in n u) bytes refused (sym (fresh ∙ ap (of_frame arts n.fixed (link_in n u) bytes) e)) in
       let there : found_at x es js (opened_in format bytes) (sections_of_in format len (sections_part bytes)) items
-      ≡ forged_in_turn x es js (objects_in (plain_pieces (sections_of_in format len (sections_part bytes)))) items =
+      ≡ forged_in_turn x es js (objects_in (pieces_for x.epochs (sections_of_in format len (sections_part bytes)))) items =
       found_there (opened_in format bytes) (sections_of_in format len (sections_part bytes)) items good in
       let sections = sections_in arts n.fixed bytes in
-      let pieces : pieces_where (reply_at arts n u bytes) (pieces_in n.fixed sections) ≡ plain_pieces (sections_of_in format len (sections_part bytes)) =
+      let pieces : pieces_where (reply_at arts n u bytes) (pieces_in n.fixed sections) ≡ pieces_for x.epochs (sections_of_in format len (sections_part bytes)) =
       ap (λ (l : LinkReply). pieces_where l (pieces_in n.fixed sections)) (sym fresh)
-      ∙ pieces_are_plain n.fixed sections plain
-      ∙ ap plain_pieces (same_sections format n bytes) ∙ ap (λ (k : ℕ). plain_pieces (sections_of_in format k (sections_part bytes))) long in
-      let objects : map (λ a. a.0) (handled arts n u bytes).answered ≡ objects_in (plain_pieces (sections_of_in format len (sections_part bytes))) =
+      ∙ pieces_are_for x.epochs n.fixed sections same
+      ∙ ap (pieces_for x.epochs) (same_sections format n bytes) ∙ ap (λ (k : ℕ). pieces_for x.epochs (sections_of_in format k (sections_part bytes))) long in
+      let objects : map (λ a. a.0) (handled arts n u bytes).answered ≡ objects_in (pieces_for x.epochs (sections_of_in format len (sections_part bytes))) =
       objects_are_answered arts (arrival_at n u) (parts_met arts n u bytes) (pieces_where (reply_at arts n u bytes) (pieces_in n.fixed sections))
       ∙ ap objects_in pieces in
       there

@@ -8,7 +8,7 @@ use Rattle.sp_rules.specs.Steps.{Arrived, Datagram, Output, arrived, refused_cal
 use Rattle.sp_rules.specs.declared.node.LinkReply.{LinkReply}
 use Rattle.sp_rules.specs.declared.node.Step.{Step}
 use Rattle.sp_rules.specs.declared.node.Taken.{Taken}
-use Rattle.sp_runs.specs.Forgery.{forged, forged_object, has_forged_tag, is_among, is_tagged}
+use Rattle.sp_runs.specs.Forgery.{forged, forged_object, has_forged_tag, is_made, is_tagged}
 use Rattle.sp_runs.specs.Settings.{Setting, is_correct}
 use Rattle.sp_runs.specs.Worlds.{Direction, World, frames_in}
 use Rattle.sp_journal.specs.declared.entry.Entry.{Entry}
@@ -32,14 +32,14 @@ items_are format n new u bytes step called gave = let r = reply_is format n new 
 
 module _ (x : Setting) (es : List Event) (js : List Entry) (n : NodeState) (u v : NodeId) (bytes : List ℕ) (w : World) (ds : List Direction) (link : LinkReply) where
   has_is : n.fixed.me ≡ v → w.directions ≡ ds → link ≡ reply_at (format_in x.topology.format) n u bytes
-      → (is_correct x u && is_tagged link && not (is_among bytes (frames_in ds u v))) ≡ has_forged_tag (format_in x.topology.format) x w n (Datagram u bytes)
+      → (is_correct x u && is_tagged link && not (is_made bytes (frames_in ds u v))) ≡ has_forged_tag (format_in x.topology.format) x w n (Datagram u bytes)
   has_is me rows is = rw (is, ← rows, ← me) refl
 
   pub tag_is : (o : Output) → n.fixed.me ≡ v → w.directions ≡ ds → link ≡ reply_at (format_in x.topology.format) n u bytes
-      → (is_correct x u && is_tagged link && not (is_among bytes (frames_in ds u v))) ≡ true → Some whats.Tag ≡ forged (format_in x.topology.format) x es js w n (Datagram u bytes) o
+      → (is_correct x u && is_tagged link && not (is_made bytes (frames_in ds u v))) ≡ true → Some whats.Tag ≡ forged (format_in x.topology.format) x es js w n (Datagram u bytes) o
   tag_is o me rows is has = rw (sym (has_is me rows is) ∙ has) refl
 
   pub object_is : (o : Output) (found : Option (List ℕ)) → n.fixed.me ≡ v → w.directions ≡ ds → link ≡ reply_at (format_in x.topology.format) n u bytes
-      → (is_correct x u && is_tagged link && not (is_among bytes (frames_in ds u v))) ≡ false → found ≡ forged_object (format_in x.topology.format) x es js o.answered
+      → (is_correct x u && is_tagged link && not (is_made bytes (frames_in ds u v))) ≡ false → found ≡ forged_object (format_in x.topology.format) x es js o.answered
       → option_map whats.Object found ≡ forged (format_in x.topology.format) x es js w n (Datagram u bytes) o
   object_is o found me rows is has same = rw (sym (has_is me rows is) ∙ has, ← same) refl

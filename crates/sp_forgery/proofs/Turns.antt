@@ -1,11 +1,10 @@
 -- A frame's objects with their answers: the first one that is forged is found by a walk over both.
-use Rattle.std.proofs.Common.{◌≡◌, ◌∙◌, ℕ, List, [], ◌∷◌, ◌++◌, map, Option, None, Some, refl, ap}
-use Rattle.std.proofs.lemmas.List.{append-nil}
+use Rattle.std.proofs.Common.{◌≡◌, ◌∙◌, ℕ, Bool, true, false, List, [], ◌∷◌, ◌++◌, map, Option, None, Some, refl, ap}
 use Rattle.laws_node.specs.Objects.{objects_in}
 use Rattle.sp_base.specs.declared.id.Flow.{Flow}
 use Rattle.sp_msg.specs.declared.kept.Kept.{Kept}
 use Rattle.sp_node_format.specs.Format.{format_in}
-use Rattle.sp_rules.specs.Pieces.{AckPiece, Piece, PrioAckPiece, RelPiece, WeightPiece, pieces_of, prio_piece, slot_pieces}
+use Rattle.sp_rules.specs.Pieces.{AckPiece, EpochPiece, Piece, PrioAckPiece, RelPiece, WeightPiece, pieces_of, prio_piece, slot_pieces}
 use Rattle.sp_rules.specs.declared.answers.Item.{Item}
 use Rattle.std.specs.Prelude.{option_map}
 use Rattle.sp_frame.specs.Views.{as_contents, as_list, as_numbered, as_object, as_report}
@@ -14,7 +13,7 @@ use Rattle.sp_frame.specs.declared.sections.Sections.{Sections}
 use Rattle.sp_frame.specs.declared.sections.Slot.{Slot}
 use Rattle.sp_runs.specs.Forgery.{forged_object}
 use Rattle.sp_runs.specs.Settings.{Setting}
-use Rattle.sp_forgery.specs.Turns.{forged_in_turn, slot_objects, without_epoch}
+use Rattle.sp_forgery.specs.Turns.{epoch_objects, forged_in_turn, handled_of, slot_objects}
 use Rattle.sp_journal.specs.declared.entry.Entry.{Entry}
 use Rattle.sp_schedule_events.specs.declared.event.Event.{Event}
 
@@ -23,34 +22,45 @@ pub in_turn : (x : Setting) (es : List Event) (js : List Entry) (xs : List (Kept
 in_turn x es js [] = refl
 in_turn x es js (a ∷ xs) = rw (in_turn x es js xs) refl
 
--- the objects of sections but for their Epoch object, part by part
-pub objects_in_sections : (s : Sections) → objects_in (pieces_of (without_epoch (as_contents s)))
-    ≡ as_list (option_map as_object s.weight) ++ (map (λ m. as_object m.1) s.prios ++ slot_objects s.slot)
-objects_in_sections s = weights s.weight
-  where
-    rels : (flow : Flow) (xs : List ObjectRef) → objects_in (map (RelPiece flow) (map as_object xs)) ≡ map as_object xs ++ []
-    rels flow [] = refl
-    rels flow (x ∷ xs) = ap (λ (os : List Kept). as_object x ∷ os) (rels flow xs)
+-- the objects of sections, part by part, up to these last pieces
+module _ (last : List Piece) where
+  rels_then : (flow : Flow) (xs : List ObjectRef) → objects_in (map (RelPiece flow) (map as_object xs) ++ last) ≡ map as_object xs ++ objects_in last
+  rels_then flow [] = refl
+  rels_then flow (x ∷ xs) = ap (λ (os : List Kept). as_object x ∷ os) (rels_then flow xs)
 
-    slots : (o : Option Slot) → objects_in (slot_pieces (option_map as_report o)) ≡ slot_objects o
-    slots None = refl
-    slots (Some s) = acks s.ack
-      where
-        acks : (x : Option ObjectRef) → objects_in (map (AckPiece s.flow) (as_list (option_map as_object x)) ++ map (RelPiece s.flow) (map as_object s.rels))
-            ≡ as_list (option_map as_object x) ++ (map as_object s.rels ++ [])
-        acks None = rels s.flow s.rels
-        acks (Some x) = ap (λ (os : List Kept). as_object x ∷ os) (rels s.flow s.rels)
+  acks_then : (flow : Flow) (x : Option ObjectRef) (xs : List ObjectRef)
+      → objects_in ((map (AckPiece flow) (as_list (option_map as_object x)) ++ map (RelPiece flow) (map as_object xs)) ++ last)
+      ≡ as_list (option_map as_object x) ++ (map as_object xs ++ objects_in last)
+  acks_then flow None xs = rels_then flow xs
+  acks_then flow (Some x) xs = ap (λ (os : List Kept). as_object x ∷ os) (rels_then flow xs)
 
-    prios : (ms : List (ℕ × ObjectRef)) → objects_in (map prio_piece (map as_numbered ms) ++ (slot_pieces (option_map as_report s.slot) ++ []))
-        ≡ map (λ m. as_object m.1) ms ++ slot_objects s.slot
-    prios [] = ap (λ (ps : List Piece). objects_in ps) (append-nil (slot_pieces (option_map as_report s.slot))) ∙ slots s.slot
-    prios (m ∷ ms) = ap (λ (os : List Kept). as_object m.1 ∷ os) (prios ms)
+  slot_then : (o : Option Slot) → objects_in (slot_pieces (option_map as_report o) ++ last) ≡ slot_objects o (objects_in last)
+  slot_then None = refl
+  slot_then (Some s) = acks_then s.flow s.ack s.rels
 
-    weights : (w : Option ObjectRef) → objects_in (map WeightPiece (as_list (option_map as_object w))
-        ++ (PrioAckPiece s.prio_ack ∷ (map prio_piece (map as_numbered s.prios) ++ (slot_pieces (option_map as_report s.slot) ++ []))))
-        ≡ as_list (option_map as_object w) ++ (map (λ m. as_object m.1) s.prios ++ slot_objects s.slot)
-    weights None = prios s.prios
-    weights (Some w) = ap (λ (os : List Kept). as_object w ∷ os) (prios s.prios)
+  prios_then : (slot : Option Slot) (ms : List (ℕ × ObjectRef))
+      → objects_in (map prio_piece (map as_numbered ms) ++ (slot_pieces (option_map as_report slot) ++ last))
+      ≡ map (λ m. as_object m.1) ms ++ slot_objects slot (objects_in last)
+  prios_then slot [] = slot_then slot
+  prios_then slot (m ∷ ms) = ap (λ (os : List Kept). as_object m.1 ∷ os) (prios_then slot ms)
+
+  all_then : (s : Sections) (w : Option ObjectRef) → objects_in (map WeightPiece (as_list (option_map as_object w))
+      ++ (PrioAckPiece s.prio_ack ∷ (map prio_piece (map as_numbered s.prios) ++ (slot_pieces (option_map as_report s.slot) ++ last))))
+      ≡ as_list (option_map as_object w) ++ (map (λ m. as_object m.1) s.prios ++ slot_objects s.slot (objects_in last))
+  all_then s None = prios_then s.slot s.prios
+  all_then s (Some w) = ap (λ (os : List Kept). as_object w ∷ os) (prios_then s.slot s.prios)
+
+-- the last one
+epoch_is : (e : Option ObjectRef) → objects_in (map EpochPiece (as_list (option_map as_object e))) ≡ epoch_objects true e
+epoch_is None = refl
+epoch_is (Some e) = refl
+
+pub objects_in_sections : (epochs : Bool) (s : Sections) → objects_in (pieces_of (handled_of epochs (as_contents s)))
+    ≡ as_list (option_map as_object s.weight) ++ (map (λ m. as_object m.1) s.prios ++ slot_objects s.slot (epoch_objects epochs s.epoch))
+objects_in_sections true s =
+    all_then (map EpochPiece (as_list (option_map as_object s.epoch))) s s.weight
+    ∙ ap (λ (os : List Kept). as_list (option_map as_object s.weight) ++ (map (λ m. as_object m.1) s.prios ++ slot_objects s.slot os)) (epoch_is s.epoch)
+objects_in_sections false s = all_then [] s s.weight
 
 -- where no object is left, none is forged
 pub none_left : (x : Setting) (es : List Event) (js : List Entry) (items : List Item) → forged_in_turn x es js [] items ≡ None

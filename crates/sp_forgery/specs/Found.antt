@@ -16,7 +16,7 @@ use Rattle.sp_rules.specs.declared.node.Step.{Step}
 use Rattle.sp_rules.specs.declared.node.Taken.{Taken}
 use Rattle.sp_runs.specs.Settings.{Setting}
 use Rattle.sp_schedule_events.specs.declared.event.Event.{Event}
-use Rattle.sp_forgery.specs.Turns.{forged_in_turn, without_epoch}
+use Rattle.sp_forgery.specs.Turns.{forged_in_turn, handled_of}
 
 -- the output of an arrival that was answered so, in a format
 abbrev pub answered : (format : ℕ) → NodeState → NodeId → List ℕ → Step Taken → Output
@@ -27,8 +27,8 @@ answered format n u bytes step =
 abbrev pub Answered : (format : ℕ) → NodeState → NodeId → List ℕ → Step Taken → NodeState → Type 0
 Answered format n u bytes step new = NodeStep (format_in format) n (Datagram u bytes) (answered format n u bytes step) new
 
--- the first object that is forged, of bytes that open so and have these sections, at a node without epochs
+-- the first object that is forged, of bytes that open so and have these sections
 abbrev pub found_at : Setting → List Event → List Entry → Result (List ℕ) FrameRefused → Result Contents SectionRefused → List Item → Option (List ℕ)
-found_at x es js (Ok frame) (Ok contents) items = forged_in_turn x es js (objects_in (pieces_of (without_epoch contents))) items
+found_at x es js (Ok frame) (Ok contents) items = forged_in_turn x es js (objects_in (pieces_of (handled_of x.epochs contents))) items
 found_at x es js (Ok frame) (Err refused) items = None
 found_at x es js (Err refused) sections items = None

@@ -1,7 +1,8 @@
 -- A walk over objects and their answers in turn, for the first that is forged.
-use Rattle.std.specs.Prelude.{ℕ, List, [], ◌∷◌, ◌++◌, map, option_map, Option, None, Some, if◌then◌else◌}
+use Rattle.std.specs.Prelude.{ℕ, Bool, true, false, List, [], ◌∷◌, ◌++◌, map, option_map, Option, None, Some, if◌then◌else◌}
 use Rattle.sp_frame.specs.Sections.{Contents}
 use Rattle.sp_frame.specs.Views.{as_list, as_object}
+use Rattle.sp_frame.specs.declared.object.ObjectRef.{ObjectRef}
 use Rattle.sp_frame.specs.declared.sections.Slot.{Slot}
 use Rattle.sp_journal.specs.declared.entry.Entry.{Entry}
 use Rattle.sp_msg.specs.Bodies.{encoded_in}
@@ -23,11 +24,16 @@ forged_in_turn x es js [] (item ∷ items) = None
 forged_in_turn x es js (o ∷ os) (item ∷ items) =
     if is_forged (format_in x.topology.format) x es js (o, item) then Some (encoded_in x.topology.format o.body) else forged_in_turn x es js os items
 
--- what a node without epochs handles of contents: all but the Epoch object
-abbrev pub without_epoch : Contents → Contents
-without_epoch contents = record contents { epoch = None }
+-- what a node handles of contents: all where nodes run with epochs, and else all but the Epoch object
+abbrev pub handled_of : (epochs : Bool) → Contents → Contents
+handled_of epochs contents = if epochs then contents else record contents { epoch = None }
 
--- the objects of a slot
-abbrev pub slot_objects : Option Slot → List Kept
-slot_objects None = []
-slot_objects (Some s) = as_list (option_map as_object s.ack) ++ (map as_object s.rels ++ [])
+-- the objects of a slot, and then these
+abbrev pub slot_objects : Option Slot → List Kept → List Kept
+slot_objects None os = os
+slot_objects (Some s) os = as_list (option_map as_object s.ack) ++ (map as_object s.rels ++ os)
+
+-- the Epoch object, where nodes run with epochs
+abbrev pub epoch_objects : (epochs : Bool) → Option ObjectRef → List Kept
+epoch_objects true object = as_list (option_map as_object object) ++ []
+epoch_objects false object = []

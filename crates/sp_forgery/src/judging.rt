@@ -1,5 +1,5 @@
 // What of an arrival is forged: its tag, or else the first object in the order of handling.
-ghost use Rattle.std.specs.Prelude.{◌≡◌, ◌≤◌, [], IfSome, None as Nothing, false, length, map, option_map, vec_capacity};
+ghost use Rattle.std.specs.Prelude.{◌≡◌, ◌≤◌, [], IfSome, None as Nothing, length, map, option_map, vec_capacity};
 ghost use Rattle.sp_frame.specs.Frames.{opened_in, sections_part};
 ghost use Rattle.sp_frame.specs.Sections.{sections_of_in};
 ghost use Rattle.sp_node_format.specs.Format.{format_in};
@@ -61,7 +61,7 @@ fn fill(room: &mut Vec<u8>, bytes: &[u8])
     }
 }
 
-/// What of an arrival at `v` from `u` is forged, by what the node answered, which runs without epochs. None exactly where nothing is. It takes no memory.
+/// What of an arrival at `v` from `u` is forged, by what the node answered. None exactly where nothing is. It takes no memory.
 #[tactic(auto, using(crate::proofs::Rules::judged))]
 pub fn judge<'a>(
     known: &Known<'_>,
@@ -73,12 +73,13 @@ pub fn judge<'a>(
 ) -> Option<Forgery<'a>>
     requires { length known.now.events.now ≡ length known.now.journal.now }
     ensures judged { (n new : NodeState) (w : World) → n.fixed.me ≡ v → n.fixed.signature_len ≡ known.now.signature_len
-        → n.fixed.epochs ≡ false → call_refusal n u ≡ Nothing → w.directions ≡ directions.now
+        → n.fixed.epochs ≡ known.now.scenario.now.epochs → call_refusal n u ≡ Nothing → w.directions ≡ directions.now
         → Answered known.now.scenario.now.format n u bytes.now step.now new
         → option_map what_of result ≡ forged (format_in known.now.scenario.now.format) (setting_of known.now.scenario.now)
         known.now.events.now known.now.journal.now w n
         (Datagram u bytes.now) (answered known.now.scenario.now.format n u bytes.now step.now) }
-    ensures short { (n new : NodeState) → n.fixed.signature_len ≡ known.now.signature_len → n.fixed.epochs ≡ false → call_refusal n u ≡ Nothing
+    ensures short { (n new : NodeState) → n.fixed.signature_len ≡ known.now.signature_len → n.fixed.epochs ≡ known.now.scenario.now.epochs
+        → call_refusal n u ≡ Nothing
         → Answered known.now.scenario.now.format n u bytes.now step.now new → IfSome result IsShort }
 {
     if has_forged_tag(known.scenario, directions, u, v, bytes, &step.reply.link) {
@@ -99,7 +100,7 @@ fn forged_in<'a>(
     items: &[Item],
 ) -> Option<&'a [u8]>
     requires { length known.now.events.now ≡ length known.now.journal.now }
-    ensures { (n : NodeState) (u : NodeId) → n.fixed.signature_len ≡ known.now.signature_len → n.fixed.epochs ≡ false
+    ensures { (n : NodeState) (u : NodeId) → n.fixed.signature_len ≡ known.now.signature_len → n.fixed.epochs ≡ known.now.scenario.now.epochs
         → link.now ≡ reply_at (format_in known.now.scenario.now.format) n u bytes.now
         → items.now ≡ map (λ a. a.1) (handled (format_in known.now.scenario.now.format) n u bytes.now).answered
         → option_map (λ b. b.now) result ≡ forged_object (format_in known.now.scenario.now.format) (setting_of known.now.scenario.now)

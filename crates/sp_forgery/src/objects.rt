@@ -11,7 +11,7 @@ ghost use Rattle.sp_rules.specs.Answers.{is_new};
 ghost use Rattle.sp_rules.specs.Pieces.{pieces_of};
 ghost use Rattle.sp_runs.specs.Forgery.{is_forged};
 ghost use Rattle.sp_runs.specs.Scenarios.{setting_of};
-ghost use Rattle.sp_forgery.specs.Turns.{forged_in_turn, or_later, slot_objects, without_epoch};
+ghost use Rattle.sp_forgery.specs.Turns.{epoch_objects, forged_in_turn, handled_of, or_later, slot_objects};
 
 use crate::hints::Hints;
 use crate::nodes::is_correct;
@@ -43,7 +43,7 @@ struct Looked<'a, 'b> {
 }
 
 /// The first object of a handled frame of the scenario's format that is forged: its bytes. The answers are those to its objects, in the order of handling.
-/// The node runs without epochs, so it handled no Epoch object.
+/// The Epoch object comes last. A node handles it where nodes run with epochs.
 #[tactic(auto, using(crate::proofs::Turns::objects_in_sections))]
 pub fn first_forged<'a>(
     known: &Known<'_>,
@@ -54,7 +54,7 @@ pub fn first_forged<'a>(
     requires of_format { AreOf known.now.scenario.now.format sections.now }
     ensures { option_map (λ b. b.now) result
         ≡ forged_in_turn (setting_of known.now.scenario.now) known.now.events.now known.now.journal.now
-        (objects_in (pieces_of (without_epoch (as_contents sections.now)))) items.now }
+        (objects_in (pieces_of (handled_of known.now.scenario.now.epochs (as_contents sections.now)))) items.now }
 {
     let weight = look(known, &sections.weight, items);
     if weight.found.is_some() {
@@ -69,26 +69,52 @@ pub fn first_forged<'a>(
     if prios.found.is_some() {
         return prios.found;
     }
-    in_slot(known, &sections.slot, prios.rest)
+    let slot = look_in(known, &sections.slot, prios.rest);
+    if slot.found.is_some() {
+        return slot.found;
+    }
+    in_epoch(known, &sections.epoch, slot.rest)
 }
 
-/// The same of a slot.
+/// The same of the Epoch object, which is looked at where nodes run with epochs.
 #[tactic(auto, using(crate::proofs::Turns::none_left))]
-fn in_slot<'a>(known: &Known<'_>, slot: &Option<Slot<'a>>, items: &[Item]) -> Option<&'a [u8]>
+fn in_epoch<'a>(
+    known: &Known<'_>,
+    object: &Option<ObjectRef<'a>>,
+    items: &[Item],
+) -> Option<&'a [u8]>
+    requires known { length known.now.events.now ≡ length known.now.journal.now }
+    requires of_format { IfSome object.now (IsOf known.now.scenario.now.format) }
+    ensures { option_map (λ b. b.now) result
+        ≡ forged_in_turn (setting_of known.now.scenario.now) known.now.events.now known.now.journal.now
+        (epoch_objects known.now.scenario.now.epochs object.now) items.now }
+{
+    if !known.scenario.epochs {
+        return None;
+    }
+    look(known, object, items).found
+}
+
+/// Looks at the objects of a slot, if there is one, with the first of the answers.
+fn look_in<'a, 'b>(known: &Known<'_>, slot: &Option<Slot<'a>>, items: &'b [Item]) -> Looked<'a, 'b>
     requires known { length known.now.events.now ≡ length known.now.journal.now }
     requires of_format { IfSome slot.now (IsSlotOf known.now.scenario.now.format) }
-    ensures { option_map (λ b. b.now) result
-        ≡ forged_in_turn (setting_of known.now.scenario.now) known.now.events.now known.now.journal.now (slot_objects slot.now) items.now }
+    ensures { (os : List Kept) → forged_in_turn (setting_of known.now.scenario.now) known.now.events.now known.now.journal.now
+        (slot_objects slot.now os) items.now
+        ≡ or_later (option_map (λ b. b.now) result.found)
+        (forged_in_turn (setting_of known.now.scenario.now) known.now.events.now known.now.journal.now os result.rest.now) }
 {
     let Some(slot) = slot else {
-        return None;
+        return Looked {
+            found: None,
+            rest: items,
+        };
     };
     let ack = look(known, &slot.ack, items);
     if ack.found.is_some() {
-        return ack.found;
+        return ack;
     }
-    let rels = look_all(known, &slot.rels, 0, ack.rest);
-    rels.found
+    look_all(known, &slot.rels, 0, ack.rest)
 }
 
 /// Looks at an object, if there is one, with the first of the answers.

@@ -1,6 +1,6 @@
 // Whether the tag of an arrival is forged.
 ghost use Rattle.std.specs.Prelude.{◌≡◌, ◌&&◌, not};
-ghost use Rattle.sp_runs.specs.Forgery.{is_among, is_tagged};
+ghost use Rattle.sp_runs.specs.Forgery.{is_made, is_tagged};
 ghost use Rattle.sp_runs.specs.Scenarios.{setting_of};
 ghost use Rattle.sp_runs.specs.Settings.{is_correct};
 ghost use Rattle.sp_runs.specs.Worlds.{frames_in};
@@ -21,7 +21,7 @@ pub fn has_forged_tag(
     bytes: &[u8],
     link: &LinkReply,
 ) -> bool
-    ensures { result ≡ (is_correct (setting_of scenario.now) u && is_tagged link.now && not (is_among bytes.now (frames_in directions.now u v))) }
+    ensures { result ≡ (is_correct (setting_of scenario.now) u && is_tagged link.now && not (is_made bytes.now (frames_in directions.now u v))) }
 {
     is_correct(scenario, u)
         && is_tagged(link)

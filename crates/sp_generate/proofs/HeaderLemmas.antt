@@ -93,4 +93,5 @@ scenario_is number = record {
   limits = record { buffer = (leb-true 1 16 refl, leb-true 16 64 refl); store = (leb-true 1 16 refl, leb-true 16 256 refl) };
   graph = graph_is;
   bad = (leb-true 1 4 refl, leb-true 4 8 refl, (leb-true 5 8 refl, leb-true 8 8 refl, tt));
+  epochs = λ has. absurd cc;
 }

@@ -1,5 +1,5 @@
 -- Directions between correct neighbours: frames that are made there arrive.
-use Rattle.std.proofs.Common.{◌≡◌, ◌<◌, ◌≤◌, ℕ, zero, suc, ◌+◌, ◌^◌, ◌==◌, ◌&&◌, Bool, true, nat_le, List, [], ◌∷◌, ◌++◌, refl, ◌∙◌, arith}
+use Rattle.std.proofs.Common.{◌≡◌, ◌<◌, ◌≤◌, ℕ, zero, suc, ◌+◌, ◌^◌, ◌==◌, ◌&&◌, Bool, true, false, nat_le, List, [], ◌∷◌, ◌++◌, refl, ◌∙◌, arith}
 use Rattle.std.specs.List.{All, flat_map, range_with_len}
 use Rattle.std.proofs.lemmas.Bool.{and_from, and_parts, eq-eqb, eqb-true, leb-true, le-leb}
 use Rattle.std.proofs.lemmas.List.Elements.{All-cons, All-head, All-nil, All-tail}
@@ -42,8 +42,8 @@ all_open number = all_mean (is_open (generated_scenario number)) (IsOpen (genera
 
 -- ---- one frame
 
-poll_in_range : (s : Scenario) (before : List Event) (d : ℕ × ℕ) → IsOpen s d → InRange s before (events.Poll (node d.0) (node d.1))
-poll_in_range s before d is = record { values = (is.from.0, is.from.1, is.from.2, (is.to.0, is.to.1, tt)); joined = is.joined }
+poll_in_range : (s : Scenario) (before : List Event) (d : ℕ × ℕ) → s.epochs ≡ false → IsOpen s d → InRange s before (events.Poll (node d.0) (node d.1))
+poll_in_range s before d off is = record { values = (is.from.0, is.from.1, is.from.2, (is.to.0, is.to.1, tt)); joined = is.joined; may = rw off refl }
 
 polled : (before : List Event) (d : ℕ × ℕ) → polls (before ++ events.Poll (node d.0) (node d.1) ∷ []) d.0 d.1 ≡ polls before d.0 d.1 + 1
 polled before d =
@@ -57,6 +57,7 @@ pass_in_range s before turn d is first most made = record {
   joined =
       and_from (nat_le 1 turn) (nat_le turn (polls (before ++ events.Poll (node d.0) (node d.1) ∷ []) d.0 d.1)) (le-leb 1 turn first)
       (le-leb turn (polls (before ++ events.Poll (node d.0) (node d.1) ∷ []) d.0 d.1) (rw (polled before d) made));
+  may = refl;
 }
 
 -- ---- a frame of each direction
@@ -72,19 +73,19 @@ made_more least before later (d ∷ ds) made =
     (rw (polls-append before later d.0 d.1) (omega (arith, All-head (λ (d : ℕ × ℕ). least ≤ polls before d.0 d.1) d ds made)))
     (made_more least before later ds (All-tail (λ (d : ℕ × ℕ). least ≤ polls before d.0 d.1) d ds made))
 
-frames_follow : (s : Scenario) (least : ℕ) (before : List Event) (ds : List (ℕ × ℕ)) → least + 1 < 2 ^ 64 → All (IsOpen s) ds → HaveMade least before ds
+frames_follow : (s : Scenario) (least : ℕ) (before : List Event) (ds : List (ℕ × ℕ)) → s.epochs ≡ false → least + 1 < 2 ^ 64 → All (IsOpen s) ds → HaveMade least before ds
     → Follow s before (flat_map (frame (least + 1)) ds)
-frames_follow s least before [] small opened made = tt
-frames_follow s least before (d ∷ ds) small opened made =
+frames_follow s least before [] off small opened made = tt
+frames_follow s least before (d ∷ ds) off small opened made =
     let here = All-head (IsOpen s) d ds opened in
     let enough : least ≤ polls before d.0 d.1 = All-head (λ (d : ℕ × ℕ). least ≤ polls before d.0 d.1) d ds made in
     let poll = events.Poll (node d.0) (node d.1) in
     let pass = events.Pass (node d.0) (node d.1) (least + 1) in
     let later = made_more least (before ++ poll ∷ []) (pass ∷ []) ds (made_more least before (poll ∷ []) ds (All-tail (λ (d : ℕ × ℕ). least ≤ polls before d.0 d.1) d ds made)) in (
-      poll_in_range s before d here,
+      poll_in_range s before d off here,
       (
         pass_in_range s before (least + 1) d here (omega arith) small (omega (arith, enough)),
-        frames_follow s least ((before ++ poll ∷ []) ++ pass ∷ []) ds small (All-tail (IsOpen s) d ds opened) later,
+        frames_follow s least ((before ++ poll ∷ []) ++ pass ∷ []) ds off small (All-tail (IsOpen s) d ds opened) later,
       ),
     )
 
@@ -92,7 +93,7 @@ frames_follow s least before (d ∷ ds) small opened made =
 
 tick_free : (number turn u : ℕ) → turn < 2 ^ 64 → (1 ≤ u) × (u ≤ 8) × (is_correct (generated_scenario number) u ≡ true) → IsFree (generated_scenario number) (events.Tick (node u) turn)
 unfolding generated_scenario
-tick_free number turn u small is before = record { values = (is.0, is.1, is.2, (omega arith, omega (arith, small), tt)); joined = refl }
+tick_free number turn u small is before = record { values = (is.0, is.1, is.2, (omega arith, omega (arith, small), tt)); joined = refl; may = refl }
 
 ticks_free : (number turn : ℕ) → turn < 2 ^ 64 → All (IsFree (generated_scenario number)) (events.Tick (node 1) turn ∷ events.Tick (node 7) turn ∷ [])
 unfolding generated_scenario
@@ -101,12 +102,16 @@ ticks_free number turn small =
     (tick_free number turn 1 small (leb-true 1 1 refl, leb-true 1 8 refl, refl))
     (All-cons (IsFree (generated_scenario number)) (events.Tick (node 7) turn) [] (tick_free number turn 7 small (leb-true 1 7 refl, leb-true 7 8 refl, refl)) (All-nil (IsFree (generated_scenario number))))
 
+no_epochs : (number : ℕ) → (generated_scenario number).epochs ≡ false
+unfolding generated_scenario
+no_epochs number = refl
+
 one_cycle : (number least : ℕ) (before : List Event) → least + 1 < 2 ^ 64 → HaveMade least before directions
     → Follow (generated_scenario number) before (cycle (least + 1))
 unfolding cycle
 one_cycle number least before small made =
     follow_on (generated_scenario number) before (flat_map (frame (least + 1)) directions) (events.Tick (node 1) (least + 1) ∷ events.Tick (node 7) (least + 1) ∷ [])
-    (frames_follow (generated_scenario number) least before directions small (all_open number) made)
+    (frames_follow (generated_scenario number) least before directions (no_epochs number) small (all_open number) made)
     (follow_free (generated_scenario number) (before ++ flat_map (frame (least + 1)) directions) (events.Tick (node 1) (least + 1) ∷ events.Tick (node 7) (least + 1) ∷ []) (ticks_free number (least + 1) small))
 
 -- in a cycle each direction makes one frame

@@ -52,9 +52,9 @@ both_free : (number turn : ℕ) → All (IsFree (generated_scenario number)) (bo
 unfolding generated_scenario
 both_free number turn =
     All-cons (IsFree (generated_scenario number)) (events.Rel (node 1) (node 7) (payload number turn)) (events.Rel (node 7) (node 1) (payload number turn) ∷ [])
-    (λ before. record { values = (leb-true 1 1 refl, leb-true 1 8 refl, refl, (leb-true 1 7 refl, leb-true 7 8 refl, (payload_is number turn, tt))); joined = refl })
+    (λ before. record { values = (leb-true 1 1 refl, leb-true 1 8 refl, refl, (leb-true 1 7 refl, leb-true 7 8 refl, (payload_is number turn, tt))); joined = refl; may = refl })
     (All-cons (IsFree (generated_scenario number)) (events.Rel (node 7) (node 1) (payload number turn)) []
-    (λ before. record { values = (leb-true 1 7 refl, leb-true 7 8 refl, refl, (leb-true 1 1 refl, leb-true 1 8 refl, (payload_is number turn, tt))); joined = refl })
+    (λ before. record { values = (leb-true 1 7 refl, leb-true 7 8 refl, refl, (leb-true 1 1 refl, leb-true 1 8 refl, (payload_is number turn, tt))); joined = refl; may = refl })
     (All-nil (IsFree (generated_scenario number))))
 
 -- and by priority
@@ -65,11 +65,13 @@ prio_free number turn =
     (λ before. record {
       values = (leb-true 1 2 refl, leb-true 2 8 refl, refl, (leb-true 1 6 refl, leb-true 6 8 refl, (leb-true 1 5 refl, leb-true 5 10 refl, (omega arith, omega arith, (omega arith, omega arith, (payload_is number turn, tt))))));
       joined = refl;
+      may = refl;
     })
     (All-cons (IsFree (generated_scenario number)) (events.Prio (node 1) (node 7) 3 1000000 2 (payload number turn)) []
     (λ before. record {
       values = (leb-true 1 1 refl, leb-true 1 8 refl, refl, (leb-true 1 7 refl, leb-true 7 8 refl, (leb-true 1 3 refl, leb-true 3 10 refl, (omega arith, omega arith, (omega arith, omega arith, (payload_is number turn, tt))))));
       joined = refl;
+      may = refl;
     })
     (All-nil (IsFree (generated_scenario number))))
 
@@ -94,6 +96,7 @@ hostile_free number =
         ),
       );
       joined = refl;
+      may = refl;
     })
     (All-cons (IsFree (generated_scenario number)) (crafted number 5 8) (events.Inject (node 8) (node 1) (255 ∷ 255 ∷ []) ∷ [])
     (λ before. record {
@@ -112,11 +115,13 @@ hostile_free number =
         ),
       );
       joined = refl;
+      may = refl;
     })
     (All-cons (IsFree (generated_scenario number)) (events.Inject (node 8) (node 1) (255 ∷ 255 ∷ [])) []
     (λ before. record {
       values = (leb-true 1 8 refl, leb-true 8 8 refl, (leb-true 1 1 refl, leb-true 1 8 refl, refl, ((leb-true 0 2 refl, leb-true 2 65507 refl, small (255 ∷ 255 ∷ []) refl), tt)));
       joined = refl;
+      may = refl;
     })
     (All-nil (IsFree (generated_scenario number)))))
 
@@ -126,11 +131,11 @@ same_free number (suc count) e free = All-cons (IsFree (generated_scenario numbe
 
 there : (number : ℕ) → IsFree (generated_scenario number) (events.Take (node 7) (node 1))
 unfolding generated_scenario
-there number before = record { values = (leb-true 1 7 refl, leb-true 7 8 refl, refl, (leb-true 1 1 refl, leb-true 1 8 refl, tt)); joined = refl }
+there number before = record { values = (leb-true 1 7 refl, leb-true 7 8 refl, refl, (leb-true 1 1 refl, leb-true 1 8 refl, tt)); joined = refl; may = refl }
 
 back : (number : ℕ) → IsFree (generated_scenario number) (events.Take (node 1) (node 7))
 unfolding generated_scenario
-back number before = record { values = (leb-true 1 1 refl, leb-true 1 8 refl, refl, (leb-true 1 7 refl, leb-true 7 8 refl, tt)); joined = refl }
+back number before = record { values = (leb-true 1 1 refl, leb-true 1 8 refl, refl, (leb-true 1 7 refl, leb-true 7 8 refl, tt)); joined = refl; may = refl }
 
 takes_free : (number : ℕ) → All (IsFree (generated_scenario number)) takes
 takes_free number =

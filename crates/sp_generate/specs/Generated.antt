@@ -1,5 +1,5 @@
 -- The schedule of a number: a realistic overlay of eight nodes, two of them compromised, and 3,975 events.
-use Rattle.std.specs.Prelude.{ℕ, List, [], ◌∷◌, ◌++◌, replicate}
+use Rattle.std.specs.Prelude.{ℕ, false, List, [], ◌∷◌, ◌++◌, replicate}
 use Rattle.std.specs.List.{flat_map, range_with_len}
 use Rattle.byteorder.specs.Endian.{big_bytes}
 use Rattle.sp_base.specs.declared.format.TheConstants.{FORMAT_1}
@@ -35,6 +35,7 @@ generated_scenario number = record {
   limits = record { buffer = 16; store = 16 };
   graph = record { nodes = 8; edges = edges };
   bad = node 4 ∷ node 8 ∷ [];
+  epochs = false;
 }
 
 -- ---- the events

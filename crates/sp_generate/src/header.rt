@@ -23,6 +23,7 @@ pub fn scenario(alloc: Global, number: u32) -> Result<Scenario, Memory>
             edges: edges(alloc)?,
         },
         bad: Listed::from_vec(Vec::from_slice(alloc, [NodeId(4), NodeId(8)].as_slice())?),
+        epochs: false,
     })
 }
 

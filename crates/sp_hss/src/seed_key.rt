@@ -47,6 +47,21 @@ impl SeedKey {
         })
     }
 
+    /// The same key once more, without a hash. The signers that the two become never share an index: one that signs two messages is no longer safe.
+    pub fn copied(&self, alloc: Global) -> Result<SeedKey, HssRefused>
+        ensures key { IfOk result (λ key. key ≡ self.now) }
+        ensures memory { IfErr result (λ refused. refused ≡ HssRefused.Memory) }
+    {
+        let Ok(upper) = self.upper.copied(alloc) else {
+            return Err(HssRefused::Memory);
+        };
+        Ok(SeedKey {
+            height: self.height,
+            seed: self.seed,
+            upper,
+        })
+    }
+
     /// The public key (RFC 8554, section 6.1).
     #[tactic(auto, unfolding(crate::specs::KeyTree::public_key))]
     pub fn public(&self) -> [u8; 60]

@@ -6,7 +6,8 @@
 --     expired NOW            low MIN                       version              fresh, and a word for each object: weight: prio: ack: rel: epoch:
 --     nopaths FOUND          frame NUMBER LENGTH DIGEST    notforme               with new badend epoch foreign low old expired seen ahead
 --     payload HEX            payload SRC SEQ HEX           badtag                 gap full inboxfull badsig
---     empty                                                learned BOOT
+--     empty                  badend                        learned BOOT
+--     started BOOT INDEX     exhausted BOUND               stopped              down
 --
 --     + signed HEX                        + delivered rel SRC SEQ HEX
 --     + stored PLACE ID SRC SEQ PRIO      + delivered prio SRC SEQ HEX
@@ -96,8 +97,13 @@ reply_name replies.Ticked = codes "ticked"
 reply_name (replies.TickSpent index) = codes "tickspent"
 reply_name (replies.TickNotReserved bound) = codes "ticknotreserved"
 reply_name (replies.Low least) = codes "low"
+reply_name replies.BadEnd = codes "badend"
 reply_name (replies.Frame number length digest) = codes "frame"
 reply_name (replies.Arrived link of_each) = link_name link
+reply_name (replies.Started boot index) = codes "started"
+reply_name (replies.Exhausted bound) = codes "exhausted"
+reply_name replies.Stopped = codes "stopped"
+reply_name replies.Down = codes "down"
 
 abbrev pub reply_fields : Reply → List Word
 reply_fields (replies.Accepted seq) = decimal seq ∷ []
@@ -112,8 +118,13 @@ reply_fields replies.Ticked = []
 reply_fields (replies.TickSpent index) = decimal index ∷ []
 reply_fields (replies.TickNotReserved bound) = decimal bound ∷ []
 reply_fields (replies.Low least) = decimal least ∷ []
+reply_fields replies.BadEnd = []
 reply_fields (replies.Frame number length digest) = decimal number ∷ decimal length ∷ hex_word digest ∷ []
 reply_fields (replies.Arrived link of_each) = link_fields link ++ map item_word of_each
+reply_fields (replies.Started boot index) = decimal boot ∷ decimal index ∷ []
+reply_fields (replies.Exhausted bound) = decimal bound ∷ []
+reply_fields replies.Stopped = []
+reply_fields replies.Down = []
 
 abbrev pub reply_words : Reply → List Word
 reply_words reply = reply_name reply ∷ reply_fields reply

@@ -56,6 +56,8 @@ pub enum Reply {
     Low {
         min: u32,
     },
+    /// The destination is no other node, or one whose boot this node doesn't hold yet.
+    BadEnd,
     /// A frame was made: its number in its direction, its length, and the SHA-256 of its bytes.
     Frame {
         number: u32,
@@ -67,6 +69,18 @@ pub enum Reply {
         link: LinkWord,
         items: Listed<ItemWord>,
     },
+    /// The node started, with this boot: its next signature was to have this index, and is that of its boot.
+    Started {
+        boot: u64,
+        index: u64,
+    },
+    /// The node didn't start: all indexes below this bound are reserved, and its key has no more.
+    Exhausted {
+        bound: u64,
+    },
+    Stopped,
+    /// The node that was to act doesn't run, or the frame that was to arrive wasn't made since its node didn't.
+    Down,
 }
 
 /// How a link took what arrived.

@@ -71,8 +71,13 @@ fn reply_name(reply: &Reply) -> &'static str
         Reply::TickSpent { .. } => "tickspent",
         Reply::TickNotReserved { .. } => "ticknotreserved",
         Reply::Low { .. } => "low",
+        Reply::BadEnd => "badend",
         Reply::Frame { .. } => "frame",
         Reply::Arrived { link, .. } => link_name(*link),
+        Reply::Started { .. } => "started",
+        Reply::Exhausted { .. } => "exhausted",
+        Reply::Stopped => "stopped",
+        Reply::Down => "down",
     }
 }
 
@@ -104,15 +109,18 @@ fn push_fields(out: &mut String, reply: &Reply) -> Result<(), Memory>
         | Reply::Spent { index: n }
         | Reply::Expired { now: n }
         | Reply::TickSpent { index: n }
-        | Reply::TickNotReserved { bound: n } => push_field(out, *n),
-        Reply::Full { base, have } => push_two(out, *base, *have),
+        | Reply::TickNotReserved { bound: n }
+        | Reply::Exhausted { bound: n } => push_field(out, *n),
+        Reply::Full { base: a, have: b } | Reply::Started { boot: a, index: b } => {
+            push_two(out, *a, *b)
+        }
         Reply::NoPaths { found } => push_field(out, u64::from(*found)),
         Reply::Payload(payload) => push_hex_field(out, payload.as_slice()),
         Reply::PayloadPrio { src, seq, payload } => {
             push_two(out, u64::from(src.0), *seq)?;
             push_hex_field(out, payload.as_slice())
         }
-        Reply::Empty | Reply::Ticked => Ok(()),
+        Reply::Empty | Reply::Ticked | Reply::BadEnd | Reply::Stopped | Reply::Down => Ok(()),
         Reply::Low { min } => push_field(out, u64::from(*min)),
         Reply::Frame {
             number,

@@ -49,6 +49,7 @@ of_form forms.Ticked xs = record { words = refl; reads = refl }
 of_form forms.TickSpent xs = record { words = refl; reads = refl }
 of_form forms.TickNotReserved xs = record { words = refl; reads = refl }
 of_form forms.Low xs = record { words = refl; reads = refl }
+of_form forms.BadEnd xs = record { words = refl; reads = refl }
 of_form forms.Frame xs = record { words = refl; reads = refl }
 of_form forms.TooLong xs = record { words = refl; reads = refl }
 of_form forms.Short xs = record { words = refl; reads = refl }
@@ -63,6 +64,10 @@ of_form (forms.Section sections.Cut) xs = record { words = refl; reads = refl }
 of_form (forms.Section sections.Count) xs = record { words = refl; reads = refl }
 of_form (forms.Section sections.Object) xs = record { words = refl; reads = refl }
 of_form (forms.Section sections.Tail) xs = record { words = refl; reads = refl }
+of_form forms.Started xs = record { words = refl; reads = refl }
+of_form forms.Exhausted xs = record { words = refl; reads = refl }
+of_form forms.Stopped xs = record { words = refl; reads = refl }
+of_form forms.Down xs = record { words = refl; reads = refl }
 
 pub good_form : (form : Form) → is_good_row (cells form) ≡ true
 good_form forms.Accepted = refl
@@ -77,6 +82,7 @@ good_form forms.Ticked = refl
 good_form forms.TickSpent = refl
 good_form forms.TickNotReserved = refl
 good_form forms.Low = refl
+good_form forms.BadEnd = refl
 good_form forms.Frame = refl
 good_form forms.TooLong = refl
 good_form forms.Short = refl
@@ -91,6 +97,10 @@ good_form (forms.Section sections.Cut) = refl
 good_form (forms.Section sections.Count) = refl
 good_form (forms.Section sections.Object) = refl
 good_form (forms.Section sections.Tail) = refl
+good_form forms.Started = refl
+good_form forms.Exhausted = refl
+good_form forms.Stopped = refl
+good_form forms.Down = refl
 
 pub row_words : (form : Form) (xs : Values (cells form)) → reply_words (reply_of form xs) ≡ spelled (cells form) xs
 row_words form xs = (of_form form xs).words

@@ -131,6 +131,7 @@ good_numbered forms.Ticked = refl
 good_numbered forms.TickSpent = refl
 good_numbered forms.TickNotReserved = refl
 good_numbered forms.Low = refl
+good_numbered forms.BadEnd = refl
 good_numbered forms.Frame = refl
 good_numbered forms.TooLong = refl
 good_numbered forms.Short = refl
@@ -145,6 +146,10 @@ good_numbered (forms.Section sections.Cut) = refl
 good_numbered (forms.Section sections.Count) = refl
 good_numbered (forms.Section sections.Object) = refl
 good_numbered (forms.Section sections.Tail) = refl
+good_numbered forms.Started = refl
+good_numbered forms.Exhausted = refl
+good_numbered forms.Stopped = refl
+good_numbered forms.Down = refl
 
 -- ---- items as places of a row
 

@@ -7,6 +7,7 @@
 --     nopaths FOUND       tickspent INDEX                              notforme
 --     empty               ticknotreserved BOUND                        badtag
 --     frame NUMBER LENGTH DIGEST                                       learned BOOT
+--     badend              started BOOT INDEX                           exhausted BOUND   stopped   down
 --
 --     weight:  new foreign low old badsig                  ack:  new badend epoch old ahead badsig
 --     prio:    new badend epoch expired seen badsig        rel:  new badend epoch old ahead gap full inboxfull badsig
@@ -47,6 +48,7 @@ pub data Form : Type 0 where
   TickSpent : Form
   TickNotReserved : Form
   Low : Form
+  BadEnd : Form
   Frame : Form
   TooLong : Form
   Short : Form
@@ -58,6 +60,10 @@ pub data Form : Type 0 where
   Stale : Form
   Topology : Form
   Section : SectionWord → Form
+  Started : Form
+  Exhausted : Form
+  Stopped : Form
+  Down : Form
 
 -- ---- rows
 
@@ -79,6 +85,7 @@ cells Ticked = Name (codes "ticked") ∷ []
 cells TickSpent = Name (codes "tickspent") ∷ any_number ∷ []
 cells TickNotReserved = Name (codes "ticknotreserved") ∷ any_number ∷ []
 cells Low = Name (codes "low") ∷ small_number ∷ []
+cells BadEnd = Name (codes "badend") ∷ []
 cells Frame = Name (codes "frame") ∷ small_number ∷ small_number ∷ Bytes 32 32 ∷ []
 cells TooLong = Name (codes "toolong") ∷ []
 cells Short = Name (codes "short") ∷ any_number ∷ any_number ∷ []
@@ -93,13 +100,18 @@ cells (Section sections.Cut) = Name (codes "section") ∷ Name (codes "cut") ∷
 cells (Section sections.Count) = Name (codes "section") ∷ Name (codes "count") ∷ []
 cells (Section sections.Object) = Name (codes "section") ∷ Name (codes "object") ∷ []
 cells (Section sections.Tail) = Name (codes "section") ∷ Name (codes "tail") ∷ []
+cells Started = Name (codes "started") ∷ any_number ∷ any_number ∷ []
+cells Exhausted = Name (codes "exhausted") ∷ any_number ∷ []
+cells Stopped = Name (codes "stopped") ∷ []
+cells Down = Name (codes "down") ∷ []
 
 -- all forms
 abbrev pub forms : List Form
 forms =
     Accepted ∷ Full ∷ Spent ∷ Expired ∷ NoPaths ∷ Payload ∷ PayloadPrio ∷ Empty ∷ Ticked ∷ TickSpent ∷ TickNotReserved
-    ∷ Low ∷ Frame ∷ TooLong ∷ Short ∷ Magic ∷ Version ∷ NotForMe ∷ BadTag
-    ∷ Learned ∷ Stale ∷ Topology ∷ Section sections.Cut ∷ Section sections.Count ∷ Section sections.Object ∷ Section sections.Tail ∷ []
+    ∷ Low ∷ BadEnd ∷ Frame ∷ TooLong ∷ Short ∷ Magic ∷ Version ∷ NotForMe ∷ BadTag
+    ∷ Learned ∷ Stale ∷ Topology ∷ Section sections.Cut ∷ Section sections.Count ∷ Section sections.Object ∷ Section sections.Tail
+    ∷ Started ∷ Exhausted ∷ Stopped ∷ Down ∷ []
 
 -- ---- replies
 
@@ -121,6 +133,7 @@ reply_of Ticked x = replies.Ticked
 reply_of TickSpent x = replies.TickSpent x.0
 reply_of TickNotReserved x = replies.TickNotReserved x.0
 reply_of Low x = replies.Low x.0
+reply_of BadEnd x = replies.BadEnd
 reply_of Frame x = replies.Frame x.0 x.1.0 x.1.1.0
 reply_of TooLong x = without_items links.TooLong
 reply_of Short x = without_items (links.Short x.0 x.1.0)
@@ -135,6 +148,10 @@ reply_of (Section sections.Cut) x = without_items (links.Section sections.Cut)
 reply_of (Section sections.Count) x = without_items (links.Section sections.Count)
 reply_of (Section sections.Object) x = without_items (links.Section sections.Object)
 reply_of (Section sections.Tail) x = without_items (links.Section sections.Tail)
+reply_of Started x = replies.Started x.0 x.1.0
+reply_of Exhausted x = replies.Exhausted x.0
+reply_of Stopped x = replies.Stopped
+reply_of Down x = replies.Down
 
 -- ---- items
 

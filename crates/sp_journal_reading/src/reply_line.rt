@@ -1,5 +1,5 @@
 // The reply of a line, read.
-ghost use Rattle.std.specs.Prelude.{◌≡◌, [], ◌∷◌, codes, map};
+ghost use Rattle.std.specs.Prelude.{◌≡◌, [], ◌∷◌, codes, false, map};
 ghost use Rattle.sp_lines.specs.Answers.{Reads};
 ghost use Rattle.sp_lines.specs.Cells.{same};
 ghost use Rattle.sp_journal_reading.specs.ReplyTable.{form_for, read_for, read_entry, read_form, read_fresh, read_reply};
@@ -7,8 +7,8 @@ ghost use Rattle.sp_journal_reading.specs.ReplyTable as forms;
 
 use crate::item_words::{MAX_ITEMS, read_items};
 use crate::reply_rows::{
-    accepted, arrived, expired, frame, full, learned, low, no_paths, payload, payload_prio, short,
-    spent, stale, tick_not_reserved, tick_spent, topology,
+    accepted, arrived, exhausted, expired, frame, full, learned, low, no_paths, payload,
+    payload_prio, short, spent, stale, started, tick_not_reserved, tick_spent, topology,
 };
 use sp_journal::{LinkWord, Reply, SectionWord};
 use sp_lines::{Fault, LineRefused, named, ranged};
@@ -77,6 +77,15 @@ fn bare(alloc: Global, name: &[u8]) -> Result<Reply, LineRefused>
     if named(name, b"ticked") {
         return Ok(Reply::Ticked);
     }
+    if named(name, b"badend") {
+        return Ok(Reply::BadEnd);
+    }
+    if named(name, b"stopped") {
+        return Ok(Reply::Stopped);
+    }
+    if named(name, b"down") {
+        return Ok(Reply::Down);
+    }
     if named(name, b"toolong") {
         return Ok(arrived(alloc, LinkWord::TooLong));
     }
@@ -96,6 +105,21 @@ fn bare(alloc: Global, name: &[u8]) -> Result<Reply, LineRefused>
 }
 
 fn one(alloc: Global, name: &[u8], a: &[u8]) -> Result<Reply, LineRefused>
+    ensures { Reads result (read_for (form_for (name.now ∷ a.now ∷ [])) (name.now ∷ a.now ∷ [])) }
+{
+    if named(name, b"exhausted") {
+        return exhausted(a);
+    }
+    if named(name, b"section") {
+        return section(alloc, a);
+    }
+    one_other(alloc, name, a)
+}
+
+/// What a name and one word say where it is neither of these names.
+fn one_other(alloc: Global, name: &[u8], a: &[u8]) -> Result<Reply, LineRefused>
+    requires exhausted { same name.now (codes "exhausted") ≡ false }
+    requires section { same name.now (codes "section") ≡ false }
     ensures { Reads result (read_for (form_for (name.now ∷ a.now ∷ [])) (name.now ∷ a.now ∷ [])) }
 {
     if named(name, b"accepted") {
@@ -128,9 +152,6 @@ fn one(alloc: Global, name: &[u8], a: &[u8]) -> Result<Reply, LineRefused>
     if named(name, b"topology") {
         return topology(alloc, a);
     }
-    if named(name, b"section") {
-        return section(alloc, a);
-    }
     Err(LineRefused::Bad(Fault::Form))
 }
 
@@ -158,6 +179,9 @@ fn two(alloc: Global, name: &[u8], a: &[u8], b: &[u8]) -> Result<Reply, LineRefu
 {
     if named(name, b"full") {
         return full(a, b);
+    }
+    if named(name, b"started") {
+        return started(a, b);
     }
     if named(name, b"short") {
         return short(alloc, a, b);

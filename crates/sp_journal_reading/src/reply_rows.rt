@@ -112,6 +112,23 @@ pub fn low(min: &[u8]) -> Result<Reply, LineRefused>
 }
 
 #[tactic(auto, unfolding(crate::specs::ReplyTable::read_form))]
+pub fn started(boot: &[u8], index: &[u8]) -> Result<Reply, LineRefused>
+    ensures { Reads result (read_form forms.Started (codes "started" ∷ boot.now ∷ index.now ∷ [])) }
+{
+    let boot = ranged(boot, 0, u64::MAX)?;
+    let index = ranged(index, 0, u64::MAX)?;
+    Ok(Reply::Started { boot, index })
+}
+
+#[tactic(auto, unfolding(crate::specs::ReplyTable::read_form))]
+pub fn exhausted(bound: &[u8]) -> Result<Reply, LineRefused>
+    ensures { Reads result (read_form forms.Exhausted (codes "exhausted" ∷ bound.now ∷ [])) }
+{
+    let bound = ranged(bound, 0, u64::MAX)?;
+    Ok(Reply::Exhausted { bound })
+}
+
+#[tactic(auto, unfolding(crate::specs::ReplyTable::read_form))]
 pub fn frame(
     alloc: Global,
     number: &[u8],

@@ -16,4 +16,4 @@ pub use key_state::KeyState;
 pub use opening::{format, open};
 pub use refused::KeyRefused;
 pub use refused_line::line_of;
-pub use starts::{RESERVED, Started, start};
+pub use starts::{LEAST_LEFT, RESERVED, Started, start};

@@ -9,6 +9,9 @@ use sp_outside::Keeper;
 /// How many indexes a daemon reserves at a time: at its start, and where few are left.
 pub const RESERVED: u64 = 32;
 
+/// How many reserved indexes a node begins a turn or an event with at least, while there are so many. It signs twice in one at most.
+pub const LEAST_LEFT: u64 = 4;
+
 /// A start: the state of the key file, and the first index that may be used. Those up to, and not with, the state's bound are reserved.
 #[derive(Debug, Drop)]
 pub struct Started {

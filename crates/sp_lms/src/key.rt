@@ -69,6 +69,22 @@ impl LmsKey {
         })
     }
 
+    /// The same key once more, without a hash. A leaf that signs a message with each of the two is no longer safe.
+    pub fn copied(&self, alloc: Global) -> Result<LmsKey, LmsRefused>
+        ensures ok { IfOk result (λ key. key ≡ self.now) }
+        ensures memory { IfErr result (λ refused. refused ≡ LmsRefused.Memory) }
+    {
+        let nodes = Vec::from_slice(alloc, self.nodes.as_slice())?;
+        Ok(LmsKey {
+            lms: self.lms,
+            ots: self.ots,
+            id: self.id,
+            seed: self.seed,
+            used: self.used,
+            nodes,
+        })
+    }
+
     /// Becomes the key of another seed and id, none of whose leaves is used. Takes no memory.
     ///
     /// Where that key was made before, `skip_to` gives up what it has used, as with `make`. The id belongs to that key alone, as with `make`.

@@ -116,6 +116,7 @@ refused_word (refusals.Expired now) = Some (replies.Expired now)
 refused_word (refusals.NoPaths found) = Some (replies.NoPaths found)
 refused_word (refusals.Low least) = Some (replies.Low least)
 refused_word (refusals.Spent index) = Some (replies.Spent index)
+refused_word refusals.BadEnd = Some replies.BadEnd
 refused_word _ = None
 
 -- what a tick did

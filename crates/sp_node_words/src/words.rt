@@ -143,9 +143,8 @@ pub fn refused_word(refused: SendRefused) -> Reply
         SendRefused::NoPaths { found } => Reply::NoPaths { found },
         SendRefused::Low { min } => Reply::Low { min },
         SendRefused::Spent { index } => Reply::Spent { index },
-        SendRefused::BadEnd | SendRefused::NotReserved { .. } | SendRefused::Memory => {
-            unreachable!()
-        }
+        SendRefused::BadEnd => Reply::BadEnd,
+        SendRefused::NotReserved { .. } | SendRefused::Memory => unreachable!(),
     }
 }
 

@@ -61,6 +61,7 @@ none_forged (stages.Height format seed height) past number what unforged f = f.e
 none_forged (stages.Bounds format seed height limits) past number what unforged f = f.events
 none_forged (stages.Edges s) past number what unforged f = f.events
 none_forged (stages.Bads s) past number what unforged f = f.events
+none_forged (stages.Epochs s) past number what unforged f = f.events
 
 -- ---- what must be done
 

@@ -15,19 +15,18 @@ use Rattle.sp_replay.specs.Laws.{AllButTheLastIsWritten, EmptyTextsAreRefused, F
 use Rattle.sp_replay.specs.Outputs.{AreDone, IsForgedNext, lines_before, lines_but_last}
 use Rattle.sp_rules.specs.Node.{NodeState}
 use Rattle.sp_runs.specs.Inputs.{acting}
-use Rattle.sp_runs.specs.Worlds.{World, is_me, node_in}
+use Rattle.sp_runs.specs.Worlds.{is_me, node_in, without_node}
 use Rattle.sp_runs.specs.declared.what.What.{What}
 use Rattle.sp_schedule.specs.Lines.{says}
 use Rattle.sp_schedule.specs.declared.stage.Stage.{Stage}
 use Rattle.sp_schedule.specs.declared.stage.Stage.TheVariants as stages
 use Rattle.sp_schedule_events.specs.declared.event.Event.{Event}
 use Rattle.sp_text.specs.Spelling.{Word}
-use Rattle.sp_world.specs.Past.{Past, without}
-use Rattle.sp_world_steps.specs.Members.{without_node}
+use Rattle.sp_world.specs.Past.{Past}
 
 pub harmless_schedules_are_run : HarmlessSchedulesAreRun
-harmless_schedules_are_run text s es status spells all complete =
-    complete.honest (record { scenario = s; events = es; spells = spells; unforged = harmless_schedules_forge_nothing s es spells.schedule all })
+harmless_schedules_are_run text s es status spells plain all complete =
+    complete.honest (record { scenario = s; events = es; spells = spells; unforged = harmless_schedules_forge_nothing s es spells.schedule plain all })
 
 pub empty_texts_are_refused : EmptyTextsAreRefused
 empty_texts_are_refused status complete =
@@ -95,8 +94,8 @@ leaves past event number what next = record {
   hostile = next.hostile;
   world = next.world;
   run = next.run;
-  frames = ap (λ (w : World). w.directions) next.left;
-  nodes = λ u other. ap (λ (w : World). node_in w.nodes u) next.left ∙ same_without next.world.nodes u (acting event) other;
+  frames = next.left.frames;
+  nodes = λ u other. ap (λ (ns : List NodeState). node_in ns u) next.left.nodes ∙ same_without next.world.nodes u (acting event) other;
 }
 
 pub forgeries_leave_others : ForgeriesLeaveOthers

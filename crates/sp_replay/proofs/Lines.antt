@@ -8,9 +8,10 @@ use Rattle.sp_lines.specs.Texts.{At_end, Good, Leads, Nothing_left}
 use Rattle.sp_lines.proofs.LeadLemmas.{led_by}
 use Rattle.sp_outside.specs.Streams.{AppendsFront}
 use Rattle.laws_runs_format.specs.Arts.{arts_of}
+use Rattle.laws_runs_format.specs.Schedules.{ScheduledEventsAreInRange}
 use Rattle.laws_runs_format.proofs.Schedules.{header_of}
 use Rattle.laws_runs_format.proofs.Hostile.{only_hostile}
-use Rattle.sp_runs.specs.Runs.{Clean, Starts}
+use Rattle.sp_runs.specs.Runs.{Clean, InRange, Starts}
 use Rattle.sp_runs.specs.Scenarios.{IsHeader, setting_of}
 use Rattle.sp_runs.specs.Worlds.{at_start}
 use Rattle.sp_runs.specs.declared.what.What.{What}
@@ -71,6 +72,7 @@ no_world (stages.Height format seed height) is = tt
 no_world (stages.Bounds format seed height limits) is = tt
 no_world (stages.Edges s) is = tt
 no_world (stages.Bads s) is = tt
+no_world (stages.Epochs s) is = tt
 no_world (stages.Events s es) is = absurd is
 no_world (stages.End s es) is = absurd is
 
@@ -82,6 +84,7 @@ not_of_header (stages.Height format seed height) s es is of = of
 not_of_header (stages.Bounds format seed height limits) s es is of = of
 not_of_header (stages.Edges t) s es is of = of
 not_of_header (stages.Bads t) s es is of = of
+not_of_header (stages.Epochs t) s es is of = of
 not_of_header (stages.Events t fs) s es is of = is
 not_of_header (stages.End t fs) s es is of = is
 
@@ -109,6 +112,7 @@ end_done (stages.Height format seed height) next world parsed done = absurd pars
 end_done (stages.Bounds format seed height limits) next world parsed done = absurd parsed
 end_done (stages.Edges s) next world parsed done = absurd parsed
 end_done (stages.Bads s) next world parsed done = absurd parsed
+end_done (stages.Epochs s) next world parsed done = absurd parsed
 end_done (stages.End s es) next world parsed done = absurd parsed
 
 pub so_far_end : (old new : Fed) (world : Option Past) → SoFar old world → TakesLine old parts.Ended new → IsGoodStage new.stage → SoFar new world
@@ -140,6 +144,7 @@ fit (stages.Height format seed height) p good of = absurd of
 fit (stages.Bounds format seed height limits) p good of = absurd of
 fit (stages.Edges s) p good of = absurd of
 fit (stages.Bads s) p good of = absurd of
+fit (stages.Epochs s) p good of = absurd of
 
 pub all_fit : (stage : Stage) (world : Option Past) → IsGoodStage stage → AreDone stage world → IfSome world HasBuffers
 all_fit stage None good done = tt
@@ -266,7 +271,20 @@ is_next (stages.Height format seed height) next p e parsed done good = absurd pa
 is_next (stages.Bounds format seed height limits) next p e parsed done good = absurd parsed
 is_next (stages.Edges s) next p e parsed done good = absurd parsed
 is_next (stages.Bads s) next p e parsed done good = absurd parsed
+is_next (stages.Epochs s) next p e parsed done good = absurd parsed
 is_next (stages.End s es) next p e parsed done good = absurd parsed
+
+-- so it may come there, by the law of good schedules
+pub next_in_range : ScheduledEventsAreInRange → (old next : Stage) (p : Past) (e : Event) → IsParsed old (parts.Event e) next → AreDone old (Some p) → IsGoodStage next
+    → InRange (setting_of p.scenario) p.events e
+next_in_range law old next p e parsed done good =
+    law p.scenario (p.events ++ e ∷ []) p.events [] e (is_next old next p e parsed done good).schedule refl
+
+-- and the next of a list of events too, of which so many were done
+pub listed_in_range : ScheduledEventsAreInRange → (s : Scenario) (es : List Event) (p : Past) (e : Event) (rest : List Event) → IsSchedule s es → s ≡ p.scenario
+    → es ≡ p.events ++ e ∷ rest → InRange (setting_of p.scenario) p.events e
+listed_in_range law s es p e rest schedule scenario events =
+    subst (λ (t : Scenario). InRange (setting_of t) p.events e) scenario (law s es p.events rest e schedule events)
 
 pub no_event_without_world : (old next : Stage) (e : Event) → IsParsed old (parts.Event e) next → AreDone old None → ⊥
 no_event_without_world (stages.Events s es) next e parsed done = done
@@ -277,6 +295,7 @@ no_event_without_world (stages.Height format seed height) next e parsed done = p
 no_event_without_world (stages.Bounds format seed height limits) next e parsed done = parsed
 no_event_without_world (stages.Edges s) next e parsed done = parsed
 no_event_without_world (stages.Bads s) next e parsed done = parsed
+no_event_without_world (stages.Epochs s) next e parsed done = parsed
 no_event_without_world (stages.End s es) next e parsed done = parsed
 
 event_done : (stage : Stage) (p q : Past) (e : Event) → IsNext p e stage → GoesOn p e q → AreDone stage (Some q)
@@ -303,7 +322,7 @@ pub forged_in : (stage : Stage) (p q : Past) (e : Event) (rest : List Event) (nu
     → IsRefused p e (stops.Forged number what) q → IsOfStage stage p.scenario (p.events ++ e ∷ rest) → IsForgedIn stage q number what
 forged_in stage p q e rest number what past going refused events =
     let forged : IsForged p e number what q = refused.first going in
-    let same : p.world ≡ past.last = subst (λ (t : Option WorldRefused). IsLeft t past.last p.world) going past.left in
+    let same : p.world ≡ past.last = subst (λ (t : Option WorldRefused). IsLeft (setting_of p.scenario) t past.last p.world) going past.left in
     let run : Clean (arts_of (setting_of p.scenario)) (setting_of p.scenario) p.events p.journal p.world = rw same past.clean in
     record {
       event = e;

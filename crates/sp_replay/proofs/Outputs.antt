@@ -51,6 +51,7 @@ ended_well false stage line Nothing_left e = at_end stage e
     at_end (stages.Bounds format seed height limits) e = absurd cc
     at_end (stages.Edges s) e = absurd cc
     at_end (stages.Bads s) e = absurd cc
+    at_end (stages.Epochs s) e = absurd cc
 ended_well is_cut stage line (No_words refused) e = absurd (never is_cut refused e)
   where
     never : (b : Bool) (r : TextRefused) → endings.Whole ≡ ending_of b stage line (No_words r) → ⊥

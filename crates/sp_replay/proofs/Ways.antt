@@ -9,9 +9,9 @@ use Rattle.laws_runs_format.specs.Arts.{arts_of}
 use Rattle.sp_runs.specs.Inputs.{acting}
 use Rattle.sp_runs.specs.Runs.{Clean, IsForgedAt, Starts, Turn, Turned, forged_in}
 use Rattle.sp_runs.specs.Scenarios.{setting_of}
-use Rattle.sp_runs.specs.Worlds.{World, at_start}
+use Rattle.sp_runs.specs.Worlds.{World, at_start, without_node}
 use Rattle.sp_runs.specs.declared.what.What.{What}
-use Rattle.laws_runs_format.proofs.Headline.{every_run}
+use Rattle.laws_runs_format.proofs.Headline.{every_life, every_run}
 use Rattle.laws_runs_format.proofs.Hostile.{only_hostile}
 use Rattle.laws_runs_format.proofs.Schedules.{header_of, scheduled_events_are_in_range}
 use Rattle.laws_runs_format.proofs.Turned.{scheduled_events_have_turns}
@@ -26,7 +26,7 @@ use Rattle.sp_schedule.specs.declared.stage.Stage.{Stage}
 use Rattle.sp_schedule.specs.declared.stage.Stage.TheVariants as stages
 use Rattle.sp_schedule_events.specs.declared.event.Event.{Event}
 use Rattle.sp_schedule_events.specs.declared.scenario.Scenario.{Scenario}
-use Rattle.sp_world.specs.Past.{IsPast, Past, without}
+use Rattle.sp_world.specs.Past.{IsPast, Past}
 use Rattle.sp_world.specs.declared.refused.WorldRefused.{WorldRefused}
 use Rattle.sp_world.specs.declared.refused.WorldRefused.TheVariants as stops
 use Rattle.sp_replay.specs.Claims.{WorldClaims}
@@ -36,6 +36,7 @@ use Rattle.sp_replay.specs.Played.{IsPlayedBy, ToldBy, status_of}
 use Rattle.sp_replay.specs.Playing.{Way, Ways}
 use Rattle.sp_replay.proofs.Outputs.{ended_well}
 use Rattle.sp_replay.proofs.Timelines.{without_end}
+use Rattle.sp_replay.proofs.Worlds.{world_claims}
 
 -- ---- journals that grow
 
@@ -97,7 +98,7 @@ module _ (s : Scenario) (all : List Event) (schedule : IsSchedule s all) where
       let again : all ≡ (es ++ e ∷ []) ++ rest = same ∙ sym (append_assoc es (e ∷ []) rest) in
       go turn.entry turn.new turn.turn (λ j new next. run_on rest (es ++ e ∷ []) (js ++ j ∷ []) new next again) (forged_in (arts_of (setting_of s)) (setting_of s) es js w e turn.entry turn.new turn.turn) refl
     where
-      go : (j : Entry) (new : World) (turn : Turn (arts_of (setting_of s)) (setting_of s) es w e j new)
+      go : (j : Entry) (new : World) (turn : Turn (arts_of (setting_of s)) (setting_of s) w e j new)
           → ((j : Entry) (new : World) → Clean (arts_of (setting_of s)) (setting_of s) (es ++ e ∷ []) (js ++ j ∷ []) new → RunsOn s all (es ++ e ∷ []) (js ++ j ∷ []))
           → (f : Option What) → forged_in (arts_of (setting_of s)) (setting_of s) es js w e j new turn ≡ f → RunsOn s all es js
       go j new turn further None is =
@@ -114,13 +115,13 @@ module _ (s : Scenario) (all : List Event) (schedule : IsSchedule s all) where
             played = on.played;
           }
       go j new turn further (Some what) is = record {
-        whole = record { scenario = s; events = es; journal = js; world = without w (acting e); stopped = Some (stops.Forged (length es + 1) what) };
+        whole = record { scenario = s; events = es; journal = js; world = record w { nodes = without_node w.nodes (acting e) }; stopped = Some (stops.Forged (length es + 1) what) };
         scenario = refl;
         more = [];
         events = sym (append-nil es);
         entries = [];
         journal = sym (append-nil js);
-        past = record { header = header_of s all schedule; last = w; clean = clean; left = (acting e, refl) };
+        past = record { header = header_of s all schedule; last = w; clean = clean; left = (acting e, record { nodes = refl; frames = refl }) };
         played =
             let forged : IsForgedAt (arts_of (setting_of s)) (setting_of s) es js w e what = record { entry = j; new = new; turn = turn; is = is } in
             record {
@@ -133,7 +134,7 @@ module _ (s : Scenario) (all : List Event) (schedule : IsSchedule s all) where
                 run = clean;
                 forged = forged;
                 hostile = only_hostile s es js w e what (header_of s all schedule) clean forged;
-                left = refl;
+                left = record { nodes = refl; frames = refl };
                 stopped = refl;
               };
             };
@@ -143,7 +144,7 @@ module _ (s : Scenario) (all : List Event) (schedule : IsSchedule s all) where
   claims_of p past same =
       let some : 1 ≤ s.limits.buffer = schedule.scenario.limits.buffer.0 in
       let buffers : 1 ≤ p.scenario.limits.buffer = rw same some in
-      record { run = past; claims = every_run p.scenario p.events p.journal past.last past.header buffers past.clean }
+      world_claims every_run every_life p past buffers
 
 -- ---- what is written of them
 
@@ -247,6 +248,7 @@ from_none text is_cut (stages.Height format seed height) ending good reading = r
 from_none text is_cut (stages.Bounds format seed height limits) ending good reading = refused_header text is_cut (stages.Bounds format seed height limits) ending tt reading
 from_none text is_cut (stages.Edges s) ending good reading = refused_header text is_cut (stages.Edges s) ending tt reading
 from_none text is_cut (stages.Bads s) ending good reading = refused_header text is_cut (stages.Bads s) ending tt reading
+from_none text is_cut (stages.Epochs s) ending good reading = refused_header text is_cut (stages.Epochs s) ending tt reading
 
 from_past : (text : List ℕ) (is_cut : Bool) (stage : Stage) (ending : Ending) → IsGoodStage stage → IsReading text is_cut (record { stage = stage; ending = ending })
     → (past : Past) (more : List Event) → IsPast past → IsOf stage past.scenario (past.events ++ more) → Way text is_cut (Some past)
@@ -261,6 +263,7 @@ from_past text is_cut (stages.Height format seed height) ending good reading pas
 from_past text is_cut (stages.Bounds format seed height limits) ending good reading past more is of = absurd of
 from_past text is_cut (stages.Edges s) ending good reading past more is of = absurd of
 from_past text is_cut (stages.Bads s) ending good reading past more is of = absurd of
+from_past text is_cut (stages.Epochs s) ending good reading past more is of = absurd of
 
 -- the two words for what a stage has are one
 pub is_of : (stage : Stage) (s : Scenario) (es : List Event) → IsOfStage stage s es → IsOf stage s es
@@ -273,6 +276,7 @@ is_of (stages.Height format seed height) s es of = absurd of
 is_of (stages.Bounds format seed height limits) s es of = absurd of
 is_of (stages.Edges t) s es of = absurd of
 is_of (stages.Bads t) s es of = absurd of
+is_of (stages.Epochs t) s es of = absurd of
 
 pub of_stage : (stage : Stage) (s : Scenario) (es : List Event) → IsOf stage s es → IsOfStage stage s es
 of_stage (stages.Events t fs) s es of = of
@@ -284,6 +288,7 @@ of_stage (stages.Height format seed height) s es of = absurd of
 of_stage (stages.Bounds format seed height limits) s es of = absurd of
 of_stage (stages.Edges t) s es of = absurd of
 of_stage (stages.Bads t) s es of = absurd of
+of_stage (stages.Epochs t) s es of = absurd of
 
 -- Whatever follows what a feed has read, there is an output of the whole, and its run goes on from the past of the lines that were read.
 pub ways : (f : Fed) (past : Option Past) → ((more : List ℕ) (is_cut : Bool) → ReadsOn f more is_cut) → AreDone f.stage past → IfSome past IsPast → Ways (text_of f) past

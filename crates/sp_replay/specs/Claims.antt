@@ -1,7 +1,7 @@
 -- What is promised of the world of a run, and of what a replay and the schedule of a number write.
-use Rattle.std.specs.Prelude.{ℕ, ◌≡◌, ◌⊎◌, ◌++◌, List, Option, Some, None, IfSome}
+use Rattle.std.specs.Prelude.{ℕ, ◌≡◌, ◌⊎◌, ◌++◌, false, List, Option, Some, None, IfSome}
 use Rattle.std.specs.Io.KnownBytes.{Appends}
-use Rattle.laws_runs_format.specs.Headline.{RunClaims}
+use Rattle.laws_runs_format.specs.Headline.{RunClaims, RunLives}
 use Rattle.sp_journal.specs.JournalText.{journal_lines}
 use Rattle.sp_outside.specs.Streams.{AppendsFront}
 use Rattle.sp_replay.specs.Fronts.{IsFront}
@@ -13,10 +13,13 @@ use Rattle.sp_world.specs.Past.{Past, IsPast}
 
 -- what holds of the world of an outcome
 pub record WorldClaims (past : Past) : Type 0 where
-  -- its events are a run without forgery: each event is a step of its acting node alone, and the journal tells these steps
+  -- Its events are a run without forgery: each event is a step of its acting node alone, or a node starts or stops, or it comes to nobody; and the
+  -- journal tells it
   pub run : IsPast past
-  -- what is claimed of each such run, after each of its events
-  pub claims : RunClaims (setting_of past.scenario) past.events past.journal
+  -- what is claimed of each such run, after each of its events, whether nodes start and stop or not
+  pub lives : RunLives (setting_of past.scenario) past.events past.journal
+  -- and what more is claimed where the header says no epochs
+  pub claims : past.scenario.epochs ≡ false → RunClaims (setting_of past.scenario) past.events past.journal
 
 -- ---- a replay
 

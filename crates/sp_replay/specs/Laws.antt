@@ -1,6 +1,6 @@
 -- What follows of a replay from what is claimed of it: which schedules are run to their end, which texts are refused, what a forgery leaves, and what
 -- a replay had done that broke off.
-use Rattle.std.specs.Prelude.{ℕ, ◌≡◌, ◌≢◌, List, [], ◌∷◌, ◌++◌, Option, Some, None}
+use Rattle.std.specs.Prelude.{ℕ, ◌≡◌, ◌≢◌, false, List, [], ◌∷◌, ◌++◌, Option, Some, None}
 use Rattle.std.specs.Io.KnownBytes.{Appends}
 use Rattle.std.specs.List.{All}
 use Rattle.laws_runs_format.specs.Hostile.{IsHostile}
@@ -24,10 +24,10 @@ use Rattle.sp_words.specs.declared.status.Status.{Status}
 use Rattle.sp_words.specs.declared.status.Status.TheVariants as statuses
 use Rattle.sp_world.specs.Past.{Past}
 
--- a schedule of harmless events is run to its end
+-- a schedule of harmless events, without epochs, is run to its end
 abbrev pub HarmlessSchedulesAreRun : Type 0
-HarmlessSchedulesAreRun = (text : List ℕ) (s : Scenario) (es : List Event) (status : Status) → Spells text s es → All (IsHarmless (setting_of s)) es
-    → IsCompleteReplay (Some text) status → EndsAs statuses.Done status
+HarmlessSchedulesAreRun = (text : List ℕ) (s : Scenario) (es : List Event) (status : Status) → Spells text s es → s.epochs ≡ false
+    → All (IsHarmless (setting_of s)) es → IsCompleteReplay (Some text) status → EndsAs statuses.Done status
 
 -- a text without a byte is no schedule
 abbrev pub EmptyTextsAreRefused : Type 0

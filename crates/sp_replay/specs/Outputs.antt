@@ -30,7 +30,7 @@ use Rattle.sp_schedule_events.specs.declared.scenario.Scenario.{Scenario}
 use Rattle.sp_text.specs.Spelling.{hex_word}
 use Rattle.sp_words.specs.declared.status.Status.{Status}
 use Rattle.sp_words.specs.declared.status.Status.TheVariants as statuses
-use Rattle.sp_world.specs.Past.{Past, without}
+use Rattle.sp_world.specs.Past.{IsWithout, Past}
 use Rattle.sp_world.specs.declared.refused.WorldRefused.TheVariants as stops
 
 -- ---- the last line
@@ -84,7 +84,7 @@ pub record IsForgedNext (past : Past) (event : Event) (number : ℕ) (what : Wha
   pub run : Clean (arts_of (setting_of past.scenario)) (setting_of past.scenario) past.events past.journal world
   pub forged : IsForgedAt (arts_of (setting_of past.scenario)) (setting_of past.scenario) past.events past.journal world event what
   pub hostile : IsHostile event
-  pub left : past.world ≡ without world (acting event)
+  pub left : IsWithout world (acting event) past.world
   pub stopped : past.stopped ≡ Some (stops.Forged number what)
 
 -- of the events of a stage those of the past were done, and of the next this is forged

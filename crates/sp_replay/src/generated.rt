@@ -48,6 +48,7 @@ pub fn generate<K: Sink>(alloc: Global, number: u32, sink: &mut K) -> Outcome
 }
 
 /// The world after the schedule of a number.
+#[tactic(auto, using(crate::proofs::Worlds::world_claims))]
 fn world_of(alloc: Global, number: u32) -> Result<World, Memory>
     ensures run { IfOk result (IsGenerated number) }
     ensures claims { IfOk result WorldClaims }

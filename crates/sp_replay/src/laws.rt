@@ -1,7 +1,7 @@
 // What follows of a replay from what is claimed of it.
 ghost use Rattle.sp_replay.specs.Laws.{AllButTheLastIsWritten, EmptyTextsAreRefused, ForgeriesLeaveOthers, HarmlessSchedulesAreRun, NothingReadIsNothingDone};
 
-/// A law: a schedule of harmless events is run to its end, unless something outside fails or there is no memory; and an empty text is refused.
+/// A law: a schedule of harmless events, without epochs, is run to its end, unless something outside fails or there is no memory; and an empty text is refused.
 pub fn what_a_replay_must_do()
     ensures run { HarmlessSchedulesAreRun }
     ensures refused { EmptyTextsAreRefused }

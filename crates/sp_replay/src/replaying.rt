@@ -110,6 +110,7 @@ fn push_stopped(out: &mut String, world: &Option<World>) -> Result<(), Memory>
 }
 
 /// The laws of every run hold of a world.
+#[tactic(auto, using(crate::proofs::Worlds::world_claims))]
 fn claim(world: &Option<World>)
     requires { IfSome world.now HasBuffers }
     ensures { IfSome world.now WorldClaims }

@@ -24,6 +24,15 @@ use Rattle.sp_runs.specs.declared.what.What.TheVariants as whats
 abbrev pub is_among : List ℕ → List (List ℕ) → Bool
 is_among bytes these = list_any (λ x. pointwise nat_eq x bytes) these
 
+-- they are in this place
+abbrev pub is_frame : List ℕ → Option (List ℕ) → Bool
+is_frame bytes None = false
+is_frame bytes (Some frame) = pointwise nat_eq frame bytes
+
+-- they are a frame of these places
+abbrev pub is_made : List ℕ → List (Option (List ℕ)) → Bool
+is_made bytes frames = list_any (is_frame bytes) frames
+
 -- ---- by its tag
 
 -- the datagram passed the tests of its length, its name, its version, its ends and its tag
@@ -38,7 +47,7 @@ is_tagged _ = false
 -- it passed them at n, from a correct node that never made it for n
 abbrev pub has_forged_tag : Arts → Setting → World → NodeState → Input → Bool
 has_forged_tag arts x w n (Datagram u bytes) =
-    is_correct x u && is_tagged (reply_at arts n u bytes) && not (is_among bytes (frames_in w.directions u n.fixed.me))
+    is_correct x u && is_tagged (reply_at arts n u bytes) && not (is_made bytes (frames_in w.directions u n.fixed.me))
 has_forged_tag arts x w n _ = false
 
 -- ---- by an object

@@ -14,7 +14,9 @@ use Rattle.sp_rules.specs.Flow.{flow_said}
 use Rattle.sp_rules.specs.Node.{NodeState, link_in}
 use Rattle.sp_rules.specs.Steps.{Input, Poll, Datagram, Tick, SendRel, SendPrio, SetWeight, TakeRel, TakePrio}
 use Rattle.sp_runs.specs.Settings.{Setting}
-use Rattle.sp_runs.specs.Worlds.{World, frame_in}
+use Rattle.sp_rules.specs.Lives.{held_boot}
+use Rattle.sp_rules.specs.declared.lives.Life.{Life}
+use Rattle.sp_runs.specs.Worlds.{Crafted, World, crafts, frame_in}
 use Rattle.sp_schedule_crafts.specs.Objects.{body_of}
 pub use Rattle.sp_schedule_events.specs.Acting.{acting}
 use Rattle.sp_schedule_events.specs.declared.event.Event.{Event}
@@ -44,9 +46,17 @@ crafted_head n c = record {
   format = n.fixed.topology.format;
 }
 
--- a report on this flow, with boots 0: no node holds any other
-abbrev pub report_on : Flow → (base have : ℕ) → Option Kept → List Kept → Report
-report_on flow base have ack rels = record { flow = flow; sboot = 0; dboot = 0; base = base; have = have; ack = ack; rels = rels }
+-- a report on this flow, with the boots that the node holds of its ends
+abbrev pub report_on : List Life → Flow → (base have : ℕ) → Option Kept → List Kept → Report
+report_on lives flow base have ack rels = record {
+  flow = flow;
+  sboot = held_boot lives flow.src;
+  dboot = held_boot lives flow.dst;
+  base = base;
+  have = have;
+  ack = ack;
+  rels = rels;
+}
 
 -- these updates, priority messages and this report, and nothing else
 abbrev pub contents_with : List Kept → List (ℕ × Kept) → Option Report → Contents
@@ -54,16 +64,16 @@ contents_with weights prios slot =
     record { document = None; weights = weights; prio_ack = 0; prios = prios; slot = slot; paths = None; probe = None; epoch = None }
 
 -- a slot of this flow with a report, an acknowledgement and messages, and nothing else
-abbrev pub slot_alone : Flow → (base have : ℕ) → Option Kept → List Kept → Contents
-slot_alone flow base have ack rels = contents_with [] [] (Some (report_on flow base have ack rels))
+abbrev pub slot_alone : List Life → Flow → (base have : ℕ) → Option Kept → List Kept → Contents
+slot_alone lives flow base have ack rels = contents_with [] [] (Some (report_on lives flow base have ack rels))
 
 -- one object in its section. What no schedule crafts has none
-abbrev pub object_alone : Body → Kept → Contents
-object_alone (bodies.Prio p) o = contents_with [] ((1, o) ∷ []) None
-object_alone (bodies.Rel r) o = slot_alone (flow_said (bodies.Rel r)) 0 0 None (o ∷ [])
-object_alone (bodies.Ack a) o = slot_alone (flow_said (bodies.Ack a)) 0 0 (Some o) []
-object_alone (bodies.Weight w) o = contents_with (o ∷ []) [] None
-object_alone _ o = contents_with [] [] None
+abbrev pub object_alone : List Life → Body → Kept → Contents
+object_alone lives (bodies.Prio p) o = contents_with [] ((1, o) ∷ []) None
+object_alone lives (bodies.Rel r) o = slot_alone lives (flow_said (bodies.Rel r)) 0 0 None (o ∷ [])
+object_alone lives (bodies.Ack a) o = slot_alone lives (flow_said (bodies.Ack a)) 0 0 (Some o) []
+object_alone lives (bodies.Weight w) o = contents_with (o ∷ []) [] None
+object_alone lives _ o = contents_with [] [] None
 
 -- a frame of this head with these sections, under the tag of this key
 abbrev pub sealed_frame : Arts → Head → (key : List ℕ) → Contents → List ℕ
@@ -75,37 +85,43 @@ sealed_frame arts head key contents =
 abbrev pub crafted_frame : Arts → NodeState → NodeId → Contents → List ℕ
 crafted_frame arts n c contents = sealed_frame arts (crafted_head n c) (link_in n c).key contents
 
--- the event crafts an object with this key
-abbrev pub is_craft_of : NodeId → Event → Bool
-is_craft_of key (events.Craft c v k object) = k.0 == key.0
-is_craft_of key _ = false
+-- a message as the node takes it: with the boots that it holds of the ends
+abbrev pub dated : List Life → Body → Body
+dated lives (bodies.Prio p) = bodies.Prio (record p { sboot = held_boot lives p.src })
+dated lives (bodies.Rel r) = bodies.Rel (record r { sboot = held_boot lives r.src; dboot = held_boot lives r.dst })
+dated lives (bodies.Ack a) = bodies.Ack (record a { sboot = held_boot lives a.src; dboot = held_boot lives a.dst })
+dated lives body = body
 
--- The next index of the signer for crafted objects of this key: so many were crafted with it before. It isn't that of the node itself
-abbrev pub crafts : List Event → NodeId → ℕ
-crafts es key = count_by (is_craft_of key) es
+-- the message with the next signature of the crafting signer of this key
+abbrev pub crafted_object : Arts → Setting → List Crafted → NodeId → Body → Kept
+crafted_object arts x crafted key body =
+    record { body = body; signature = arts.sign x.topology.height (x.seed key.0) (crafts crafted key) (arts.spell body) }
 
--- the object with the signature of that index
-abbrev pub crafted_object : Arts → Setting → List Event → NodeId → Body → Kept
-crafted_object arts x es key body =
-    record { body = body; signature = arts.sign x.topology.height (x.seed key.0) (crafts es key) (arts.spell body) }
+-- the sections that bring it to the node
+abbrev pub crafted_contents : Arts → Setting → List Crafted → NodeState → NodeId → Body → Contents
+crafted_contents arts x crafted n key body =
+    let said = dated n.parts.lives body in
+    object_alone n.parts.lives said (crafted_object arts x crafted key said)
 
--- ---- what reaches it, after these events. None where there is no such frame, or the crafting signer is spent
+-- ---- what reaches it. None where there is no such frame, or the crafting signer is spent; and a start and a stop bring nothing
 
-abbrev pub input_of : Arts → Setting → List Event → World → NodeState → Event → Option Input
-input_of arts x es w n (events.Rel s d payload) = Some (SendRel d payload)
-input_of arts x es w n (events.Prio s d prio expiry paths payload) =
+abbrev pub input_of : Arts → Setting → World → NodeState → Event → Option Input
+input_of arts x w n (events.Rel s d payload) = Some (SendRel d payload)
+input_of arts x w n (events.Prio s d prio expiry paths payload) =
     Some (SendPrio (record { dst = d; prio = prio; expiry = expiry; paths = paths; payload = payload }))
-input_of arts x es w n (events.Take d s) = Some (TakeRel s)
-input_of arts x es w n (events.TakePrio d) = Some TakePrio
-input_of arts x es w n (events.Tick u now) = Some (Tick now)
-input_of arts x es w n (events.Weight u v weight) = Some (SetWeight v weight)
-input_of arts x es w n (events.Poll u v) = Some (Poll v)
-input_of arts x es w n (events.Pass u v number) = option_map (Datagram u) (frame_in w.directions u v number)
-input_of arts x es w n (events.Flip u v number back bit) = option_map (λ bytes. Datagram u (flipped back bit bytes)) (frame_in w.directions u v number)
-input_of arts x es w n (events.Inject u v bytes) = Some (Datagram u bytes)
-input_of arts x es w n (events.Craft c v key object) =
-    if nat_lt (crafts es key) x.total
-    then Some (Datagram c (crafted_frame arts n c (object_alone (body_of object) (crafted_object arts x es key (body_of object)))))
+input_of arts x w n (events.Take d s) = Some (TakeRel s)
+input_of arts x w n (events.TakePrio d) = Some TakePrio
+input_of arts x w n (events.Tick u now) = Some (Tick now)
+input_of arts x w n (events.Weight u v weight) = Some (SetWeight v weight)
+input_of arts x w n (events.Poll u v) = Some (Poll v)
+input_of arts x w n (events.Pass u v number) = option_map (Datagram u) (frame_in w.directions u v number)
+input_of arts x w n (events.Flip u v number back bit) = option_map (λ bytes. Datagram u (flipped back bit bytes)) (frame_in w.directions u v number)
+input_of arts x w n (events.Inject u v bytes) = Some (Datagram u bytes)
+input_of arts x w n (events.Craft c v key object) =
+    if nat_lt (crafts w.crafted key) x.total
+    then Some (Datagram c (crafted_frame arts n c (crafted_contents arts x w.crafted n key (body_of object))))
     else None
-input_of arts x es w n (events.CraftStatus c v s d base have) =
-    Some (Datagram c (crafted_frame arts n c (slot_alone (record { src = s; dst = d }) base have None [])))
+input_of arts x w n (events.CraftStatus c v s d base have) =
+    Some (Datagram c (crafted_frame arts n c (slot_alone n.parts.lives (record { src = s; dst = d }) base have None [])))
+input_of arts x w n (events.Start u) = None
+input_of arts x w n (events.Stop u) = None

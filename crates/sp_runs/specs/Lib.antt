@@ -5,6 +5,7 @@ pub mod Inputs
 pub mod Journals
 pub mod Told
 pub mod Forgery
+pub mod Lives
 pub mod Runs
 -- ---- what events and their journal say of buffers and weights
 pub mod Held

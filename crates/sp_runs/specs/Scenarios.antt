@@ -1,8 +1,9 @@
 -- The setting that a schedule's header makes: nodes 1 to N under version 1 of the topology, with the header's edges, and keys of its seed.
-use Rattle.std.specs.Prelude.{ℕ, ◌++◌, List, codes, map}
+use Rattle.std.specs.Prelude.{ℕ, ◌≡◌, ◌++◌, true, List, codes, map}
 use Rattle.std.specs.List.{range_with_len}
 use Rattle.sha2.specs.Sha256.{sha256}
 use Rattle.sp_base.specs.Formats.{IsFormat}
+use Rattle.sp_base.specs.declared.format.TheConstants.{FORMAT_2}
 use Rattle.sp_base.specs.declared.id.NodeId.{NodeId}
 use Rattle.sp_graph.specs.Edges.{IsGraphIn}
 use Rattle.sp_hmac.specs.Hmac.{hmac}
@@ -31,10 +32,11 @@ numbered u = record { 0 = u }
 abbrev pub node_key : LmsHeight → List ℕ → ℕ → NodeKey
 node_key height seed u = record { id = numbered u; key = public_key (param_of height) (node_seed seed u) }
 
--- the format of a header is one of the two, and its graph is in that format's ranges
+-- the format of a header is one of the two, and its graph is in that format's ranges. Epochs are of format 2
 pub record IsHeader (s : Scenario) : Type 0 where
   pub format : IsFormat s.format
   pub graph : IsGraphIn s.format s.graph
+  pub epochs : s.epochs ≡ true → s.format ≡ FORMAT_2
 
 -- the topology that all nodes run under
 abbrev pub topology_of : Scenario → Topology
@@ -53,4 +55,5 @@ setting_of s = record {
   total = total (param_of s.height);
   link_key = λ e. edge_key s.seed e;
   digest = λ bytes. sha256 bytes;
+  epochs = s.epochs;
 }

@@ -1,10 +1,12 @@
 -- What the header of a schedule makes: who is there, with which keys and bounds, and which of them are compromised.
-use Rattle.std.specs.Prelude.{ℕ, ◌<◌, ◌≤◌, ◌==◌, ◌&&◌, Bool, false, not, IsTrue, List, map, filter}
+use Rattle.std.specs.Prelude.{ℕ, ◌≡◌, ◌<◌, ◌≤◌, ◌==◌, ◌&&◌, Bool, true, false, not, IsTrue, List, map, filter}
 use Rattle.std.specs.List.{list_any}
+use Rattle.sp_base.specs.declared.format.TheConstants.{FORMAT_2}
 use Rattle.sp_base.specs.declared.id.NodeId.{NodeId}
 use Rattle.sp_topology.specs.declared.topology.Topology.{Topology}
 use Rattle.sp_rules.specs.Arts.{Arts}
-use Rattle.sp_rules.specs.Node.{NodeState, Signer, booted}
+use Rattle.sp_epoch.specs.declared.started.Started.{Started}
+use Rattle.sp_rules.specs.Node.{NodeState, Signer, booted, started}
 use Rattle.sp_rules.specs.Parts.{Fixed, neighbours_of, nodes_of}
 use Rattle.sp_rules.specs.Topologies.{IsRunnable}
 use Rattle.laws_node.specs.Inputs.{ArtsFit}
@@ -25,6 +27,8 @@ pub record Setting : Type 0 where
   pub link_key : ℕ → List ℕ
   -- what a journal tells of a frame's bytes
   pub digest : List ℕ → List ℕ
+  -- its correct nodes start and stop by events, and sign the boot of each life. Else each has started before the first event, and none stops
+  pub epochs : Bool
 
 -- ---- who is correct
 
@@ -40,21 +44,32 @@ is_node x u = is_one_of (nodes_of x.topology) u
 abbrev pub is_correct : Setting → NodeId → Bool
 is_correct x u = is_node x u && not (is_one_of x.bad u)
 
--- ---- each correct node at its start: it boots with 1, and all its indexes are reserved
+-- ---- a correct node at a start
 
--- what is fixed in its life, which is without epochs
-abbrev pub fixed_of : Setting → NodeId → Fixed
-fixed_of x u = record { me = u; boot = 1; topology = x.topology; signature_len = x.signature_len; epochs = false }
+-- what is fixed in its life of this boot
+abbrev pub fixed_at : Setting → NodeId → (boot : ℕ) → Fixed
+fixed_at x u boot = record { me = u; boot = boot; topology = x.topology; signature_len = x.signature_len; epochs = x.epochs }
 
--- its signer
-abbrev pub first_signer : Setting → NodeId → Signer
-first_signer x u = record { seed = x.seed u.0; index = 0; bound = x.total; total = x.total }
+-- its signer, from an index on, below a bound
+abbrev pub signer_from : Setting → NodeId → (index bound : ℕ) → Signer
+signer_from x u index bound = record { seed = x.seed u.0; index = index; bound = bound; total = x.total }
 
 -- the keys of its edges, in the order of its neighbours
 abbrev pub link_keys : Setting → NodeId → List (List ℕ)
-link_keys x u = map (λ n. x.link_key n.1.0) (neighbours_of (fixed_of x u))
+link_keys x u = map (λ n. x.link_key n.1.0) (neighbours_of (fixed_at x u 1))
 
--- its state
+-- its state, where it starts with this boot and these indexes: with epochs it has signed the boot
+abbrev pub node_at_start : Arts → Setting → NodeId → Started → NodeState
+node_at_start arts x u s = started arts (fixed_at x u s.boot) (signer_from x u s.index s.bound) (link_keys x u) x.buffer x.store
+
+-- ---- the same before the first event, without epochs: it boots with 1, and all its indexes are reserved
+
+abbrev pub fixed_of : Setting → NodeId → Fixed
+fixed_of x u = fixed_at x u 1
+
+abbrev pub first_signer : Setting → NodeId → Signer
+first_signer x u = signer_from x u 0 x.total
+
 abbrev pub node_at_boot : Setting → NodeId → NodeState
 node_at_boot x u = booted (fixed_of x u) (first_signer x u) (link_keys x u) x.buffer x.store
 
@@ -66,7 +81,14 @@ correct_nodes x = filter (is_correct x) (nodes_of x.topology)
 
 pub record SettingFits (arts : Arts) (x : Setting) : Type 0 where
   pub topology : IsRunnable x.topology
+  -- an Epoch object is of format 2
+  pub format : x.epochs ≡ true → x.topology.format ≡ FORMAT_2
   pub short : x.signature_len < 65536
   pub total : x.total ≤ most_indexes
   -- each correct node signs validly under the key that the topology has for it, and what it reads is in its ranges
   pub each : (u : NodeId) → IsTrue (is_correct x u) → ArtsFit arts (fixed_of x u) (first_signer x u)
+
+-- and no node ever starts or stops by an event
+pub record StaysUp (arts : Arts) (x : Setting) : Type 0 where
+  pub fits : SettingFits arts x
+  pub plain : x.epochs ≡ false

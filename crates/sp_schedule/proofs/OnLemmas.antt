@@ -48,6 +48,7 @@ says_keeps (stages.Height format seed height) next words is = λ s es none. absu
 says_keeps (stages.Bounds format seed height limits) next words is = λ s es none. absurd none
 says_keeps (stages.Edges scenario) next words is = λ s es none. absurd none
 says_keeps (stages.Bads scenario) next words is = λ s es none. absurd none
+says_keeps (stages.Epochs scenario) next words is = λ s es none. absurd none
 says_keeps (stages.Events s es) next words is =
     elim (if_cases (fits end_cells words) (Ok (stages.End s es)) (if nat_le MAX_EVENTS (length es) then Err kinds.TooMany else event_more s es words (read_event s es words)) (Ok next) is) [
       | inl end ↦ (

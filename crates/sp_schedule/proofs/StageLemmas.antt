@@ -27,11 +27,11 @@ use Rattle.sp_schedule_events.specs.declared.scenario.Scenario.{Scenario}
 use Rattle.sp_schedule_events.specs.declared.event.Event.{Event}
 use Rattle.sp_schedule_events.proofs.EventLemmas.{events_have_one_line}
 use Rattle.sp_schedule.specs.Feeds.{lines_to}
-use Rattle.sp_schedule.specs.Header.{bad_cells, begin_cells, bounds_cells, edge_cells, edge_of, end_cells, height_at, height_cells, height_number, is_height, limits_of, next_after, nodes_cells, seed_cells, version_cells}
-use Rattle.sp_schedule.specs.Lines.{bad_node, bare, event_more, header, if_next, is_above, is_lower, is_next_edge, next_edge, says, says_bad, says_edge, with_bad, with_edge}
+use Rattle.sp_schedule.specs.Header.{bad_cells, begin_cells, bounds_cells, edge_cells, edge_of, end_cells, epochs_cells, height_at, height_cells, height_number, is_height, limits_of, next_after, nodes_cells, seed_cells, version_cells}
+use Rattle.sp_schedule.specs.Lines.{bad_node, bare, event_more, header, if_next, is_above, is_lower, is_next_edge, next_edge, says, says_bad, says_edge, says_epochs, with_bad, with_edge, with_epochs}
 use Rattle.sp_schedule.specs.Readings.{IsGoodStage}
 use Rattle.sp_schedule.specs.Scenarios.{AreBounds, Ascend, IsScenario, IsSchedule, IsSeed, None_yet, One_more}
-use Rattle.sp_schedule.specs.Spelling.{bad_words, bounds_words, edge_words, end_words, front_lines, header_lines, height_words, scenario_lines, seed_words, version_words}
+use Rattle.sp_schedule.specs.Spelling.{bad_words, begin_words, bounds_words, edge_words, end_words, epochs_lines, epochs_words, front_lines, header_lines, height_words, scenario_lines, seed_words, version_words}
 use Rattle.sp_schedule.specs.declared.refused.Kind.TheVariants as kinds
 use Rattle.sp_schedule.specs.declared.stage.Stage.{Stage}
 use Rattle.sp_schedule.specs.declared.stage.Stage.TheVariants as stages
@@ -43,8 +43,9 @@ AreGood (stages.Version format) = IsFormat format
 AreGood (stages.Seed format seed) = IsFormat format × IsSeed seed
 AreGood (stages.Height format seed height) = IsFormat format × IsSeed seed
 AreGood (stages.Bounds format seed height limits) = IsFormat format × IsSeed seed × AreBounds limits
-AreGood (stages.Edges s) = IsScenario s × (s.bad ≡ [])
-AreGood (stages.Bads s) = IsScenario s
+AreGood (stages.Edges s) = IsScenario s × (s.bad ≡ []) × (s.epochs ≡ false)
+AreGood (stages.Bads s) = IsScenario s × (s.epochs ≡ false)
+AreGood (stages.Epochs s) = IsScenario s × (s.epochs ≡ true)
 AreGood (stages.Events s es) = IsSchedule s es
 AreGood (stages.End s es) = IsSchedule s es
 
@@ -136,26 +137,49 @@ bad_lines s id =
 
 -- ---- one line more
 
-begins : (s : Scenario) (words : List Word) (next : Stage) → IsScenario s → fits begin_cells words ≡ true → stages.Events s [] ≡ next
-    → (lines_to next ≡ scenario_lines s ++ words ∷ []) × AreGood next
-begins s words next good fit is =
+begins : (s : Scenario) (words : List Word) (next : Stage) (before : List (List Word)) → IsScenario s → scenario_lines s ++ epochs_lines s ≡ before → fits begin_cells words ≡ true
+    → stages.Events s [] ≡ next → (lines_to next ≡ before ++ words ∷ []) × AreGood next
+begins s words next before good so_far fit is =
     let line = name_line _ words fit in
-    subst (λ (z : Stage). (lines_to z ≡ scenario_lines s ++ words ∷ []) × AreGood z) is (
-      append-nil (header_lines s) ∙ ap (λ (ws : List Word). scenario_lines s ++ ws ∷ []) (sym line),
+    subst (λ (z : Stage). (lines_to z ≡ before ++ words ∷ []) × AreGood z) is (
+      append-nil (header_lines s) ∙ sym (append_assoc (scenario_lines s) (epochs_lines s) (begin_words ∷ []))
+          ∙ ap (λ (ls : List (List Word)). ls ++ begin_words ∷ []) so_far ∙ ap (λ (ws : List Word). before ++ ws ∷ []) (sym line),
       record { scenario = good; events = None_yet; count = omega arith },
     )
 
-bad_more : (s : Scenario) (words : List Word) (next : Stage) → IsScenario s → says_bad s words ≡ Ok next → (lines_to next ≡ scenario_lines s ++ words ∷ []) × AreGood next
-bad_more s words next good says_it =
+-- the lines before `begin`, without `epochs` and with it
+no_epochs : (s : Scenario) → s.epochs ≡ false → scenario_lines s ++ epochs_lines s ≡ scenario_lines s
+no_epochs s none =
+    ap (λ (b : Bool). scenario_lines s ++ (if b then epochs_words ∷ [] else [])) none ∙ append-nil (scenario_lines s)
+
+has_epochs : (s : Scenario) → s.epochs ≡ true → scenario_lines s ++ epochs_lines s ≡ scenario_lines s ++ epochs_words ∷ []
+has_epochs s has = ap (λ (b : Bool). scenario_lines s ++ (if b then epochs_words ∷ [] else [])) has
+
+epochs_more : (s : Scenario) (words : List Word) (next : Stage) → IsScenario s → fits epochs_cells words ≡ true → says_epochs s ≡ Ok next
+    → (lines_to next ≡ scenario_lines s ++ words ∷ []) × AreGood next
+epochs_more s words next good fit says_it =
+    let line = name_line _ words fit in
+    elim (if_cases (s.format == FORMAT_2) (Ok (stages.Epochs (with_epochs s))) (Err kinds.Header) (Ok next) says_it) [
+      | inl is ↦ (
+          let to : stages.Epochs (with_epochs s) ≡ next = (let said = is.1 in cc) in
+          subst (λ (z : Stage). (lines_to z ≡ scenario_lines s ++ words ∷ []) × AreGood z) to (
+            ap (λ (ws : List Word). scenario_lines s ++ ws ∷ []) (sym line),
+            (record { format = good.format; seed = good.seed; limits = good.limits; graph = good.graph; bad = good.bad; epochs = λ has. eqb-true s.format FORMAT_2 is.0 }, refl),
+          ))
+      | inr other ↦ absurd (let out = other.1 in cc)
+    ]
+
+bad_more : (s : Scenario) (words : List Word) (next : Stage) → IsScenario s → s.epochs ≡ false → says_bad s words ≡ Ok next → (lines_to next ≡ scenario_lines s ++ words ∷ []) × AreGood next
+bad_more s words next good none says_it =
     let step = header_ok (line_of (bad_cells (next_after 1 s.bad) s.graph.nodes) words) (λ x. stages.Bads (with_bad s (bad_node x.0))) next says_it in
     let read = line_read (bad_cells (next_after 1 s.bad) s.graph.nodes) words step.0 step.1 in
     subst (λ (z : Stage). (lines_to z ≡ scenario_lines s ++ words ∷ []) × AreGood z) step.2 (
       bad_lines s (bad_node step.0.0) ∙ ap (λ (ws : List Word). scenario_lines s ++ ws ∷ []) (sym read.1),
-      record { format = good.format; seed = good.seed; limits = good.limits; graph = good.graph; bad = ascend_push 1 s.graph.nodes s.bad (bad_node step.0.0) good.bad read.0.0 read.0.1 },
+      (record { format = good.format; seed = good.seed; limits = good.limits; graph = good.graph; bad = ascend_push 1 s.graph.nodes s.bad (bad_node step.0.0) good.bad read.0.0 read.0.1; epochs = good.epochs }, none),
     )
 
-edge_more : (s : Scenario) (words : List Word) (next : Stage) → IsScenario s → s.bad ≡ [] → says_edge s words ≡ Ok next → (lines_to next ≡ scenario_lines s ++ words ∷ []) × AreGood next
-edge_more s words next good none says_it =
+edge_more : (s : Scenario) (words : List Word) (next : Stage) → IsScenario s → s.bad ≡ [] → s.epochs ≡ false → says_edge s words ≡ Ok next → (lines_to next ≡ scenario_lines s ++ words ∷ []) × AreGood next
+edge_more s words next good none off says_it =
     let step = header_ok (next_edge s words) (λ e. stages.Edges (with_edge s e)) next says_it in
     let e = step.0 in
     let found = then_ok (line_of (edge_cells s.graph.nodes) words) (λ x. if_next s.format s.graph (edge_of s.graph.nodes x)) e step.1 in
@@ -170,7 +194,7 @@ edge_more s words next good none says_it =
     ] in
     subst (λ (z : Stage). (lines_to z ≡ scenario_lines s ++ words ∷ []) × AreGood z) step.2 (
       edge_lines s e none ∙ ap (λ (ws : List Word). scenario_lines s ++ ws ∷ []) (sym all.1),
-      (record { format = good.format; seed = good.seed; limits = good.limits; graph = graph_grows s.format s.graph e good.graph all.0; bad = good.bad }, none),
+      (record { format = good.format; seed = good.seed; limits = good.limits; graph = graph_grows s.format s.graph e good.graph all.0; bad = good.bad; epochs = good.epochs }, none, off),
     )
 
 event_said : (s : Scenario) (es : List Event) (words : List Word) (r : Result Event Fault) (next : Stage) → read_event s es words ≡ r → IsSchedule s es → length es < MAX_EVENTS
@@ -238,23 +262,38 @@ says_more (stages.Bounds format seed height limits) words next good is =
           limits = good.2;
           graph = record { nodes = (read.0.0, read.0.1); few = omega arith; edges = λ k d inside. absurd (omega (arith, inside)); ascend = λ i j d less inside. absurd (omega (arith, inside)) };
           bad = tt;
+          epochs = λ has. absurd cc;
         },
+        refl,
         refl,
       ),
     )
 says_more (stages.Edges s) words next good is =
-    elim (if_cases (fits begin_cells words) (Ok (stages.Events s [])) (if fits (bad_cells 0 0) words then says_bad s words else says_edge s words) (Ok next) is) [
-      | inl begin ↦ begins s words next good.0 begin.0 (let to = begin.1 in cc)
+    elim (if_cases (fits begin_cells words) (Ok (stages.Events s [])) (if fits epochs_cells words then says_epochs s else (if fits (bad_cells 0 0) words then says_bad s words else says_edge s words)) (Ok next) is) [
+      | inl begin ↦ begins s words next (scenario_lines s) good.0 (no_epochs s good.2) begin.0 (let to = begin.1 in cc)
       | inr other ↦
-          elim (if_cases (fits (bad_cells 0 0) words) (says_bad s words) (says_edge s words) (Ok next) other.1) [
-            | inl bad ↦ bad_more s words next good.0 bad.1
-            | inr edge ↦ edge_more s words next good.0 good.1 edge.1
+          elim (if_cases (fits epochs_cells words) (says_epochs s) (if fits (bad_cells 0 0) words then says_bad s words else says_edge s words) (Ok next) other.1) [
+            | inl epochs ↦ epochs_more s words next good.0 epochs.0 epochs.1
+            | inr another ↦
+                elim (if_cases (fits (bad_cells 0 0) words) (says_bad s words) (says_edge s words) (Ok next) another.1) [
+                  | inl bad ↦ bad_more s words next good.0 good.2 bad.1
+                  | inr edge ↦ edge_more s words next good.0 good.1 good.2 edge.1
+                ]
           ]
     ]
 says_more (stages.Bads s) words next good is =
-    elim (if_cases (fits begin_cells words) (Ok (stages.Events s [])) (says_bad s words) (Ok next) is) [
-      | inl begin ↦ begins s words next good begin.0 (let to = begin.1 in cc)
-      | inr bad ↦ bad_more s words next good bad.1
+    elim (if_cases (fits begin_cells words) (Ok (stages.Events s [])) (if fits epochs_cells words then says_epochs s else says_bad s words) (Ok next) is) [
+      | inl begin ↦ begins s words next (scenario_lines s) good.0 (no_epochs s good.1) begin.0 (let to = begin.1 in cc)
+      | inr other ↦
+          elim (if_cases (fits epochs_cells words) (says_epochs s) (says_bad s words) (Ok next) other.1) [
+            | inl epochs ↦ epochs_more s words next good.0 epochs.0 epochs.1
+            | inr bad ↦ bad_more s words next good.0 good.1 bad.1
+          ]
+    ]
+says_more (stages.Epochs s) words next good is =
+    elim (if_cases (fits begin_cells words) (Ok (stages.Events s [])) (Err kinds.Header) (Ok next) is) [
+      | inl begin ↦ begins s words next (scenario_lines s ++ epochs_words ∷ []) good.0 (has_epochs s good.1) begin.0 (let to = begin.1 in cc)
+      | inr other ↦ absurd (let out = other.1 in cc)
     ]
 says_more (stages.Events s es) words next good is =
     elim (if_cases (fits end_cells words) (Ok (stages.End s es)) (if nat_le MAX_EVENTS (length es) then Err kinds.TooMany else event_more s es words (read_event s es words)) (Ok next) is) [
@@ -286,5 +325,6 @@ is_good_stage (stages.Height format seed height) good = tt
 is_good_stage (stages.Bounds format seed height limits) good = tt
 is_good_stage (stages.Edges s) good = tt
 is_good_stage (stages.Bads s) good = tt
+is_good_stage (stages.Epochs s) good = tt
 is_good_stage (stages.Events s es) good = good
 is_good_stage (stages.End s es) good = good

@@ -31,10 +31,10 @@ use Rattle.sp_schedule_crafts.specs.declared.object.CraftedObject.TheVariants as
 use Rattle.sp_lines.specs.declared.fault.Fault.{Fault}
 use Rattle.sp_schedule.specs.declared.refused.Kind.TheVariants as kinds
 use Rattle.sp_schedule_events.proofs.EventLemmas.{events_have_one_line, good_event_line, nodes_small}
-use Rattle.sp_schedule.specs.Header.{bad_cells, begin_cells, bounds_cells, bounds_values, edge_cells, edge_values, end_cells, height_cells, height_number, next_after, nodes_cells, seed_cells, version_cells}
-use Rattle.sp_schedule.specs.Lines.{bare, event_more, is_above, is_lower, is_next_edge, says}
+use Rattle.sp_schedule.specs.Header.{bad_cells, begin_cells, bounds_cells, bounds_values, edge_cells, edge_values, end_cells, epochs_cells, height_cells, height_number, next_after, nodes_cells, seed_cells, version_cells}
+use Rattle.sp_schedule.specs.Lines.{bare, event_more, is_above, is_lower, is_next_edge, says, with_epochs}
 use Rattle.sp_schedule.specs.Scenarios.{AreInRange, Ascend, IsScenario, IsSchedule, None_yet, One_more}
-use Rattle.sp_schedule.specs.Spelling.{bad_words, begin_words, bounds_words, edge_words, end_words, front_lines, header_lines, height_words, nodes_words, schedule_lines, seed_words, version_words}
+use Rattle.sp_schedule.specs.Spelling.{bad_words, begin_words, bounds_words, edge_words, end_words, epochs_lines, epochs_words, front_lines, header_lines, height_words, nodes_words, schedule_lines, seed_words, version_words}
 use Rattle.sp_schedule.specs.declared.stage.Stage.{Stage}
 use Rattle.sp_schedule.specs.declared.stage.Stage.TheVariants as stages
 
@@ -121,9 +121,9 @@ next_is format g e is =
     and_from (nat_lt e.low.0 e.high.0 && is_above (last_edge g.edges) e) (nat_lt (length g.edges) (max_edges format))
     (and_from (nat_lt e.low.0 e.high.0) (is_above (last_edge g.edges) e) less (above_is (last_edge g.edges) e is.ascends)) few
 
--- the scenario with these edges alone, and no compromised node
+-- the scenario with these edges alone, no compromised node, and no epochs
 abbrev edges_so_far : Scenario → List Edge → Scenario
-edges_so_far s edges = record { format = s.format; seed = s.seed; height = s.height; limits = s.limits; graph = with_edges s.graph edges; bad = [] }
+edges_so_far s edges = record { format = s.format; seed = s.seed; height = s.height; limits = s.limits; graph = with_edges s.graph edges; bad = []; epochs = false }
 
 few_nodes : (format n : ℕ) → n ≤ max_nodes format → nat_lt n (2 ^ 64) ≡ true
 few_nodes format n few = grind (arith, nat_tests, few, nodes_small format)
@@ -156,9 +156,9 @@ edges_follow s front (e ∷ back) good is =
 
 -- ---- compromised nodes
 
--- the scenario with these compromised nodes alone
+-- the scenario with these compromised nodes alone, and no epochs
 abbrev bads_so_far : Scenario → List NodeId → Scenario
-bads_so_far s bad = record { format = s.format; seed = s.seed; height = s.height; limits = s.limits; graph = s.graph; bad = bad }
+bads_so_far s bad = record { format = s.format; seed = s.seed; height = s.height; limits = s.limits; graph = s.graph; bad = bad; epochs = false }
 
 next_after_append : (low : ℕ) (front : List NodeId) (b : NodeId) → next_after low (front ++ b ∷ []) ≡ b.0 + 1
 next_after_append low [] b = refl
@@ -186,27 +186,54 @@ bads_follow s front (b ∷ back) few good =
 begin_good : IsGoodLine begin_words
 begin_good = good_row_line begin_cells tt refl tt
 
-bads_and_begin : (s : Scenario) (bad : List NodeId) → s.graph.nodes ≤ max_nodes s.format → Ascend 1 s.graph.nodes bad
-    → Follows (stages.Edges (bads_so_far s [])) (map bad_words bad ++ begin_words ∷ []) (stages.Events (bads_so_far s bad) [])
-bads_and_begin s [] few good = one (stages.Edges (bads_so_far s [])) (stages.Events (bads_so_far s []) []) begin_words begin_good refl
-bads_and_begin s (b ∷ back) few good =
-    let read = bad_read s [] b few good.0 good.1 in
-    let first = one (stages.Edges (bads_so_far s [])) (stages.Bads (bads_so_far s (b ∷ []))) (bad_words b) (bad_good s b few good.1) (rw read refl) in
-    let rest = bads_follow s (b ∷ []) back few good.2 in
-    let begin = one (stages.Bads (bads_so_far s (b ∷ back))) (stages.Events (bads_so_far s (b ∷ back)) []) begin_words begin_good refl in
-    both (bad_words b ∷ []) (map bad_words back ++ begin_words ∷ []) _ _ _ first (both (map bad_words back) (begin_words ∷ []) _ _ _ rest begin)
+-- ---- `epochs` and `begin`
+
+epochs_good : IsGoodLine epochs_words
+epochs_good = good_row_line epochs_cells tt refl tt
+
+-- the scenario with epochs or without
+abbrev with_life : Scenario → Bool → Scenario
+with_life s epochs = record { format = s.format; seed = s.seed; height = s.height; limits = s.limits; graph = s.graph; bad = s.bad; epochs = epochs }
+
+-- what leads to the events of a scenario without epochs, and to the line `epochs`, leads to those of the scenario
+begin_follows : (s : Scenario) (stage : Stage) → IsScenario s → says stage begin_words ≡ Ok (stages.Events (with_life s false) [])
+    → (s.format ≡ FORMAT_2 → says stage epochs_words ≡ Ok (stages.Epochs (with_life s true))) → Follows stage (epochs_lines s ++ begin_words ∷ []) (stages.Events s [])
+begin_follows s stage good begin epochs = go s.epochs refl
+  where
+    go : (b : Bool) → s.epochs ≡ b → Follows stage ((if b then epochs_words ∷ [] else []) ++ begin_words ∷ []) (stages.Events (with_life s b) [])
+    go false is = one stage (stages.Events (with_life s false) []) begin_words begin_good begin
+    go true is =
+        both (epochs_words ∷ []) (begin_words ∷ []) _ _ _ (one stage (stages.Epochs (with_life s true)) epochs_words epochs_good (epochs (good.epochs is)))
+        (one (stages.Epochs (with_life s true)) (stages.Events (with_life s true) []) begin_words begin_good refl)
+
+in_format_2 : (format : ℕ) → format ≡ FORMAT_2 → (format == FORMAT_2) ≡ true
+in_format_2 format is = eq-eqb format FORMAT_2 is
+
+bads_and_begin : (s : Scenario) (bad : List NodeId) → IsScenario s → s.bad ≡ bad → Ascend 1 s.graph.nodes bad
+    → Follows (stages.Edges (bads_so_far s [])) (map bad_words bad ++ (epochs_lines s ++ begin_words ∷ [])) (stages.Events s [])
+bads_and_begin s [] good is ascend =
+    begin_follows s (stages.Edges (bads_so_far s [])) good (ap (λ (bs : List NodeId). Ok (stages.Events (bads_so_far s bs) [])) (sym is))
+    (λ two. rw (in_format_2 s.format two) (ap (λ (bs : List NodeId). Ok (stages.Epochs (with_epochs (bads_so_far s bs)))) (sym is)))
+bads_and_begin s (b ∷ back) good is ascend =
+    let few = good.graph.nodes.1 in
+    let read = bad_read s [] b few ascend.0 ascend.1 in
+    let first = one (stages.Edges (bads_so_far s [])) (stages.Bads (bads_so_far s (b ∷ []))) (bad_words b) (bad_good s b few ascend.1) (rw read refl) in
+    let rest = bads_follow s (b ∷ []) back few ascend.2 in
+    let begin = begin_follows s (stages.Bads (bads_so_far s (b ∷ back))) good (ap (λ (bs : List NodeId). Ok (stages.Events (bads_so_far s bs) [])) (sym is))
+    (λ two. rw (in_format_2 s.format two) (ap (λ (bs : List NodeId). Ok (stages.Epochs (with_epochs (bads_so_far s bs)))) (sym is))) in
+    both (bad_words b ∷ []) (map bad_words back ++ (epochs_lines s ++ begin_words ∷ [])) _ _ _ first (both (map bad_words back) (epochs_lines s ++ begin_words ∷ []) _ _ _ rest begin)
 
 header_follows : (s : Scenario) → IsScenario s → Follows stages.Start (header_lines s) (stages.Events s [])
 header_follows s good =
-    let few = good.graph.nodes.1 in
+    let start = front_lines s.format s.seed s.height s.limits s.graph.nodes in
+    let last = epochs_lines s ++ begin_words ∷ [] in
     let front = front_follows s good in
     let edges = edges_follow s [] s.graph.edges good.graph refl in
-    let bads = bads_and_begin s s.bad few good.bad in
-    let all = both (front_lines s.format s.seed s.height s.limits s.graph.nodes) (map edge_words s.graph.edges ++ (map bad_words s.bad ++ begin_words ∷ [])) _ _ _ front
-    (both (map edge_words s.graph.edges) (map bad_words s.bad ++ begin_words ∷ []) _ _ _ edges bads) in
-    let lines : front_lines s.format s.seed s.height s.limits s.graph.nodes ++ (map edge_words s.graph.edges ++ (map bad_words s.bad ++ begin_words ∷ [])) ≡ header_lines s =
-    ap (λ (xs : List (List Word)). front_lines s.format s.seed s.height s.limits s.graph.nodes ++ xs) (sym (append_assoc (map edge_words s.graph.edges) (map bad_words s.bad) (begin_words ∷ [])))
-    ∙ sym (append_assoc (front_lines s.format s.seed s.height s.limits s.graph.nodes) (map edge_words s.graph.edges ++ map bad_words s.bad) (begin_words ∷ [])) in
+    let bads = bads_and_begin s s.bad good refl good.bad in
+    let all = both start (map edge_words s.graph.edges ++ (map bad_words s.bad ++ last)) _ _ _ front (both (map edge_words s.graph.edges) (map bad_words s.bad ++ last) _ _ _ edges bads) in
+    let lines : start ++ (map edge_words s.graph.edges ++ (map bad_words s.bad ++ last)) ≡ header_lines s =
+    ap (λ (xs : List (List Word)). start ++ xs) (sym (append_assoc (map edge_words s.graph.edges) (map bad_words s.bad) last))
+    ∙ sym (append_assoc start (map edge_words s.graph.edges ++ map bad_words s.bad) last) in
     subst (λ (ls : List (List Word)). Follows stages.Start ls (stages.Events s [])) lines all
 
 -- ---- events
@@ -228,6 +255,8 @@ end_not z (events.Craft c v key (crafted.Rel r)) = refl
 end_not z (events.Craft c v key (crafted.Ack a)) = refl
 end_not z (events.Craft c v key (crafted.Prio p)) = refl
 end_not z (events.Craft c v key (crafted.Weight w)) = refl
+end_not z (events.Start u) = refl
+end_not z (events.Stop u) = refl
 
 event_line : (s : Scenario) (es : List Event) (e : Event) → s.graph.nodes ≤ max_nodes s.format → length es < MAX_EVENTS → InRange s es e
     → says (stages.Events s es) (event_words s e) ≡ Ok (stages.Events s (es ++ e ∷ []))

@@ -18,7 +18,7 @@ use Rattle.sp_schedule_events.specs.declared.scenario.Scenario.{Scenario}
 use Rattle.sp_schedule.specs.Lines.{IsParsed, says}
 use Rattle.sp_schedule.specs.Readings.{IsReading, at_end, ending_of}
 use Rattle.sp_schedule.specs.Refusals.{text_kind}
-use Rattle.sp_schedule.specs.Spelling.{bounds_words, header_lines, height_words, scenario_lines, schedule_lines, seed_words, version_words}
+use Rattle.sp_schedule.specs.Spelling.{bounds_words, epochs_words, header_lines, height_words, scenario_lines, schedule_lines, seed_words, version_words}
 use Rattle.sp_schedule.specs.declared.lead.Lead.{Lead}
 use Rattle.sp_schedule.specs.declared.lead.Lead.TheVariants as leads
 use Rattle.sp_schedule.specs.declared.parsed.Parsed.{Parsed}
@@ -50,6 +50,7 @@ lines_to (stages.Height format seed height) = version_words format ∷ seed_word
 lines_to (stages.Bounds format seed height limits) = version_words format ∷ seed_words seed ∷ height_words height ∷ bounds_words limits ∷ []
 lines_to (stages.Edges s) = scenario_lines s
 lines_to (stages.Bads s) = scenario_lines s
+lines_to (stages.Epochs s) = scenario_lines s ++ epochs_words ∷ []
 lines_to (stages.Events s es) = header_lines s ++ map (event_words s) es
 lines_to (stages.End s es) = schedule_lines s es
 

@@ -7,6 +7,7 @@
 --     nodes N             2..=16, in format 2 2..=32; the nodes are 1 to N
 --     edge A B W          at most 120, in format 2 256; A < B, lexically ascending
 --     bad I               none or more, ascending
+--     epochs              in format 2 alone, where correct nodes start and stop by events
 --     begin
 use Rattle.std.specs.Prelude.{ℕ, ◌==◌, ◌||◌, ◌+◌, Bool, List, [], ◌∷◌, codes, if◌then◌else◌}
 use Rattle.sp_base.specs.Formats.{max_nodes}
@@ -60,6 +61,9 @@ edge_cells nodes = Name (codes "edge") ∷ Number 1 nodes ∷ Number 1 nodes ∷
 -- a compromised node, from this id on
 abbrev pub bad_cells : ℕ → ℕ → List Cell
 bad_cells low nodes = Name (codes "bad") ∷ Number low nodes ∷ []
+
+abbrev pub epochs_cells : List Cell
+epochs_cells = Name (codes "epochs") ∷ []
 
 abbrev pub begin_cells : List Cell
 begin_cells = Name (codes "begin") ∷ []

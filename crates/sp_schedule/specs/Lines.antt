@@ -8,19 +8,23 @@
 --     Bounds      nodes N          Edges, with no edge yet
 --     Edges       edge A B W       Edges, with one edge more
 --                 bad I            Bads
+--                 epochs           Epochs, in format 2 alone
 --                 begin            Events, with no event yet
 --     Bads        bad I            Bads, with one node more
+--                 epochs           Epochs, in format 2 alone
 --                 begin            Events, with no event yet
+--     Epochs      begin            Events, with no event yet
 --     Events      an event         Events, with one event more
 --                 end              End
 --     End         none
 --
 -- Every bad line of the header is `Header`. After 16,384 events each line but `end` is `TooMany`, whatever else is wrong with it. A good line of which no
 -- event is built is `Unbuilt`.
-use Rattle.std.specs.Prelude.{ℕ, ◌≡◌, ◌&&◌, ◌||◌, ◌==◌, nat_le, nat_lt, Bool, true, if◌then◌else◌}
+use Rattle.std.specs.Prelude.{ℕ, ◌≡◌, ◌&&◌, ◌||◌, ◌==◌, nat_le, nat_lt, Bool, true, false, if◌then◌else◌}
 use Rattle.std.specs.Prelude.{List, [], ◌∷◌, ◌++◌, length, Option, Some, None, Result, Ok, Err}
 use Rattle.sp_base.specs.Formats.{max_edges}
 use Rattle.sp_base.specs.Refusals.{◌>>=◌}
+use Rattle.sp_base.specs.declared.format.TheConstants.{FORMAT_2}
 use Rattle.sp_base.specs.declared.limits.TheConstants.{MAX_EVENTS}
 use Rattle.sp_base.specs.declared.id.NodeId.{NodeId}
 use Rattle.sp_base.specs.declared.id.Limits.{Limits}
@@ -36,7 +40,7 @@ use Rattle.sp_schedule_events.specs.EventLines.{read_event}
 use Rattle.sp_schedule_events.specs.Later.{later_line}
 use Rattle.sp_schedule_events.specs.declared.scenario.Scenario.{Scenario}
 use Rattle.sp_schedule_events.specs.declared.event.Event.{Event}
-use Rattle.sp_schedule.specs.Header.{bad_cells, begin_cells, bounds_cells, edge_cells, end_cells, height_cells, nodes_cells, seed_cells, version_cells}
+use Rattle.sp_schedule.specs.Header.{bad_cells, begin_cells, bounds_cells, edge_cells, end_cells, epochs_cells, height_cells, nodes_cells, seed_cells, version_cells}
 use Rattle.sp_schedule.specs.Header.{edge_of, height_at, limits_of, next_after}
 use Rattle.sp_schedule.specs.Refusals.{kind_of}
 use Rattle.sp_schedule.specs.declared.lead.Lead.{Lead}
@@ -50,18 +54,22 @@ use Rattle.sp_schedule.specs.declared.refused.Kind.TheVariants as kinds
 
 -- ---- scenarios that grow
 
--- no edge yet, and no compromised node
+-- no edge yet, no compromised node, and no epochs
 abbrev pub bare : (format : ℕ) → List ℕ → LmsHeight → Limits → ℕ → Scenario
 bare format seed height limits nodes =
-    record { format = format; seed = seed; height = height; limits = limits; graph = record { nodes = nodes; edges = [] }; bad = [] }
+    record { format = format; seed = seed; height = height; limits = limits; graph = record { nodes = nodes; edges = [] }; bad = []; epochs = false }
 
 -- one edge more
 abbrev pub with_edge : Scenario → Edge → Scenario
-with_edge s e = record { format = s.format; seed = s.seed; height = s.height; limits = s.limits; graph = with_edge_more s.graph e; bad = s.bad }
+with_edge s e = record { format = s.format; seed = s.seed; height = s.height; limits = s.limits; graph = with_edge_more s.graph e; bad = s.bad; epochs = s.epochs }
 
 -- one compromised node more
 abbrev pub with_bad : Scenario → NodeId → Scenario
-with_bad s id = record { format = s.format; seed = s.seed; height = s.height; limits = s.limits; graph = s.graph; bad = s.bad ++ id ∷ [] }
+with_bad s id = record { format = s.format; seed = s.seed; height = s.height; limits = s.limits; graph = s.graph; bad = s.bad ++ id ∷ []; epochs = s.epochs }
+
+-- its nodes start and stop by events
+abbrev pub with_epochs : Scenario → Scenario
+with_epochs s = record { format = s.format; seed = s.seed; height = s.height; limits = s.limits; graph = s.graph; bad = s.bad; epochs = true }
 
 -- the first edge stands before the second in the order of their ends
 abbrev pub is_lower : Edge → Edge → Bool
@@ -100,6 +108,10 @@ says_bad s words = header (line_of (bad_cells (next_after 1 s.bad) s.graph.nodes
 abbrev pub says_edge : Scenario → List Word → Result Stage Kind
 says_edge s words = header (next_edge s words) (λ e. stages.Edges (with_edge s e))
 
+-- the line `epochs`
+abbrev pub says_epochs : Scenario → Result Stage Kind
+says_epochs s = if s.format == FORMAT_2 then Ok (stages.Epochs (with_epochs s)) else Err kinds.Header
+
 -- a line of no event is `Unbuilt` where nothing else is wrong with it
 abbrev pub without_event : Result (Unit {0}) Fault → Kind
 without_event (Ok good) = kinds.Unbuilt
@@ -123,8 +135,11 @@ says (stages.Seed format seed) words = header (line_of height_cells words) (λ x
 says (stages.Height format seed height) words = header (line_of bounds_cells words) (λ x. stages.Bounds format seed height (limits_of x))
 says (stages.Bounds format seed height limits) words = header (line_of (nodes_cells format) words) (λ x. stages.Edges (bare format seed height limits x.0))
 says (stages.Edges s) words =
-    if fits begin_cells words then Ok (stages.Events s []) else (if fits (bad_cells 0 0) words then says_bad s words else says_edge s words)
-says (stages.Bads s) words = if fits begin_cells words then Ok (stages.Events s []) else says_bad s words
+    if fits begin_cells words then Ok (stages.Events s [])
+    else (if fits epochs_cells words then says_epochs s else (if fits (bad_cells 0 0) words then says_bad s words else says_edge s words))
+says (stages.Bads s) words =
+    if fits begin_cells words then Ok (stages.Events s []) else (if fits epochs_cells words then says_epochs s else says_bad s words)
+says (stages.Epochs s) words = if fits begin_cells words then Ok (stages.Events s []) else Err kinds.Header
 says (stages.Events s es) words =
     if fits end_cells words then Ok (stages.End s es)
     else (if nat_le MAX_EVENTS (length es) then Err kinds.TooMany else event_more s es words (read_event s es words))

@@ -1,7 +1,8 @@
 -- A scenario in its ranges, and events in theirs, one after the other.
-use Rattle.std.specs.Prelude.{ℕ, ◌≡◌, ◌+◌, ◌≤◌, List, [], ◌∷◌, ◌++◌, length}
+use Rattle.std.specs.Prelude.{ℕ, ◌≡◌, ◌+◌, ◌≤◌, true, List, [], ◌∷◌, ◌++◌, length}
 use Rattle.sp_base.specs.Formats.{IsFormat}
 use Rattle.sp_base.specs.Spelling.{AreBytes}
+use Rattle.sp_base.specs.declared.format.TheConstants.{FORMAT_2}
 use Rattle.sp_base.specs.declared.limits.TheConstants.{MAX_BUFFER, MAX_EVENTS, MAX_STORE}
 use Rattle.sp_base.specs.declared.id.NodeId.{NodeId}
 use Rattle.sp_base.specs.declared.id.Limits.{Limits}
@@ -29,6 +30,7 @@ pub record IsScenario (s : Scenario) : Type 0 where
   pub limits : AreBounds s.limits
   pub graph : IsGraphIn s.format s.graph
   pub bad : Ascend 1 s.graph.nodes s.bad
+  pub epochs : s.epochs ≡ true → s.format ≡ FORMAT_2
 
 -- each event may come after those before it
 pub data AreInRange (s : Scenario) : List Event → Type 0 where

@@ -1,5 +1,5 @@
 -- A schedule as text: its header, a line for each event, and `end`.
-use Rattle.std.specs.Prelude.{ℕ, List, [], ◌∷◌, ◌++◌, map}
+use Rattle.std.specs.Prelude.{ℕ, List, [], ◌∷◌, ◌++◌, map, if◌then◌else◌}
 use Rattle.std.specs.List.{flat_map}
 use Rattle.sp_base.specs.declared.format.TheConstants.{FORMAT_1}
 use Rattle.sp_base.specs.declared.id.NodeId.{NodeId}
@@ -11,7 +11,7 @@ use Rattle.sp_topology.specs.declared.topology.LmsHeight.{LmsHeight}
 use Rattle.sp_schedule_events.specs.Events.{event_words}
 use Rattle.sp_schedule_events.specs.declared.scenario.Scenario.{Scenario}
 use Rattle.sp_schedule_events.specs.declared.event.Event.{Event}
-use Rattle.sp_schedule.specs.Header.{bad_cells, begin_cells, bounds_cells, edge_cells, end_cells, height_cells, nodes_cells, seed_cells, version_cells}
+use Rattle.sp_schedule.specs.Header.{bad_cells, begin_cells, bounds_cells, edge_cells, end_cells, epochs_cells, height_cells, nodes_cells, seed_cells, version_cells}
 use Rattle.sp_schedule.specs.Header.{bounds_values, edge_values, height_number}
 
 -- ---- the words of each line
@@ -37,6 +37,9 @@ edge_words e = spelled (edge_cells 0) (edge_values 0 e)
 abbrev pub bad_words : NodeId → List Word
 bad_words id = spelled (bad_cells 0 0) (id.0, tt)
 
+abbrev pub epochs_words : List Word
+epochs_words = spelled epochs_cells tt
+
 abbrev pub begin_words : List Word
 begin_words = spelled begin_cells tt
 
@@ -50,12 +53,16 @@ abbrev pub front_lines : (format : ℕ) → List ℕ → LmsHeight → Limits �
 front_lines format seed height limits nodes =
     version_words format ∷ seed_words seed ∷ height_words height ∷ bounds_words limits ∷ nodes_words nodes ∷ []
 
--- the lines before `begin`
+-- the lines before `epochs` and `begin`
 abbrev pub scenario_lines : Scenario → List (List Word)
 scenario_lines s = front_lines s.format s.seed s.height s.limits s.graph.nodes ++ (map edge_words s.graph.edges ++ map bad_words s.bad)
 
+-- the line `epochs`, where the scenario has it
+abbrev pub epochs_lines : Scenario → List (List Word)
+epochs_lines s = if s.epochs then epochs_words ∷ [] else []
+
 abbrev pub header_lines : Scenario → List (List Word)
-header_lines s = scenario_lines s ++ begin_words ∷ []
+header_lines s = scenario_lines s ++ (epochs_lines s ++ begin_words ∷ [])
 
 abbrev pub schedule_lines : Scenario → List Event → List (List Word)
 schedule_lines s es = header_lines s ++ (map (event_words s) es ++ end_words ∷ [])

@@ -6,7 +6,7 @@ ghost use Rattle.sp_graph.specs.Edges.{last_edge};
 ghost use Rattle.sp_lines.specs.Answers.{Says};
 ghost use Rattle.sp_lines.specs.Cells.{bytes_at, tested_at};
 ghost use Rattle.sp_lines.specs.Rows.{fits, line_of};
-ghost use Rattle.sp_schedule.specs.Header.{bad_cells, begin_cells, bounds_cells, edge_cells, end_cells, height_cells, nodes_cells, seed_cells, version_cells};
+ghost use Rattle.sp_schedule.specs.Header.{bad_cells, begin_cells, bounds_cells, edge_cells, end_cells, epochs_cells, height_cells, nodes_cells, seed_cells, version_cells};
 ghost use Rattle.sp_schedule.specs.Header.{bounds_values, edge_values, height_number, is_height, next_after};
 ghost use Rattle.sp_schedule.specs.Lines.{is_above, is_lower, is_next_edge};
 
@@ -217,6 +217,16 @@ fn above(id: &NodeId) -> u64
     ensures { result ≡ id.now.0 + 1 }
 {
     u64::from(id.0) + 1
+}
+
+/// Whether the line is `epochs`.
+pub fn is_epochs(words: &[&[u8]]) -> bool
+    ensures { result ≡ fits epochs_cells (map (λ w. w.now) words.now) }
+{
+    match words {
+        [name] => named(name, b"epochs"),
+        _ => false,
+    }
 }
 
 /// Whether the line is `begin`.

@@ -4,18 +4,18 @@ ghost use Rattle.sp_base.specs.declared.limits.TheConstants.{MAX_EVENTS};
 ghost use Rattle.sp_lines.specs.Answers.{Says};
 ghost use Rattle.sp_lines.specs.Rows.{line_of};
 ghost use Rattle.sp_schedule.specs.Header.{bad_cells, next_after};
-ghost use Rattle.sp_schedule.specs.Lines.{IsLead, next_edge, no_event, with_bad, with_edge, without_event};
+ghost use Rattle.sp_schedule.specs.Lines.{IsLead, next_edge, no_event, with_bad, with_edge, with_epochs, without_event};
 
 use crate::header::{
-    bad, bounds, edge, height, is_bad_line, is_begin, is_end, is_next_edge, next_after, nodes,
-    seed, version,
+    bad, bounds, edge, height, is_bad_line, is_begin, is_end, is_epochs, is_next_edge, next_after,
+    nodes, seed, version,
 };
 use crate::refused::kind_of;
 use crate::scenario_copy::copy_of;
 use crate::{
     Edge, Event, Fault, Graph, Kind, LineRefused, LmsHeight, Parsed, Scenario, Stage, Timeline,
 };
-use sp_base::{Limits, Listed, MAX_EVENTS, Memory, NodeId};
+use sp_base::{FORMAT_2, Limits, Listed, MAX_EVENTS, Memory, NodeId};
 use sp_schedule_events::{later_line, read_event};
 use std::alloc::Global;
 
@@ -51,6 +51,7 @@ pub fn follow(alloc: Global, stage: Stage, words: &[&[u8]]) -> Lead
         } => after_bounds(alloc, format, seed, height, limits, words),
         Stage::Edges(scenario) => after_edges(alloc, scenario, words),
         Stage::Bads(scenario) => after_bads(alloc, scenario, words),
+        Stage::Epochs(scenario) => after_epochs(alloc, scenario, words),
         Stage::Events(scenario, events) => after_events(alloc, scenario, events, words),
         Stage::End(scenario, events) => Lead::Bad(Stage::End(scenario, events), Kind::AfterEnd),
     }
@@ -136,6 +137,7 @@ fn after_bounds(
                 edges: Listed::from_vec(Vec::new(alloc)),
             },
             bad: Listed::from_vec(Vec::new(alloc)),
+            epochs: false,
         })),
         None => Lead::Bad(
             Stage::Bounds {
@@ -157,6 +159,12 @@ fn after_edges(alloc: Global, scenario: Scenario, words: &[&[u8]]) -> Lead
             Ok(lead) => lead,
             Err(scenario) => Lead::Unread(Stage::Edges(scenario)),
         };
+    }
+    if is_epochs(words) {
+        if scenario.format != FORMAT_2 {
+            return Lead::Bad(Stage::Edges(scenario), Kind::Header);
+        }
+        return on(Stage::Epochs(with_epochs(scenario)));
     }
     if is_bad_line(words) {
         let Some(id) = next_bad(&scenario, words) else {
@@ -185,12 +193,30 @@ fn after_bads(alloc: Global, scenario: Scenario, words: &[&[u8]]) -> Lead
             Err(scenario) => Lead::Unread(Stage::Bads(scenario)),
         };
     }
+    if is_epochs(words) {
+        if scenario.format != FORMAT_2 {
+            return Lead::Bad(Stage::Bads(scenario), Kind::Header);
+        }
+        return on(Stage::Epochs(with_epochs(scenario)));
+    }
     let Some(id) = next_bad(&scenario, words) else {
         return Lead::Bad(Stage::Bads(scenario), Kind::Header);
     };
     match with_bad(scenario, id) {
         Ok(more) => on(Stage::Bads(more)),
         Err(scenario) => Lead::Unread(Stage::Bads(scenario)),
+    }
+}
+
+fn after_epochs(alloc: Global, scenario: Scenario, words: &[&[u8]]) -> Lead
+    ensures { IsLead (Stage.Epochs scenario) (map (λ w. w.now) words.now) result }
+{
+    if !is_begin(words) {
+        return Lead::Bad(Stage::Epochs(scenario), Kind::Header);
+    }
+    match begun(alloc, scenario) {
+        Ok(lead) => lead,
+        Err(scenario) => Lead::Unread(Stage::Epochs(scenario)),
     }
 }
 
@@ -251,6 +277,14 @@ fn with_bad(mut scenario: Scenario, id: NodeId) -> Result<Scenario, Scenario>
         Ok(()) => Ok(scenario),
         Err(Memory) => Err(scenario),
     }
+}
+
+/// The scenario whose nodes start and stop by events.
+fn with_epochs(mut scenario: Scenario) -> Scenario
+    ensures { result ≡ with_epochs scenario }
+{
+    scenario.epochs = true;
+    scenario
 }
 
 fn after_events(alloc: Global, scenario: Scenario, mut events: Timeline, words: &[&[u8]]) -> Lead

@@ -5,7 +5,7 @@ ghost use Rattle.std.specs.String.{string_bytes};
 ghost use Rattle.sp_lines.specs.Rows.{line_text};
 ghost use Rattle.sp_schedule_events.specs.Events.{event_words};
 ghost use Rattle.sp_schedule.specs.Spelling.{bad_words, begin_words, bounds_words, edge_words, end_words, height_words, nodes_words, seed_words, version_words};
-ghost use Rattle.sp_schedule.specs.Spelling.{front_lines, schedule_text};
+ghost use Rattle.sp_schedule.specs.Spelling.{epochs_lines, front_lines, schedule_text};
 
 use crate::{Edge, Event, LmsHeight, Scenario};
 use sp_base::{Limits, Memory, NodeId};
@@ -21,6 +21,7 @@ pub fn print(alloc: Global, scenario: &Scenario, events: &[Event]) -> Result<Str
     push_front(&mut out, scenario)?;
     push_edges(&mut out, scenario.graph.edges.as_slice())?;
     push_bads(&mut out, scenario.bad.as_slice())?;
+    push_epochs(&mut out, scenario)?;
     out.push_str("begin\n")?;
     push_events(&mut out, scenario, events)?;
     out.push_str("end\n")?;
@@ -123,6 +124,16 @@ fn push_bad(out: &mut String, id: NodeId) -> Result<(), Memory>
     out.push_str("bad")?;
     push_field(out, u64::from(id.0))?;
     out.push_str("\n")?;
+    Ok(())
+}
+
+/// Appends the line `epochs`, where the scenario has it.
+fn push_epochs(out: &mut String, scenario: &Scenario) -> Result<(), Memory>
+    ensures { OnOk result (string_bytes out.new ≡ string_bytes out.old ++ flat_map line_text (epochs_lines scenario.now)) }
+{
+    if scenario.epochs {
+        out.push_str("epochs\n")?;
+    }
     Ok(())
 }
 

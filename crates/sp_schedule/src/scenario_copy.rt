@@ -21,5 +21,6 @@ pub fn copy_of(alloc: Global, scenario: &Scenario) -> Result<Scenario, Memory>
             edges: Listed::from_vec(edges),
         },
         bad: Listed::from_vec(bad),
+        epochs: scenario.epochs,
     })
 }

@@ -30,6 +30,8 @@ pub enum Stage {
     Edges(Scenario),
     /// A compromised node was read: no edge may come after it.
     Bads(Scenario),
+    /// The line `epochs` was read: only `begin` may come after it.
+    Epochs(Scenario),
     /// The header was read whole, and the events so far.
     Events(Scenario, Timeline),
     /// The line `end` was read.

@@ -73,3 +73,5 @@ counted_more es rows (events.Flip a b number back bit) counted u v = counted u v
 counted_more es rows (events.Inject a b bytes) counted u v = counted u v ∙ sym (polls-other es (events.Inject a b bytes) u v refl)
 counted_more es rows (events.Craft c b key body) counted u v = counted u v ∙ sym (polls-other es (events.Craft c b key body) u v refl)
 counted_more es rows (events.CraftStatus c b s d base have) counted u v = counted u v ∙ sym (polls-other es (events.CraftStatus c b s d base have) u v refl)
+counted_more es rows (events.Start a) counted u v = counted u v ∙ sym (polls-other es (events.Start a) u v refl)
+counted_more es rows (events.Stop a) counted u v = counted u v ∙ sym (polls-other es (events.Stop a) u v refl)

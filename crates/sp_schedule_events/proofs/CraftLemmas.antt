@@ -17,7 +17,7 @@ use Rattle.sp_schedule_crafts.specs.Reading as reading
 use Rattle.sp_schedule_crafts.specs.declared.form.ObjectForm.{ObjectForm}
 use Rattle.sp_schedule_crafts.specs.declared.form.ObjectForm.TheVariants as objs
 use Rattle.sp_schedule_events.specs.Events.{event_of}
-use Rattle.sp_schedule_events.specs.EventLines.{form_for, if_joined, read_event, read_form}
+use Rattle.sp_schedule_events.specs.EventLines.{form_for, if_joined, read_event, read_for, read_form}
 use Rattle.sp_schedule_events.specs.Names.{crafted_event, line_for}
 use Rattle.sp_schedule_events.specs.Scenarios.{are_joined, is_correct}
 use Rattle.sp_schedule_events.specs.Table as forms
@@ -25,7 +25,7 @@ use Rattle.sp_schedule_events.specs.Table.{Form, cells}
 use Rattle.sp_schedule_events.specs.declared.event.Event.{Event}
 use Rattle.sp_schedule_events.specs.declared.event.Event.TheVariants as events
 use Rattle.sp_schedule_events.specs.declared.scenario.Scenario.{Scenario}
-use Rattle.sp_schedule_events.proofs.NameLemmas.{by_name, one_less, same_search, starts, starts_so}
+use Rattle.sp_schedule_events.proofs.NameLemmas.{by_plain_name, one_less, plain_forms, same_search, starts, starts_so}
 
 -- ---- which row
 
@@ -109,7 +109,7 @@ pub craft_form : (s : Scenario) (c v key name : Word) (fields : List Word)
     → form_for s (codes "craft" ∷ c ∷ v ∷ key ∷ name ∷ fields)
     ≡ cond (same key (codes "status") && (length fields == 3)) (Some forms.CraftStatus) (option_map forms.Craft (reading.form_named name (length fields)))
 craft_form s c v key name fields =
-    by_name s (codes "craft") (c ∷ v ∷ key ∷ name ∷ fields)
+    by_plain_name s (codes "craft") (c ∷ v ∷ key ∷ name ∷ fields) refl refl
     ∙ ap (λ (t : Bool). cond t (Some forms.CraftStatus) (find test (map forms.Craft objects.forms))) (status_row s c v key name fields)
     ∙ ap (λ (o : Option Form). cond (same key (codes "status") && (length fields == 3)) (Some forms.CraftStatus) o)
     (find_mapped test forms.Craft objects.forms
@@ -202,8 +202,13 @@ uncrafted s es c v key name fields other is =
 
 -- too few words
 pub crafted_few : (s : Scenario) (es : List Event) (words : List (Bor Word)) → length words < 4 → read_event s es (codes "craft" ∷ map (λ w. w.now) words) ≡ Err faults.Form
-crafted_few s es [] few = refl
-crafted_few s es (a ∷ []) few = refl
-crafted_few s es (a ∷ b ∷ []) few = refl
-crafted_few s es (a ∷ b ∷ c ∷ []) few = refl
-crafted_few s es (a ∷ b ∷ c ∷ d ∷ more) few = absurd (omega (arith, few))
+crafted_few s es words few =
+    ap (λ (found : Option Form). read_for s es found (codes "craft" ∷ map (λ w. w.now) words))
+    (by_plain_name s (codes "craft") (map (λ w. w.now) words) refl refl ∙ none_fits words few)
+  where
+    none_fits : (ws : List (Bor Word)) → length ws < 4 → find (λ form. starts (cells s form) (codes "craft" ∷ map (λ w. w.now) ws)) plain_forms ≡ None
+    none_fits [] few = refl
+    none_fits (a ∷ []) few = refl
+    none_fits (a ∷ b ∷ []) few = refl
+    none_fits (a ∷ b ∷ c ∷ []) few = refl
+    none_fits (a ∷ b ∷ c ∷ d ∷ more) few = absurd (omega (arith, few))

@@ -1,11 +1,11 @@
 -- Events, their rows and their words.
 use Rattle.std.proofs.Common.{◌≡◌, ℕ, ◌<◌, ◌≤◌, ◌^◌, ◌-◌, ◌==◌, Bool, true, false, List, [], ◌∷◌, Option, Some, None, Ok, Err, refl, sym, subst, ◌∙◌, arith, inl, inr, if◌then◌else◌}
-use Rattle.std.specs.Prelude.{codes, find, nat_lt}
+use Rattle.std.specs.Prelude.{◌&&◌, codes, find, nat_lt, not}
 use Rattle.std.specs.Fmt.{decimal}
 use Rattle.std.specs.Str.Parse.{AllDigits}
 use Rattle.std.proofs.lemmas.Fmt.{decimal_is_IsNumeral}
 use Rattle.std.proofs.lemmas.Str.Parse.{digit_from_value}
-use Rattle.std.proofs.lemmas.Bool.{cases_Bool}
+use Rattle.std.proofs.lemmas.Bool.{and_parts, cases_Bool}
 use Rattle.std.proofs.lemmas.Bool.Decides.{nat_tests}
 use Rattle.sp_base.specs.Formats.{max_edges, max_nodes}
 use Rattle.sp_base.specs.declared.format.TheConstants.{FORMAT_1}
@@ -23,6 +23,7 @@ use Rattle.sp_lines.proofs.Words.{same_words}
 use Rattle.sp_schedule_crafts.specs.declared.form.ObjectForm.TheVariants as objects
 use Rattle.sp_schedule_events.specs.Events.{event_of, event_words, form_of, is_joined, values_of}
 use Rattle.sp_schedule_events.specs.EventLines.{InRange, form_for, if_joined, read_event, read_for, read_form}
+use Rattle.sp_schedule_events.specs.Lives.{is_started, may_act}
 use Rattle.sp_schedule_events.specs.Laws.{EventsHaveOneLine}
 use Rattle.sp_schedule_events.specs.Table as forms
 use Rattle.sp_schedule_events.specs.Table.{Form, cells}
@@ -49,6 +50,8 @@ event_back z (events.Craft c v key (crafted.Rel r)) = refl
 event_back z (events.Craft c v key (crafted.Ack a)) = refl
 event_back z (events.Craft c v key (crafted.Prio p)) = refl
 event_back z (events.Craft c v key (crafted.Weight w)) = refl
+event_back z (events.Start u) = refl
+event_back z (events.Stop u) = refl
 
 -- the words of a row's values are those of its event, which are in the same ranges
 record IsOfForm (s : Scenario) (form : Form) (xs : Values (cells s form)) : Type 0 where
@@ -71,6 +74,8 @@ of_form s (forms.Craft objects.Rel) xs = record { words = refl; ranges = λ are.
 of_form s (forms.Craft objects.Ack) xs = record { words = refl; ranges = λ are. are }
 of_form s (forms.Craft objects.Prio) xs = record { words = refl; ranges = λ are. are }
 of_form s (forms.Craft objects.Weight) xs = record { words = refl; ranges = λ are. are }
+of_form s forms.Start xs = record { words = refl; ranges = λ are. are }
+of_form s forms.Stop xs = record { words = refl; ranges = λ are. are }
 
 -- ---- the row that an event's words fit
 
@@ -102,22 +107,32 @@ edges_small format = elim (cases_Bool (format == FORMAT_1)) [
 key_small : (s : Scenario) → s.graph.nodes ≤ max_nodes s.format → (n : ℕ) → n ≤ s.graph.nodes → n < 2 ^ 64
 key_small s few n below = omega (arith, few, below, nodes_small s.format)
 
-form_again : (s : Scenario) (e : Event) → s.graph.nodes ≤ max_nodes s.format → AreIn (cells s (form_of e)) (values_of s e) → form_for s (event_words s e) ≡ Some (form_of e)
-form_again z (events.Rel s d payload) few are = refl
-form_again z (events.Prio s d prio expiry paths payload) few are = refl
-form_again z (events.Take d s) few are = refl
-form_again z (events.TakePrio d) few are = refl
-form_again z (events.Tick u now) few are = refl
-form_again z (events.Weight u v weight) few are = refl
-form_again z (events.Poll u v) few are = refl
-form_again z (events.Pass u v n) few are = refl
-form_again z (events.Flip u v n back bit) few are = refl
-form_again z (events.Inject u v bytes) few are = refl
-form_again z (events.CraftStatus c v s d base have) few are = refl
-form_again z (events.Craft c v key (crafted.Rel r)) few are = refl
-form_again z (events.Craft c v key (crafted.Ack a)) few are = rw (not_status key.0 (key_small z few key.0 are.2.3.1)) refl
-form_again z (events.Craft c v key (crafted.Prio p)) few are = refl
-form_again z (events.Craft c v key (crafted.Weight w)) few are = refl
+-- a start or a stop comes with epochs alone
+life_form : (epochs : Bool) (test : Form → Bool) (found : Form) → epochs ≡ true → find test (forms.Start ∷ forms.Stop ∷ []) ≡ Some found
+    → find test (if epochs then forms.Start ∷ forms.Stop ∷ [] else []) ≡ Some found
+life_form true test found is at = at
+life_form false test found is at = absurd cc
+
+form_again : (s : Scenario) (es : List Event) (e : Event) → s.graph.nodes ≤ max_nodes s.format → InRange s es e → form_for s (event_words s e) ≡ Some (form_of e)
+form_again z es (events.Rel s d payload) few is = refl
+form_again z es (events.Prio s d prio expiry paths payload) few is = refl
+form_again z es (events.Take d s) few is = refl
+form_again z es (events.TakePrio d) few is = refl
+form_again z es (events.Tick u now) few is = refl
+form_again z es (events.Weight u v weight) few is = refl
+form_again z es (events.Poll u v) few is = refl
+form_again z es (events.Pass u v n) few is = refl
+form_again z es (events.Flip u v n back bit) few is = refl
+form_again z es (events.Inject u v bytes) few is = refl
+form_again z es (events.CraftStatus c v s d base have) few is = refl
+form_again z es (events.Craft c v key (crafted.Rel r)) few is = refl
+form_again z es (events.Craft c v key (crafted.Ack a)) few is = rw (not_status key.0 (key_small z few key.0 is.values.2.3.1)) refl
+form_again z es (events.Craft c v key (crafted.Prio p)) few is = refl
+form_again z es (events.Craft c v key (crafted.Weight w)) few is = refl
+form_again z es (events.Start u) few is =
+    life_form z.epochs (λ f. fits (cells z f) (event_words z (events.Start u))) forms.Start (and_parts z.epochs (not (is_started es u.0)) is.may).0 refl
+form_again z es (events.Stop u) few is =
+    life_form z.epochs (λ f. fits (cells z f) (event_words z (events.Stop u))) forms.Stop (and_parts z.epochs (is_started es u.0) is.may).0 refl
 
 -- the row that was found is fitted
 found_fits : {F : Type 0} (test : F → Bool) (all : List F) (found : F) → find test all ≡ Some found → test found ≡ true
@@ -162,6 +177,8 @@ good_form s form few = go form
       | inr two ↦ rw (room, ids, two) refl
     ]
     go (forms.Craft objects.Weight) = rw (room, ids, edges) refl
+    go forms.Start = rw room refl
+    go forms.Stop = rw room refl
 
 -- the line of an event in its ranges can be read
 pub good_event_line : (s : Scenario) (es : List Event) (e : Event) → s.graph.nodes ≤ max_nodes s.format → InRange s es e → IsGoodLine (event_words s e)
@@ -179,25 +196,26 @@ unfolding read_form
 form_read s es form words e fit read =
     let step = then_ok (row_at (cells s form) words) (λ xs. if_joined s es (event_of s form xs)) e read in
     let xs = step.0 in
-    let joined = joined_read (is_joined s es (event_of s form xs)) (event_of s form xs) e step.2 in
+    let joined = joined_read (may_act s.epochs es (event_of s form xs) && is_joined s es (event_of s form xs)) (event_of s form xs) e step.2 in
+    let rules = and_parts (may_act s.epochs es (event_of s form xs)) (is_joined s es (event_of s form xs)) joined.1 in
     let parts = fit_parts (cells s form) words fit in
     let row = row_read (cells s form) words xs parts.0 parts.1 step.1 in
     let of = of_form s form xs in
     let all : InRange s es (event_of s form xs) × (words ≡ event_words s (event_of s form xs)) =
-    (record { values = of.ranges row.0; joined = joined.1 }, row.1 ∙ sym of.words) in
+    (record { values = of.ranges row.0; joined = rules.1; may = rules.0 }, row.1 ∙ sym of.words) in
     subst (λ (f : Event). InRange s es f × (words ≡ event_words s f)) joined.0 all
 
 event_read : (s : Scenario) (es : List Event) (words : List Word) (e : Event) → (found : Option Form) → form_for s words ≡ found → read_for s es found words ≡ Ok e
     → InRange s es e × (words ≡ event_words s e)
 event_read s es words e None is read = absurd cc
-event_read s es words e (Some form) is read = form_read s es form words e (found_fits (λ f. fits (cells s f) words) forms.forms form is) read
+event_read s es words e (Some form) is read = form_read s es form words e (found_fits (λ f. fits (cells s f) words) (forms.forms s) form is) read
 
 event_back_read : (s : Scenario) (es : List Event) (e : Event) → s.graph.nodes ≤ max_nodes s.format → InRange s es e → read_event s es (event_words s e) ≡ Ok e
 unfolding read_form
 event_back_read s es e few is =
     let row = row_back (cells s (form_of e)) (values_of s e) (good_row_room (cells s (form_of e)) (good_form s (form_of e) few)) is.values in
-    rw (form_again s e few is.values) (rw row (rw (event_back s e) (rw is.joined refl)))
+    rw (form_again s es e few is) (rw row (rw (event_back s e) (rw (is.may, is.joined) refl)))
 
 pub events_have_one_line : EventsHaveOneLine
 events_have_one_line s es words e few =
-    (λ read. event_read s es words e (form_for s words) refl read, λ is. rw is.1 (event_back_read s es e few is.0))
+    (λ read. event_read s es words e (form_for s words) refl read, λ is. subst (λ (ws : List Word). read_event s es ws ≡ Ok e) (sym is.1) (event_back_read s es e few is.0))

@@ -3,7 +3,7 @@ use Rattle.sp_base.specs.declared.id.NodeId.{NodeId}
 use Rattle.sp_schedule_events.specs.declared.event.Event.{Event}
 use Rattle.sp_schedule_events.specs.declared.event.Event.TheVariants as events
 
--- the node that makes a step, or to which bytes come
+-- the node that makes a step, to which bytes come, or which starts or stops
 abbrev pub acting : Event → NodeId
 acting (events.Rel s d payload) = s
 acting (events.Prio s d prio expiry paths payload) = s
@@ -17,3 +17,5 @@ acting (events.Flip u v number back bit) = v
 acting (events.Inject u v bytes) = v
 acting (events.Craft c v key object) = v
 acting (events.CraftStatus c v s d base have) = v
+acting (events.Start u) = u
+acting (events.Stop u) = u

@@ -1,22 +1,23 @@
 -- What the line of an event says: the event, or the first fault in its order.
-use Rattle.std.specs.Prelude.{◌≡◌, true, List, Option, Some, None, Result, Ok, Err, if◌then◌else◌}
+use Rattle.std.specs.Prelude.{◌≡◌, ◌&&◌, true, List, Option, Some, None, Result, Ok, Err, if◌then◌else◌}
 use Rattle.sp_base.specs.Refusals.{◌>>=◌}
 use Rattle.sp_text.specs.Spelling.{Word}
 use Rattle.sp_lines.specs.Rows.{AreIn, form_among, row_at}
 use Rattle.sp_lines.specs.declared.fault.Fault.{Fault}
 use Rattle.sp_lines.specs.declared.fault.Fault.TheVariants as faults
 use Rattle.sp_schedule_events.specs.Events.{event_of, form_of, is_joined, values_of}
+use Rattle.sp_schedule_events.specs.Lives.{may_act}
 use Rattle.sp_schedule_events.specs.Table.{Form, cells, forms}
 use Rattle.sp_schedule_events.specs.declared.scenario.Scenario.{Scenario}
 use Rattle.sp_schedule_events.specs.declared.event.Event.{Event}
 
 -- the form whose row the words fit
 abbrev pub form_for : Scenario → List Word → Option Form
-form_for s words = form_among (cells s) forms words
+form_for s words = form_among (cells s) (forms s) words
 
--- the rules that join fields come last
+-- the rules that join fields come last: on the line itself, and on who is started
 abbrev pub if_joined : Scenario → List Event → Event → Result Event Fault
-if_joined s es e = if is_joined s es e then Ok e else Err faults.Range
+if_joined s es e = if may_act s.epochs es e && is_joined s es e then Ok e else Err faults.Range
 
 -- the event of words that fit the row of a form, after those before it
 unfoldable pub read_form : Scenario → List Event → Form → List Word → Result Event Fault
@@ -34,3 +35,4 @@ read_event s es words = read_for s es (form_for s words) words
 pub record InRange (s : Scenario) (es : List Event) (e : Event) : Type 0 where
   pub values : AreIn (cells s (form_of e)) (values_of s e)
   pub joined : is_joined s es e ≡ true
+  pub may : may_act s.epochs es e ≡ true

@@ -24,6 +24,8 @@ event_of s forms.Pass x = events.Pass (id x.0) (id x.1.0) x.1.1.0
 event_of s forms.Flip x = events.Flip (id x.0) (id x.1.0) x.1.1.0 x.1.1.1.0 x.1.1.1.1.0
 event_of s forms.Inject x = events.Inject (id x.0) (id x.1.0) x.1.1.0
 event_of s forms.CraftStatus x = events.CraftStatus (id x.0) (id x.1.0) (id x.1.1.0) (id x.1.1.1.0) x.1.1.1.1.0 x.1.1.1.1.1.0
+event_of s forms.Start x = events.Start (id x.0)
+event_of s forms.Stop x = events.Stop (id x.0)
 event_of s (forms.Craft object) x = events.Craft (id x.0) (id x.1.0) (id x.1.1.0) (objects.object_of s.format object x.1.1.1)
 
 -- the row of an event
@@ -40,6 +42,8 @@ form_of (events.Flip u v n back bit) = forms.Flip
 form_of (events.Inject u v bytes) = forms.Inject
 form_of (events.CraftStatus c v s d base have) = forms.CraftStatus
 form_of (events.Craft c v key object) = forms.Craft (objects.form_of object)
+form_of (events.Start u) = forms.Start
+form_of (events.Stop u) = forms.Stop
 
 -- its values in that row
 abbrev pub values_of : (s : Scenario) (e : Event) → Values (cells s (form_of e))
@@ -55,6 +59,8 @@ values_of z (events.Flip u v n back bit) = (u.0, (v.0, (n, (back, (bit, tt)))))
 values_of z (events.Inject u v bytes) = (u.0, (v.0, (bytes, tt)))
 values_of z (events.CraftStatus c v s d base have) = (c.0, (v.0, (s.0, (d.0, (base, (have, tt))))))
 values_of z (events.Craft c v key object) = (c.0, (v.0, (key.0, objects.values_of z.format object)))
+values_of z (events.Start u) = (u.0, tt)
+values_of z (events.Stop u) = (u.0, tt)
 
 -- the words of an event. They are the same in each scenario of a format
 abbrev pub event_words : Scenario → Event → List Word
@@ -89,3 +95,5 @@ is_joined s es (events.Flip u v n back bit) = is_polled es u.0 v.0 n
 is_joined s es (events.Inject u v bytes) = are_joined s u.0 v.0
 is_joined s es (events.CraftStatus c v a b base have) = are_joined s c.0 v.0 && differ a.0 b.0
 is_joined s es (events.Craft c v key object) = are_joined s c.0 v.0
+is_joined s es (events.Start u) = true
+is_joined s es (events.Stop u) = true

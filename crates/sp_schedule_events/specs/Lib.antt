@@ -2,6 +2,7 @@ pub mod Scenarios
 pub mod Table
 pub mod Events
 pub mod Acting
+pub mod Lives
 pub mod EventLines
 pub mod Laws
 pub mod Later
@@ -9,4 +10,5 @@ pub mod Later
 pub mod Counts
 pub mod Kinds
 pub mod Names
+pub mod StartedNodes
 pub mod Written

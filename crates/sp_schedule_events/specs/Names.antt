@@ -30,11 +30,14 @@ name lines.Pass = codes "pass"
 name lines.Flip = codes "flip"
 name lines.Inject = codes "inject"
 name lines.Craft = codes "craft"
+name lines.Start = codes "start"
+name lines.Stop = codes "stop"
 
 -- all lines
 abbrev pub names : List LineName
 names =
-    lines.Rel ∷ lines.Prio ∷ lines.Take ∷ lines.TakePrio ∷ lines.Tick ∷ lines.Weight ∷ lines.Poll ∷ lines.Pass ∷ lines.Flip ∷ lines.Inject ∷ lines.Craft ∷ []
+    lines.Rel ∷ lines.Prio ∷ lines.Take ∷ lines.TakePrio ∷ lines.Tick ∷ lines.Weight ∷ lines.Poll ∷ lines.Pass ∷ lines.Flip ∷ lines.Inject ∷ lines.Craft
+    ∷ lines.Start ∷ lines.Stop ∷ []
 
 -- the line with this first word
 abbrev pub line_named : Word → Option LineName
@@ -43,6 +46,10 @@ line_named word = find (λ line. same word (name line)) names
 -- the event of words with the name of a form, where no other form has this name
 abbrev pub line_for : Scenario → List Event → Form → List Word → Result Event Fault
 line_for s es form words = if fits (cells s form) words then read_form s es form words else Err faults.Form
+
+-- the event of words with the name of a start or a stop: no line of a scenario without epochs
+abbrev pub life_line_for : Scenario → List Event → Form → List Word → Result Event Fault
+life_line_for s es form words = if s.epochs then line_for s es form words else Err faults.Form
 
 -- the event of a crafted object of this form, whose name has these words behind it
 abbrev pub crafted_event : Scenario → Word → Word → Word → ObjectForm → List Word → Result Event Fault

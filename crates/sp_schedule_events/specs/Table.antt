@@ -7,8 +7,10 @@
 --     tick U NOW                         craft C V status S D BASE HAVE
 --     weight U V W                       craft C V KEY and an object of the crafts' table
 --
--- The key of a crafted object may be that of any node.
-use Rattle.std.specs.Prelude.{List, [], ◌∷◌, map, codes}
+--     start U                            stop U
+--
+-- The key of a crafted object may be that of any node. The last two are lines of a scenario with epochs alone.
+use Rattle.std.specs.Prelude.{List, [], ◌∷◌, ◌++◌, map, codes, if◌then◌else◌}
 use Rattle.sp_base.specs.declared.limits.TheConstants.{MAX_PRIORITY, MAX_WEIGHT}
 use Rattle.sp_lines.specs.Cells.{Bytes, Cell, Name, Number, Tested}
 use Rattle.sp_schedule_crafts.specs.Objects as objects
@@ -31,6 +33,8 @@ pub data Form : Type 0 where
   Inject : Form
   CraftStatus : Form
   Craft : ObjectForm → Form
+  Start : Form
+  Stop : Form
 
 -- ---- places
 
@@ -56,7 +60,11 @@ cells s Flip = Name (codes "flip") ∷ correct s ∷ correct s ∷ any_number �
 cells s Inject = Name (codes "inject") ∷ node s ∷ correct s ∷ Bytes 0 65507 ∷ []
 cells s CraftStatus = Name (codes "craft") ∷ node s ∷ correct s ∷ Name (codes "status") ∷ node s ∷ node s ∷ any_number ∷ any_number ∷ []
 cells s (Craft object) = Name (codes "craft") ∷ node s ∷ correct s ∷ node s ∷ objects.cells s.format object
+cells s Start = Name (codes "start") ∷ correct s ∷ []
+cells s Stop = Name (codes "stop") ∷ correct s ∷ []
 
--- all forms; the report stands before the acknowledgement, since a line of both has the word `status` in the place of a key
-abbrev pub forms : List Form
-forms = Rel ∷ Prio ∷ Take ∷ TakePrio ∷ Tick ∷ Weight ∷ Poll ∷ Pass ∷ Flip ∷ Inject ∷ CraftStatus ∷ map Craft objects.forms
+-- all forms of a scenario; the report stands before the acknowledgement, since a line of both has the word `status` in the place of a key
+abbrev pub forms : Scenario → List Form
+forms s =
+    Rel ∷ Prio ∷ Take ∷ TakePrio ∷ Tick ∷ Weight ∷ Poll ∷ Pass ∷ Flip ∷ Inject ∷ CraftStatus
+    ∷ (map Craft objects.forms ++ (if s.epochs then Start ∷ Stop ∷ [] else []))

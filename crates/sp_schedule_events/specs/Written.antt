@@ -25,6 +25,8 @@ event_name (events.Flip u v n back bit) = codes "flip"
 event_name (events.Inject u v bytes) = codes "inject"
 event_name (events.CraftStatus c v s d base have) = codes "craft"
 event_name (events.Craft c v key object) = codes "craft"
+event_name (events.Start u) = codes "start"
+event_name (events.Stop u) = codes "stop"
 
 -- the node that acts, and the other node or the moment
 abbrev pub front_words : Event → List Word
@@ -40,6 +42,8 @@ front_words (events.Flip u v n back bit) = pair_words u v
 front_words (events.Inject u v bytes) = pair_words u v
 front_words (events.CraftStatus c v s d base have) = pair_words c v
 front_words (events.Craft c v key object) = pair_words c v
+front_words (events.Start u) = decimal u.0 ∷ []
+front_words (events.Stop u) = decimal u.0 ∷ []
 
 -- what comes after these
 abbrev pub back_words : (format : ℕ) → Event → List Word
@@ -55,6 +59,8 @@ back_words format (events.Flip u v n back bit) = decimal n ∷ decimal back ∷ 
 back_words format (events.Inject u v bytes) = hex_word bytes ∷ []
 back_words format (events.CraftStatus c v s d base have) = codes "status" ∷ decimal s.0 ∷ decimal d.0 ∷ decimal base ∷ decimal have ∷ []
 back_words format (events.Craft c v key object) = decimal key.0 ∷ object_words format object
+back_words format (events.Start u) = []
+back_words format (events.Stop u) = []
 
 -- all words of an event
 abbrev pub words_of : (format : ℕ) → Event → List Word

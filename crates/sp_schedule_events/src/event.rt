@@ -81,4 +81,12 @@ pub enum Event {
         base: u64,
         have: u64,
     },
+    /// `u` starts: with its next boot, and with all else as before its first event.
+    Start {
+        u: NodeId,
+    },
+    /// `u` stops. All that it held is lost, but for the numbers of its key file.
+    Stop {
+        u: NodeId,
+    },
 }

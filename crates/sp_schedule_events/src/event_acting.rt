@@ -16,6 +16,7 @@ impl Event {
             Event::Tick { u, .. } | Event::Weight { u, .. } | Event::Poll { u, .. } => *u,
             Event::Pass { v, .. } | Event::Flip { v, .. } | Event::Inject { v, .. } => *v,
             Event::Craft { v, .. } | Event::CraftStatus { v, .. } => *v,
+            Event::Start { u } | Event::Stop { u } => *u,
         }
     }
 }

@@ -23,6 +23,8 @@ impl Event {
                 copy_of_frame(alloc, self)
             }
             Event::Craft { .. } | Event::CraftStatus { .. } => copy_craft(alloc, self),
+            Event::Start { u } => Ok(Event::Start { u: *u }),
+            Event::Stop { u } => Ok(Event::Stop { u: *u }),
         }
     }
 }

@@ -4,7 +4,7 @@ ghost use Rattle.sp_lines.specs.Answers.{Reads};
 ghost use Rattle.sp_schedule_events.specs.Names.{line_for};
 ghost use Rattle.sp_schedule_events.specs.Table as forms;
 
-use crate::joined::{are_joined, differ, if_joined};
+use crate::joined::{are_joined, differ, if_joined, may_act};
 use crate::line_of::LineOf;
 use crate::nodes::{correct, node};
 use crate::{Event, Fault, LineRefused};
@@ -22,7 +22,10 @@ pub fn rel(line: &LineOf<'_>, words: &[&[u8]]) -> Result<Event, LineRefused>
     let s = correct(line.scenario, s)?;
     let d = node(line.scenario, d)?;
     let payload = bytes(line.alloc, payload, 0, MAX_PAYLOAD_BYTES)?;
-    if_joined(differ(s, d), Event::Rel { s, d, payload })
+    if_joined(
+        may_act(line, s) && differ(s, d),
+        Event::Rel { s, d, payload },
+    )
 }
 
 /// `prio S D P EXPIRY K HEX`.
@@ -47,7 +50,7 @@ pub fn prio(line: &LineOf<'_>, words: &[&[u8]]) -> Result<Event, LineRefused>
         paths,
         payload,
     };
-    if_joined(differ(s, d), event)
+    if_joined(may_act(line, s) && differ(s, d), event)
 }
 
 /// `take D S`.
@@ -60,7 +63,7 @@ pub fn take(line: &LineOf<'_>, words: &[&[u8]]) -> Result<Event, LineRefused>
     };
     let d = correct(line.scenario, d)?;
     let s = node(line.scenario, s)?;
-    if_joined(differ(d, s), Event::Take { d, s })
+    if_joined(may_act(line, d) && differ(d, s), Event::Take { d, s })
 }
 
 /// `takep D`.
@@ -72,7 +75,7 @@ pub fn takep(line: &LineOf<'_>, words: &[&[u8]]) -> Result<Event, LineRefused>
         return Err(LineRefused::Bad(Fault::Form));
     };
     let d = correct(line.scenario, d)?;
-    Ok(Event::TakePrio { d })
+    if_joined(may_act(line, d), Event::TakePrio { d })
 }
 
 /// `tick U NOW`.
@@ -85,7 +88,7 @@ pub fn tick(line: &LineOf<'_>, words: &[&[u8]]) -> Result<Event, LineRefused>
     };
     let u = correct(line.scenario, u)?;
     let now = ranged(now, 0, u64::MAX)?;
-    Ok(Event::Tick { u, now })
+    if_joined(may_act(line, u), Event::Tick { u, now })
 }
 
 /// `weight U V W`.
@@ -100,7 +103,7 @@ pub fn weight(line: &LineOf<'_>, words: &[&[u8]]) -> Result<Event, LineRefused>
     let v = node(line.scenario, v)?;
     let weight = ranged(weight, 1, u64::from(MAX_WEIGHT))? as u32;
     if_joined(
-        are_joined(line.scenario, u, v),
+        may_act(line, u) && are_joined(line.scenario, u, v),
         Event::Weight { u, v, weight },
     )
 }

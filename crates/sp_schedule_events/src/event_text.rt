@@ -39,6 +39,8 @@ fn event_name(event: &Event) -> &'static str
         Event::Flip { .. } => "flip",
         Event::Inject { .. } => "inject",
         Event::Craft { .. } | Event::CraftStatus { .. } => "craft",
+        Event::Start { .. } => "start",
+        Event::Stop { .. } => "stop",
     }
 }
 
@@ -50,6 +52,7 @@ fn push_front(out: &mut String, event: &Event) -> Result<(), Memory>
         Event::Rel { s, d, .. } | Event::Prio { s, d, .. } => push_pair(out, *s, *d),
         Event::Take { d, s } => push_pair(out, *d, *s),
         Event::TakePrio { d } => push_field(out, u64::from(d.0)),
+        Event::Start { u } | Event::Stop { u } => push_field(out, u64::from(u.0)),
         Event::Tick { u, now } => push_moment(out, *u, *now),
         Event::Weight { u, v, .. }
         | Event::Poll { u, v }
@@ -73,9 +76,8 @@ fn push_back(out: &mut String, format: u8, event: &Event) -> Result<(), Memory>
             payload,
             ..
         } => push_prio(out, *prio, *expiry, *paths, payload.as_slice()),
-        Event::Take { .. } | Event::TakePrio { .. } | Event::Tick { .. } | Event::Poll { .. } => {
-            Ok(())
-        }
+        Event::Take { .. } | Event::TakePrio { .. } | Event::Tick { .. } => Ok(()),
+        Event::Poll { .. } | Event::Start { .. } | Event::Stop { .. } => Ok(()),
         Event::Weight { weight, .. } => push_field(out, u64::from(*weight)),
         Event::Pass { number, .. } => push_field(out, u64::from(*number)),
         Event::Flip {

@@ -4,7 +4,7 @@ ghost use Rattle.sp_lines.specs.Answers.{Reads};
 ghost use Rattle.sp_schedule_events.specs.Names.{line_for};
 ghost use Rattle.sp_schedule_events.specs.Table as forms;
 
-use crate::joined::{are_joined, if_joined, is_polled};
+use crate::joined::{are_joined, if_joined, is_polled, may_act};
 use crate::line_of::LineOf;
 use crate::nodes::{correct, node};
 use crate::{Event, Fault, LineRefused};
@@ -23,7 +23,10 @@ pub fn poll(line: &LineOf<'_>, words: &[&[u8]]) -> Result<Event, LineRefused>
     };
     let u = correct(line.scenario, u)?;
     let v = node(line.scenario, v)?;
-    if_joined(are_joined(line.scenario, u, v), Event::Poll { u, v })
+    if_joined(
+        may_act(line, u) && are_joined(line.scenario, u, v),
+        Event::Poll { u, v },
+    )
 }
 
 /// `pass U V NUMBER`.

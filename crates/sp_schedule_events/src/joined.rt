@@ -1,9 +1,11 @@
 // The rules that join the fields of a line.
-ghost use Rattle.std.specs.Prelude.{◌≡◌, ◌<◌, ◌^◌, IsTrue, Ok, Err, if◌then◌else◌};
+ghost use Rattle.std.specs.Prelude.{◌≡◌, ◌<◌, ◌^◌, ◌||◌, not, IsTrue, Ok, Err, if◌then◌else◌};
 ghost use Rattle.sp_lines.specs.Answers.{Reads};
 ghost use Rattle.sp_schedule_events.specs.Events.{is_polled};
+ghost use Rattle.sp_schedule_events.specs.Lives.{is_started};
 ghost use Rattle.sp_schedule_events.specs.Scenarios.{are_joined, differ};
 
+use crate::line_of::LineOf;
 use crate::{Event, Fault, LineRefused, Scenario, Timeline};
 use sp_base::NodeId;
 
@@ -42,4 +44,11 @@ pub fn is_polled(before: &Timeline, u: NodeId, v: NodeId, number: u64) -> bool
     ensures small { IsTrue result → number < 2 ^ 32 }
 {
     1 <= number && number <= u64::from(before.polls(u, v))
+}
+
+/// Whether a correct node may be asked for something: with epochs it must be started.
+pub fn may_act(line: &LineOf<'_>, u: NodeId) -> bool
+    ensures { result ≡ (not line.now.scenario.now.epochs || is_started line.now.before.now u.0) }
+{
+    !line.scenario.epochs || line.before.is_started(u)
 }

@@ -11,11 +11,13 @@ mod frame_line;
 mod joined;
 mod later;
 mod laws;
+mod life_line;
 mod line_of;
 mod lines;
 mod nodes;
 mod poll_counts;
 mod scenario;
+mod started_nodes;
 mod timeline;
 
 pub use event::Event;

@@ -16,6 +16,8 @@ pub enum LineName {
     Flip,
     Inject,
     Craft,
+    Start,
+    Stop,
 }
 
 /// What a line is read with: memory, the scenario, and the events before it.

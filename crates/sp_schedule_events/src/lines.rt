@@ -8,13 +8,14 @@ ghost use Rattle.sp_schedule_events.specs.Names.{line_named};
 use crate::craft_line::craft;
 use crate::event_line::{prio, rel, take, takep, tick, weight};
 use crate::frame_line::{flip, inject, pass, poll};
+use crate::life_line::{start, stop};
 use crate::line_of::{LineName, LineOf};
 use crate::{Event, Fault, LineRefused, Scenario, Timeline};
 use sp_lines::named;
 use std::alloc::Global;
 
 /// The first word of each line.
-const NAMES: [(&[u8], LineName); 11] = [
+const NAMES: [(&[u8], LineName); 13] = [
     (b"rel", LineName::Rel),
     (b"prio", LineName::Prio),
     (b"take", LineName::Take),
@@ -26,6 +27,8 @@ const NAMES: [(&[u8], LineName); 11] = [
     (b"flip", LineName::Flip),
     (b"inject", LineName::Inject),
     (b"craft", LineName::Craft),
+    (b"start", LineName::Start),
+    (b"stop", LineName::Stop),
 ];
 
 /// The event of a line that may come after those before it, or why there is none.
@@ -67,6 +70,8 @@ fn event_named(line: &LineOf<'_>, name: &[u8], words: &[&[u8]]) -> Result<Event,
         LineName::Flip => flip(line, words),
         LineName::Inject => inject(line, words),
         LineName::Craft => craft(line, words),
+        LineName::Start => start(line, words),
+        LineName::Stop => stop(line, words),
     }
 }
 

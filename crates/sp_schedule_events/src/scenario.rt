@@ -14,4 +14,6 @@ pub struct Scenario {
     pub graph: Graph,
     /// The compromised nodes, ascending.
     pub bad: Listed<NodeId>,
+    /// Whether the correct nodes start and stop by events, and are stopped at first. In format 2 alone.
+    pub epochs: bool,
 }

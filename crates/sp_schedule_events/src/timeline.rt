@@ -1,10 +1,12 @@
-// The events of a schedule in their order, with the number of polls of each direction.
+// The events of a schedule in their order, with the number of polls of each direction, and with which nodes are started.
 ghost use Rattle.std.specs.Prelude.{◌≡◌, ◌<◌, ◌∷◌, ◌++◌, [], length, OnOk, OnErr};
 ghost use Rattle.sp_base.specs.declared.limits.TheConstants.{MAX_EVENTS};
 ghost use Rattle.sp_schedule_events.specs.Events.{polls};
+ghost use Rattle.sp_schedule_events.specs.Lives.{is_started};
 
 use crate::Event;
 use crate::poll_counts::PollCounts;
+use crate::started_nodes::{IDS, note};
 use sp_base::{Memory, NodeId, push_in_room};
 use std::alloc::Global;
 use std::marker::Model;
@@ -14,18 +16,19 @@ use std::marker::Model;
 pub struct Timeline {
     events: Vec<Event>,
     counts: PollCounts,
+    started: [bool; 256],
 }
 
 impl Model for Timeline {
     ghost use Rattle.std.specs.Prelude.{List};
     ghost use Rattle.sp_schedule_events.specs.declared.event.Event as event;
-    ghost use Rattle.sp_schedule_events.specs.Counts.{AreCounted};
+    ghost use Rattle.sp_schedule_events.specs.StartedNodes.{AreKept};
 
     ghost Value = { List event.Event };
 
     ghost view = { λ t. t.events.items };
 
-    ghost invariant = { λ t. AreCounted t.events.items t.counts };
+    ghost invariant = { λ t. AreKept t.events.items t.counts t.started };
 }
 
 impl Timeline {
@@ -36,6 +39,7 @@ impl Timeline {
         Timeline {
             events: Vec::new(alloc),
             counts: PollCounts::new(alloc),
+            started: [false; IDS],
         }
     }
 
@@ -58,6 +62,13 @@ impl Timeline {
         self.counts.polls(u, v)
     }
 
+    /// Whether the events leave the node started.
+    pub fn is_started(&self, u: NodeId) -> bool
+        ensures { result ≡ is_started self.now u.0 }
+    {
+        self.started[u.0 as usize]
+    }
+
     /// One more event at the end. After an error the events are as before.
     pub fn push(&mut self, event: Event) -> Result<(), Memory>
         requires { length self.old < MAX_EVENTS }
@@ -66,6 +77,7 @@ impl Timeline {
     {
         self.events.reserve(1)?;
         self.counts.count(&event)?;
+        note(&mut self.started, &event);
         push_in_room(&mut self.events, event);
         Ok(())
     }

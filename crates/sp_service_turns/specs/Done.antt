@@ -15,7 +15,7 @@ use Rattle.sp_service_turns.specs.Keys.{FileMoves, keys_after}
 use Rattle.sp_service_turns.specs.Outside.{KeptFile, Outside, Text}
 use Rattle.sp_service_turns.specs.Turns.{Moves, Restocks, Turn, calls_of, lines_of, lost_of, node_at, reserve_lines, tick_line, told, unless}
 use Rattle.sp_service_turns.specs.declared.indexes.Indexes.{Indexes}
-use Rattle.sp_service_turns.specs.declared.indexes.TheConstants.{LEAST_LEFT}
+use Rattle.sp_keystate.specs.declared.starts.TheConstants.{LEAST_LEFT}
 use Rattle.sp_service_turns.specs.declared.peer.Peer.{Peer}
 
 -- the recording got just these lines

@@ -2,7 +2,7 @@
 use Rattle.std.specs.Prelude.{ℕ, ◌≡◌, ◌≤◌, ◌+◌, ◌-◌, ◌⊎◌, ◌&&◌, nat_lt, min, Bool, Option, None, Some, if◌then◌else◌}
 use Rattle.sp_keystate.specs.declared.starts.TheConstants.{RESERVED}
 use Rattle.sp_service_turns.specs.declared.indexes.Indexes.{Indexes}
-use Rattle.sp_service_turns.specs.declared.indexes.TheConstants.{LEAST_LEFT}
+use Rattle.sp_keystate.specs.declared.starts.TheConstants.{LEAST_LEFT}
 
 -- fewer reserved indexes are left than a turn begins with, and not all indexes are reserved
 abbrev pub are_few : Indexes → Bool

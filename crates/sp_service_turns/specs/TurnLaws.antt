@@ -10,7 +10,7 @@ use Rattle.sp_service_turns.specs.Keys.{NoMore}
 use Rattle.sp_service_turns.specs.Outside.{KeptFile}
 use Rattle.sp_service_turns.specs.Verified.{Agrees, Differs}
 use Rattle.sp_service_turns.specs.declared.indexes.Indexes.{Indexes}
-use Rattle.sp_service_turns.specs.declared.indexes.TheConstants.{LEAST_LEFT}
+use Rattle.sp_keystate.specs.declared.starts.TheConstants.{LEAST_LEFT}
 
 -- what a node answers is determined, and so is what it goes on to
 abbrev pub IsDetermined : {N : Type 0} → Steps N → Type 0

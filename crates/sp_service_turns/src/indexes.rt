@@ -2,8 +2,7 @@
 ghost use Rattle.std.specs.Prelude.{◌≡◌};
 ghost use Rattle.sp_service_turns.specs.Indexes.{are_few};
 
-/// How many reserved indexes a turn begins with at least, while there are so many. A turn signs twice at most: at its tick, and for a client.
-pub const LEAST_LEFT: u64 = 4;
+use sp_keystate::LEAST_LEFT;
 
 /// How far a node is with the indexes of its signing key.
 #[derive(Clone, Copy, Debug, PartialEq, Eq)]

@@ -22,7 +22,7 @@ mod verified;
 pub use compared::{LinesRefused, VerifyRefused};
 pub use daemon::Daemon;
 pub use ended::Ended;
-pub use indexes::{Indexes, LEAST_LEFT};
+pub use indexes::Indexes;
 pub use laws::{
     key_files_end_late, no_recording_agrees_and_differs, recordings_agree, recordings_are_written,
 };

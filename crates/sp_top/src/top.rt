@@ -52,8 +52,8 @@ pub fn run<S: Source, K: Sink, W: Wire, C: Clock, P: Keeper>(
     // A crash at any moment leaves a key file that takes nothing back.
     ensures kept { BySaid (map string_bytes words.now) (λ said. KeepsFile said (P.disk keeper.old) (P.past keeper.old) (P.past keeper.new)) }
 
-    // The world is a run; after each of its events deliveries are a prefix of what was sent, each message once, and no
-    // buffer is above its bound; each answer to a client has its cause.
+    // The world is a run; after each of its events no buffer is above its bound, and whatever is kept was signed. Where nodes neither start nor stop by
+    // events, deliveries are a prefix of what was sent, each message once.
     ensures claims { IfSome result.world WorldClaims }
 
     // Where the source of a replay fails, the journal of all events that had come was written, and none of their lines is bad.

@@ -1,25 +1,28 @@
 -- A node of a scenario may start, and is then as the rules of runs say.
-use Rattle.std.proofs.Common.{◌≡◌, ℕ, ◌+◌, ◌<◌, ◌≤◌, ◌&&◌, Bool, true, false, List, [], ◌∷◌, map, filter, Some, refl, sym, ap, ap₂, ◌∙◌, subst, arith, eqb, eqb-true, inl, inr, not, zero, suc, ◌++◌, get_or, length}
+use Rattle.std.proofs.Common.{◌≡◌, ℕ, ◌+◌, ◌-◌, ◌<◌, ◌≤◌, ◌&&◌, Bool, true, false, cond, List, [], ◌∷◌, map, filter, Some, refl, sym, ap, ap₂, ◌∙◌}
+use Rattle.std.proofs.Common.{subst, arith, eqb, eqb-true, get_or, inl, inr, not, zero, suc, ◌++◌, length}
 use Rattle.std.specs.Prelude.{IsTrue}
 use Rattle.std.proofs.lemmas.Bool.{cases_Bool}
 use Rattle.std.specs.List.{range_with_len}
 use Rattle.std.proofs.lemmas.List.{append-nil, map-append}
 use Rattle.std.proofs.lemmas.List.Elements.{filter-append}
-use Rattle.std.proofs.lemmas.List.{map_push}
-use Rattle.std.proofs.lemmas.List.FromFn.{map-range_with_len_more}
-use Rattle.sp_adversary.specs.Keys.{whole_signer}
+use Rattle.std.proofs.lemmas.List.FromFn.{get_or-map-range_with_len, length-map-range_with_len, map-range_with_len_more}
 use Rattle.sp_base.proofs.FormatLemmas as formats
 use Rattle.sp_base.specs.declared.limits.TheConstants.{MAX_EDGES_2}
 use Rattle.sp_base.specs.declared.id.NodeId.{NodeId}
-use Rattle.sp_node_state.specs.Boots.{IsBootable, booted_of, started_of}
-use Rattle.sp_node_state.specs.States.{signer_in}
+use Rattle.sp_epoch.specs.declared.started.Started.{Started}
+use Rattle.sp_hss.specs.KeyTree.{public_key, total}
+use Rattle.sp_hss.specs.SeedKey.{SeedKey}
+use Rattle.sp_lms.specs.declared.param.LmsParam.{LmsParam}
+use Rattle.sp_msg.specs.declared.effect.Effect.{Effect}
+use Rattle.sp_node_state.specs.Boots.{IsBootable, started_of, told_at_start}
 use Rattle.sp_node_state.specs.declared.boot.NodeConfig.{NodeConfig}
-use Rattle.sp_hss.specs.KeyTree.{public_key}
-use Rattle.sp_hss.specs.Signer.{Signer as Signing}
-use Rattle.sp_rules.specs.Node.{NodeState, Signer, booted}
+use Rattle.sp_rules.specs.Node.{NodeState, start_effects, started}
 use Rattle.sp_rules.specs.Parts.{nodes_of}
+use Rattle.laws_runs_format.specs.Arts.{arts_of}
 use Rattle.sp_runs.specs.Scenarios.{IsHeader, edge_key, node_key, node_seed, numbered, setting_of, topology_of}
-use Rattle.sp_runs.specs.Settings.{correct_nodes, fixed_of, is_correct, is_one_of, node_at_boot}
+use Rattle.sp_runs.specs.Settings.{fixed_at, is_correct, is_one_of, node_at_boot, node_at_start, signer_from}
+use Rattle.sp_runs.specs.Worlds as worlds
 use Rattle.sp_schedule_events.specs.declared.scenario.Scenario.{Scenario}
 use Rattle.sp_sign.specs.Heights.{param_of}
 use Rattle.sp_sign.specs.NodeSigner.{NodeSigner}
@@ -28,19 +31,44 @@ use Rattle.sp_topology.specs.Neighbours.{neighbours_from}
 use Rattle.sp_topology.specs.declared.topology.LmsHeight.{LmsHeight}
 use Rattle.sp_topology.specs.declared.topology.NodeKey.{NodeKey}
 use Rattle.laws_runs_format.proofs.Topologies.{topologies_fit}
-use Rattle.sp_world.specs.Boots.{IsOwn, boots_of, config_of, key_in, signer_at}
+use Rattle.sp_world.specs.Boots.{CanStart, Home, IsHome, config_of, first_of, own_signer, seed_key}
 
 map_of_map : {A B C : Type 0} (f : B → C) (g : A → B) (xs : List A) → map f (map g xs) ≡ map (λ x. f (g x)) xs
 map_of_map f g [] = refl
 map_of_map f g (x ∷ xs) = ap (λ rest. f (g x) ∷ rest) (map_of_map f g xs)
 
--- the keys of all signers are those of the topology
-pub all_keys : (s : Scenario) → map key_in (map (signer_at s) (range_with_len 1 s.graph.nodes)) ≡ (topology_of s).nodes
-all_keys s = map_of_map key_in (signer_at s) (range_with_len 1 s.graph.nodes)
-
 and_left : (a b : Bool) → (a && b) ≡ true → a ≡ true
 and_left true b is = refl
 and_left false b is = absurd (cc)
+
+-- ---- the keys of all nodes
+
+one_is : (s : Scenario) (n : ℕ) (one : SeedKey) (height : LmsParam) → one ≡ record { height = height; seed = node_seed s.seed (n + 1) }
+    → height ≡ param_of s.height → one ≡ seed_key s (n + 1)
+one_is s n one height is tall = is ∙ ap {B = SeedKey} (λ (h : LmsParam). record { height = h; seed = node_seed s.seed (n + 1) }) tall
+
+-- the seed of node n + 1 is pushed
+pub seeds_more : (s : Scenario) (n : ℕ) (old items : List SeedKey) (one : SeedKey) (height : LmsParam) → old ≡ map (seed_key s) (range_with_len 1 n)
+    → items ≡ old ++ one ∷ [] → one ≡ record { height = height; seed = node_seed s.seed (n + 1) } → height ≡ param_of s.height
+    → items ≡ map (seed_key s) (range_with_len 1 (n + 1))
+seeds_more s n old items one height before pushed is tall =
+    pushed
+    ∙ ap₂ (λ (xs : List SeedKey) (x : SeedKey). xs ++ x ∷ []) before (one_is s n one height is tall)
+    ∙ sym (map-range_with_len_more (seed_key s) 1 n (n + 1) (omega arith))
+
+-- its public key is pushed
+pub keys_more : (s : Scenario) (n : ℕ) (old items : List NodeKey) (one : SeedKey) (height : LmsParam) (key : List ℕ)
+    → old ≡ map (node_key s.height s.seed) (range_with_len 1 n) → items ≡ old ++ record { id = numbered (n + 1); key = key } ∷ []
+    → key ≡ public_key one.height one.seed → one ≡ record { height = height; seed = node_seed s.seed (n + 1) } → height ≡ param_of s.height
+    → items ≡ map (node_key s.height s.seed) (range_with_len 1 (n + 1))
+keys_more s n old items one height key before pushed of is tall =
+    let its : key ≡ public_key (param_of s.height) (node_seed s.seed (n + 1)) =
+    of ∙ ap (λ (k : SeedKey). public_key k.height k.seed) (one_is s n one height is tall) in
+    pushed
+    ∙ ap₂ (λ (xs : List NodeKey) (k : List ℕ). xs ++ record { id = numbered (n + 1); key = k } ∷ []) before its
+    ∙ sym (map-range_with_len_more (node_key s.height s.seed) 1 n (n + 1) (omega arith))
+
+-- ---- one node
 
 -- the topology has the key of each of its nodes
 keys_are : (h : LmsHeight) (seed : List ℕ) (u : NodeId) (ids : List ℕ) → is_one_of (map (λ (n : NodeKey). n.id) (map (node_key h seed) ids)) u ≡ true
@@ -51,76 +79,112 @@ keys_are h seed u (id ∷ ids) there = elim (cases_Bool (eqb id u.0)) [
   | inr t ↦ rw t (keys_are h seed u ids (rw t at there))
 ]
 
-pub is_bootable : (s : Scenario) (own : NodeSigner) → IsHeader s → IsOwn s own → IsTrue (is_correct (setting_of s) own.node)
-    → IsBootable (config_of s own.node) own 1
-is_bootable s own header mine correct = record {
+among : (s : Scenario) (u : NodeId) → IsTrue (is_correct (setting_of s) u) → is_one_of (nodes_of (topology_of s)) u ≡ true
+among s u correct = and_left (is_one_of (nodes_of (topology_of s)) u) (not (is_one_of s.bad u)) correct
+
+-- its number is one of 1 to N
+in_numbers : (h : LmsHeight) (seed : List ℕ) (u : NodeId) (first count : ℕ)
+    → is_one_of (map (λ (n : NodeKey). n.id) (map (node_key h seed) (range_with_len first count))) u ≡ true → (first ≤ u.0) × (u.0 < first + count)
+in_numbers h seed u first zero there = absurd (let e : false ≡ true = there in cc)
+in_numbers h seed u first (suc count) there = elim (cases_Bool (eqb first u.0)) [
+  | inl t ↦ let same = eqb-true first u.0 t in (omega (arith, same), omega (arith, same))
+  | inr t ↦ let rest = in_numbers h seed u (first + 1) count (rw t at there) in
+      let low = rest.0 in
+      let high = rest.1 in
+      (omega (arith, low), omega (arith, high))
+]
+
+pub in_home : (s : Scenario) (u : NodeId) → IsTrue (is_correct (setting_of s) u) → (1 ≤ u.0) × (u.0 < 1 + s.graph.nodes)
+in_home s u correct = in_numbers s.height s.seed u 1 s.graph.nodes (among s u correct)
+
+-- the list of seeds has a place for it
+pub seed_is_there : (s : Scenario) (h : Home) (u : NodeId) (seeds : List SeedKey) (i : ℕ) → IsHome s h → IsTrue (is_correct (setting_of s) u)
+    → seeds ≡ h.seeds → i ≡ u.0 → length seeds ≤ i - 1 → ⊥
+seed_is_there s h u seeds i home correct are at short =
+    let in_range = in_home s u correct in
+    let low = in_range.0 in
+    let high = in_range.1 in
+    let many : length seeds ≡ s.graph.nodes = ap length (are ∙ home.seeds) ∙ length-map-range_with_len (seed_key s) 1 s.graph.nodes in
+    absurd (omega (arith, low, high, at, many, short))
+
+-- and what stands there is its seed
+pub its_seed : (s : Scenario) (h : Home) (u : NodeId) (seeds : List SeedKey) (i : ℕ) (key : SeedKey) → IsHome s h
+    → IsTrue (is_correct (setting_of s) u) → seeds ≡ h.seeds → i ≡ u.0 → key ≡ get_or seeds (i - 1) key → key ≡ seed_key s u.0
+its_seed s h u seeds i key home correct are at found =
+    let in_range = in_home s u correct in
+    let low = in_range.0 in
+    let high = in_range.1 in
+    found
+    ∙ ap (λ (keys : List SeedKey). get_or keys (i - 1) key) (are ∙ home.seeds)
+    ∙ get_or-map-range_with_len (seed_key s) 1 s.graph.nodes (i - 1) u.0 key (omega (arith, low, high, at)) (omega (arith, low, at))
+
+pub bound_is_within : (s : Scenario) (u : NodeId) (start : Started) (key : SeedKey) → key ≡ seed_key s u.0 → CanStart s start → start.bound ≤ total key.height
+bound_is_within s u start key is can = subst (λ (k : SeedKey). start.bound ≤ total k.height) (sym is) can.bound
+
+pub signer_is : (s : Scenario) (u : NodeId) (start : Started) (key : SeedKey) (own : NodeSigner) → key ≡ seed_key s u.0
+    → own ≡ record { node = u; signer = record { height = key.height; seed = key.seed; index = start.index; bound = start.bound } } → own ≡ own_signer s u start
+signer_is s u start key own is made =
+    made ∙ ap (λ (k : SeedKey). record { node = u; signer = record { height = k.height; seed = k.seed; index = start.index; bound = start.bound } }) is
+
+pub may_start : (s : Scenario) (u : NodeId) (start : Started) (config : NodeConfig) (own : NodeSigner) → config ≡ config_of s u → own ≡ own_signer s u start
+    → IsHeader s → IsTrue (is_correct (setting_of s) u) → CanStart s start → IsBootable config own start.boot
+may_start s u start config own config_is own_is header correct can = rw (config_is, own_is) (record {
   topology = topologies_fit s header;
   node = refl;
-  height = ap (λ (o : NodeSigner). o.signer.height) mine;
-  is_mine =
-      keys_are s.height s.seed own.node (range_with_len 1 s.graph.nodes)
-      (and_left (is_one_of (nodes_of (topology_of s)) own.node) (not (is_one_of s.bad own.node)) correct)
-      ∙ ap (λ (o : NodeSigner). Some (public_key o.signer.height o.signer.seed)) (sym mine);
-  keys = map_of_map (λ k. k.0) (λ n. (n.1, edge_key s.seed n.1.0)) (neighbours_from own.node.0 0 s.graph.edges);
-  life = omega arith;
-  announces = λ with_epochs. absurd (cc);
-}
+  height = refl;
+  is_mine = keys_are s.height s.seed u (range_with_len 1 s.graph.nodes) (among s u correct);
+  keys = map_of_map (λ k. k.0) (λ n. (n.1, edge_key s.seed n.1.0)) (neighbours_from u.0 0 s.graph.edges);
+  life = can.boot;
+  announces = λ on. record { format = header.epochs on; index = can.announces on };
+})
 
-pub is_at_boot : (s : Scenario) (own : NodeSigner) → IsOwn s own → booted_of (config_of s own.node) own 1 ≡ node_at_boot (setting_of s) own.node
-is_at_boot s own mine =
-    ap₂ (λ (signer : Signer) (keys : List (List ℕ)). booted (fixed_of (setting_of s) own.node) signer keys s.limits.buffer s.limits.store)
-    (ap signer_in mine)
-    (map_of_map (λ k. k.1) (λ n. (n.1, edge_key s.seed n.1.0)) (neighbours_from own.node.0 0 s.graph.edges))
+pub at_start : (s : Scenario) (u : NodeId) (start : Started) (config : NodeConfig) (own : NodeSigner) → config ≡ config_of s u → own ≡ own_signer s u start
+    → started_of config own start.boot ≡ node_at_start (arts_of (setting_of s)) (setting_of s) u start
+at_start s u start config own config_is own_is =
+    ap₂ (λ (c : NodeConfig) (o : NodeSigner). started_of c o start.boot) config_is own_is
+    ∙ ap (λ (keys : List (List ℕ)). started (arts_of (setting_of s)) (fixed_at (setting_of s) u start.boot)
+    (signer_from (setting_of s) u start.index start.bound) keys s.limits.buffer s.limits.store)
+    (map_of_map (λ k. k.1) (λ n. (n.1, edge_key s.seed n.1.0)) (neighbours_from u.0 0 s.graph.edges))
 
--- ---- all of them
-
-pub boots_one : (s : Scenario) (own : NodeSigner) → is_correct (setting_of s) own.node ≡ true → boots_of s (own ∷ []) ≡ node_at_boot (setting_of s) own.node ∷ []
-boots_one s own correct = let one : filter (is_correct (setting_of s)) (own.node ∷ []) ≡ own.node ∷ [] = rw correct refl in ap (map (node_at_boot (setting_of s))) one
-
-pub boots_none : (s : Scenario) (own : NodeSigner) (nodes : List NodeState) → is_correct (setting_of s) own.node ≡ false → nodes ++ boots_of s (own ∷ []) ≡ nodes
-boots_none s own nodes correct =
-    let none : filter (is_correct (setting_of s)) (own.node ∷ []) ≡ [] = rw correct refl in
-    ap (λ (us : List NodeId). nodes ++ map (node_at_boot (setting_of s)) us) none ∙ append-nil nodes
-
-pub boots_more : (s : Scenario) (owns : List NodeSigner) (own : NodeSigner) → boots_of s (owns ++ own ∷ []) ≡ boots_of s owns ++ boots_of s (own ∷ [])
-boots_more s owns own =
-    let test = is_correct (setting_of s) in
-    let boot = node_at_boot (setting_of s) in
-    ap (λ (us : List NodeId). map boot (filter test us)) (map_push (λ (o : NodeSigner). o.node) owns own)
-    ∙ ap (map boot) (filter-append test (map (λ (o : NodeSigner). o.node) owns) (own.node ∷ []))
-    ∙ map-append boot (filter test (map (λ (o : NodeSigner). o.node) owns)) (filter test (own.node ∷ []))
-
-pub boots_whole : (s : Scenario) → boots_of s (map (signer_at s) (range_with_len 1 s.graph.nodes)) ≡ map (node_at_boot (setting_of s)) (correct_nodes (setting_of s))
-boots_whole s =
-    let ids = range_with_len 1 s.graph.nodes in
-    let here : map (λ (o : NodeSigner). o.node) (map (signer_at s) ids) ≡ map numbered ids = map_of_map (λ (o : NodeSigner). o.node) (signer_at s) ids in
-    let there : nodes_of (topology_of s) ≡ map numbered ids = map_of_map (λ (n : NodeKey). n.id) (node_key s.height s.seed) ids in
-    ap (λ (us : List NodeId). map (node_at_boot (setting_of s)) (filter (is_correct (setting_of s)) us)) (here ∙ sym there)
-
--- the whole signer of each number is its node's own
-pub all_own : (s : Scenario) (ids : List ℕ) (place : ℕ) (own : NodeSigner) → place < length (map (signer_at s) ids) → own ≡ get_or (map (signer_at s) ids) place own
-    → IsOwn s own
-all_own s [] place own within is = absurd (omega (arith, within))
-all_own s (id ∷ ids) zero own within is = rw is refl
-all_own s (id ∷ ids) (suc place) own within is = all_own s ids place own (omega (arith, within)) is
-
--- ---- their signers
-
-pub signers_more : (s : Scenario) (n : ℕ) (old items : List NodeSigner) (own : NodeSigner) (signer : Signing) → old ≡ map (signer_at s) (range_with_len 1 n)
-    → items ≡ old ++ own ∷ [] → own ≡ record { node = numbered (n + 1); signer = signer } → signer ≡ whole_signer s.height s.seed (numbered (n + 1))
-    → items ≡ map (signer_at s) (range_with_len 1 (n + 1))
-signers_more s n old items own signer before pushed is whole =
-    let one : own ≡ signer_at s (n + 1) = is ∙ ap (λ (w : Signing). record { node = numbered (n + 1); signer = w }) whole in
-    pushed ∙ ap₂ (λ (xs : List NodeSigner) (x : NodeSigner). xs ++ x ∷ []) before one
-    ∙ sym (map-range_with_len_more (signer_at s) 1 n (n + 1) (omega arith))
+pub told_there : (s : Scenario) (u : NodeId) (start : Started) (config : NodeConfig) (effects : List Effect) → config ≡ config_of s u
+    → effects ≡ told_at_start config start.boot → effects ≡ start_effects (arts_of (setting_of s)) (fixed_at (setting_of s) u start.boot)
+told_there s u start config effects config_is told = told ∙ ap (λ (c : NodeConfig). told_at_start c start.boot) config_is
 
 pub few_edges : (s : Scenario) → IsHeader s → length s.graph.edges ≤ MAX_EDGES_2
 few_edges s header = omega (arith, header.graph.few, formats.few_edges s.format)
 
-pub may_boot : (s : Scenario) (own : NodeSigner) (config : NodeConfig) → config ≡ config_of s own.node → IsHeader s → IsOwn s own
-    → IsTrue (is_correct (setting_of s) own.node) → IsBootable config own 1
-may_boot s own config is header mine correct = subst (λ (c : NodeConfig). IsBootable c own 1) (sym is) (is_bootable s own header mine correct)
+-- ---- without epochs, before the first event
 
-pub at_boot : (s : Scenario) (own : NodeSigner) (config : NodeConfig) → config ≡ config_of s own.node → IsOwn s own
-    → started_of config own 1 ≡ node_at_boot (setting_of s) own.node
-at_boot s own config is mine = ap (λ (c : NodeConfig). started_of c own 1) is ∙ is_at_boot s own mine
+pub first_is : (s : Scenario) (u : NodeId) (start : Started) → s.epochs ≡ false → start ≡ record { boot = 1; index = 0; bound = (setting_of s).total }
+    → node_at_start (arts_of (setting_of s)) (setting_of s) u start ≡ node_at_boot (setting_of s) u
+first_is s u start plain is = rw (is, plain) refl
+
+pub boots_one : (s : Scenario) (u : NodeId) → is_correct (setting_of s) u ≡ true → first_of s (u ∷ []) ≡ node_at_boot (setting_of s) u ∷ []
+boots_one s u correct = let one : filter (is_correct (setting_of s)) (u ∷ []) ≡ u ∷ [] = rw correct refl in ap (map (node_at_boot (setting_of s))) one
+
+pub boots_none : (s : Scenario) (u : NodeId) (nodes : List NodeState) → is_correct (setting_of s) u ≡ false → nodes ++ first_of s (u ∷ []) ≡ nodes
+boots_none s u nodes correct =
+    let none : filter (is_correct (setting_of s)) (u ∷ []) ≡ [] = rw correct refl in
+    ap (λ (us : List NodeId). nodes ++ map (node_at_boot (setting_of s)) us) none ∙ append-nil nodes
+
+boots_more : (s : Scenario) (n : ℕ)
+    → first_of s (map numbered (range_with_len 1 (n + 1))) ≡ first_of s (map numbered (range_with_len 1 n)) ++ first_of s (numbered (n + 1) ∷ [])
+boots_more s n =
+    let test = is_correct (setting_of s) in
+    let boot = node_at_boot (setting_of s) in
+    let us = map numbered (range_with_len 1 n) in
+    ap (λ (vs : List NodeId). map boot (filter test vs)) (map-range_with_len_more numbered 1 n (n + 1) (omega arith))
+    ∙ ap (map boot) (filter-append test us (numbered (n + 1) ∷ []))
+    ∙ map-append boot (filter test us) (filter test (numbered (n + 1) ∷ []))
+
+boots_whole : (s : Scenario) → first_of s (map numbered (range_with_len 1 s.graph.nodes)) ≡ first_of s (nodes_of (topology_of s))
+boots_whole s = ap (first_of s) (sym (map_of_map (λ (n : NodeKey). n.id) (node_key s.height s.seed) (range_with_len 1 s.graph.nodes)))
+
+pub boots_next : (s : Scenario) (n : ℕ) (old items : List NodeState) → old ≡ first_of s (map numbered (range_with_len 1 n))
+    → items ≡ old ++ first_of s (numbered (n + 1) ∷ []) → items ≡ first_of s (map numbered (range_with_len 1 (n + 1)))
+boots_next s n old items before pushed =
+    pushed ∙ ap (λ (ns : List NodeState). ns ++ first_of s (numbered (n + 1) ∷ [])) before ∙ sym (boots_more s n)
+
+pub all_booted : (s : Scenario) (items : List NodeState) → s.epochs ≡ false → items ≡ first_of s (map numbered (range_with_len 1 s.graph.nodes))
+    → items ≡ (worlds.at_start (setting_of s)).nodes
+all_booted s items plain is = is ∙ boots_whole s ∙ ap (λ (t : Bool). cond t [] (first_of s (nodes_of (topology_of s)))) (sym plain)

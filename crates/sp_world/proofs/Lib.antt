@@ -4,5 +4,6 @@ pub mod Crafting
 pub mod Arriving
 pub mod Moving
 pub mod Booting
+pub mod Starting
 pub mod Pasts
 pub mod Rules

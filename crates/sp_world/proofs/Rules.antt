@@ -1,13 +1,16 @@
 -- The lemmas that a function of events needs together.
-use Rattle.sp_world.proofs.Coming.{craft_may, flip_comes, flip_long, flip_there, pass_comes, pass_there, status_may}
-use Rattle.sp_world.proofs.Crafting.{after_asked, after_other, after_poll, good_in, object_writable, same_format, signed_after, signed_comes, spent_after, spent_is}
-use Rattle.sp_world.proofs.Moving.{arrived_comes_to, asked_is_told, poll_comes_to, spent_is_told}
-use Rattle.sp_world.proofs.Standing.{can_ask, can_hear, can_poll, even, few_frames}
+use Rattle.sp_world.proofs.Coming.{craft_may, flip_comes, flip_there, frame_is_long, pass_comes, pass_there, said_good, status_may}
+use Rattle.sp_world.proofs.Crafting.{signed_comes, signed_left, signed_of, spent_is}
+use Rattle.sp_world.proofs.Starting.{can_reserve, has_enough, is_reserved, no_epochs, runs_not, some_left}
+use Rattle.sp_world.proofs.Moving.{life_is_told}
+use Rattle.sp_world.proofs.Standing.{are_filed, even}
 
-pub ruleset acted = (asked_is_told, poll_comes_to, can_ask, can_poll, few_frames, after_asked, after_poll)
+pub ruleset lives = (are_filed, life_is_told)
 
-pub ruleset arrived = (arrived_comes_to, spent_is_told, can_hear, even)
+pub ruleset came = (are_filed, even)
 
-pub ruleset brought = (pass_there, flip_there, flip_long, craft_may, status_may, pass_comes, flip_comes, after_other, same_format)
+pub ruleset brought = (pass_there, flip_there, frame_is_long, craft_may, status_may, said_good, pass_comes, flip_comes)
 
-pub ruleset crafted = (signed_after, spent_after, spent_is, good_in, object_writable, signed_comes)
+pub ruleset crafted = (spent_is, signed_left, signed_of, signed_comes)
+
+pub ruleset reserving = (no_epochs, runs_not, has_enough, is_reserved, can_reserve, some_left)

@@ -3,4 +3,5 @@ pub mod Past
 pub mod Stands
 pub mod Arrivals
 pub mod Boots
+pub mod Scenes
 pub mod Kept

@@ -1,20 +1,24 @@
 // One event at the node that acts, by its kind.
-ghost use Rattle.std.specs.Prelude.{◌≡◌, ◌∷◌, ◌++◌, [], IfOk, OnErr, OnOk};
-ghost use Rattle.sp_adversary.specs.Crafting.{AreAfter};
+ghost use Rattle.std.specs.Prelude.{◌≡◌, IfOk, OnErr};
+ghost use Rattle.sp_runs.specs.Lives.{IsOther};
 ghost use Rattle.sp_runs.specs.Scenarios.{setting_of};
-ghost use Rattle.sp_world.specs.Stands.{ComesTo, IsArrival, Stands};
-ghost use Rattle.sp_world_steps.specs.Polls.{world_of};
+ghost use Rattle.sp_world.specs.Boots.{IsHome};
+ghost use Rattle.sp_world.specs.Past.{IsUndone};
+ghost use Rattle.sp_world.specs.Scenes.{IsOf, world_in};
+ghost use Rattle.sp_world.specs.Stands.{ComesTo, ComesToOne, IsArrival, IsTold, Stands};
 
 use crate::arrivals::arrive;
 use crate::bytes::{Came, bring, sender};
-use sp_adversary::Crafters;
+use crate::home::Home;
+use crate::lives::{make_ready, miss, start, stop};
+use crate::scene::Scene;
 use sp_base::Memory;
 use sp_forgery::Known;
 use sp_journal::Entry;
 use sp_node_words::spent;
 use sp_runs::What;
 use sp_schedule_events::Event;
-use sp_world_steps::{Directions, Member, ask};
+use sp_world_steps::ask;
 use std::alloc::Global;
 
 /// What an event came to.
@@ -26,58 +30,107 @@ pub enum Done {
     Forged { what: What, told: What },
 }
 
-/// Does an event at its node. After want of memory the nodes and the frames are as before.
-#[tactic(auto, using(crate::proofs::Rules::acted))]
+/// Does an event. After want of memory the nodes and the frames are as before, but that the node of the event may have reserved indexes.
+#[tactic(auto, using(crate::proofs::Rules::lives))]
 pub fn act(
     alloc: Global,
     known: &Known<'_>,
-    nodes: &mut Vec<Member>,
-    directions: &mut Directions,
-    crafters: &mut Crafters,
+    home: &Home,
+    scene: &mut Scene,
     event: &Event,
 ) -> Result<Done, Memory>
-    requires stands { Stands known.now.scenario.now known.now.events.now known.now.journal.now (world_of nodes.old.items directions.old) event.now }
-    requires crafters { AreAfter known.now.scenario.now known.now.events.now crafters.old }
+    requires stands { Stands known.now.scenario.now known.now.events.now known.now.journal.now (world_in scene.old) event.now }
+    requires home { IsHome known.now.scenario.now home.now }
+    requires crafters { IsOf known.now.scenario.now scene.old }
     requires long { known.now.signature_len ≡ (setting_of known.now.scenario.now).signature_len }
     ensures done { IfOk result (λ done. ComesTo (setting_of known.now.scenario.now) known.now.events.now known.now.journal.now
-        (world_of nodes.old.items directions.old) event.now done (world_of nodes.new.items directions.new)) }
-    ensures crafters { OnOk result (AreAfter known.now.scenario.now (known.now.events.now ++ event.now ∷ []) crafters.new) }
-    ensures as_before { OnErr result (world_of nodes.new.items directions.new ≡ world_of nodes.old.items directions.old) }
+        (world_in scene.old) event.now done (world_in scene.new)) }
+    ensures crafters { IsOf known.now.scenario.now scene.new }
+    ensures as_before { OnErr result (IsUndone (setting_of known.now.scenario.now) (world_in scene.old) event.now (world_in scene.new)) }
 {
     match event {
-        Event::Poll { u, v } => Ok(Done::Told(directions.poll(alloc, nodes, *u, *v)?)),
+        Event::Start { u } => Ok(Done::Told(start(alloc, known.scenario, home, scene, *u)?)),
+        Event::Stop { u } => Ok(Done::Told(stop(alloc, known.scenario, scene, *u))),
+        _ => reach(alloc, known, scene, event),
+    }
+}
+
+/// Does an event that is no start and no stop.
+fn reach(alloc: Global, known: &Known<'_>, scene: &mut Scene, event: &Event) -> Result<Done, Memory>
+    requires other { IsOther event.now }
+    requires stands { Stands known.now.scenario.now known.now.events.now known.now.journal.now (world_in scene.old) event.now }
+    requires crafters { IsOf known.now.scenario.now scene.old }
+    requires long { known.now.signature_len ≡ (setting_of known.now.scenario.now).signature_len }
+    ensures done { IfOk result (λ done. ComesTo (setting_of known.now.scenario.now) known.now.events.now known.now.journal.now
+        (world_in scene.old) event.now done (world_in scene.new)) }
+    ensures crafters { IsOf known.now.scenario.now scene.new }
+    ensures as_before { OnErr result (IsUndone (setting_of known.now.scenario.now) (world_in scene.old) event.now (world_in scene.new)) }
+{
+    if scene.comes_to_nobody(event) {
+        return Ok(Done::Told(miss(alloc, scene, event)?));
+    }
+    match event {
         Event::Pass { .. }
         | Event::Flip { .. }
         | Event::Inject { .. }
         | Event::Craft { .. }
-        | Event::CraftStatus { .. } => arrival(alloc, known, nodes, directions, crafters, event),
-        _ => Ok(Done::Told(ask(alloc, nodes, event.acting(), event)?)),
+        | Event::CraftStatus { .. } => arrival(alloc, known, scene, event),
+        _ => Ok(Done::Told(asked(alloc, known, scene, event)?)),
+    }
+}
+
+/// A client or the clock asks something of the node that acts, or it is polled.
+#[tactic(auto, using(crate::proofs::Rules::came))]
+fn asked(
+    alloc: Global,
+    known: &Known<'_>,
+    scene: &mut Scene,
+    event: &Event,
+) -> Result<Entry, Memory>
+    requires comes { ComesToOne known.now.scenario.now known.now.events.now known.now.journal.now (world_in scene.old) event.now }
+    requires call { IsArrival event.now → ⊥ }
+    ensures told { IfOk result (λ entry. IsTold (setting_of known.now.scenario.now) known.now.events.now known.now.journal.now
+        (world_in scene.old) event.now entry (world_in scene.new)) }
+    ensures crafters { scene.new.crafters ≡ scene.old.crafters }
+    ensures as_before { OnErr result (IsUndone (setting_of known.now.scenario.now) (world_in scene.old) event.now (world_in scene.new)) }
+{
+    make_ready(known.scenario, scene, event);
+    match event {
+        Event::Poll { u, v } => scene.directions.poll(alloc, &mut scene.nodes, *u, *v),
+        _ => ask(alloc, &mut scene.nodes, event.acting(), event),
     }
 }
 
 /// Bytes come to the node that acts.
-#[tactic(auto, using(crate::proofs::Rules::arrived))]
+#[tactic(auto, using(crate::proofs::Rules::came))]
 fn arrival(
     alloc: Global,
     known: &Known<'_>,
-    nodes: &mut Vec<Member>,
-    directions: &Directions,
-    crafters: &mut Crafters,
+    scene: &mut Scene,
     event: &Event,
 ) -> Result<Done, Memory>
     requires arrival { IsArrival event.now }
-    requires stands { Stands known.now.scenario.now known.now.events.now known.now.journal.now (world_of nodes.old.items directions.now) event.now }
-    requires crafters { AreAfter known.now.scenario.now known.now.events.now crafters.old }
+    requires comes { ComesToOne known.now.scenario.now known.now.events.now known.now.journal.now (world_in scene.old) event.now }
+    requires crafters { IsOf known.now.scenario.now scene.old }
     requires long { known.now.signature_len ≡ (setting_of known.now.scenario.now).signature_len }
     ensures done { IfOk result (λ done. ComesTo (setting_of known.now.scenario.now) known.now.events.now known.now.journal.now
-        (world_of nodes.old.items directions.now) event.now done (world_of nodes.new.items directions.now)) }
-    ensures crafters { OnOk result (AreAfter known.now.scenario.now (known.now.events.now ++ event.now ∷ []) crafters.new) }
-    ensures as_before { OnErr result (nodes.new.items ≡ nodes.old.items) }
+        (world_in scene.old) event.now done (world_in scene.new)) }
+    ensures crafters { IsOf known.now.scenario.now scene.new }
+    ensures as_before { OnErr result (IsUndone (setting_of known.now.scenario.now) (world_in scene.old) event.now (world_in scene.new)) }
 {
-    match bring(alloc, known, nodes, directions, crafters, event)? {
+    match bring(alloc, known, scene, event)? {
         Came::Datagram(bytes) => {
+            make_ready(known.scenario, scene, event);
             let (u, v) = (sender(event), event.acting());
-            arrive(alloc, known, nodes, directions, u, v, bytes.as_slice())
+            arrive(
+                alloc,
+                known,
+                &mut scene.nodes,
+                &scene.directions,
+                u,
+                v,
+                bytes.as_slice(),
+            )
         }
         Came::Spent { total } => Ok(Done::Told(spent(alloc, total))),
     }

@@ -3,7 +3,6 @@ ghost use Rattle.std.specs.Prelude.{◌≡◌, ◌≤◌, [], IfOk, OnErr, lengt
 ghost use Rattle.sp_forgery.specs.declared.judging.TheConstants.{MAX_MESSAGE_BYTES};
 ghost use Rattle.sp_runs.specs.Scenarios.{setting_of};
 ghost use Rattle.sp_world.specs.Arrivals.{Arrives, CanHear};
-ghost use Rattle.sp_world_steps.specs.Polls.{world_of};
 ghost use Rattle.sp_frame.specs.declared.sections.TheConstants.{MOST_OBJECTS};
 
 use crate::acts::Done;
@@ -49,9 +48,9 @@ pub fn arrive(
     bytes: &[u8],
 ) -> Result<Done, Memory>
     requires even { length known.now.events.now ≡ length known.now.journal.now }
-    requires can { CanHear known.now.scenario.now.format known.now.signature_len nodes.old.items v u }
+    requires can { CanHear known.now.scenario.now known.now.signature_len nodes.old.items v u }
     ensures arrives { IfOk result (λ done. Arrives known.now.scenario.now known.now.events.now known.now.journal.now
-        (world_of nodes.old.items directions.now) u v bytes.now done nodes.new.items) }
+        nodes.old.items directions.now u v bytes.now done nodes.new.items) }
     ensures as_before { OnErr result (nodes.new.items ≡ nodes.old.items) }
 {
     let Room { words, kept, told } = Room::new(alloc)?;

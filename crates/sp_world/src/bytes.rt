@@ -1,18 +1,18 @@
 // The bytes that the network and the adversary bring.
-ghost use Rattle.std.specs.Prelude.{ℕ, ◌≡◌, ◌≤◌, ◌∷◌, ◌++◌, [], List, IfOk, None as Nothing, OnOk, Some as There, length, option_map};
-ghost use Rattle.sp_adversary.specs.Crafting.{AreAfter};
+ghost use Rattle.std.specs.Prelude.{ℕ, ◌≡◌, ◌≤◌, List, IfOk, None as Nothing, OnErr, Some as There, length, option_map};
 ghost use Rattle.sp_runs.specs.Inputs.{flipped};
 ghost use Rattle.sp_runs.specs.Scenarios.{setting_of};
 ghost use Rattle.sp_runs.specs.Worlds.{frame_in};
-ghost use Rattle.sp_world.specs.Stands.{Comes, IsArrival, Stands, sender};
-ghost use Rattle.sp_world_steps.specs.Polls.{world_of};
+ghost use Rattle.sp_world.specs.Scenes.{IsOf, with_crafted, world_in};
+ghost use Rattle.sp_world.specs.Stands.{Comes, ComesToOne, IsArrival, crafted_by, sender};
 
-use crate::crafts::{crafted, status};
-use sp_adversary::{Crafters, flipped};
+use crate::crafts::{CraftedReport, crafted, status};
+use crate::scene::Scene;
+use sp_adversary::flipped;
 use sp_base::{Bytes, Flow, Memory, NodeId};
 use sp_forgery::Known;
 use sp_schedule_events::Event;
-use sp_world_steps::{Directions, Member};
+use sp_world_steps::Directions;
 use std::alloc::Global;
 
 /// What comes to the node that acts.
@@ -40,20 +40,20 @@ pub fn sender(event: &Event) -> NodeId
 pub fn bring(
     alloc: Global,
     known: &Known<'_>,
-    nodes: &[Member],
-    directions: &Directions,
-    crafters: &mut Crafters,
+    scene: &mut Scene,
     event: &Event,
 ) -> Result<Came, Memory>
     requires arrival { IsArrival event.now }
-    requires stands { Stands known.now.scenario.now known.now.events.now known.now.journal.now (world_of nodes.now directions.now) event.now }
-    requires crafters { AreAfter known.now.scenario.now known.now.events.now crafters.old }
-    ensures comes { IfOk result (λ came. Comes (setting_of known.now.scenario.now) known.now.events.now (world_of nodes.now directions.now) event.now came) }
-    ensures crafters { OnOk result (AreAfter known.now.scenario.now (known.now.events.now ++ event.now ∷ []) crafters.new) }
+    requires comes { ComesToOne known.now.scenario.now known.now.events.now known.now.journal.now (world_in scene.old) event.now }
+    requires crafters { IsOf known.now.scenario.now scene.old }
+    ensures comes { IfOk result (λ came. Comes (setting_of known.now.scenario.now) (world_in scene.old) event.now came) }
+    ensures scene { IfOk result (λ came. scene.new ≡ with_crafted scene.old (crafted_by scene.old.crafters.keys event.now came)) }
+    ensures crafters { IsOf known.now.scenario.now scene.new }
+    ensures as_before { OnErr result ((scene.new.nodes ≡ scene.old.nodes) × (scene.new.directions ≡ scene.old.directions)) }
 {
     match event {
         Event::Pass { u, v, number } => {
-            Ok(Came::Datagram(passed(alloc, directions, *u, *v, *number)?))
+            Ok(Came::Datagram(passed(alloc, &scene.directions, *u, *v, *number)?))
         }
         Event::Flip {
             u,
@@ -61,10 +61,10 @@ pub fn bring(
             number,
             back,
             bit,
-        } => Ok(Came::Datagram(changed(alloc, directions, *u, *v, *number, *back, *bit)?)),
+        } => Ok(Came::Datagram(changed(alloc, &scene.directions, *u, *v, *number, *back, *bit)?)),
         Event::Inject { bytes, .. } => { Ok(Came::Datagram(Bytes::copy(alloc, bytes.as_slice())?)) }
         Event::Craft { c, v, key, object } => {
-            crafted(alloc, known.scenario, nodes, crafters, *c, *v, *key, object)
+            crafted(alloc, known.scenario, scene, *c, *v, *key, object)
         }
         Event::CraftStatus {
             c,
@@ -74,8 +74,13 @@ pub fn bring(
             base,
             have,
         } => {
-            let flow = Flow { src: *s, dst: *d };
-            let bytes = status(alloc, known.scenario, nodes, *c, *v, flow, *base, *have)?;
+            let report = CraftedReport {
+                flow: Flow { src: *s, dst: *d },
+                base: *base,
+                have: *have,
+            };
+            let nodes = scene.nodes.as_slice();
+            let bytes = status(alloc, known.scenario, nodes, *c, *v, report)?;
             Ok(Came::Datagram(bytes))
         }
         _ => unreachable!(),

@@ -1,102 +1,119 @@
 // The bytes that a compromised neighbour crafts: fresh to the node that acts, and under the right tag.
 ghost use Rattle.sp_topology.specs.Neighbours.{joins};
-ghost use Rattle.std.specs.Prelude.{ℕ, position, ◌≡◌, ◌∷◌, ◌++◌, [], List, IfOk, None as Nothing, OnOk, Some as There};
-ghost use Rattle.sp_adversary.specs.Crafting.{AreAfter, Crafts, HasRoom};
+ghost use Rattle.std.specs.Prelude.{ℕ, position, ◌≡◌, [], IfOk, None as Nothing, OnErr, Some as There};
+ghost use Rattle.sp_adversary.specs.Boots.{held_of};
 ghost use Rattle.sp_msg.specs.Bodies.{HasGoodFieldsIn};
 ghost use Rattle.laws_runs_format.specs.Arts.{arts_of};
 ghost use Rattle.sp_rules.specs.Node.{NodeState};
-ghost use Rattle.sp_runs.specs.Inputs.{crafted_frame, crafted_head, slot_alone};
+ghost use Rattle.sp_runs.specs.Inputs.{crafted_frame, crafted_head, dated, slot_alone};
 ghost use Rattle.sp_runs.specs.Scenarios.{edge_key, setting_of};
-ghost use Rattle.sp_runs.specs.Worlds as worlds;
 ghost use Rattle.sp_runs.specs.Worlds.{node_in};
 ghost use Rattle.sp_schedule_crafts.specs.Objects.{body_of};
-ghost use Rattle.sp_schedule_events.specs.declared.event.Event as event;
 ghost use Rattle.sp_schedule_events.specs.declared.event.Event.TheVariants as events;
-ghost use Rattle.sp_world.specs.Stands.{CanCraft, Comes, IsAtFirst, IsEdgeOf};
-ghost use Rattle.sp_world_steps.specs.Polls.{world_of};
+ghost use Rattle.sp_world.specs.Scenes.{IsOf, with_crafted, world_in};
+ghost use Rattle.sp_world.specs.Stands.{CanCraft, Comes, IsAtFirst, IsEdgeOf, IsThere, crafted_by};
 
 use crate::bytes::Came;
+use crate::scene::Scene;
 use sp_adversary::{
-    Crafted, Crafters, crafted_head, edge_between, edge_key, object_frame, status_frame,
+    Crafted, EndBoots, crafted_head, dated, edge_between, edge_key, ends_of, object_frame,
+    status_frame,
 };
 use sp_base::{Bytes, Flow, Memory, NodeId};
 use sp_frame::Head;
+use sp_msg::Body;
 use sp_schedule_crafts::CraftedObject;
 use sp_schedule_events::Scenario;
 use sp_world_steps::{Member, member_of};
 use std::alloc::Global;
 
-/// The boot number of each node.
-const BOOT: u64 = 1;
-
-/// The version of the topology that all of them run under.
+/// The version of the topology that all nodes run under.
 const VERSION: u32 = 1;
 
-/// A frame of `c` for `v` with one message, which is signed with the next index of this key, or that it has none left.
+/// What a crafted report says: its flow, its base, and what it has.
+#[derive(Clone, Copy, Debug)]
+pub struct CraftedReport {
+    pub flow: Flow,
+    pub base: u64,
+    pub have: u64,
+}
+
+/// A frame of `c` for `v` with one message, which is signed with the next index of this key, or that it has none left. The message names the boots
+/// that `v` holds of its ends. Only want of memory refuses, and then the nodes and the frames are as before.
 #[tactic(auto, using(crate::proofs::Rules::crafted))]
 pub fn crafted(
     alloc: Global,
     scenario: &Scenario,
-    nodes: &[Member],
-    crafters: &mut Crafters,
+    scene: &mut Scene,
     c: NodeId,
     v: NodeId,
     key: NodeId,
     object: &CraftedObject,
 ) -> Result<Came, Memory>
-    requires can { CanCraft scenario.now nodes.now c v }
-    requires format { crafters.old.format ≡ scenario.now.format }
-    requires fields { HasGoodFieldsIn scenario.now.format (body_of object.now) }
-    ensures comes { (es : List event.Event) (directions : List worlds.Direction) → AreAfter scenario.now es crafters.old
-        → IfOk result (λ came. Comes (setting_of scenario.now) es (world_of nodes.now directions) (events.Craft c v key object.now) came) }
-    ensures crafters { (es : List event.Event) → AreAfter scenario.now es crafters.old
-        → OnOk result (AreAfter scenario.now (es ++ events.Craft c v key object.now ∷ []) crafters.new) }
+    requires can { CanCraft scenario.now scene.old.nodes c v }
+    requires crafters { IsOf scenario.now scene.old }
+    requires fields { (n : NodeState) → node_in scene.old.nodes v ≡ There n → HasGoodFieldsIn scenario.now.format (dated n.parts.lives (body_of object.now)) }
+    ensures comes { IfOk result (λ came. Comes (setting_of scenario.now) (world_in scene.old) (events.Craft c v key object.now) came) }
+    ensures scene { IfOk result (λ came. scene.new ≡ with_crafted scene.old (crafted_by scene.old.crafters.keys (events.Craft c v key object.now) came)) }
+    ensures crafters { IsOf scenario.now scene.new }
+    ensures as_before { OnErr result ((scene.new.nodes ≡ scene.old.nodes) × (scene.new.directions ≡ scene.old.directions)) }
 {
-    let head = head_for(scenario, nodes, c, v);
+    let head = head_for(scenario, &scene.nodes, c, v);
     let tag_key = key_for(scenario, c, v);
-    match signed_with(alloc, crafters, key, object)? {
+    let body = said(alloc, &scene.nodes, v, object)?;
+    match scene.crafters.craft(alloc, key, &body)? {
         Crafted::Signed(signed) => Ok(Came::Datagram(object_frame(
             alloc, &head, &tag_key, &signed,
         )?)),
         Crafted::Spent { total } => Ok(Came::Spent { total }),
     }
 }
-
-/// The message that the object is, with the next signature of this key, or that none is left. Only want of memory refuses, and then
-/// nothing has changed.
-fn signed_with(
-    alloc: Global,
-    crafters: &mut Crafters,
-    key: NodeId,
-    object: &CraftedObject,
-) -> Result<Crafted, Memory>
-    requires { HasGoodFieldsIn crafters.old.format (body_of object.now) }
-    ensures crafted { Crafts crafters.old key (body_of object.now) result crafters.new }
-    ensures written { HasRoom crafters.old.format result }
+/// The message that the object is, with the boots that `v` holds of its ends.
+#[tactic(auto, using(crate::proofs::Crafting::said_is))]
+fn said(alloc: Global, nodes: &[Member], v: NodeId, object: &CraftedObject) -> Result<Body, Memory>
+    requires { IsThere nodes.now v }
+    ensures { IfOk result (λ body. (n : NodeState) → node_in nodes.now v ≡ There n → body ≡ dated n.parts.lives (body_of object.now)) }
 {
+    let Some(member) = member_of(nodes, v) else {
+        unreachable!()
+    };
     let body = object.body(alloc)?;
-    crafters.craft(alloc, key, &body)
+    let ends = ends_of(&body);
+    Ok(dated(body, held_boots(member, ends)))
 }
 
-/// A frame of `c` for `v` with a report on a flow, and no message.
-#[tactic(auto, using(crate::proofs::Crafting::frame_is))]
+/// The boots that a node holds of the ends of a flow.
+fn held_boots(member: &Member, ends: Flow) -> EndBoots
+    ensures { result ≡ held_of member.now.parts.lives ends }
+{
+    EndBoots {
+        sboot: member.held_boot(ends.src),
+        dboot: member.held_boot(ends.dst),
+    }
+}
+
+/// A frame of `c` for `v` with a report on a flow, which names the boots that `v` holds of its ends, and no message.
+#[tactic(auto, using(crate::proofs::Crafting::frame_is, crate::proofs::Crafting::status_is))]
 pub fn status(
     alloc: Global,
     scenario: &Scenario,
     nodes: &[Member],
     c: NodeId,
     v: NodeId,
-    flow: Flow,
-    base: u64,
-    have: u64,
+    report: CraftedReport,
 ) -> Result<Bytes, Memory>
     requires can { CanCraft scenario.now nodes.now c v }
     ensures { IfOk result (λ bytes. (n : NodeState) → node_in nodes.now v ≡ There n → bytes
-        ≡ crafted_frame (arts_of (setting_of scenario.now)) n c (slot_alone flow base have Nothing [])) }
+        ≡ crafted_frame (arts_of (setting_of scenario.now)) n c (slot_alone n.parts.lives report.flow report.base report.have Nothing [])) }
 {
+    let Some(member) = member_of(nodes, v) else {
+        unreachable!()
+    };
     let head = head_for(scenario, nodes, c, v);
     let tag_key = key_for(scenario, c, v);
-    status_frame(alloc, &head, &tag_key, flow, base, have)
+    let CraftedReport { flow, base, have } = report;
+    let boots = held_boots(member, flow);
+    status_frame(alloc, &head, &tag_key, flow, boots, base, have)
 }
 
 /// The head of the next frame of `c` for `v`.
@@ -110,7 +127,7 @@ fn head_for(scenario: &Scenario, nodes: &[Member], c: NodeId, v: NodeId) -> Head
         unreachable!()
     };
     let (_, counter) = member.node().kept_pair(c);
-    crafted_head(c, v, BOOT, counter, VERSION, scenario.format)
+    crafted_head(c, v, member.boot(), counter, VERSION, scenario.format)
 }
 
 /// The key of the edge between the two.

@@ -3,19 +3,23 @@ ghost use Rattle.std.specs.Prelude.{◌≡◌, ◌<◌, IfErr, IfOk, OnOk, lengt
 ghost use Rattle.sp_base.specs.declared.limits.TheConstants.{MAX_EVENTS};
 ghost use Rattle.sp_runs.specs.Runs.{InRange};
 ghost use Rattle.sp_runs.specs.Scenarios.{IsHeader, setting_of};
-ghost use Rattle.sp_runs.specs.Worlds.{frame_in, node_in};
+ghost use Rattle.sp_runs.specs.Worlds.{at_start, frame_in, node_in};
+ghost use Rattle.sp_world.specs.Boots.{IsHome};
+ghost use Rattle.sp_world.specs.Scenes.{IsOf, world_in};
 ghost use Rattle.sp_world.specs.Past.{GoesOn, IsPast, IsRefused, at_first};
 
 use crate::WorldRefused;
 use crate::acts::{Done, act};
-use crate::boots::{correct_nodes, signature_len};
+use crate::home::{Home, signature_len};
+use crate::scene::Scene;
 use sp_adversary::Crafters;
 use sp_base::{Memory, NodeId, push_in_room};
+use sp_epoch::KeyStates;
 use sp_forgery::{Hints, Known};
 use sp_journal::Entry;
 use sp_node::Node;
 use sp_schedule_events::{Event, Scenario};
-use sp_world_steps::{Directions, Member, member_of};
+use sp_world_steps::{Directions, member_of};
 use std::alloc::Global;
 use std::marker::Model;
 
@@ -25,9 +29,8 @@ use std::marker::Model;
 pub struct World {
     scenario: Scenario,
     signature_len: usize,
-    nodes: Vec<Member>,
-    directions: Directions,
-    crafters: Crafters,
+    home: Home,
+    scene: Scene,
     hints: Hints,
     events: Vec<Event>,
     journal: Vec<Entry>,
@@ -37,6 +40,7 @@ pub struct World {
 impl Model for World {
     ghost use Rattle.sp_world.specs.Kept.{IsKept};
     ghost use Rattle.sp_world.specs.Past as past;
+    ghost use Rattle.sp_world.specs.Scenes.{world_in};
 
     ghost Value = { past.Past };
 
@@ -44,7 +48,7 @@ impl Model for World {
       scenario = w.scenario;
       events = w.events.items;
       journal = w.journal.items;
-      world = record { nodes = w.nodes.items; directions = w.directions };
+      world = world_in w.scene;
       stopped = w.stopped;
     } };
 
@@ -52,25 +56,25 @@ impl Model for World {
       scenario = w.scenario;
       events = w.events.items;
       journal = w.journal.items;
-      world = record { nodes = w.nodes.items; directions = w.directions };
+      world = world_in w.scene;
       stopped = w.stopped;
-    }) w.signature_len w.crafters };
+    }) w.signature_len w.scene.crafters w.home };
 }
 
 impl World {
-    /// A scenario before its first event: each correct node has started. Only want of memory refuses.
+    /// A scenario before its first event: each correct node has started, or with epochs none has. Only want of memory refuses.
     #[tactic(auto, using(crate::proofs::Pasts::kept_at_first))]
     pub fn make(alloc: Global, scenario: Scenario) -> Result<World, Memory>
         requires { IsHeader scenario }
         ensures { IfOk result (λ world. world ≡ at_first scenario) }
     {
-        let nodes = correct_nodes(alloc, &scenario)?;
+        let home = Home::make(alloc, &scenario)?;
+        let scene = first_scene(alloc, &scenario, &home)?;
         let hints = Hints::new(alloc)?;
         Ok(World {
             signature_len: signature_len(scenario.height),
-            nodes,
-            directions: Directions::new(alloc),
-            crafters: Crafters::new(alloc, &scenario),
+            home,
+            scene,
             hints,
             events: Vec::new(alloc),
             journal: Vec::new(alloc),
@@ -79,11 +83,11 @@ impl World {
         })
     }
 
-    /// Does an event: its acting node makes one step, and its entry is the next of the journal.
+    /// Does an event: its acting node makes one step, starts or stops, or doesn't run; and its entry is the next of the journal.
     ///
     /// `Forged` exactly where something of it is forged. Then the run ends: the event isn't one of it, the node that acted is gone, and each later event is
     /// answered the same. `Memory` leaves the events, the journal, the frames and the nodes as they were, since all memory that the world needs is taken
-    /// before the node acts. Then the run ends too, and each later event is answered `Memory`.
+    /// before the node acts; but with epochs the node may have reserved indexes. Then the run ends too, and each later event is answered `Memory`.
     pub fn step(&mut self, alloc: Global, event: Event) -> Result<(), WorldRefused>
         requires range { InRange (setting_of self.old.scenario) self.old.events event }
         requires few { length self.old.events < MAX_EVENTS }
@@ -102,14 +106,7 @@ impl World {
             events: self.events.as_slice(),
             journal: self.journal.as_slice(),
         };
-        let done = act(
-            alloc,
-            &known,
-            &mut self.nodes,
-            &mut self.directions,
-            &mut self.crafters,
-            &event,
-        )?;
+        let done = act(alloc, &known, &self.home, &mut self.scene, &event)?;
         match done {
             Done::Told(entry) => {
                 let place = self.events.len() as u32;
@@ -127,21 +124,21 @@ impl World {
         }
     }
 
-    /// A correct node. None exactly where the node isn't one, or acted in the event that is forged.
+    /// A correct node that runs. None exactly where the node isn't one, is stopped, or acted in the event that is forged.
     pub fn node(&self, u: NodeId) -> Option<&Node>
         ensures { option_map (λ n. n.now.state) result ≡ node_in self.now.world.nodes u }
     {
-        match member_of(&self.nodes, u) {
+        match member_of(&self.scene.nodes, u) {
             Some(member) => Some(member.node()),
             None => None,
         }
     }
 
-    /// The frame of this number that `u` made for `v`, counted from 1. None exactly where there is none.
+    /// The frame of this number that `u` made for `v`, counted from 1. None exactly where there was no such poll, or `u` didn't run then.
     pub fn frame(&self, u: NodeId, v: NodeId, number: u32) -> Option<&[u8]>
         ensures { option_map (λ f. f.now) result ≡ frame_in self.now.world.directions u v number }
     {
-        let frame = self.directions.frame(u, v, number)?;
+        let frame = self.scene.directions.frame(u, v, number)?;
         Some(frame.as_slice())
     }
 
@@ -178,6 +175,30 @@ impl World {
     {
         let _events = &self.events;
     }
+}
+
+/// The nodes, their key files and no frame, before the first event.
+#[tactic(auto, using(crate::proofs::Pasts::at_first_plain, crate::proofs::Pasts::at_first_stopped))]
+fn first_scene(alloc: Global, scenario: &Scenario, home: &Home) -> Result<Scene, Memory>
+    requires header { IsHeader scenario.now }
+    requires home { IsHome scenario.now home.now }
+    ensures world { IfOk result (λ scene. world_in scene ≡ at_start (setting_of scenario.now)) }
+    ensures crafters { IfOk result (IsOf scenario.now) }
+{
+    let Ok(keys) = KeyStates::new(alloc, scenario.graph.nodes) else {
+        return Err(Memory);
+    };
+    let nodes = if scenario.epochs {
+        Vec::new(alloc)
+    } else {
+        home.first_nodes(alloc, scenario)?
+    };
+    Ok(Scene {
+        keys,
+        nodes,
+        directions: Directions::new(alloc),
+        crafters: Crafters::new(alloc, scenario),
+    })
 }
 
 /// Room for one more of each.

@@ -10,7 +10,7 @@ use Rattle.sp_base.specs.declared.id.NodeId.{NodeId}
 use Rattle.sp_journal.specs.declared.entry.Entry.{Entry}
 use Rattle.sp_node_format.specs.Format.{format_of}
 use Rattle.sp_node_format.specs.PolledFrames.{most_signature}
-use Rattle.sp_rules.specs.Node.{NodeState, call_refusal}
+use Rattle.sp_rules.specs.Node.{NodeState, call_refusal, extended}
 use Rattle.sp_rules.specs.Steps.{Frame, NodeStep, Poll, replied}
 use Rattle.sp_rules.specs.declared.node.Step.{Step}
 use Rattle.sp_rules.specs.declared.node.Taken.{Taken}
@@ -19,7 +19,7 @@ use Rattle.sp_runs.specs.Worlds.{is_me, node_in, with_node}
 use Rattle.sp_schedule_events.specs.declared.event.Event.{Event}
 use Rattle.sp_world_steps.specs.Asks.{GaveAnswer, MayAsk}
 use Rattle.sp_world_steps.specs.Gave.{GaveTaken}
-use Rattle.sp_world_steps.specs.Members.{AskedAmong, CanAsk, CanCall, HeardAmong, PolledAmong}
+use Rattle.sp_world_steps.specs.Members.{AskedAmong, CanAsk, CanCall, CanReserve, HeardAmong, PolledAmong, ReservedAmong}
 
 -- ---- a node that is there has a place
 
@@ -55,6 +55,9 @@ asked_has_place nodes u event can acts none = no_place nodes (acting event) can.
 
 pub called_has_place : (nodes : List NodeState) (u v : NodeId) → CanCall nodes u v → position (is_me u) nodes ≡ None → ⊥
 called_has_place nodes u v can none = no_place nodes u can.node can.is_there none
+
+pub reserve_has_place : (nodes : List NodeState) (u : NodeId) (upto : ℕ) → CanReserve nodes u upto → position (is_me u) nodes ≡ None → ⊥
+reserve_has_place nodes u upto can none = no_place nodes u can.node can.is_there none
 
 -- ---- what stands in that place
 
@@ -119,3 +122,22 @@ pub short_at : (nodes : List NodeState) (u v : NodeId) (place : ℕ) (old : Node
     → position (is_me u) nodes ≡ Some place → old ≡ get_or nodes place old → old.fixed.signature_len ≤ most_signature
 short_at nodes u v place old can at is =
     subst (λ (n : NodeState). n.fixed.signature_len ≤ most_signature) (same_Some can.node old (sym can.is_there ∙ found_at nodes u place old at is)) can.short
+
+-- more indexes are reserved for it
+pub reserved_at : (nodes : List NodeState) (u : NodeId) (place upto : ℕ) (old new : NodeState)
+    → position (is_me u) nodes ≡ Some place → old ≡ get_or nodes place old → new ≡ extended old upto → ReservedAmong nodes u upto (set nodes place new)
+reserved_at nodes u place upto old new at is extends = record {
+  old = old;
+  is_there = found_at nodes u place old at is;
+  nodes_are = set_at nodes u place new at ∙ ap (with_node nodes u) extends;
+}
+
+pub forward_at : (nodes : List NodeState) (u : NodeId) (place upto : ℕ) (old : NodeState) → CanReserve nodes u upto
+    → position (is_me u) nodes ≡ Some place → old ≡ get_or nodes place old → old.signer.bound ≤ upto
+forward_at nodes u place upto old can at is =
+    subst (λ (n : NodeState). n.signer.bound ≤ upto) (same_Some can.node old (sym can.is_there ∙ found_at nodes u place old at is)) can.forward
+
+pub within_at : (nodes : List NodeState) (u : NodeId) (place upto : ℕ) (old : NodeState) → CanReserve nodes u upto
+    → position (is_me u) nodes ≡ Some place → old ≡ get_or nodes place old → upto ≤ old.signer.total
+within_at nodes u place upto old can at is =
+    subst (λ (n : NodeState). upto ≤ n.signer.total) (same_Some can.node old (sym can.is_there ∙ found_at nodes u place old at is)) can.within

@@ -6,9 +6,8 @@ use Rattle.sp_base.proofs.RowLemmas.{is_first}
 use Rattle.sp_base.specs.Rows.{IsFirstAt}
 use Rattle.sp_base.specs.declared.id.NodeId.{NodeId}
 use Rattle.sp_rules.specs.Node.{NodeState}
-use Rattle.sp_runs.specs.Worlds.{is_me, with_node}
+use Rattle.sp_runs.specs.Worlds.{is_me, with_node, without_node}
 use Rattle.sp_world_steps.proofs.Among.{place_of_any}
-use Rattle.sp_world_steps.specs.Members.{without_node}
 
 removed_first : (nodes : List NodeState) (u : NodeId) (place : ℕ) (d : NodeState) → IsFirstAt (is_me u) nodes place d → remove nodes place ≡ without_node nodes u
 removed_first [] u place d first = absurd (omega (arith, first.within))

@@ -3,7 +3,7 @@ use Rattle.std.specs.Prelude.{◌≡◌, List, Option, None, Some}
 use Rattle.sp_journal.specs.declared.entry.Entry.{Entry}
 use Rattle.sp_rules.specs.Node.{NodeState}
 use Rattle.sp_rules.specs.Steps.{Input, SendPrio, SendRel, SetWeight, TakePrio, TakeRel, Tick}
-use Rattle.sp_runs.specs.Runs.{InRange}
+use Rattle.sp_runs.specs.Runs.{AreFields}
 use Rattle.sp_runs.specs.Settings.{Setting}
 use Rattle.sp_schedule_events.specs.declared.event.Event.{Event}
 use Rattle.sp_schedule_events.specs.declared.event.Event.TheVariants as events
@@ -19,11 +19,11 @@ asked (events.Tick u now) = Some (Tick now)
 asked (events.Weight u v weight) = Some (SetWeight v weight)
 asked _ = None
 
--- it asks something of this node, in its range, and whatever the answer is has its words
+-- it asks something of this node, its fields are in their ranges, and whatever the answer is has its words
 pub record MayAsk (n : NodeState) (event : Event) : Type 0 where
   pub setting : Setting
   pub before : List Event
-  pub range : InRange setting before event
+  pub fields : AreFields setting before event
   pub asks : asked event ≡ None → ⊥
   pub words : (input : Input) → asked event ≡ Some input → HasWords n input
 

@@ -1,23 +1,23 @@
 -- One call of one node among all.
-use Rattle.std.specs.Prelude.{ℕ, ◌≡◌, ◌≤◌, List, [], ◌∷◌, None, Some, if◌then◌else◌}
+use Rattle.std.specs.Prelude.{ℕ, ◌≡◌, ◌≤◌, List, None, Some}
 use Rattle.sp_base.specs.declared.id.NodeId.{NodeId}
 use Rattle.sp_journal.specs.declared.entry.Entry.{Entry}
 use Rattle.sp_node_format.specs.Format.{format_of}
 use Rattle.sp_node_format.specs.PolledFrames.{most_signature}
-use Rattle.sp_rules.specs.Node.{NodeState, call_refusal}
+use Rattle.sp_rules.specs.Node.{NodeState, call_refusal, extended}
 use Rattle.sp_rules.specs.Steps.{Frame, NodeStep, Poll, replied}
 use Rattle.sp_rules.specs.declared.node.Step.{Step}
 use Rattle.sp_rules.specs.declared.node.Taken.{Taken}
 use Rattle.sp_runs.specs.Inputs.{acting}
-use Rattle.sp_runs.specs.Worlds.{is_me, node_in, with_node}
+use Rattle.sp_runs.specs.Worlds.{node_in, with_node}
 use Rattle.sp_schedule_events.specs.declared.event.Event.{Event}
 use Rattle.sp_world_steps.specs.Asks.{GaveAnswer, MayAsk}
 use Rattle.sp_world_steps.specs.Gave.{GaveTaken}
 
--- the nodes without this one
-abbrev pub without_node : List NodeState → NodeId → List NodeState
-without_node [] u = []
-without_node (n ∷ nodes) u = if is_me u n then nodes else n ∷ without_node nodes u
+-- the node of this id, in the life of this boot
+pub record IsMember (n : NodeState) (id : NodeId) (boot : ℕ) : Type 0 where
+  pub me : n.fixed.me ≡ id
+  pub boots : n.fixed.boot ≡ boot
 
 -- ---- before
 
@@ -33,6 +33,13 @@ pub record CanCall (nodes : List NodeState) (u neighbour : NodeId) : Type 0 wher
   pub is_there : node_in nodes u ≡ Some node
   pub answers : call_refusal node neighbour ≡ None
   pub short : node.fixed.signature_len ≤ most_signature
+
+-- the node is there, and its signer may have the indexes below this bound
+pub record CanReserve (nodes : List NodeState) (u : NodeId) (upto : ℕ) : Type 0 where
+  pub node : NodeState
+  pub is_there : node_in nodes u ≡ Some node
+  pub forward : node.signer.bound ≤ upto
+  pub within : upto ≤ node.signer.total
 
 -- ---- after. All other nodes stay as they are
 
@@ -59,3 +66,9 @@ pub record HeardAmong (nodes : List NodeState) (u v : NodeId) (bytes : List ℕ)
   pub is_there : node_in nodes v ≡ Some old
   pub took : GaveTaken old u bytes step new
   pub nodes_are : after ≡ with_node nodes v new
+
+-- u has the indexes below this bound
+pub record ReservedAmong (nodes : List NodeState) (u : NodeId) (upto : ℕ) (after : List NodeState) : Type 0 where
+  pub old : NodeState
+  pub is_there : node_in nodes u ≡ Some old
+  pub nodes_are : after ≡ with_node nodes u (extended old upto)

@@ -1,18 +1,18 @@
 // All frames of a world by their direction, each found by its number alone.
-ghost use Rattle.std.specs.Prelude.{◌≡◌, ◌+◌, ◌<◌, ◌^◌, [], IfOk, OnErr, length, position, option_map};
-ghost use Rattle.sp_runs.specs.Forgery.{is_among};
-ghost use Rattle.sp_runs.specs.Worlds.{frame_in, frames_in, is_from_to};
+ghost use Rattle.std.specs.Prelude.{◌≡◌, ◌+◌, ◌<◌, ◌^◌, [], IfOk, None as Nothing, OnErr, OnOk, length, position, option_map};
+ghost use Rattle.sp_runs.specs.Forgery.{is_made};
+ghost use Rattle.sp_runs.specs.Worlds.{frame_in, frames_in, is_from_to, with_frame};
 ghost use Rattle.sp_world_steps.specs.Members.{CanCall};
-ghost use Rattle.sp_world_steps.specs.Polls.{IsPolled, world_of};
+ghost use Rattle.sp_world_steps.specs.Polls.{IsPolled};
 
 use crate::Member;
 use crate::frames::{Direction, add_frame, has_at};
-use sp_base::{Bytes, Memory, NodeId, push_in_room};
+use sp_base::{Bytes, Memory, NodeId, push, push_in_room};
 use sp_journal::Entry;
 use std::alloc::Global;
 use std::marker::Model;
 
-/// The frames of each direction in which one was made. A contract sees the list of directions.
+/// The frames of each direction that was polled. A contract sees the list of directions.
 #[derive(Debug, Drop)]
 pub struct Directions {
     rows: Vec<Direction>,
@@ -37,9 +37,9 @@ impl Directions {
         }
     }
 
-    /// The frames that `from` made for `to`.
+    /// The frames that `from` made for `to`, each in the place of its number. A place is empty where `from` didn't run when it was polled.
     #[tactic(auto, using(sp_base::proofs::RowLemmas::placed))]
-    pub fn frames(&self, from: NodeId, to: NodeId) -> &[Bytes]
+    pub fn frames(&self, from: NodeId, to: NodeId) -> &[Option<Bytes>]
         ensures { result.now ≡ frames_in self.now from to }
     {
         match self.place(from, to) {
@@ -55,7 +55,10 @@ impl Directions {
         if number == 0 {
             return None;
         }
-        self.frames(from, to).get(number as usize - 1)
+        match self.frames(from, to).get(number as usize - 1) {
+            Some(Some(frame)) => Some(frame),
+            _ => None,
+        }
     }
 
     /// The node `u` makes its next frame for its neighbour `v`, and it is kept. All room is taken first: after want of memory the nodes and the
@@ -70,8 +73,9 @@ impl Directions {
     ) -> Result<Entry, Memory>
         requires can { CanCall nodes.old.items u v }
         requires few { length (frames_in self.old u v) + 1 < 2 ^ 32 }
-        ensures polled { IfOk result (λ entry. IsPolled (world_of nodes.old.items self.old) u v entry (world_of nodes.new.items self.new)) }
-        ensures as_before { OnErr result (world_of nodes.new.items self.new ≡ world_of nodes.old.items self.old) }
+        ensures polled { IfOk result (λ entry. IsPolled nodes.old.items self.old u v entry nodes.new.items self.new) }
+        ensures nodes_as_before { OnErr result (nodes.new.items ≡ nodes.old.items) }
+        ensures as_before { OnErr result (self.new ≡ self.old) }
     {
         match self.place(u, v) {
             Some(place) => {
@@ -89,9 +93,32 @@ impl Directions {
         }
     }
 
+    /// The node `u` was polled for `v` while it didn't run: the next place of this direction stays empty. Only want of memory refuses, and then
+    /// nothing has changed.
+    #[tactic(auto, using(sp_base::proofs::RowLemmas::placed, crate::proofs::FrameRows::pushed_there, crate::proofs::FrameRows::pushed_first))]
+    pub fn miss(&mut self, alloc: Global, u: NodeId, v: NodeId) -> Result<(), Memory>
+        ensures missed { OnOk result (self.new ≡ with_frame self.old u v Nothing) }
+        ensures as_before { OnErr result (self.new ≡ self.old) }
+    {
+        match self.place(u, v) {
+            Some(place) => {
+                let row = &mut self.rows[place];
+                push(&mut row.frames, None)
+            }
+            None => {
+                self.rows.reserve(1)?;
+                let mut frames = Vec::new(alloc);
+                push(&mut frames, None)?;
+                let (from, to) = (u, v);
+                push_in_room(&mut self.rows, Direction { from, to, frames });
+                Ok(())
+            }
+        }
+    }
+
     /// Whether the bytes are a frame of this direction. The one of this number is looked at first.
     pub fn has(&self, from: NodeId, to: NodeId, number: u64, bytes: &[u8]) -> bool
-        ensures { result ≡ is_among bytes.now (frames_in self.now from to) }
+        ensures { result ≡ is_made bytes.now (frames_in self.now from to) }
     {
         has_at(self.frames(from, to), number, bytes)
     }

@@ -1,6 +1,6 @@
 // The frames of one direction.
 ghost use Rattle.std.specs.Prelude.{◌≡◌, ◌+◌, ◌<◌, ◌^◌, true, IsTrue, IfOk, OnErr, length};
-ghost use Rattle.sp_runs.specs.Forgery.{is_among};
+ghost use Rattle.sp_runs.specs.Forgery.{is_frame, is_made};
 ghost use Rattle.sp_world_steps.specs.Members.{CanCall};
 ghost use Rattle.sp_world_steps.specs.Polls.{IsFramed};
 
@@ -12,12 +12,12 @@ use sp_journal::Entry;
 use std::alloc::Global;
 use std::marker::Model;
 
-/// The frames that one node made for another, in the order of their numbers.
+/// The frames that one node made for another, in the order of their numbers. A place is empty where the node didn't run when it was polled.
 #[derive(Debug, Drop)]
 pub struct Direction {
     pub from: NodeId,
     pub to: NodeId,
-    pub frames: Vec<Bytes>,
+    pub frames: Vec<Option<Bytes>>,
 }
 
 impl Model for Direction {
@@ -29,7 +29,7 @@ impl Model for Direction {
 }
 
 impl Direction {
-    pub fn frames(&self) -> &[Bytes]
+    pub fn frames(&self) -> &[Option<Bytes>]
         ensures { result.now ≡ self.now.frames }
     {
         self.frames.as_slice()
@@ -44,7 +44,7 @@ pub fn add_frame(
     nodes: &mut Vec<Member>,
     u: NodeId,
     v: NodeId,
-    frames: &mut Vec<Bytes>,
+    frames: &mut Vec<Option<Bytes>>,
 ) -> Result<Entry, Memory>
     requires can { CanCall nodes.old.items u v }
     requires few { length frames.old.items + 1 < 2 ^ 32 }
@@ -56,26 +56,36 @@ pub fn add_frame(
     let number = frames.len() as u32 + 1;
     let bytes = poll(alloc, nodes, u, v)?;
     let entry = frame(alloc, number, bytes.as_slice());
-    push_in_room(frames, bytes);
+    push_in_room(frames, Some(bytes));
     Ok(entry)
 }
 
 /// Whether the bytes are one of these frames. The one of this number, counted from 1, is looked at first.
-pub fn has_at(frames: &[Bytes], number: u64, bytes: &[u8]) -> bool
-    ensures { result ≡ is_among bytes.now frames.now }
+pub fn has_at(frames: &[Option<Bytes>], number: u64, bytes: &[u8]) -> bool
+    ensures { result ≡ is_made bytes.now frames.now }
 {
     if is_at(frames, number, bytes) {
         return true;
     }
-    frames.iter().any(|frame| frame.as_slice() == bytes)
+    frames.iter().any(|frame| is_frame(frame, bytes))
 }
 
 /// Whether the frame of this number is this one. Then it is among them.
-fn is_at(frames: &[Bytes], number: u64, bytes: &[u8]) -> bool
-    ensures { IsTrue result → is_among bytes.now frames.now ≡ true }
+fn is_at(frames: &[Option<Bytes>], number: u64, bytes: &[u8]) -> bool
+    ensures { IsTrue result → is_made bytes.now frames.now ≡ true }
 {
     if number == 0 || number > frames.len() as u64 {
         return false;
     }
-    frames[number as usize - 1].as_slice() == bytes
+    is_frame(&frames[number as usize - 1], bytes)
+}
+
+/// Whether the bytes are in this place.
+fn is_frame(place: &Option<Bytes>, bytes: &[u8]) -> bool
+    ensures { result ≡ is_frame bytes.now place.now }
+{
+    match place {
+        Some(frame) => frame.as_slice() == bytes,
+        None => false,
+    }
 }

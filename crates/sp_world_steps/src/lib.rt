@@ -13,4 +13,4 @@ mod members;
 pub use directions::Directions;
 pub use entries::arrived;
 pub use member::Member;
-pub use members::{ask, forget, hear, member_of};
+pub use members::{ask, forget, hear, is_running, member_of, reserve};

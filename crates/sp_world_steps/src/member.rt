@@ -1,27 +1,31 @@
-// A correct node under its id.
+// A correct node that runs, under its id.
 ghost use Rattle.std.specs.Prelude.{◌≡◌, ◌≤◌, IfOk, None as Nothing, OnErr, length};
 ghost use Rattle.sp_frame.specs.declared.frame.TheConstants.{MAX_FRAME_BYTES};
 ghost use Rattle.sp_node_format.specs.Format.{format_of};
 ghost use Rattle.sp_node_format.specs.PolledFrames.{most_signature};
-ghost use Rattle.sp_rules.specs.Node.{call_refusal};
+ghost use Rattle.sp_rules.specs.Lives.{held_boot};
+ghost use Rattle.sp_rules.specs.Node.{call_refusal, extended};
 ghost use Rattle.sp_rules.specs.Steps.{Frame, NodeStep, Poll, replied};
 ghost use Rattle.sp_frame.specs.declared.sections.TheConstants.{MOST_OBJECTS};
+ghost use Rattle.sp_runs.specs.Lives.{is_short};
 ghost use Rattle.sp_world_steps.specs.Asks.{GaveAnswer, MayAsk};
 ghost use Rattle.sp_world_steps.specs.Gave.{GaveTaken};
 
 use crate::calls::{datagram, poll, prio, rel, take, take_prio, tick, weight};
 use sp_base::{Bytes, Memory, NodeId};
 use sp_journal::Entry;
+use sp_keystate::LEAST_LEFT;
 use sp_node::Node;
 use sp_rules::{PrioSend, Step, Taken};
 use sp_schedule_events::Event;
 use std::alloc::Global;
 use std::marker::Model;
 
-/// A correct node under its id. A contract sees the node's state.
+/// A correct node that runs, under its id. A contract sees the node's state.
 #[derive(Drop)]
 pub struct Member {
     id: NodeId,
+    boot: u64,
     node: Node,
 }
 
@@ -33,16 +37,19 @@ impl Model for Member {
 
     ghost view = { λ m. m.node.state };
 
-    ghost invariant = { λ m. m.node.state.fixed.me ≡ m.id };
+    ghost use Rattle.sp_world_steps.specs.Members.{IsMember};
+
+    ghost invariant = { λ m. IsMember m.node.state m.id m.boot };
 }
 
 impl Member {
-    /// The node of this id.
-    pub fn new(id: NodeId, node: Node) -> Member
-        requires { node.state.fixed.me ≡ id }
+    /// The node of this id, in the life of this boot.
+    pub fn new(id: NodeId, boot: u64, node: Node) -> Member
+        requires me { node.state.fixed.me ≡ id }
+        requires boot { node.state.fixed.boot ≡ boot }
         ensures { result ≡ node.state }
     {
-        Member { id, node }
+        Member { id, boot, node }
     }
 
     pub fn id(&self) -> NodeId
@@ -51,10 +58,41 @@ impl Member {
         self.id
     }
 
+    /// The boot of its life.
+    pub fn boot(&self) -> u64
+        ensures { result ≡ self.now.fixed.boot }
+    {
+        self.boot
+    }
+
     pub fn node(&self) -> &Node
         ensures { result.now.state ≡ self.now }
     {
         &self.node
+    }
+
+    /// The boot that it holds of a node, 0 where it holds none.
+    pub fn held_boot(&self, u: NodeId) -> u64
+        ensures { result ≡ held_boot self.now.parts.lives u }
+    {
+        self.node.held_boot(u)
+    }
+
+    /// Whether few of its reserved indexes are left, and not all indexes of its key are reserved.
+    pub fn is_short(&self) -> bool
+        ensures { result ≡ is_short self.now }
+    {
+        let (index, bound) = (self.node.index(), self.node.bound());
+        bound.saturating_sub(index) < LEAST_LEFT && bound < self.node.total()
+    }
+
+    /// It has the indexes below this bound.
+    pub fn extend(&mut self, upto: u64)
+        requires forward { self.old.signer.bound ≤ upto }
+        requires within { upto ≤ self.old.signer.total }
+        ensures { self.new ≡ extended self.old upto }
+    {
+        self.node.extend(upto);
     }
 
     /// A client or the clock asks something.

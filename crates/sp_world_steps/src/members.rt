@@ -2,9 +2,9 @@
 ghost use Rattle.std.specs.Prelude.{◌≡◌, ◌≤◌, IfOk, OnErr, length, option_map, position};
 ghost use Rattle.sp_frame.specs.declared.frame.TheConstants.{MAX_FRAME_BYTES};
 ghost use Rattle.sp_runs.specs.Inputs.{acting};
-ghost use Rattle.sp_runs.specs.Worlds.{is_me, node_in};
+ghost use Rattle.sp_runs.specs.Worlds.{is_me, is_running, node_in, without_node};
 ghost use Rattle.sp_frame.specs.declared.sections.TheConstants.{MOST_OBJECTS};
-ghost use Rattle.sp_world_steps.specs.Members.{AskedAmong, CanAsk, CanCall, HeardAmong, PolledAmong, without_node};
+ghost use Rattle.sp_world_steps.specs.Members.{AskedAmong, CanAsk, CanCall, CanReserve, HeardAmong, PolledAmong, ReservedAmong};
 
 use crate::Member;
 use sp_base::{Bytes, Memory, NodeId};
@@ -18,6 +18,13 @@ pub fn place_of(nodes: &[Member], u: NodeId) -> Option<usize>
     ensures { result ≡ position (is_me u) nodes.now }
 {
     nodes.iter().position(|member| member.id().0 == u.0)
+}
+
+/// Whether the node runs.
+pub fn is_running(nodes: &[Member], u: NodeId) -> bool
+    ensures { result ≡ is_running nodes.now u }
+{
+    nodes.iter().any(|member| member.id().0 == u.0)
 }
 
 /// The node of this id among these.
@@ -81,6 +88,19 @@ pub fn hear(
     };
     let member = &mut nodes[place];
     member.datagram(alloc, u, bytes)
+}
+
+/// The node `u` has the indexes below this bound. It takes no memory.
+#[tactic(auto, using(crate::proofs::Rules::reserved))]
+pub fn reserve(nodes: &mut Vec<Member>, u: NodeId, upto: u64)
+    requires { CanReserve nodes.old.items u upto }
+    ensures { ReservedAmong nodes.old.items u upto nodes.new.items }
+{
+    let Some(place) = place_of(nodes, u) else {
+        unreachable!()
+    };
+    let member = &mut nodes[place];
+    member.extend(upto);
 }
 
 /// The node is gone, and the others stay. It takes no memory.

@@ -31,5 +31,5 @@ pub record Ended (words : List (List ℕ)) (left rest before after : Option (Lis
   pub said : BySaid words (λ said. SaidEnded said left world status before after)
   -- where the reader of a replay failed, the journal of all events that had come was written
   pub broken : BySaid words (λ said. said ≡ Some commands.Replay → status ≡ statuses.Source → IsBrokenOff left rest world before after)
-  -- the world is a run, of which all claims hold
+  -- the world is a run, of which all claims hold that are made of it
   pub claims : IfSome world WorldClaims

@@ -1,5 +1,5 @@
 // Two stories as schedules, and the reading of schedules and journals.
-ghost use Rattle.std.specs.Prelude.{◌≤◌, IfOk, length};
+ghost use Rattle.std.specs.Prelude.{◌≡◌, ◌≤◌, false, IfOk, length};
 ghost use Rattle.sp_base.specs.declared.limits.TheConstants.{MAX_EVENTS};
 
 use sp_base::{Listed, MAX_EVENTS, MAX_INPUT_BYTES};
@@ -78,9 +78,10 @@ fn push_frames(alloc: Global, whole: &mut String, frames: &str) -> Result<(), Fa
     Ok(())
 }
 
-/// The header and the events of a schedule.
+/// The header and the events of a schedule without epochs.
 pub(crate) fn schedule_of(alloc: Global, text: &str) -> Result<(Scenario, Timeline), Fail>
-    ensures { IfOk result (λ read. length read.1 ≤ MAX_EVENTS) }
+    ensures few { IfOk result (λ read. length read.1 ≤ MAX_EVENTS) }
+    ensures plain { IfOk result (λ read. read.0.epochs ≡ false) }
 {
     let text = written_out(alloc, text)?;
     if text.len() > MAX_INPUT_BYTES {
@@ -91,6 +92,9 @@ pub(crate) fn schedule_of(alloc: Global, text: &str) -> Result<(Scenario, Timeli
         (Ending::Whole, Stage::End(scenario, events)) => {
             if events.len() > MAX_EVENTS {
                 return Err("there are too many events".into());
+            }
+            if scenario.epochs {
+                return Err("nodes start and stop".into());
             }
             Ok((scenario, events))
         }

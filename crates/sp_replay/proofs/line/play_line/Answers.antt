@@ -1,8 +1,14 @@
 use Rattle.std.proofs.Common.{ap}
 use Rattle.sp_schedule.specs.Feeds.{is_ready}
 use Rattle.sp_replay.proofs.Begun.{whole_begins}
-use Rattle.sp_replay.proofs.Lines.{forgotten_there, in_any_case, no_event_without_world, plays_begun, plays_event, so_far_begun, so_far_end, so_far_event, so_far_header}
+use Rattle.sp_replay.proofs.Lines.{forgotten_there, in_any_case, next_in_range, no_event_without_world, plays_begun, plays_event, so_far_begun, so_far_end, so_far_event, so_far_header}
 use Rattle.sp_replay.proofs.line.play_line.Goals as goal
+
+pub play_event-requires-clause-range : goal.play_event-requires-clause-range
+play_event-requires-clause-range g c =
+    let line = rw c.in-Ok-Event.field-0-is at c.in-Ok-Event.ensures.line in
+    next_in_range c.scheduled_events_are_in_range.ensures c.args.feed.now.stage c.line.new.self.stage c.in-Some.world c.in-Ok-Event.event line.0.leads.parsed
+    (rw c.in-Some.is at c.requires.so_far.done) c.in-Ok-Event.ensures.good_stage
 
 pub returns-in-Ok-Header-clause-so_far : goal.returns-in-Ok-Header-clause-so_far
 returns-in-Ok-Header-clause-so_far g c =

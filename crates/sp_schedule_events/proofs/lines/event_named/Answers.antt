@@ -2,7 +2,7 @@ use Rattle.std.proofs.Common.{Some, ap, map, refl, sym, subst, ◌∙◌, ◌∷
 use Rattle.sp_lines.specs.Answers.{Reads}
 use Rattle.sp_schedule_events.specs.EventLines.{read_event}
 use Rattle.sp_schedule_events.specs.declared.line_of.LineName.TheVariants as lines
-use Rattle.sp_schedule_events.proofs.NameLemmas.{is_named, read_named}
+use Rattle.sp_schedule_events.proofs.NameLemmas.{is_named, read_named, started, stopped}
 use Rattle.sp_schedule_events.proofs.lines.event_named.Goals as goal
 
 pub returns-in-Rel : goal.returns-in-Rel
@@ -59,3 +59,15 @@ pub returns-in-Craft : goal.returns-in-Craft
 returns-in-Craft c =
     subst (λ (x : List ℕ). Reads c.craft.result (read_event c.args.line.now.scenario.now c.args.line.now.before.now (x ∷ map (λ w. w.now) c.args.words.now)))
     (sym (is_named c.args.name.now lines.Craft (sym c.line_named.ensures ∙ c.in-Some.is ∙ ap Some c.in-Craft.is))) c.craft.ensures
+
+pub returns-in-Start : goal.returns-in-Start
+returns-in-Start c =
+    subst (λ (x : List ℕ). Reads c.start.result (read_event c.args.line.now.scenario.now c.args.line.now.before.now (x ∷ map (λ w. w.now) c.args.words.now)))
+    (sym (is_named c.args.name.now lines.Start (sym c.line_named.ensures ∙ c.in-Some.is ∙ ap Some c.in-Start.is)))
+    (subst (Reads c.start.result) (sym (started c.args.line.now.scenario.now c.args.line.now.before.now (map (λ w. w.now) c.args.words.now))) c.start.ensures)
+
+pub returns-in-Stop : goal.returns-in-Stop
+returns-in-Stop c =
+    subst (λ (x : List ℕ). Reads c.stop.result (read_event c.args.line.now.scenario.now c.args.line.now.before.now (x ∷ map (λ w. w.now) c.args.words.now)))
+    (sym (is_named c.args.name.now lines.Stop (sym c.line_named.ensures ∙ c.in-Some.is ∙ ap Some c.in-Stop.is)))
+    (subst (Reads c.stop.result) (sym (stopped c.args.line.now.scenario.now c.args.line.now.before.now (map (λ w. w.now) c.args.words.now))) c.stop.ensures)
