@@ -1,6 +1,6 @@
-"""Tries each script of the operator's kit: python3 .ci/kit.py PATH/TO/spinesd
+"""Tries each script of the operator's kit: python3 .ci/kit.py PATH/TO/spinesd texts, and then daemons
 
-What a script must say stands here and in kit_recording.py, kit_house.py, kit_next.py, kit_daemons.py, kit_client.py, kit_busy.py
+What a script must say stands here and in kit_recording.py, kit_house.py, kit_lives.py, kit_next.py, kit_daemons.py, kit_client.py, kit_busy.py
 and kit_second.py, by hand. Keys, a status and a page are also made of daemons that run, of each format. What needs chromium, mandoc, shellcheck or
 systemd-analyze is tried where that is installed, and left out with a word where not. Each difference is told, and the status is then 1.
 """
@@ -26,6 +26,7 @@ import kit_busy  # noqa: E402
 import kit_client  # noqa: E402
 import kit_daemons  # noqa: E402
 import kit_house  # noqa: E402
+import kit_lives  # noqa: E402
 import kit_next  # noqa: E402
 import kit_recording  # noqa: E402
 import kit_second  # noqa: E402
@@ -303,7 +304,7 @@ def mode(path):
 
 def keys(kit):
     graph, overlay = kit.write("line.graph", LINE), kit.path("overlay")
-    words = ["--height", "5", "--port", str(ports_for(3)), graph]
+    words = ["--height", "5", "--port", str(ports_for(3)), graph, "--format", "1"]
     kit.equal("make keys", kit.run("spinesd-keys", "make", *words, overlay)[::2], (0, ""))
     files = sorted(os.path.relpath(path, overlay) for path in glob.glob(overlay + "/**", recursive=True) if os.path.isfile(path))
     kit.equal("keys: the files", files, sorted(["draft.toml", "topology", *(f"{node}/spinesd.{end}" for node in (1, 2, 3) for end in ("conf", "keys"))]))
@@ -342,13 +343,20 @@ def refusals(kit, overlay, words, seeds):
     kit.equal("keys: a refusal makes nothing", (os.path.exists(again), {path: read(path) for path in before}), (False, before))
 
 
+# what needs no daemons that run for seconds, and what does, which take some minutes together
+PARTS = {
+    "texts": (explains, endings_of_conformance, statuses, several_messages, many_folders, cut_recordings, follows, broken_off, views, keys, kit_next.look,
+              kit_house.look),
+    "daemons": (keys, kit_lives.look, kit_daemons.daemons, kit_client.look, kit_busy.look, kit_second.look),
+}
+
+
 def main():
-    if len(sys.argv) != 2:
-        sys.exit("usage: python3 .ci/kit.py PATH/TO/spinesd")
+    if len(sys.argv) != 3 or sys.argv[2] not in PARTS:
+        sys.exit("usage: python3 .ci/kit.py PATH/TO/spinesd texts|daemons")
     with tempfile.TemporaryDirectory() as folder:
         kit = Kit(os.path.abspath(sys.argv[1]), folder)
-        for look in (explains, endings_of_conformance, statuses, several_messages, many_folders, cut_recordings, follows, broken_off, views, keys,
-                     kit_next.look, kit_house.look, kit_daemons.daemons, kit_client.look, kit_busy.look, kit_second.look):
+        for look in PARTS[sys.argv[2]]:
             look(kit)
     print(f"{kit.looks - kit.wrong} looks at the operator's kit as wanted, {kit.wrong} not")
     sys.exit(1 if kit.wrong else 0)

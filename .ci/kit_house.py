@@ -15,18 +15,22 @@ EXPOSURE = 2.0
 COMPLETED = [
     ("_spinesd", ["spinesd", "v"], ["verify"]), ("_spinesd", ["spinesd", "ask", "--p"], ["--port"]), ("_spinesd", ["spinesd", "daemon", "--turns", ""], []),
     ("_spinesd", ["spinesd", "paths", ""], ["--from", "--to", "--paths"]), ("_spinesd_kit", ["spinesd-status", "--pr"], ["--prometheus"]),
+    ("_spinesd_kit", ["spinesd-node", "v"], ["verify"]), ("_spinesd_kit", ["spinesd-view", "--li"], ["--lives"]),
     ("_spinesd_kit", ["spinesd-keys", "--fo"], ["--format"]), ("_spinesd_kit", ["spinesd-client", "li"], ["listen"]),
     ("_spinesd_kit", ["spinesd-client", "bench", "--si"], ["--size"]), ("_spinesd_kit", ["spinesd-client", "close", "--p"], []),
 ]
 INSTALLED = sorted([
     "bin/spinesd", *("bin/" + name for name in SCRIPTS), *("lib/spinesd/kit/" + name for name in SCRIPTS), "lib/spinesd/kit/endings.md",
     "lib/spinesd/kit/page.html", *(f"lib/spinesd/kit/lib/{name}.py" for name in (
-        "clients", "configurations", "dialogues", "endings", "films", "frames", "holders", "journals", "metrics", "overlays", "paths", "pruning", "readings",
-        "recordings", "renewals", "scripts", "sessions", "stores", "tables", "tellings", "watching")),
+        "answers", "clients", "configurations", "dialogues", "endings", "films", "frames", "holders", "journals", "lives", "metrics", "overlays", "paths", "pruning",
+        "readings", "recordings", "renewals", "scripts", "sessions", "stores", "tables", "tellings", "watching")),
     *(f"share/man/man{page[-1]}/{page}" for page in PAGES),
-    "share/bash-completion/completions/spinesd", "share/spinesd/spinesd.default", "lib/systemd/system/spinesd@.service",
+    "share/bash-completion/completions/spinesd", "share/spinesd/spinesd.default", "share/spinesd/spinesd.rules.yml", "lib/systemd/system/spinesd@.service",
 ])
-RESTART = "RestartPreventExitStatus=2 3 8 13"
+# after which ends a daemon isn't started again, and the limit of its starts
+RESTART = {"Restart": "always", "RestartSec": "10", "RestartPreventExitStatus": "2 3 13", "StartLimitIntervalSec": "1h", "StartLimitBurst": "30"}
+# so many seconds a port may be in use by another before a node is left down
+LEAST_PATIENCE = 60
 
 
 def tool(*words, **more):
@@ -102,7 +106,10 @@ def wide(kit):
 
 def units(kit, unit, prefix):
     text = open(unit, encoding="utf-8").read()
-    kit.holds("unit: what isn't restarted", RESTART in text.split("\n") and f"ExecStartPre={prefix}/bin/spinesd-node judge" in text, text)
+    said = dict(line.split("=", 1) for line in text.split("\n") if "=" in line and line[0] != "#")
+    kit.equal("unit: what is restarted", {name: said.get(name) for name in RESTART}, RESTART)
+    kit.holds("unit: it is patient", int(said["RestartSec"]) * int(said["StartLimitBurst"]) > LEAST_PATIENCE, said)
+    kit.holds("unit: it judges first", f"ExecStartPre={prefix}/bin/spinesd-node judge" in text, text)
     if kit.missing("systemd-analyze"):
         return
     place = os.path.join(os.path.dirname(unit), "spinesd@7.service")
@@ -132,6 +139,9 @@ def nodes(kit):
     recording = os.path.join(place, *made)
     kit.equal("node: nobody else reads it", os.stat(recording).st_mode & 0o777, 0o600)
     kit.holds("node: its end", open(recording, encoding="ascii").read().endswith("end turns 2 lost 0\n"), "")
+    for _ in range(2):
+        kit.equal("node: two more lives", kit.run(node, "run", place, "1")[0], 0)
+    kit.equal("node: recordings stand beside each other", len({*os.listdir(place)} - before), 3)
     kit.equal("node: no folder", kit.run(node, "run", kit.path("none"))[0], 3)
     status, said, why = kit.run(node, "judge", place, env={"SPINESD_LEAST_ROOM": "999999999999"})
     kit.holds("node: a full disk", (status, said) == (6, "") and "make room" in why, why)

@@ -30,7 +30,7 @@ def judged(kit, name, overlay, nodes):
 def look(kit):
     overlay, graph = kit.path("next"), kit.write("next.graph", LINE)
     words = ["--ledger", kit.path("next.ledger")]
-    status, said, why = kit.run("spinesd-keys", "make", graph, overlay, "--height", "5", *words)
+    status, said, why = kit.run("spinesd-keys", "make", graph, overlay, "--format", "1", "--height", "5", *words)
     kit.holds("next: its progress is told", (status, why) == (0, "") and "node 2 of 3: " in said, why or said)
     before = files_of(overlay)
     status, said, _ = kit.run("spinesd-keys", "renew", overlay, "2", "--dry-run", *words)

@@ -91,18 +91,19 @@ RECORDING_OF_SEVERAL = "recording 1 4 32 64\n" + "".join(
 # what is told of the first one, by hand
 NEIGHBOUR_1 = {
     "node": 1, "port": 7001, "frames_sent": 3, "lost": 3, "bad_signatures": 1, "untold": 0, "last_fresh_ms": 5_000, "boot": 9,
+    "held_up": {"gap": 0, "epoch": 0},
     "answers": {"fresh": 2, "learned": 1, "stale": 1, "badtag": 1, "notforme": 0, "malformed": 0, "topology": 0, "section": 0},
 }
 FLOWS = [
-    {"source": 1, "destination": 2, "sent": None, "delivered": 1, "taken": 1, "acknowledged": 0, "standing_ms": 2_000,
-     "reported": {"1": {"base": 0, "have": 1}}},
-    {"source": 2, "destination": 3, "sent": 1, "delivered": None, "taken": None, "acknowledged": 0, "standing_ms": 0,
-     "reported": {"1": {"base": 1, "have": 1}}},
+    {"source": 1, "destination": 2, "sent": None, "delivered": 1, "taken": 1, "acknowledged": 0, "ended": 0, "standing_ms": 2_000,
+     "held_up_at": {}, "held_up_here": {}, "reported": {"1": {"base": 0, "have": 1}}},
+    {"source": 2, "destination": 3, "sent": 1, "delivered": None, "taken": None, "acknowledged": 0, "ended": 0, "standing_ms": 0,
+     "held_up_at": {}, "held_up_here": {}, "reported": {"1": {"base": 1, "have": 1}}},
 ]
 TOLD = {
     "node": 2, "boot": 4, "topology_version": 7, "turns": 5, "first_turn_ms": 1_000, "last_turn_ms": 5_000, "ended": {"turns": 5, "lost": 1},
     "indexes": {"first": 32, "reserved": 96, "limit": 1_024, "left": 928}, "strays": {"5000": 1}, "checked": {"right": 5, "different": 0},
-    "sessions": [{"port": 9000, "last": 4, "listens": True}], "untold_ticks": 0,
+    "sessions": [{"port": 9000, "last": 4, "listens": True}], "untold_ticks": 0, "lives": {}, "not_met": [],
     "requests": {"accepted": 1, "listening": 1, "opened": 1, "payload": 1, "repeated": 1}, "flows": FLOWS,
 }
 METRICS = [
@@ -113,6 +114,7 @@ METRICS = [
     'spinesd_neighbour_frames_lost_total{node="2",neighbour="1"} 3', 'spinesd_neighbour_bad_signatures_total{node="2",neighbour="1"} 1',
     'spinesd_neighbour_last_fresh_timestamp_seconds{node="2",neighbour="1"} 5.0',
     'spinesd_flow_delivered_total{node="2",source="1",destination="2"} 1', 'spinesd_flow_sent_total{node="2",source="2",destination="3"} 1',
+    'spinesd_boot{node="2"} 4', 'spinesd_nodes_not_met{node="2"} 0', 'spinesd_neighbour_messages_held_up_total{node="2",neighbour="1",answer="epoch"} 0',
     'spinesd_flow_reported_have{node="2",source="1",destination="2",neighbour="1"} 1', "# TYPE spinesd_turns_total counter", "# TYPE spinesd_ended gauge",
 ]
 TABLE = """\
@@ -122,4 +124,4 @@ indexes 928 of 1024 left to reserve; this start began at 32
 strays 1; requests 1 accepted, 1 listening, 1 opened, 1 payload, 1 repeated
 sessions 9000 at 4 listens
 """
-FLOW_ROW = "\n   1-2     -          1      1             -              1: 0/1\n"
+FLOW_ROW = "\n   1-2     -          1      1             -      -              1: 0/1\n"

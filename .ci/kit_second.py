@@ -83,16 +83,16 @@ def film_of(page):
 def keys(kit, overlay, first, words):
     """The keys of the largest overlay, whose ports come after the first, and what is refused."""
     graph = kit.write("second.graph", graph_of("graph 2", NODES, RING))
-    status, said, why = kit.run("spinesd-keys", "make", graph, overlay, "--format", "2", "--port", str(first), *words)
+    status, said, why = kit.run("spinesd-keys", "make", graph, overlay, "--port", str(first), *words)
     kit.holds("format 2: keys of 32 nodes", (status, why) == (0, "") and "32 nodes, 256 links, height 5." in said, why or said)
     kit.equal("format 2: the draft", read(overlay + "/draft.toml").split(b"\n")[:2], [b"format = 2", b"version = 1"])
     kit.equal("format 2: the document", read(overlay + "/topology")[:10], b"4d544d5702")
     judged(kit, "format 2", overlay, (1, 24, 32))
     rows = [
-        ("32 nodes under format 1", graph, [], "have 32 nodes, and one of format 1 has 2 to 16: make it with --format 2"),
-        ("121 links under format 1", graph_of("graph 1", 16, [(1, 2)] * 121), [], "have 121 links, and one of format 1 has 120 at most: make it with --format 2"),
-        ("33 nodes", graph_of("graph 2", 33, RING), ["--format", "2"], "have 33 nodes, and one of format 2 has 2 to 32\n"),
-        ("257 links", graph_of("graph 2", NODES, [*RING, (1, 17)]), ["--format", "2"], "have 257 links, and one of format 2 has 256 at most\n"),
+        ("32 nodes under format 1", graph, ["--format", "1"], "have 32 nodes, and one of format 1 has 2 to 16: make it with --format 2"),
+        ("121 links under format 1", graph_of("graph 1", 16, [(1, 2)] * 121), ["--format", "1"], "have 121 links, and one of format 1 has 120 at most: make it with --format 2"),
+        ("33 nodes", graph_of("graph 2", 33, RING), [], "have 33 nodes, and one of format 2 has 2 to 32\n"),
+        ("257 links", graph_of("graph 2", NODES, [*RING, (1, 17)]), [], "have 257 links, and one of format 2 has 256 at most\n"),
         ("a withdrawn link", graph_of("graph 2", 2, [(1, 2)]).replace(b" 20", b" 0"), ["--format", "2"], "a link of weight 0 is withdrawn"),
     ]
     for name, text, more, reason in rows:
@@ -110,7 +110,7 @@ def next_documents(kit, overlay, words):
     judged(kit, "format 2: renew", overlay, (1, 24, 32))
     small = kit.path("small")
     kit.equal("format 2: a graph of format 1 will do", kit.run(
-        "spinesd-keys", "make", "-", small, "--format", "2", *height, *words, given=graph_of("graph 1", 3, [(1, 2), (2, 3)]))[::2], (0, ""))
+        "spinesd-keys", "make", "-", small, *height, *words, given=graph_of("graph 1", 3, [(1, 2), (2, 3)]))[::2], (0, ""))
     kit.equal("format 2: add node 32", kit.run("spinesd-keys", "add", small, "3", "32", "10", *words)[::2], (0, ""))
     judged(kit, "format 2: add a node", small, (1, 2, 3, 32))
     files = files_of(small)

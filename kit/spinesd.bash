@@ -40,10 +40,10 @@ _spinesd_kit() {
         *-keys) options="seed make renew add --format --height --version --port --buffer --store --seeds --ledger --dry-run --program --help" ;;
         *-status) options="--json --prometheus --whole --every --out --help" ;;
         *-explain) options="--command --help" ;;
-        *-view) options="--title --idle --most --program --help" ;;
+        *-view) options="--title --idle --lives --most --program --help" ;;
         *-sessions) options="close --program --help" ;;
         *-client) options="$(_spinesd_client)" ;;
-        *-node) options="judge run wait prune --help" ;;
+        *-node) options="judge run wait verify prune --help" ;;
     esac
     mapfile -t COMPREPLY < <(compgen -W "$options" -- "$now")
     [ ${#COMPREPLY[@]} -gt 0 ] || mapfile -t COMPREPLY < <(compgen -f -- "$now")

@@ -1,8 +1,8 @@
 """An overlay of daemons on this machine: its keys and files, its processes, and the requests of its clients.
 
-Everything lies in one folder, which nobody else may read: NODE.toml is a configuration with its keys, NODE.recording what the daemon recorded,
-NODE.keys the folder that it is started in, with its key file, NODE.session the port and the last number of a client, and overlay.json the ports. The
-program is the environment's SPINESD, or the one that this checkout built.
+Everything lies in one folder, which nobody else may read: NODE.toml is a configuration with its keys, NODE.recording what the daemon records, beside
+NODE.1.recording and so on of its earlier lives, NODE.keys the folder that it is started in, with its key file, NODE.session the port and the last number of
+a client, and overlay.json the ports. The program is the environment's SPINESD, or the one that this checkout built.
 """
 
 import json
@@ -126,7 +126,9 @@ class Overlay:
     # ---- daemons
 
     def start(self, node, turns):
-        """Starts the daemon of a node, which ends by itself after so many turns."""
+        """Starts the daemon of a node, which ends by itself after so many turns. The recording of the life before stays beside the new one."""
+        if os.path.exists(self.path(f"{node}.recording")):
+            os.rename(self.path(f"{node}.recording"), self.path(f"{node}.{len(self.earlier(node)) + 1}.recording"))
         with open(self.path(f"{node}.toml"), "rb") as given, open(self.path(f"{node}.recording"), "wb") as recording:
             words = [self.program, "daemon", "--turns", str(turns)]
             # it has no end of the caller's pipes, so who started it needn't wait for it
@@ -213,9 +215,14 @@ class Overlay:
 
     # ---- recordings
 
-    def recording(self, node):
-        """The whole lines of a recording. A daemon that is ended in the middle of a write may leave a part of one more."""
-        text = self.read(f"{node}.recording")
+    def earlier(self, node):
+        """The names of the recordings of a node's earlier lives, the oldest first."""
+        lives = [name.split(".") for name in os.listdir(self.folder) if name.startswith(f"{node}.") and name.endswith(".recording")]
+        return [f"{node}.{life}.recording" for life in sorted(int(words[1]) for words in lives if len(words) == 3)]
+
+    def recording(self, node, name=None):
+        """The whole lines of a node's last recording, or of another one. A daemon that is ended in the middle of a write may leave a part of one more."""
+        text = self.read(name or f"{node}.recording")
         return text[: text.rfind(b"\n") + 1]
 
     def verify(self, node, recording=None):

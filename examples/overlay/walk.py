@@ -9,6 +9,7 @@ import shutil
 import signal
 import subprocess
 import sys
+import time
 
 from building import build
 from overlay import BUILT, Overlay, PROGRAM, ROOT, line_of, read_graph
@@ -16,6 +17,10 @@ from overlay import BUILT, Overlay, PROGRAM, ROOT, line_of, read_graph
 FOLDER = os.environ.get("OVERLAY", os.path.join(os.path.dirname(os.path.abspath(__file__)), "run"))
 # a daemon ends by itself after so many turns: hours where nothing happens, some minutes where much does
 TURNS = 150_000
+# the format of its documents: under it a daemon may end and begin again
+FORMAT = 2
+# a node is waited for so many seconds until its start has come to another
+MET_SECONDS = 20.0
 
 
 def graph_of(words):
@@ -39,7 +44,7 @@ def begin(graph):
         Overlay(FOLDER).end_all()
         shutil.rmtree(FOLDER)
     overlay = Overlay(FOLDER)
-    overlay.make(graph)
+    overlay.make(graph, of_format=FORMAT)
     print(f"Keys, the signed topology and {graph[0]} configurations are in {overlay.folder}.")
     for node, (port, client_port) in overlay.ports.items():
         child = overlay.start(node, TURNS)
@@ -48,7 +53,10 @@ def begin(graph):
 
 
 def send(overlay, last, text):
-    answer = overlay.ask(1, f"send {last} {text.encode().hex()}")
+    """Node 1 sends a text. Before it heard of the last node's start, it answers `badend`, and is asked again."""
+    until, answer = time.monotonic() + MET_SECONDS, "badend"
+    while answer == "badend" and time.monotonic() < until:
+        answer = overlay.ask(1, f"send {last} {text.encode().hex()}")
     print(f"Node 1, asked to send {text!r} to node {last}, answers: {answer}")
 
 
@@ -59,10 +67,32 @@ def arrives(overlay, last, seconds):
 
 
 def recordings(overlay):
-    """Whether the recordings so far are those of correct daemons."""
+    """Whether the recordings so far are those of correct daemons, of each life of each node."""
     for node in overlay.ports:
-        status, output = overlay.verify(node)
-        print(f"The recording of node {node}: {output}, status {status}")
+        for name in [*overlay.earlier(node), f"{node}.recording"]:
+            recording = overlay.recording(node, name)
+            status, output = overlay.verify(node, recording) if recording else ("none", "nothing, it was ended before it had started")
+            print(f"The recording of node {node}, {life_of(recording)}: {output}, status {status}")
+
+
+def life_of(recording):
+    """Which life of its node a recording is of, by its first line."""
+    return f"life {recording.split(b' ', 3)[2].decode()}" if recording.startswith(b"recording ") else "no life"
+
+
+def again(overlay, way, last):
+    """The node in the middle is killed, and a message waits or goes another way; it begins again, and messages arrive."""
+    middle = way[len(way) // 2]
+    overlay.end(middle, signal.SIGKILL)
+    print(f"Node {middle} is killed; it was on the cheapest way, {'-'.join(str(node) for node in way)}.")
+    send(overlay, last, "are you there?")
+    arrived = arrives(overlay, last, 3.0)
+    overlay.start(middle, TURNS)
+    print(f"Node {middle} is started again: it takes its next boot from its key file, and tells all that it began anew.")
+    if arrived is None:
+        arrives(overlay, last, MET_SECONDS)
+    send(overlay, last, "welcome back")
+    arrives(overlay, last, MET_SECONDS)
 
 
 def start(words):
@@ -75,13 +105,9 @@ def start(words):
     recordings(overlay)
     way = route(graph)
     if len(way) > 2:
-        middle = way[len(way) // 2]
-        overlay.end(middle, signal.SIGKILL)
-        print(f"Node {middle} is killed; it was on the cheapest way, {'-'.join(str(node) for node in way)}.")
-        send(overlay, last, "are you there?")
-        arrives(overlay, last, 3.0)
-        print(f"The recording of node {middle}, up to where it was killed: {overlay.verify(middle)[1]}")
-    print("The others go on until they made their turns. Ask them by examples/overlay/ask NODE REQUEST, as `ask 3 take 1` and `ask 1 send 3 6869` (all")
+        again(overlay, way, last)
+        recordings(overlay)
+    print("The daemons go on until they made their turns. Ask them by examples/overlay/ask NODE REQUEST, as `ask 3 take 1` and `ask 1 send 3 6869` (all")
     print("requests: docs/FORMATS.md, \"Requests of clients\"; no number before them), and end them by examples/overlay/stop.")
 
 

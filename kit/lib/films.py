@@ -24,8 +24,9 @@ def objects_of(reply):
 
 
 def is_refused(reply):
-    """Whether an answer says that something wasn't taken. Repeats that are `old` or `seen` are none."""
-    return reply.split(" ")[0] in REFUSED or any(word in REFUSED_OBJECTS for _, word in OBJECT.findall(reply))
+    """Whether an answer says that something wasn't taken. Repeats that are `old` or `seen` are none, and neither is a node's own start that comes back."""
+    objects = [word for kind, word in OBJECT.findall(reply) if (kind, word) != ("epoch", "badend")]
+    return reply.split(" ")[0] in REFUSED or any(word in REFUSED_OBJECTS for word in objects)
 
 
 def of_signed(body, version):

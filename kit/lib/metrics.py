@@ -1,7 +1,7 @@
 """The numbers of daemons as Prometheus reads them: each with its node, its help and its type, in the text format 0.0.4."""
 
-from tables import turns_left
-from watching import ANSWERS
+from tables import held_up_at, turns_left
+from watching import ANSWERS, HELD_UP
 
 
 def of_daemon(look):
@@ -11,6 +11,9 @@ def of_daemon(look):
     left = turns_left(look)
     return [
         ("info", "gauge", "What the daemon is; the value is 1.", [(labels, 1)]),
+        ("boot", "gauge", "Which life of the node this is: it rises with each start.", [({}, watch.boot)]),
+        ("nodes_not_met", "gauge", "Nodes of which no start was heard yet; 0 under format 1.", [({}, len(watch.not_met()))]),
+        ("life_boot", "gauge", "The life that is held of a node, under format 2.", [({"of": node}, boot) for node, boot in sorted(watch.rules.lives.items())]),
         ("turns_total", "counter", "Turns that the daemon made.", [({}, watch.turns)]),
         ("start_timestamp_seconds", "gauge", "Clock of the first turn.", [({}, seconds(watch.first_tick))]),
         ("last_turn_timestamp_seconds", "gauge", "Clock of the last turn.", [({}, seconds(watch.now))]),
@@ -42,6 +45,8 @@ def of_neighbours(watch):
          [({"neighbour": node}, n.lost) for node, n in near]),
         ("neighbour_bad_signatures_total", "counter", "Messages with a wrong signature that a neighbour passed on, where the digest tells it.",
          [({"neighbour": node}, n.bad_signatures) for node, n in near]),
+        ("neighbour_messages_held_up_total", "counter", "Messages of a neighbour that came too early for their flow, or are of another life of an end.",
+         [({"neighbour": node, "answer": word}, n.held_up[word]) for node, n in near for word in HELD_UP]),
         ("neighbour_frames_untold_total", "counter", "Fresh frames of which no digest tells what became of their messages.",
          [({"neighbour": node}, n.untold) for node, n in near]),
         ("neighbour_last_fresh_timestamp_seconds", "gauge", "Clock of the turn in which a neighbour's last fresh frame came.",
@@ -49,7 +54,7 @@ def of_neighbours(watch):
     ]
 
 
-def of_flows(look):
+def of_flows(look, looks):
     """Rows of the flows."""
     watch, me, clients = look.watch, look.watch.configuration.node, look.watch.clients
     flow = lambda source, destination: {"source": source, "destination": destination}
@@ -65,6 +70,10 @@ def of_flows(look):
          [(flow(*ends), n) for ends, n in sorted(watch.acknowledged.items())]),
         ("flow_standing_seconds", "gauge", "For how long a flow didn't move although messages of it wait here; 0 where none waits.",
          [(flow(*ends), watch.standing(ends, look.now) / 1000) for ends in watch.flows()]),
+        ("flow_ended_total", "counter", "How often a flow ended here, since another life of one of its ends began.",
+         [(flow(*ends), n) for ends, n in sorted(watch.ended_flows.items())]),
+        ("flow_held_up", "gauge", "1 where a neighbour, whose daemon is told here too, answers the flow's messages so.",
+         [({**flow(*ends), "neighbour": node, "answer": word}, 1) for ends in watch.flows() for node, word in held_up_at(look, ends, looks).items()]),
         ("flow_reported_base", "gauge", "Number up to which a flow is acknowledged at a neighbour, as it reported last.",
          [(labels, report[0]) for labels, report in reports]),
         ("flow_reported_have", "gauge", "Number up to which a neighbour has a flow's messages, as it reported last.",
@@ -77,7 +86,7 @@ def text_of(looks):
     rows = {}
     for look in looks:
         node = {"node": look.watch.configuration.node}
-        for name, kind, told, samples in of_daemon(look) + of_neighbours(look.watch) + of_flows(look):
+        for name, kind, told, samples in of_daemon(look) + of_neighbours(look.watch) + of_flows(look, looks):
             if samples:
                 rows.setdefault((name, kind, told), []).extend(({**node, **labels}, value) for labels, value in samples)
     text = ""

@@ -13,55 +13,56 @@ import frames
 import recordings
 from watching import Watch
 
+# what is said of a step of which nothing came: a start that was heard before goes round for ever
+NOTHING = [], ["fresh"], ["ticked"], ["fresh epoch:old"], ["fresh epoch:badend"]
+
 Daemon = collections.namedtuple("Daemon", "configuration lines")
+# a line with the clock of its turn, and the digest of the frame that it brings or made
+Timed = collections.namedtuple("Timed", "clock line digest")
 
 
-def daemon_of(configuration, recording):
-    """A daemon by the texts of its configuration and its recording."""
-    lines, _ = recordings.lines_of(recording)
-    return Daemon(configurations.configuration_of(configuration), lines)
+def daemon_of(configuration, lives):
+    """A daemon by the texts of its configuration and of its recordings, of one life after another."""
+    return Daemon(configurations.configuration_of(configuration), [each for life in lives for each in timed(recordings.lines_of(life)[0])])
 
 
 def timed(lines):
-    """The lines, each with the clock of its turn."""
-    now, out = 0, []
+    """The lines, each with the clock of its turn, the first with that of the first turn, and the digest of its frame."""
+    now, out = next((line.numbers[0] for line in lines[:2] if line.name == "tick"), 0), []
     for line in lines:
         if line.name == "tick":
             now = max(now, line.numbers[0])
-        out.append((now, line))
+        out.append(Timed(now, line, hashlib.sha256(line.data).hexdigest().encode() if line.name == "overlay" else line.digest))
     return out
 
 
 def made_by(daemons):
     """The digests of all frames that were made, by direction."""
-    return {(d.configuration.node, line.numbers[0], line.digest) for d in daemons for line in d.lines if line.name == "poll"}
-
-
-def digest_of(line):
-    return hashlib.sha256(line.data).hexdigest().encode()
+    return {(d.configuration.node, each.line.numbers[0], each.digest) for d in daemons for each in d.lines if each.line.name == "poll"}
 
 
 def in_order(daemons):
-    """All lines in one order, each with its time and its node."""
-    queues = {d.configuration.node: collections.deque(timed(d.lines)) for d in daemons}
+    """All lines in one order, each with its node."""
+    queues = {d.configuration.node: collections.deque(d.lines) for d in daemons}
     waited = made_by(daemons)
     while any(queues.values()):
-        heads = sorted((queue[0][0], node) for node, queue in queues.items() if queue)
-        free = [head for head in heads if not waits(queues[head[1]][0][1], head[1], waited)]
-        time, node = (free or heads)[0]
-        line = queues[node].popleft()[1]
-        if line.name == "poll":
-            waited.discard((node, line.numbers[0], line.digest))
-        yield time, node, line
+        heads = sorted((queue[0].clock, node) for node, queue in queues.items() if queue)
+        node = next((node for _, node in heads if not waits(queues[node][0], node, waited)), heads[0][1])
+        each = queues[node].popleft()
+        if each.line.name == "poll":
+            waited.discard((node, each.line.numbers[0], each.digest))
+        yield node, each
 
 
-def waits(line, node, waited):
+def waits(each, node, waited):
     """Whether this line brings a frame that another daemon hasn't made yet."""
-    return line.name == "overlay" and (line.numbers[0], node, digest_of(line)) in waited
+    return each.line.name == "overlay" and (each.line.numbers[0], node, each.digest) in waited
 
 
 def flows_of(watch, line, before):
-    """What a client's request and an acknowledgement did to the tables."""
+    """What a client's request and an acknowledgement did to the tables, which were so before; no other line does anything to them."""
+    if before is None:
+        return []
     clients, me = watch.clients, watch.configuration.node
     flows = [["rel", me, to, "sent", count] for to, count in clients.sent.items() if count != before[0][to]]
     if clients.own["sendprio"] != before[1] and line.name == "client":
@@ -76,16 +77,19 @@ def told_as(line):
         return f"client {line.numbers[0]} {line.data[:200].decode('ascii', 'replace')}"
     if line.name == "overlay":
         return f"overlay {line.numbers[0]}, {len(line.data)} bytes"
+    if line.name == "recording":
+        return f"life {line.numbers[0]} begins, with the indexes {line.numbers[1]} to {line.numbers[2] - 1}"
     return " ".join([line.name, *map(str, line.numbers)])
 
 
-def frame_of(node, line, arrived, said):
+def frame_of(node, each, arrived, said):
     """The frame that a line makes or brings; none where no recording tells whether it arrived."""
+    line, digest = each.line, each.digest
     if line.name == "poll" and line.numbers[0] in arrived:
-        carried = arrived[line.numbers[0]].get((node, line.digest))
-        return ["lost" if carried is None else "made", node, line.numbers[0], line.digest[:8].decode(), carried or []]
+        carried = arrived[line.numbers[0]].get((node, digest))
+        return ["lost" if carried is None else "made", node, line.numbers[0], digest[:8].decode(), carried or []]
     if line.name == "overlay":
-        return ["arrives", line.numbers[0], node, digest_of(line)[:8].decode(), films.objects_of(said[0] if said else "")]
+        return ["arrives", line.numbers[0], node, digest[:8].decode(), films.objects_of(said[0] if said else "")]
     return None
 
 
@@ -102,36 +106,40 @@ def arrivals(daemons):
     """What each frame carried that arrived, by its receiver, and then by its sender and digest."""
     found = {}
     for d in daemons:
-        found[d.configuration.node] = {(line.numbers[0], digest_of(line)): carried_by(line, d.configuration.topology) for line in d.lines if line.name == "overlay"}
+        found[d.configuration.node] = {
+            (each.line.numbers[0], each.digest): carried_by(each.line, d.configuration.topology) for each in d.lines if each.line.name == "overlay"}
     return found
 
 
-def step_of(time, watch, line, arrived):
+def step_of(time, watch, each, arrived):
     """One step, TIME milliseconds after the first, and whether nothing came of it."""
-    before = watch.clients.sent.copy(), watch.clients.own["sendprio"], watch.acknowledged.copy()
+    line, clients = each.line, watch.clients
+    before = (clients.sent.copy(), clients.own["sendprio"], watch.acknowledged.copy()) if line.name in ("client", "overlay") else None
     watch.feed(line)
     node, said = watch.configuration.node, list(watch.told)
-    frame = frame_of(node, line, arrived, said)
+    frame = frame_of(node, each, arrived, said)
     flows, seen = films.of_effects(node, said, watch.format)
     flows += flows_of(watch, line, before)
     seen += sorted({change[3] for change in flows} - set(seen))
     shown = f"node {node}, {time / 1000:.3f} s: {told_as(line)}"
-    idle = line.name in ("tick", "poll", "overlay", "reserve") and said in ([], ["fresh"], ["ticked"]) and not (frame and frame[4])
+    idle = line.name in ("tick", "poll", "overlay", "reserve") and said in NOTHING and not (frame and frame[4] not in ([], ["epoch"]))
     return [node, line.name, shown, said, frame, flows, seen, films.mark_of(said, seen)], idle
 
 
 def film_of(title, daemons, with_idle, most):
     """The film of these daemons: their last steps, at most so many, with or without those of which nothing came."""
-    watches = {d.configuration.node: Watch(d.configuration) for d in daemons}
+    watches, turns = {d.configuration.node: Watch(d.configuration) for d in daemons}, collections.Counter()
     topology = daemons[0].configuration.topology
     arrived, steps, left_out = arrivals(daemons), collections.deque(maxlen=most), 0
-    begin = min((line.numbers[0] for d in daemons for line in d.lines[:2] if line.name == "tick"), default=0)
-    for time, node, line in in_order(daemons):
-        step, idle = step_of(max(0, time - begin), watches[node], line, arrived)
+    begin = min((each.clock for d in daemons for each in d.lines[:1] if each.clock), default=0)
+    for node, each in in_order(daemons):
+        if each.line.name == "recording":
+            watches[node], turns[node] = Watch(watches[node].configuration), turns[node] + watches[node].turns
+        step, idle = step_of(max(0, each.clock - begin), watches[node], each, arrived)
         if idle and not with_idle:
             left_out += 1
             continue
         left_out += len(steps) == most
         steps.append(step)
-    turns = ", ".join(f"{watch.turns} of node {node}" for node, watch in sorted(watches.items()))
-    return films.film(title, topology.nodes, [], topology.edges, list(steps), f"turns: {turns}", left_out)
+    told = ", ".join(f"{turns[node] + watch.turns} of node {node}" for node, watch in sorted(watches.items()))
+    return films.film(title, topology.nodes, [], topology.edges, list(steps), f"turns: {told}", left_out)

@@ -48,11 +48,11 @@ class Reading:
 def files_of(folder):
     """The configuration and the newest recording of a node's folder."""
     found = recordings.newest_in(folder)
-    if found is None:
+    if not found:
         holder = holder_of(folder)
         runs = f"; process {holder.pid} runs there, and its recording was moved or removed while it grew" if holder else ""
         raise Refused(f"{folder} is no folder with a recording, a file that ends with .recording and begins with `recording 1`{runs}")
-    return os.path.join(folder, "spinesd.conf"), found
+    return os.path.join(folder, "spinesd.conf"), found[-1]
 
 
 def reading_of(configuration, recording):

@@ -7,7 +7,8 @@ import re
 
 MARK = b"recording 1"
 DIGEST = rb"([0-9a-f]{64})"
-HEX = rb"(-|(?:[0-9a-f]{2})+)"
+# whose digits are whole pairs is seen when they are read
+HEX = rb"(-|[0-9a-f]+)"
 FORMS = {
     "recording": re.compile(rb"recording 1 (\d+) (\d+) (\d+)"),
     "tick": re.compile(rb"tick (\d+) " + DIGEST),
@@ -29,11 +30,11 @@ def line_of(place, text):
     """One line: its numbers, its bytes where it has some, and its digest where it has one."""
     name = text.split(b" ", 1)[0].decode("ascii", "replace")
     found = FORMS[name].fullmatch(text) if name in FORMS else None
-    if found is None:
+    words = list(found.groups()) if found else []
+    digest = words.pop() if found and name in ("tick", "overlay", "client", "poll") else None
+    data = words.pop() if found and name in ("overlay", "client") else None
+    if found is None or (data and data != b"-" and len(data) % 2):
         raise BadLine(f"line {place} isn't a line of a recording: {text[:60].decode('ascii', 'replace')}")
-    words = list(found.groups())
-    digest = words.pop() if name in ("tick", "overlay", "client", "poll") else None
-    data = words.pop() if name in ("overlay", "client") else None
     return Line(place, name, [int(word) for word in words], None if data is None else bytes.fromhex(data.decode().strip("-")), digest)
 
 
@@ -62,10 +63,10 @@ def begins(path):
         return file.read(len(MARK)) == MARK
 
 
-def newest_in(folder):
-    """The newest recording of a node's folder; None where it has none."""
+def newest_in(folder, count=1):
+    """The newest recordings of a node's folder, at most so many, the oldest first."""
     found = [path for path in glob.glob(os.path.join(glob.escape(folder), "*.recording")) if begins(path)]
-    return max(found, key=os.path.getmtime, default=None)
+    return sorted(found, key=os.path.getmtime)[-count:]
 
 
 def split(text):

@@ -4,7 +4,7 @@ import collections
 import datetime
 
 from holders import MOST_TURNS
-from watching import ANSWERS
+from watching import ANSWERS, HELD_UP
 
 # a neighbour is silent where nothing fresh came for so long, a daemon where it made no turn, and a flow stands where it didn't move
 SILENT_MS = 5_000
@@ -14,6 +14,8 @@ TENTH = 10
 
 # the watch and the reading of a daemon, who holds its key file (None: nobody, False: unknown), and the clock of this look in milliseconds
 Look = collections.namedtuple("Look", "watch reading holder now")
+# so long after its first turn a daemon has heard of all starts
+MET_MS = 10_000
 
 
 def look_at(reading, holder, clock):
@@ -51,7 +53,14 @@ def standing_flows(look):
     return [(flow, age) for flow, age in found if age >= STANDS_MS] if look.watch.ended is None and look.holder is not None else []
 
 
-def as_object(look):
+def held_up_at(look, flow, looks):
+    """What neighbours answer to this node's messages of a flow where these are held up, as far as their recordings are looked at too, by the neighbours."""
+    me, others = look.watch.configuration.node, {each.watch.configuration.node: each.watch for each in looks}
+    found = {node: others[node].answers_to(me, flow) for node in sorted(look.watch.neighbours) if node in others}
+    return {node: word for node, word in found.items() if word}
+
+
+def as_object(look, looks=()):
     """All that is told, as one object."""
     watch, reading, configuration, clients = look.watch, look.reading, look.watch.configuration, look.watch.clients
     left = turns_left(look)
@@ -61,6 +70,7 @@ def as_object(look):
         "turns": watch.turns, "turns_left": left and left[0], "turns_end_in_seconds": left and left[1] and round(left[1]),
         "first_turn_ms": watch.first_tick, "last_turn_ms": watch.now,
         "ended": None if watch.ended is None else {"turns": watch.ended[0], "lost": watch.ended[1]},
+        "lives": {str(node): boot for node, boot in sorted(watch.rules.lives.items())}, "not_met": watch.not_met(),
         "recording": {"lines": watch.lines, "bytes": reading.size, "cut_bytes": len(reading.rest)},
         "indexes": {"first": watch.index, "reserved": watch.bound, "limit": watch.total, "left": watch.total - (watch.bound or 0)},
         "strays": {str(port): count for port, count in sorted(watch.strays.items())},
@@ -69,19 +79,22 @@ def as_object(look):
         "checked": {"right": watch.right, "different": watch.wrong}, "untold_ticks": watch.untold_ticks,
         "neighbours": [
             {"node": node, "port": n.port, "frames_sent": n.polls, "answers": {word: n.answers[word] for word in ANSWERS}, "lost": n.lost,
-             "bad_signatures": n.bad_signatures, "untold": n.untold, "last_fresh_ms": n.last_fresh, "boot": n.link.peer_boot}
+             "bad_signatures": n.bad_signatures, "untold": n.untold, "last_fresh_ms": n.last_fresh, "boot": n.link.peer_boot,
+             "held_up": {word: n.held_up[word] for word in HELD_UP}}
             for node, n in sorted(watch.neighbours.items())],
-        "flows": [of_flow(look, flow) for flow in watch.flows()],
+        "flows": [of_flow(look, flow, looks) for flow in watch.flows()],
     }
 
 
-def of_flow(look, flow):
+def of_flow(look, flow, looks):
     """What is told of a flow."""
     watch, me, clients = look.watch, look.watch.configuration.node, look.watch.clients
     return {
         "source": flow[0], "destination": flow[1], "sent": clients.sent[flow[1]] if flow[0] == me else None,
         "delivered": watch.delivered[flow] if flow[1] == me else None, "taken": clients.taken[flow[0]] if flow[1] == me else None,
-        "acknowledged": watch.acknowledged[flow], "standing_ms": watch.standing(flow, look.now),
+        "acknowledged": watch.acknowledged[flow], "ended": watch.ended_flows[flow], "standing_ms": watch.standing(flow, look.now),
+        "held_up_at": {str(node): word for node, word in held_up_at(look, flow, looks).items()},
+        "held_up_here": {str(node): word for node in sorted(watch.neighbours) if (word := watch.answers_to(node, flow))},
         "reported": {str(node): {"base": n.reports[flow][0], "have": n.reports[flow][1]} for node, n in sorted(watch.neighbours.items()) if flow in n.reports},
     }
 
@@ -104,22 +117,30 @@ def columns(rows):
 
 
 def of_neighbours(look, told):
-    rows = [("neighbour", "sent", *ANSWERS, "lost", "badsig", "untold", "last fresh")]
+    rows = [("neighbour", "start", "sent", *ANSWERS, "lost", "badsig", *HELD_UP, "untold", "last fresh")]
     for n in told["neighbours"]:
         age = None if n["last_fresh_ms"] is None else look.now - n["last_fresh_ms"]
         when = "never" if age is None else f"{age / 1000:.1f} s ago" + (" SILENT" if age > SILENT_MS else "")
-        rows.append((n["node"], n["frames_sent"], *n["answers"].values(), n["lost"], n["bad_signatures"], n["untold"], when))
+        answers = (*n["answers"].values(), n["lost"], n["bad_signatures"], *n["held_up"].values())
+        rows.append((n["node"], n["boot"] or "-", n["frames_sent"], *answers, n["untold"], when))
     return columns(rows)
 
 
 def of_flows(told, standing):
-    rows = [("flow", "sent", "delivered", "taken", "acknowledged", "reported base/have")]
+    rows = [("flow", "sent", "delivered", "taken", "acknowledged", "ended", "reported base/have")]
     for flow in told["flows"]:
         reports = ", ".join(f"{node}: {report['base']}/{report['have']}" for node, report in flow["reported"].items()) or "-"
-        age = standing.get((flow["source"], flow["destination"]))
         words = ["-" if flow[name] is None else flow[name] for name in ("sent", "delivered", "taken")]
-        rows.append((f"{flow['source']}-{flow['destination']}", *words, flow["acknowledged"] or "-", reports + (f" STANDS {age / 1000:.0f} s" if age else "")))
+        ways = reports + stands(flow, standing.get((flow["source"], flow["destination"])))
+        rows.append((f"{flow['source']}-{flow['destination']}", *words, flow["acknowledged"] or "-", flow["ended"] or "-", ways))
     return columns(rows)
+
+
+def stands(flow, age):
+    """The word for a flow that doesn't move, with the neighbours that hold it up; and those whose messages are held up here."""
+    there = "".join(f", node {node} answers {word}" for node, word in flow["held_up_at"].items())
+    here = "".join(f", {word} is answered to node {node}" for node, word in flow["held_up_here"].items())
+    return (f" STANDS {age / 1000:.0f} s{there}" if age else "") + here
 
 
 def attentions(look, told, standing):
@@ -129,6 +150,8 @@ def attentions(look, told, standing):
         yield f"{watch.wrong} answers aren't those of the rules; run spinesd verify"
     if left * TENTH <= watch.total:
         yield f"a tenth or less of the seed's indexes is left; have a new seed signed, `spinesd-keys renew OVERLAY {told['node']}`"
+    if told["not_met"] and (watch.now or 0) - (watch.first_tick or 0) >= MET_MS:
+        yield f"no start of node {', '.join(map(str, told['not_met']))} was heard yet: a message to it is answered badend"
     for (source, destination), age in standing.items():
         yield f"the flow {source}-{destination} stands for {age / 1000:.0f} s: its messages aren't acknowledged (docs/OPERATING.md, When something fails)"
 
@@ -144,13 +167,20 @@ def of_turns(look):
     return line
 
 
-def as_table(look):
+def of_lives(told):
+    """The line of the lives that are held of all nodes; none where nodes run without epochs."""
+    lives = ", ".join(f"{node} at {boot}" for node, boot in told["lives"].items())
+    return [f"starts of nodes {lives}; not met " + (", ".join(map(str, told["not_met"])) or "none")] if lives else []
+
+
+def as_table(look, looks=()):
     """All that is told, for a person."""
-    watch, reading, told, standing = look.watch, look.reading, as_object(look), dict(standing_flows(look))
+    watch, reading, told, standing = look.watch, look.reading, as_object(look, looks), dict(standing_flows(look))
     sessions = [f"{each['port']} at {each['last']}" + (" listens" if each["listens"] else "") for each in told["sessions"]]
     lines = [
         f"node {told['node']}, start {told['boot']}, topology version {told['topology_version']}: {told['state']}",
         of_turns(look),
+        *of_lives(told),
         f"indexes {told['indexes']['left']} of {watch.total} left to reserve; this start began at {watch.index}",
         f"strays {watch.strays.total()}; requests " + (", ".join(f"{count} {word}" for word, count in told["requests"].items()) or "none"),
         "sessions " + (", ".join(sessions) or "none"),

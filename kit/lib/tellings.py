@@ -104,6 +104,8 @@ class Rules:
 
     def expired(self, guess):
         """A guess without what expired, and the lines that tell it."""
+        if not any(place.entries for place in guess.values()):
+            return guess, ""
         rows = {node: place.expired(self.now) for node, place in guess.items()}
         return {node: place for node, (place, _) in rows.items()}, "".join(text for _, text in rows.values())
 

@@ -16,6 +16,8 @@ from configurations import SIGNATURES, TOTALS
 ANSWERS = ("fresh", "learned", "stale", "badtag", "notforme", "malformed", "topology", "section")
 NO_FRAME = ("toolong", "short", "magic", "version")
 TICKED = hashlib.sha256(b"ticked\n").hexdigest().encode()
+# the answers to a message that comes too early for a flow, and to one of another life of an end
+HELD_UP = ("gap", "epoch")
 # what is told of a tick of which no answer has the digest
 SOMETHING = ["ticked", "and something was signed or expired, which only the digest tells"]
 
@@ -26,7 +28,7 @@ class Neighbour:
     def __init__(self, link, port):
         self.link, self.port = link, port
         self.polls, self.lost, self.bad_signatures, self.untold = 0, 0, 0, 0
-        self.answers = collections.Counter()
+        self.answers, self.held_up = collections.Counter(), collections.Counter()
         self.last_fresh = None
         self.reports = {}
 
@@ -52,8 +54,11 @@ class Watch:
         self.clients = Clients(self.minimum_of, self.rules)
         self.told = []                                  # of the last line, its answer and effects as far as they are found
         self.acknowledged, self.delivered = collections.Counter(), collections.Counter()
+        self.ended_flows = collections.Counter()        # how often a flow ended, since another life of an end began
+        self.held_up = {}                               # of a neighbour and a flow, the answer to its last messages where they were held up
         self.neighbours = {}
         self.moved = {}                                 # of a flow, its numbers and the clock at which one of them rose last
+        self.touched = set()                            # the flows that something came of since the last tick
 
     def minimum_of(self, peer):
         """The least weight of the link to this neighbour, as the administrator says."""
@@ -82,6 +87,8 @@ class Watch:
         self.told = self.rules.tick(line.numbers[0], line.digest) or SOMETHING
         self.untold_ticks += self.told == SOMETHING
         self.quiet_ticks += line.digest == TICKED
+        if len(self.told) > 1:
+            self.touched.update(flow for flow in self.rules.flows if flow[1] == self.configuration.node)
         self.note_moves()
 
     def feed_stray(self, line):
@@ -98,6 +105,7 @@ class Watch:
     def feed_client(self, line):
         reply = self.clients.reply(line.numbers[0], line.data, line.digest)
         self.told = [reply.words or "an answer that only its digest tells"]
+        self.touched.update(flow for flow in self.rules.flows if self.configuration.node in flow)
         self.requests["untold" if reply.words is None else "repeated" if reply.is_repeat else reply.words.split(" ")[0]] += 1
 
     # ---- datagrams of neighbours
@@ -129,12 +137,18 @@ class Watch:
         if theirs != self.configuration.topology.version:
             return f"topology {theirs}", None
         try:
-            sections = frames.sections_of(frame, self.signature)
+            sections = self.sections_of(frame)
         except frames.Bad as bad:
             return f"section {bad}", None
+        if sections.slot:
+            self.touched.add(sections.slot[:2])
         if sections.slot and sections.slot.boots == self.rules.held(*sections.slot[:2]):
             neighbour.reports[sections.slot[:2]] = sections.slot[2:4]
         return "fresh", sections
+
+    def sections_of(self, frame):
+        """The sections of a frame."""
+        return frames.sections_of(frame, self.signature)
 
     def compare(self, answer, digest):
         """Counts whether the answer that was computed is the recorded one."""
@@ -153,15 +167,19 @@ class Watch:
         elif told is None:
             self.wrong += 1
         self.told = told or ["fresh" + "".join(f" {item.kind}:?" for item in sections.items)]
+        self.ended_flows.update(tuple(map(int, line.split(" ")[2:])) for line in self.told if line.startswith("+ ended "))
         for item, word in zip(sections.items, words):
             self.of_item(neighbour, item, word)
 
     def of_item(self, neighbour, item, word):
         """Counts one object by its word."""
         neighbour.bad_signatures += word == "badsig"
+        neighbour.held_up[word] += word in HELD_UP
+        flow = (item.source, item.destination)
+        if item.kind in ("rel", "ack") and word in (*HELD_UP, "new", "old"):
+            self.held_up[neighbour.link.peer, flow] = word
         if word != "new":
             return
-        flow = (item.source, item.destination)
         if item.kind == "epoch":
             self.began(item.source)
         elif item.kind == "ack":
@@ -173,6 +191,7 @@ class Watch:
     def began(self, node):
         """Another life of a node began: its flows count from 1 again, and nothing is reported of them."""
         self.clients.ended(node)
+        self.held_up = {(peer, flow): word for (peer, flow), word in self.held_up.items() if node not in flow}
         for counts in (self.acknowledged, self.delivered, self.moved, *(neighbour.reports for neighbour in self.neighbours.values())):
             for flow in [flow for flow in counts if node in flow]:
                 del counts[flow]
@@ -183,15 +202,26 @@ class Watch:
         """All flows that were heard of, ascending."""
         found = {flow for neighbour in self.neighbours.values() for flow in neighbour.reports} | set(self.acknowledged)
         found |= {(self.configuration.node, destination) for destination in self.clients.sent}
-        found |= set(self.delivered)
+        found |= set(self.delivered) | set(self.ended_flows)
         return sorted(found)
+
+    def not_met(self):
+        """The nodes of which no start was heard yet; none where nodes run without epochs."""
+        return [node for node in self.configuration.topology.nodes if self.rules.lives and node not in self.rules.lives]
+
+    def answers_to(self, peer, flow):
+        """What this node answers to the last messages of a flow from a neighbour where they are held up; None where they aren't."""
+        word = self.held_up.get((peer, flow))
+        return word if word in HELD_UP else None
 
     def note_moves(self):
         """Keeps when a flow moved last: what this node keeps of it, or what its neighbours report."""
-        for flow, row in self.rules.flows.items():
-            now = (row.base, row.have, *(n.reports.get(flow) for n in self.neighbours.values()))
-            if self.moved.get(flow, (None,))[0] != now:
-                self.moved[flow] = now, self.now
+        for flow in self.touched:
+            if row := self.rules.flows.get(flow):
+                now = (row.base, row.have, *(n.reports.get(flow) for n in self.neighbours.values()))
+                if self.moved.get(flow, (None,))[0] != now:
+                    self.moved[flow] = now, self.now
+        self.touched.clear()
 
     def standing(self, flow, now):
         """For how many milliseconds a flow of this node hasn't moved although messages of it wait here for an acknowledgement; 0 where none waits."""
