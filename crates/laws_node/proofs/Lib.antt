@@ -14,6 +14,7 @@ pub mod HeldBoots
 pub mod Ids
 pub mod LifeLinks
 pub mod LifeWeights
+pub mod LifeMarks
 pub mod LifeWindows
 pub mod Links
 pub mod Lost

@@ -1,5 +1,5 @@
 -- What each step marks of a source, and a life of all of them.
-use Rattle.std.proofs.Common.{Bool, true, false, ◌≡◌, ℕ, zero, suc, ◌+◌, ◌==◌, true, false, cond, List, [], ◌∷◌, ◌++◌, length, replicate, Option, Some, None}
+use Rattle.std.proofs.Common.{Bool, true, false, ◌≡◌, ℕ, zero, suc, ◌==◌, true, false, cond, List, [], ◌∷◌, ◌++◌, length, replicate, Option, Some, None}
 use Rattle.std.proofs.Common.{refl, sym, ap, subst, ◌∙◌, inl, inr}
 use Rattle.std.specs.Prelude.{fold}
 use Rattle.std.specs.List.{flat_map}
@@ -43,10 +43,11 @@ use Rattle.sp_rules.specs.declared.rel.RelJudged.TheVariants as rels
 use Rattle.sp_rules.specs.declared.weights.Offer.TheVariants as offers
 use Rattle.laws_node.specs.HeldBoots.{IsEpochOf}
 use Rattle.laws_node.specs.LifeLaws.{WindowsOfLives}
-use Rattle.laws_node.specs.Lives.{Life, mark_on, mark_told, marks_of_life, marks_told, number_of}
+use Rattle.laws_node.specs.Lives.{Life, mark_told, marks_of_life, marks_told, number_of}
 use Rattle.laws_node.specs.Shapes.{Shape}
 use Rattle.laws_node.proofs.Handles.{new_ack, new_prio, new_rel, new_start, new_weight}
 use Rattle.laws_node.proofs.HeldBoots.{new_epoch}
+use Rattle.laws_node.proofs.LifeMarks.{from_empty, mark_on}
 use Rattle.laws_node.proofs.Shapes.{shapes_stay}
 use Rattle.laws_node.proofs.WindowPlaces.{less_here, less_there, long_less, long_with, mark_here, mark_there}
 
@@ -374,6 +375,7 @@ pub windows_of_lives : WindowsOfLives
 windows_of_lives arts f signer keys buffer store steps last src life there =
     let marks = begins f.epochs life in
     marks.window ∙ ap (λ (w : List ℕ). fold mark_on w (marks_of_life f.me.0 src steps)) (empty_window count (place_of (nodes_of f.topology) src))
+    ∙ from_empty (marks_of_life f.me.0 src steps)
   where
     n : NodeState
     n = booted f signer keys buffer store

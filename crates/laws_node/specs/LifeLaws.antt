@@ -1,5 +1,5 @@
 -- What a life says of a node: the pair that is kept of each neighbour, the weight of each edge, and what is seen of each source.
-use Rattle.std.specs.Prelude.{ℕ, ◌≡◌, true, fold, max, List, [], Some, slice_get}
+use Rattle.std.specs.Prelude.{ℕ, ◌≡◌, true, max, List, Some, slice_get}
 use Rattle.sp_base.specs.declared.id.NodeId.{NodeId}
 use Rattle.sp_rules.specs.Arts.{Arts}
 use Rattle.sp_rules.specs.Node.{NodeState, Signer, link_in, started}
@@ -10,7 +10,8 @@ use Rattle.sp_rules.specs.Weights.{effective}
 use Rattle.sp_topology.specs.Ranges.{IsTopology}
 use Rattle.sp_topology.specs.declared.topology.Edge.{Edge}
 use Rattle.laws_node.specs.LinkArrivals.{greatest}
-use Rattle.laws_node.specs.Lives.{Life, effects_of_life, last_told, mark_on, marks_of_life, pairs_of_life}
+use Rattle.sp_rules.specs.Window.{window_of}
+use Rattle.laws_node.specs.Lives.{Life, effects_of_life, last_told, marked_since, marks_of_life, pairs_of_life}
 
 -- the pair that is kept of a neighbour is the greatest of (0, 0), the pairs of its frames that were fresh, and (b, 0) for each boot b that was
 -- learned, whatever was polled between. Its boot is known
@@ -33,4 +34,4 @@ abbrev pub WindowsOfLives : Type 0
 WindowsOfLives =
     (arts : Arts) (f : Fixed) (signer : Signer) (keys : List (List ℕ)) (buffer store : ℕ) (steps : List (Input × Output)) (last : NodeState) (src : ℕ)
     → Life arts (started arts f signer keys buffer store) steps last → is_node (nodes_of f.topology) src ≡ true
-    → window_in last.parts.prio src ≡ fold mark_on [] (marks_of_life f.me.0 src steps)
+    → window_in last.parts.prio src ≡ window_of (marked_since (marks_of_life f.me.0 src steps))

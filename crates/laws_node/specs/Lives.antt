@@ -1,6 +1,6 @@
 -- The life of a node from its start on: its steps, each with what came and what was answered, and what they say of its links, weights and windows.
-use Rattle.std.specs.Prelude.{ℕ, ◌≡◌, ◌==◌, ◌&&◌, List, [], ◌∷◌, ◌++◌, Option, None, Some, if◌then◌else◌}
-use Rattle.std.specs.List.{flat_map}
+use Rattle.std.specs.Prelude.{ℕ, ◌≡◌, ◌==◌, ◌&&◌, Bool, not, is_some, List, [], ◌∷◌, ◌++◌, Option, None, Some, if◌then◌else◌}
+use Rattle.std.specs.List.{flat_map, list_any}
 use Rattle.sp_base.specs.declared.id.NodeId.{NodeId}
 use Rattle.sp_msg.specs.declared.body.Body.{Body}
 use Rattle.sp_msg.specs.declared.body.Body.TheVariants as bodies
@@ -12,7 +12,6 @@ use Rattle.sp_rules.specs.Arts.{Arts}
 use Rattle.sp_rules.specs.Link.{pair_of}
 use Rattle.sp_rules.specs.Node.{NodeState}
 use Rattle.sp_rules.specs.Steps.{Input, NodeStep, Output, Reply, Datagram, SendPrio, Accepted, Arrived}
-use Rattle.sp_rules.specs.Window.{with_mark}
 use Rattle.sp_rules.specs.declared.answers.Item.{Item}
 use Rattle.sp_rules.specs.declared.node.LinkReply.{LinkReply}
 use Rattle.sp_rules.specs.declared.node.LinkReply.TheVariants as replies
@@ -67,11 +66,6 @@ number_of src (bodies.Prio p) = if p.src.0 == src then Some p.seq ∷ [] else []
 number_of src (bodies.Epoch e) = if e.origin.0 == src then None ∷ [] else []
 number_of src _ = []
 
--- a window after a number was marked; empty where another life began
-abbrev pub mark_on : List ℕ → Option ℕ → List ℕ
-mark_on window (Some number) = with_mark window number
-mark_on window None = []
-
 -- it is marked where the message was answered as new
 abbrev pub mark_told : ℕ → Kept × Item → List (Option ℕ)
 mark_told src answered = if is_new answered.1 then number_of src answered.0.body else []
@@ -89,3 +83,13 @@ marks_told me src input output = flat_map (mark_told src) output.answered ++ own
 abbrev pub marks_of_life : (me src : ℕ) → List (Input × Output) → List (Option ℕ)
 marks_of_life me src [] = []
 marks_of_life me src (step ∷ steps) = marks_told me src step.0 step.1 ++ marks_of_life me src steps
+
+-- among these another life of the source began
+abbrev pub begins_anew : List (Option ℕ) → Bool
+begins_anew marks = list_any (λ mark. not (is_some mark)) marks
+
+-- the numbers that were marked since its last life began
+abbrev pub marked_since : List (Option ℕ) → List ℕ
+marked_since [] = []
+marked_since (None ∷ marks) = marked_since marks
+marked_since (Some number ∷ marks) = if begins_anew marks then marked_since marks else number ∷ marked_since marks

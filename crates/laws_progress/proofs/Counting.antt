@@ -26,7 +26,7 @@ use Rattle.sp_schedule_events.specs.declared.event.Event.{Event}
 use Rattle.sp_schedule_events.specs.declared.event.Event.TheVariants as events
 use Rattle.laws_runs.specs.Premises.{Carries}
 use Rattle.laws_runs.specs.Signs.{Good, sizes_at}
-use Rattle.laws_runs.proofs.FlowRuns.{flows_are_kept}
+use Rattle.laws_runs.proofs.FlowPlain.{flows_are_kept}
 use Rattle.laws_runs.proofs.Lists.{both}
 use Rattle.laws_runs.proofs.Signed.{signs}
 use Rattle.sp_runs.specs.Rounds.{flow_count, has_correct_ends, is_send}

@@ -25,7 +25,7 @@ use Rattle.laws_runs.specs.Acknowledged.{acknowledged}
 use Rattle.laws_runs.specs.Flows.{AreNumbered, FlowClaims, flow_at}
 use Rattle.laws_runs.specs.Premises.{ComesThrough}
 use Rattle.laws_runs.proofs.Determined.{runs_are_determined}
-use Rattle.laws_runs.proofs.FlowRuns.{flows_are_kept}
+use Rattle.laws_runs.proofs.FlowPlain.{flows_are_kept}
 use Rattle.laws_runs.proofs.Lists.{both}
 use Rattle.laws_runs.proofs.Signed.{even}
 use Rattle.laws_runs.proofs.There.{is_there}
@@ -94,7 +94,7 @@ split arts x flow fits through es after js more w v early run =
     record {
       mid = p.mid;
       events = events;
-      world = runs_are_determined arts x es js p.mid.world w fits through.carries here early;
+      world = runs_are_determined arts x es js p.mid.world w fits.fits through.carries here early;
       goes = p.then_;
     }
 

@@ -22,7 +22,7 @@ use Rattle.laws_node.specs.Sizes.{Sizes}
 use Rattle.laws_node.proofs.Carried.{AllKeep}
 use Rattle.laws_node.proofs.Reliable.{found}
 use Rattle.laws_runs.specs.Signs.{Good, sizes_at}
-use Rattle.laws_runs.proofs.FlowRuns.{flows_hold}
+use Rattle.laws_runs.proofs.FlowRows.{row_of_keys}
 use Rattle.laws_runs.proofs.Lists.{both}
 use Rattle.laws_runs.proofs.Signed.{signs}
 use Rattle.laws_runs.proofs.There.{first_life}
@@ -120,7 +120,7 @@ ready_at arts x all flow fits reads right w v n at =
       me = rel.me;
       nodes_are = (views_are arts x w.events w.journal w.world fits reads.carries w.run v n at).nodes_are;
       bound_is = rel.bound;
-      row = ((flows_hold arts x w.events w.journal w.world fits reads.carries w.run flow.src flow.dst (both _ _ right.from).0 right.to right.different).nodes v n at).row;
+      row = row_of_keys (nodes_of x.topology) flow.src flow.dst n.parts.rel.flows right.different (both _ _ right.from).0 (both _ _ right.to).0 rel.keys;
       acks = ((signs arts x w.events w.journal w.world fits.fits reads.carries w.run).nodes v n at).acks;
     }
 

@@ -23,7 +23,7 @@ use Rattle.sp_schedule_events.specs.declared.event.Event.{Event}
 use Rattle.laws_runs.specs.Flows.{FlowClaims, flow_at}
 use Rattle.laws_runs.specs.Premises.{ComesThrough}
 use Rattle.laws_runs.specs.Signs.{Good, sizes_at}
-use Rattle.laws_runs.proofs.FlowRuns.{flows_are_kept}
+use Rattle.laws_runs.proofs.FlowPlain.{flows_are_kept}
 use Rattle.laws_runs.proofs.Lists.{both}
 use Rattle.laws_runs.proofs.Signed.{signs}
 use Rattle.laws_runs.proofs.Tables.{same_node}

@@ -13,7 +13,7 @@ use Rattle.sp_schedule_events.specs.declared.event.Event.{Event}
 use Rattle.laws_runs.specs.Acknowledged.{acknowledged}
 use Rattle.laws_runs.specs.Flows.{FlowClaims}
 use Rattle.laws_runs.specs.Premises.{Carries}
-use Rattle.laws_runs.proofs.FlowRuns.{flows_are_kept}
+use Rattle.laws_runs.proofs.FlowPlain.{flows_are_kept}
 use Rattle.laws_runs.proofs.Lists.{both}
 use Rattle.laws_runs.proofs.There.{is_there}
 use Rattle.laws_progress.proofs.States.{State, seen_at, sight}

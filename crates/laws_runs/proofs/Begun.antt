@@ -1,18 +1,16 @@
 -- A node that starts with epochs: within its bounds, with nothing but its Epoch object, which it signed.
-use Rattle.std.proofs.Common.{◌≡◌, ◌<◌, ◌≤◌, ◌^◌, ℕ, Bool, true, false, cond, eqb, List, [], ◌∷◌, ◌++◌, length, refl, sym, ap, subst, ◌∙◌, arith}
-use Rattle.std.specs.Prelude.{◌&&◌, not, IsTrue}
+use Rattle.std.proofs.Common.{◌≡◌, ◌<◌, ◌≤◌, ◌^◌, ℕ, true, false, eqb, List, [], ◌∷◌, ◌++◌, length, refl, sym, ap, subst, ◌∙◌, arith}
+use Rattle.std.specs.Prelude.{not}
 use Rattle.std.specs.List.{flat_map}
 use Rattle.std.proofs.lemmas.Bool.{eq-eqb}
 use Rattle.std.proofs.lemmas.List.Elements.{All-nil}
 use Rattle.sp_base.specs.declared.id.NodeId.{NodeId}
-use Rattle.sp_epoch.specs.Numbers.{numbers_at}
 use Rattle.sp_epoch.specs.declared.started.Started.{Started}
-use Rattle.sp_keystate.specs.declared.numbers.Numbers.{Numbers}
 use Rattle.sp_msg.specs.declared.effect.Effect.{Effect}
 use Rattle.sp_msg.specs.declared.effect.Effect.TheVariants.{Signed}
 use Rattle.sp_msg.specs.declared.kept.Kept.{Kept}
 use Rattle.sp_rules.specs.Arts.{Arts}
-use Rattle.sp_rules.specs.Node.{NodeState, announced, booted, own_epoch, signed_now, start_effects, started}
+use Rattle.sp_rules.specs.Node.{NodeState, announced, booted, own_epoch, signed_now}
 use Rattle.sp_rules.specs.Parts.{Fixed, nodes_of}
 use Rattle.sp_rules.specs.Rel.{pairs_of}
 use Rattle.laws_node.specs.Inputs.{ArtsFit}
@@ -24,19 +22,19 @@ use Rattle.laws_node.proofs.Reliable.{in_range}
 use Rattle.laws_node.proofs.Shapes.{shapes_start}
 use Rattle.laws_node.proofs.Starts.{announced_holds, epoch_about, epoch_fields}
 use Rattle.sp_runs.specs.Forgery.{is_among}
-use Rattle.sp_runs.specs.Inputs.{acting}
 use Rattle.sp_runs.specs.Lives.{IsStart, next_start}
 use Rattle.sp_runs.specs.Runs.{InRange}
-use Rattle.sp_runs.specs.Settings.{Setting, SettingFits, fixed_at, is_correct, is_node, is_one_of, link_keys, node_at_start, signer_from}
+use Rattle.sp_runs.specs.Settings.{Setting, SettingFits, fixed_at, is_node, is_one_of, link_keys, node_at_start, signer_from}
 use Rattle.sp_runs.specs.Told.{signed, signed_by, told_at}
 use Rattle.sp_runs.specs.Worlds.{World}
 use Rattle.sp_journal.specs.declared.entry.Entry.{Entry}
 use Rattle.sp_schedule_events.specs.declared.event.Event.{Event}
 use Rattle.sp_schedule_events.specs.declared.event.Event.TheVariants as events
 use Rattle.laws_runs.specs.KeyFiles.{KeysStand}
-use Rattle.laws_runs.specs.Premises.{Carries, IsOfBytes}
+use Rattle.laws_runs.specs.Premises.{Carries}
 use Rattle.laws_runs.specs.Signs.{Good, NodeIs, sizes_at}
 use Rattle.laws_runs.proofs.Acks.{all_none}
+use Rattle.laws_runs.proofs.Dated.{no_flows_dated}
 use Rattle.laws_runs.proofs.Goods.{fit_in}
 use Rattle.laws_runs.proofs.Lists.{among_right, both, first_among, told_more}
 
@@ -90,7 +88,7 @@ module _ (arts : Arts) (x : Setting) (es : List Event) (js : List Entry) (old ne
       subst (λ these. is_among (arts.spell (own_epoch f)) these ≡ true) (sym (told_more (told_at u signed_by) es js (events.Start u) j even))
       (among_right (arts.spell (own_epoch f)) (signed es js u) _ (rw here all))
 
-  good : P object
+  pub good : P object
   good = record {
     known = λ correct. told;
     right = own_is_signed arts before (own_epoch f) fit (let a = below in let b = within in omega (arith, a, b)) refl;
@@ -118,5 +116,6 @@ module _ (arts : Arts) (x : Setting) (es : List Event) (js : List Entry) (old ne
               signer = record { index = let a = below in omega (arith, a); bound = within; total = fits.total };
             }));
         acks = all_none (pairs_of (nodes_of x.topology));
+        dated = no_flows_dated (announced arts before).parts.lives (pairs_of (nodes_of x.topology));
         plain = λ off. absurd (let wrong : false ≡ true = sym off ∙ on in cc);
       }))

@@ -1,6 +1,6 @@
--- A journal says all that was left open: so it determines each step, and the run.
+-- A journal says all that was left open: so it determines each turn, the node that moved in it, and the run.
 use Rattle.std.proofs.Common.{◌≡◌, ◌<◌, ◌≤◌, ℕ, Bool, true, false, cond, List, [], ◌∷◌, ◌++◌, length, length-append, Option, Some, None, refl, sym, ap, ap₂, subst, ◌∙◌, inl, inr, arith}
-use Rattle.std.specs.Prelude.{◌⊎◌, IsTrue, nat_lt}
+use Rattle.std.specs.Prelude.{IsTrue, is_some, nat_lt, not, option_map}
 use Rattle.std.proofs.lemmas.Bool.Decides.{nat_tests}
 use Rattle.sp_base.specs.Cursor.{or_else}
 use Rattle.sp_base.specs.declared.id.NodeId.{NodeId}
@@ -18,23 +18,28 @@ use Rattle.laws_node.specs.Inputs.{ArtsFit, InputFits, ReadsBack}
 use Rattle.laws_node.specs.Nodes.{IsKept}
 use Rattle.laws_node.proofs.Determined.{steps_are_determined}
 use Rattle.laws_node.proofs.Weaker.{node_weaker}
-use Rattle.sp_runs.specs.Inputs.{acting, crafted_contents, crafted_frame, input_of}
+use Rattle.sp_runs.specs.Inputs.{acting, crafted_contents, crafted_frame, flipped, input_of}
 use Rattle.sp_runs.specs.Journals.{Says, reply_word}
-use Rattle.sp_runs.specs.Runs.{Clean, InRange, Move, Spends, Starts, Turn, Turned, crafted_after, directions_after, next_frame}
-use Rattle.sp_runs.specs.Settings.{Setting, StaysUp}
-use Rattle.sp_runs.specs.Worlds.{World, at_start, crafts, with_node}
+use Rattle.sp_runs.specs.Lives.{IsOther, Life, is_missing, ready}
+use Rattle.sp_runs.specs.Runs.{Clean, InRange, IsCraftOf, Lives, Move, Moves, Spends, Starts, Stays, Turn, Turned, crafted_after, directions_after, next_frame}
+use Rattle.sp_runs.specs.Settings.{Setting, SettingFits}
+use Rattle.sp_runs.specs.Worlds.{Crafted, Direction, World, at_start, crafts, frame_in, is_running, with_node}
 use Rattle.sp_journal.specs.declared.entry.Entry.{Entry}
 use Rattle.sp_schedule_crafts.specs.Objects.{body_of}
 use Rattle.sp_schedule_events.specs.declared.event.Event.{Event}
 use Rattle.sp_schedule_events.specs.declared.event.Event.TheVariants as events
+use Rattle.laws_runs.specs.Past.{Happened, mover_in, past}
 use Rattle.laws_runs.specs.Premises.{Carries}
-use Rattle.laws_runs.specs.States.{RunsAreDetermined}
-use Rattle.laws_runs.specs.Signs.{Good, sizes_at}
+use Rattle.laws_runs.specs.States.{PastIsDetermined, RunsAreDetermined}
+use Rattle.laws_runs.specs.Signs.{Good, NodeIs, sizes_at}
 use Rattle.laws_runs.proofs.Goods.{arts_fit}
 use Rattle.laws_runs.proofs.Kept.{read_off}
-use Rattle.laws_runs.proofs.PlainTurns.{moves_or_rests}
+use Rattle.laws_runs.proofs.LifeCases.{Exhausts, LifeCase, Nobody, Starts_now, Stops, life_case}
 use Rattle.laws_runs.proofs.Reaches.{input_fits}
-use Rattle.laws_runs.proofs.Signed.{signs}
+use Rattle.laws_runs.proofs.Ready.{ready_any, ready_crafts, ready_frames}
+use Rattle.laws_runs.proofs.Running.{found_there}
+use Rattle.laws_runs.proofs.Signed.{signs_there}
+use Rattle.laws_runs.proofs.Started.{craft_other, moves_other}
 
 -- ---- one output
 
@@ -89,80 +94,191 @@ world_of old e after reply = record {
   crafted = crafted_after old.crafted e;
 }
 
-by_moves : (arts : Arts) → ReadsBack arts → (x : Setting) (es : List Event) (old w v : World) (e : Event) (j : Entry) (m : Move arts x old e j w) (n : Move arts x old e j v)
-    → ArtsFit arts m.node.fixed m.node.signer → InputFits m.input → IsKept arts m.node → w ≡ v
+-- two turns lead to one world, and the same node moved
+pub record OneTurn (w v : World) (first second : Option NodeState) : Type 0 where
+  pub world : w ≡ v
+  pub mover : first ≡ second
+
+by_moves : (arts : Arts) → ReadsBack arts → (x : Setting) (old w v : World) (e : Event) (j : Entry) (m : Move arts x old e j w) (n : Move arts x old e j v)
+    → ArtsFit arts m.node.fixed m.node.signer → InputFits m.input → IsKept arts m.node → OneTurn w v (Some m.node) (Some n.node)
 unfolding world_of
-by_moves arts reads x es old w v e j m n arts_are fits kept =
+by_moves arts reads x old w v e j m n arts_are fits kept =
     let node : n.node ≡ m.node = same_some n.node m.node (sym n.is_there ∙ m.is_there) in
     let input : n.input ≡ m.input =
     same_some n.input m.input (sym n.reaches ∙ ap (λ (y : NodeState). input_of arts x old y e) node ∙ m.reaches) in
     let step : NodeStep arts m.node m.input n.output n.after =
     subst (λ (y : NodeState). NodeStep arts y m.input n.output n.after) node (subst (λ (i : Input). NodeStep arts n.node i n.output n.after) input n.step) in
-    let output : m.output ≡ n.output = one_output x (next_frame old e) j arts m.node m.input m.output n.output m.after n.after m.step step m.journal n.journal in
+    let output : m.output ≡ n.output = one_output x
+    (next_frame old e) j arts m.node m.input m.output n.output m.after n.after m.step step m.journal n.journal in
     let after : m.after ≡ n.after =
     steps_are_determined arts m.node m.input m.output m.after n.after reads arts_are fits kept m.step
     (subst (λ (o : Output). NodeStep arts m.node m.input o n.after) (sym output) step) in
-    m.world ∙ ap₂ (λ (a : NodeState) (o : Output). world_of old e a o.reply) after output ∙ sym n.world
+    record {
+      world = m.world ∙ ap₂ (λ (a : NodeState) (o : Output). world_of old e a o.reply) after output ∙ sym n.world;
+      mover = ap Some (sym node);
+    }
 
 -- a crafting signer that is spent brings nothing
-not_both : (arts : Arts) (x : Setting) (es : List Event) (old w v : World) (e : Event) (j : Entry) → Move arts x old e j w → Spends x old e j v → ⊥
-not_both arts x es old w v (events.Craft c u k object) j m s = go (nat_lt (crafts old.crafted k) x.total) refl m.reaches
+not_both : (arts : Arts) (x : Setting) (old w : World) (e : Event) (j : Entry) (key : NodeId) → Move arts x old e j w → IsCraftOf key e
+    → x.total ≤ crafts old.crafted key → ⊥
+not_both arts x old w (events.Craft c u k object) j key m is spent = go (nat_lt (crafts old.crafted k) x.total) refl m.reaches
   where
     bytes : List ℕ
     bytes = crafted_frame arts m.node c (crafted_contents arts x old.crafted m.node k (body_of object))
 
     go : (t : Bool) → nat_lt (crafts old.crafted k) x.total ≡ t → cond t (Some (steps.Datagram c bytes)) None ≡ Some m.input → ⊥
-    go true is e =
-        let spent : x.total ≤ crafts old.crafted k = subst (λ (u : NodeId). x.total ≤ crafts old.crafted u) (sym s.is_craft) s.spent in
-        let below : crafts old.crafted k < x.total = grind (arith, nat_tests, is) in
-        omega (arith, spent, below)
-    go false is e = cc
-not_both arts x es old w v (events.Rel a b p) j m s = s.is_craft
-not_both arts x es old w v (events.Prio a b c d f p) j m s = s.is_craft
-not_both arts x es old w v (events.Take a b) j m s = s.is_craft
-not_both arts x es old w v (events.TakePrio a) j m s = s.is_craft
-not_both arts x es old w v (events.Tick a b) j m s = s.is_craft
-not_both arts x es old w v (events.Weight a b c) j m s = s.is_craft
-not_both arts x es old w v (events.Poll a b) j m s = s.is_craft
-not_both arts x es old w v (events.Pass a b c) j m s = s.is_craft
-not_both arts x es old w v (events.Flip a b c d f) j m s = s.is_craft
-not_both arts x es old w v (events.Inject a b c) j m s = s.is_craft
-not_both arts x es old w v (events.CraftStatus a b c d f g) j m s = s.is_craft
-not_both arts x es old w v (events.Start a) j m s = s.is_craft
-not_both arts x es old w v (events.Stop a) j m s = s.is_craft
+    go true few e =
+        let most : x.total ≤ crafts old.crafted k = subst (λ (u : NodeId). x.total ≤ crafts old.crafted u) (sym is) spent in
+        let below : crafts old.crafted k < x.total = grind (arith, nat_tests, few) in
+        omega (arith, most, below)
+    go false few e = cc
+not_both arts x old w (events.Rel a b p) j key m is spent = is
+not_both arts x old w (events.Prio a b c d f p) j key m is spent = is
+not_both arts x old w (events.Take a b) j key m is spent = is
+not_both arts x old w (events.TakePrio a) j key m is spent = is
+not_both arts x old w (events.Tick a b) j key m is spent = is
+not_both arts x old w (events.Weight a b c) j key m is spent = is
+not_both arts x old w (events.Poll a b) j key m is spent = is
+not_both arts x old w (events.Pass a b c) j key m is spent = is
+not_both arts x old w (events.Flip a b c d f) j key m is spent = is
+not_both arts x old w (events.Inject a b c) j key m is spent = is
+not_both arts x old w (events.CraftStatus a b c d f g) j key m is spent = is
+not_both arts x old w (events.Start a) j key m is spent = is
+not_both arts x old w (events.Stop a) j key m is spent = is
 
--- the arts fit the acting node
-arts_fit_it : (arts : Arts) (x : Setting) (es : List Event) (js : List Entry) (old w : World) (e : Event) (j : Entry) → StaysUp arts x
-    → Carries x.topology.format arts
-    → Clean arts x es js old → (m : Move arts x old e j w) → ArtsFit arts m.node.fixed m.node.signer
-arts_fit_it arts x es js old w e j fits carries run m =
-    arts_fit arts x (Good arts x es js) (acting e) m.node fits.fits
-    ((signs arts x es js old fits.fits carries run).nodes (acting e) m.node m.is_there)
+spent_moves : (arts : Arts) (x : Setting) (old w v : World) (e : Event) (j : Entry) → Move arts x (ready x old e) e j w → Spends x old e j v → ⊥
+spent_moves arts x old w v e j m s =
+    not_both arts x (ready x old e) w e j s.key m s.is_craft (subst (λ (c : List Crafted). x.total ≤ crafts c s.key) (sym (ready_crafts x old e)) s.spent)
 
--- which keeps what a node keeps
-kept_there : (arts : Arts) (x : Setting) (es : List Event) (js : List Entry) (old w : World) (e : Event) (j : Entry) → StaysUp arts x
-    → Carries x.topology.format arts
-    → Clean arts x es js old → (m : Move arts x old e j w) → IsKept arts m.node
-kept_there arts x es js old w e j fits carries run m =
-    let is = (signs arts x es js old fits.fits carries run).nodes (acting e) m.node m.is_there in
-    let Q : Kept → Type 0 = λ o. IsTrue (is_signed arts m.node.fixed o) in
-    read_off x Q (acting e) m.node
-    (node_weaker (sizes_at x (Good arts x es js) (acting e)) Q (λ o good. subst (λ (f : Fixed). IsTrue (is_signed arts f o)) (sym is.fixed) good.right) m.node is.holds)
+-- ---- a turn in which no node moves
 
-pub one_turn : (arts : Arts) (x : Setting) (es : List Event) (js : List Entry) (old w v : World) (e : Event) (j : Entry) → StaysUp arts x
-    → Carries x.topology.format arts
-    → Clean arts x es js old → InRange x es e → Turn arts x old e j w → Turn arts x old e j v → w ≡ v
-one_turn arts x es js old w v e j fits carries run range one two =
-    go (moves_or_rests arts x old w e j fits.plain one) (moves_or_rests arts x old v e j fits.plain two)
+-- what reaches a node is there
+there_is : {X : Type 0} (f : List ℕ → X) (o : Option (List ℕ)) (i : X) → option_map f o ≡ Some i → not (is_some o) ≡ false
+there_is f None i e = absurd cc
+there_is f (Some bytes) i e = refl
+
+none_missing : (arts : Arts) (x : Setting) (w : World) (n : NodeState) (e : Event) (i : Input) → input_of arts x w n e ≡ Some i → is_missing w e ≡ false
+none_missing arts x w n (events.Pass u v number) i e = there_is (steps.Datagram u) (frame_in w.directions u v number) i e
+none_missing arts x w n (events.Flip u v number back bit) i e =
+    there_is (λ (bytes : List ℕ). steps.Datagram u (flipped back bit bytes)) (frame_in w.directions u v number) i e
+none_missing arts x w n (events.Rel a b p) i e = refl
+none_missing arts x w n (events.Prio a b c d f p) i e = refl
+none_missing arts x w n (events.Take a b) i e = refl
+none_missing arts x w n (events.TakePrio a) i e = refl
+none_missing arts x w n (events.Tick a b) i e = refl
+none_missing arts x w n (events.Weight a b c) i e = refl
+none_missing arts x w n (events.Poll a b) i e = refl
+none_missing arts x w n (events.Inject a b c) i e = refl
+none_missing arts x w n (events.Craft a b c d) i e = refl
+none_missing arts x w n (events.CraftStatus a b c d f g) i e = refl
+none_missing arts x w n (events.Start a) i e = refl
+none_missing arts x w n (events.Stop a) i e = refl
+
+crafts_come : (w : World) (key : NodeId) (e : Event) → IsCraftOf key e → is_missing w e ≡ false
+crafts_come w key (events.Craft c v k object) is = refl
+crafts_come w key (events.Rel a b p) is = refl
+crafts_come w key (events.Prio a b c d f p) is = refl
+crafts_come w key (events.Take a b) is = refl
+crafts_come w key (events.TakePrio a) is = refl
+crafts_come w key (events.Tick a b) is = refl
+crafts_come w key (events.Weight a b c) is = refl
+crafts_come w key (events.Poll a b) is = refl
+crafts_come w key (events.Pass a b c) is = absurd is
+crafts_come w key (events.Flip a b c d f) is = absurd is
+crafts_come w key (events.Inject a b c) is = refl
+crafts_come w key (events.CraftStatus a b c d f g) is = refl
+crafts_come w key (events.Start a) is = refl
+crafts_come w key (events.Stop a) is = refl
+
+-- the event is no start and no stop, and comes to a node that runs
+record IsMet (w : World) (e : Event) : Type 0 where
+  other : IsOther e
+  runs : is_running w.nodes (acting e) ≡ true
+  comes : is_missing w e ≡ false
+
+met_by_move : (arts : Arts) (x : Setting) (old w : World) (e : Event) (j : Entry) → Move arts x (ready x old e) e j w → IsMet old e
+met_by_move arts x old w e j m = record {
+  other = moves_other arts x (ready x old e) m.node e m.input m.reaches;
+  runs = sym (ready_any x old e (acting e)) ∙ found_there (acting e) m.node (ready x old e).nodes m.is_there;
+  comes =
+      sym (missing (ready x old e).directions old.directions (ready_frames x old e) e) ∙ none_missing arts x (ready x old e) m.node e m.input m.reaches;
+}
   where
-    go : Move arts x old e j w ⊎ Spends x old e j w → Move arts x old e j v ⊎ Spends x old e j v → w ≡ v
-    go (inl m) (inl n) =
-        by_moves arts carries.bodies x es old w v e j m n (arts_fit_it arts x es js old w e j fits carries run m)
-        (input_fits arts x es old m.node e m.input carries (signs arts x es js old fits.fits carries run).bytes range.fields m.reaches)
-        (kept_there arts x es js old w e j fits carries run m)
-    go (inr s) (inr t) = s.world ∙ sym t.world
-    go (inl m) (inr t) = absurd (not_both arts x es old w v e j m t)
-    go (inr s) (inl n) = absurd (not_both arts x es old v w e j n s)
+    missing : (ds fs : List Direction) → ds ≡ fs → (e : Event)
+        → is_missing (record (ready x old e) { directions = ds }) e ≡ is_missing (record old { directions = fs }) e
+    missing ds fs same (events.Pass u v number) = ap (λ (gs : List Direction). not (is_some (frame_in gs u v number))) same
+    missing ds fs same (events.Flip u v number back bit) = ap (λ (gs : List Direction). not (is_some (frame_in gs u v number))) same
+    missing ds fs same (events.Rel a b p) = refl
+    missing ds fs same (events.Prio a b c d f p) = refl
+    missing ds fs same (events.Take a b) = refl
+    missing ds fs same (events.TakePrio a) = refl
+    missing ds fs same (events.Tick a b) = refl
+    missing ds fs same (events.Weight a b c) = refl
+    missing ds fs same (events.Poll a b) = refl
+    missing ds fs same (events.Inject a b c) = refl
+    missing ds fs same (events.Craft a b c d) = refl
+    missing ds fs same (events.CraftStatus a b c d f g) = refl
+    missing ds fs same (events.Start a) = refl
+    missing ds fs same (events.Stop a) = refl
+
+met_by_craft : (x : Setting) (old w : World) (e : Event) (j : Entry) → Spends x old e j w → IsMet old e
+met_by_craft x old w e j s = record { other = craft_other s.key e s.is_craft; runs = s.runs; comes = crafts_come old s.key e s.is_craft }
+
+not_met : (arts : Arts) (x : Setting) (old w : World) (e : Event) (j : Entry) → IsMet old e → LifeCase arts x old e j w → ⊥
+not_met arts x old w e j met (Starts_now u is start) = subst IsOther is met.other
+not_met arts x old w e j met (Exhausts u is none) = subst IsOther is met.other
+not_met arts x old w e j met (Stops u is stop) = subst IsOther is met.other
+not_met arts x old w e j met (Nobody other down) =
+    let runs = met.runs in let comes = met.comes in let wrong : false ≡ true = rw (runs, comes) at down.nobody in cc
+
+one_life : (arts : Arts) (x : Setting) (old w v : World) (e : Event) (j : Entry) → Life arts x old e j w → Life arts x old e j v → w ≡ v
+one_life arts x old w v (events.Start u) j (inl one) (inl two) = one.world ∙ sym two.world
+one_life arts x old w v (events.Start u) j (inr one) (inr two) = one.world ∙ sym two.world
+one_life arts x old w v (events.Start u) j (inl one) (inr two) = absurd (let left = one.left in let none = two.none_left in omega (arith, left, none))
+one_life arts x old w v (events.Start u) j (inr one) (inl two) = absurd (let left = two.left in let none = one.none_left in omega (arith, left, none))
+one_life arts x old w v (events.Stop u) j one two = one.world ∙ sym two.world
+one_life arts x old w v (events.Rel a b p) j one two = one.world ∙ sym two.world
+one_life arts x old w v (events.Prio a b c d f p) j one two = one.world ∙ sym two.world
+one_life arts x old w v (events.Take a b) j one two = one.world ∙ sym two.world
+one_life arts x old w v (events.TakePrio a) j one two = one.world ∙ sym two.world
+one_life arts x old w v (events.Tick a b) j one two = one.world ∙ sym two.world
+one_life arts x old w v (events.Weight a b c) j one two = one.world ∙ sym two.world
+one_life arts x old w v (events.Poll a b) j one two = one.world ∙ sym two.world
+one_life arts x old w v (events.Pass a b c) j one two = one.world ∙ sym two.world
+one_life arts x old w v (events.Flip a b c d f) j one two = one.world ∙ sym two.world
+one_life arts x old w v (events.Inject a b c) j one two = one.world ∙ sym two.world
+one_life arts x old w v (events.Craft a b c d) j one two = one.world ∙ sym two.world
+one_life arts x old w v (events.CraftStatus a b c d f g) j one two = one.world ∙ sym two.world
+
+-- ---- any turn
+
+-- the acting node keeps what a node keeps
+kept_there : (arts : Arts) (x : Setting) (es : List Event) (js : List Entry) (u : NodeId) (n : NodeState) → NodeIs x (Good arts x es js) u n → IsKept arts n
+kept_there arts x es js u n is =
+    let Q : Kept → Type 0 = λ o. IsTrue (is_signed arts n.fixed o) in
+    read_off x Q u n
+    (node_weaker (sizes_at x (Good arts x es js) u) Q (λ o good. subst (λ (f : Fixed). IsTrue (is_signed arts f o)) (sym is.fixed) good.right) n is.holds)
+
+pub one_turn : (arts : Arts) (x : Setting) (es : List Event) (js : List Entry) (old w v : World) (e : Event) (j : Entry) → SettingFits arts x
+    → Carries x.topology.format arts → Clean arts x es js old → InRange x es e → (one : Turn arts x old e j w) (two : Turn arts x old e j v)
+    → OneTurn w v (mover_in arts x old e j w one) (mover_in arts x old e j v two)
+one_turn arts x es js old w v e j fits carries run range (Moves m) (Moves n) =
+    let there = signs_there arts x es js old e fits carries run in
+    let is = there.nodes (acting e) m.node m.is_there in
+    by_moves arts carries.bodies x (ready x old e) w v e j m n (arts_fit arts x (Good arts x es js) (acting e) m.node fits is)
+    (input_fits arts x es (ready x old e) m.node e m.input carries there.bytes range.fields m.reaches) (kept_there arts x es js (acting e) m.node is)
+one_turn arts x es js old w v e j fits carries run range (Stays s) (Stays t) = record { world = s.world ∙ sym t.world; mover = refl }
+one_turn arts x es js old w v e j fits carries run range (Lives on one) (Lives also two) = record { world = one_life arts x old w v e j one two; mover = refl }
+one_turn arts x es js old w v e j fits carries run range (Moves m) (Stays t) = absurd (spent_moves arts x old w v e j m t)
+one_turn arts x es js old w v e j fits carries run range (Stays s) (Moves n) = absurd (spent_moves arts x old v w e j n s)
+one_turn arts x es js old w v e j fits carries run range (Moves m) (Lives on two) =
+    absurd (not_met arts x old v e j (met_by_move arts x old w e j m) (life_case arts x old e j v two))
+one_turn arts x es js old w v e j fits carries run range (Lives on one) (Moves n) =
+    absurd (not_met arts x old w e j (met_by_move arts x old v e j n) (life_case arts x old e j w one))
+one_turn arts x es js old w v e j fits carries run range (Stays s) (Lives on two) =
+    absurd (not_met arts x old v e j (met_by_craft x old w e j s) (life_case arts x old e j v two))
+one_turn arts x es js old w v e j fits carries run range (Lives on one) (Stays t) =
+    absurd (not_met arts x old w e j (met_by_craft x old v e j t) (life_case arts x old e j w one))
 
 -- ---- a run
 
@@ -176,34 +292,52 @@ snoc {X} (a ∷ xs) (b ∷ ys) x y e =
     let rest = snoc xs ys x y others in
     (ap₂ (λ (h : X) (t : List X). h ∷ t) first rest.0, rest.1)
 
--- the last turn of a run
-record LastTurn (arts : Arts) (x : Setting) (es : List Event) (js : List Entry) (e : Event) (j : Entry) (v : World) : Type 0 where
+-- the last turn of a run that has this past
+record LastTurn (arts : Arts) (x : Setting) (es : List Event) (js : List Entry) (e : Event) (j : Entry) (v : World) (tells : List Happened) : Type 0 where
   old : World
   run : Clean arts x es js old
   turn : Turn arts x old e j v
+  ends : tells ≡ past arts x es js old run ++ record { event = e; entry = j; mover = mover_in arts x old e j v turn } ∷ []
 
-last_turn : (arts : Arts) (x : Setting) (es all : List Event) (js each : List Entry) (e : Event) (j : Entry) (v : World) → Clean arts x all each v
-    → all ≡ es ++ e ∷ [] → each ≡ js ++ j ∷ [] → LastTurn arts x es js e j v
+last_turn : (arts : Arts) (x : Setting) (es all : List Event) (js each : List Entry) (e : Event) (j : Entry) (v : World) (run : Clean arts x all each v)
+    → all ≡ es ++ e ∷ [] → each ≡ js ++ j ∷ [] → LastTurn arts x es js e j v (past arts x all each v run)
 last_turn arts x es all js each e j v Starts one two =
     absurd (let long = ap (λ (zs : List Event). length zs) one in let more = length-append es (e ∷ []) in omega (arith, long, more))
 last_turn arts x es all js each e j v (Turned {es = es'} {js = js'} {old = old} {e = e'} {j = j'} run range turn unforged) one two =
     let p = snoc es' es e' e one in
     let q = snoc js' js j' j two in
-    record {
-      old = old;
-      run = subst (λ (ys : List Entry). Clean arts x es ys old) q.0 (subst (λ (xs : List Event). Clean arts x xs js' old) p.0 run);
-      turn = subst (λ (y : Entry). Turn arts x old e y v) q.1 (subst (λ (y : Event). Turn arts x old y j' v) p.1
-          (subst (λ (xs : List Event). Turn arts x old e' j' v) p.0 turn));
-    }
+    let tells = past arts x es' js' old run ++ record { event = e'; entry = j'; mover = mover_in arts x old e' j' v turn } ∷ [] in
+    let here : LastTurn arts x es' js' e' j' v tells = record { old = old; run = run; turn = turn; ends = refl } in
+    subst (λ (y : Entry). LastTurn arts x es js e y v tells) q.1
+    (subst (λ (y : Event). LastTurn arts x es js y j' v tells) p.1
+    (subst (λ (ys : List Entry). LastTurn arts x es ys e' j' v tells) q.0 (subst (λ (xs : List Event). LastTurn arts x xs js' e' j' v tells) p.0 here)))
 
-none_left : (arts : Arts) (x : Setting) (es : List Event) (js : List Entry) (v : World) → Clean arts x es js v → es ≡ [] → v ≡ at_start x
-none_left arts x es js v Starts e = refl
+none_left : (arts : Arts) (x : Setting) (es : List Event) (js : List Entry) (v : World) (run : Clean arts x es js v) → es ≡ []
+    → (at_start x ≡ v) × ([] ≡ past arts x es js v run)
+none_left arts x es js v Starts e = (refl, refl)
 none_left arts x es js v (Turned {es = es'} {js = js'} {old = old} {e = e} {j = j} run range turn unforged) none =
     absurd (let long = ap (λ (zs : List Event). length zs) none in let more = length-append es' (e ∷ []) in omega (arith, long, more))
 
-pub runs_are_determined : RunsAreDetermined
-runs_are_determined arts x es js w v fits carries Starts other = sym (none_left arts x [] [] v other refl)
-runs_are_determined arts x es js w v fits carries (Turned {es = es'} {js = js'} {old = old} {e = e} {j = j} run range turn unforged) other =
+-- a turn of this mover
+abbrev TurnOf : Arts → Setting → World → Event → Entry → World → Option NodeState → Type 0
+TurnOf arts x old e j v mover = (turn : Turn arts x old e j v) × (mover_in arts x old e j v turn ≡ mover)
+
+determined : (arts : Arts) (x : Setting) (es : List Event) (js : List Entry) (w v : World) → SettingFits arts x → Carries x.topology.format arts
+    → (one : Clean arts x es js w) (two : Clean arts x es js v) → (w ≡ v) × (past arts x es js w one ≡ past arts x es js v two)
+determined arts x es js w v fits carries Starts other = none_left arts x [] [] v other refl
+determined arts x es js w v fits carries (Turned {es = es'} {js = js'} {old = old} {e = e} {j = j} run range turn unforged) other =
     let last = last_turn arts x es' (es' ++ e ∷ []) js' (js' ++ j ∷ []) e j v other refl refl in
-    let same : last.old ≡ old = sym (runs_are_determined arts x es' js' old last.old fits carries run last.run) in
-    one_turn arts x es' js' old w v e j fits carries run range turn (subst (λ (y : World). Turn arts x y e j v) same last.turn)
+    let before = determined arts x es' js' old last.old fits carries run last.run in
+    let mover = mover_in arts x last.old e j v last.turn in
+    let there : TurnOf arts x old e j v mover = subst (λ (y : World). TurnOf arts x y e j v mover) (sym before.0) (last.turn, refl) in
+    let same = one_turn arts x es' js' old w v e j fits carries run range turn there.0 in
+    let now : past arts x es' js' old run ++ record { event = e; entry = j; mover = mover_in arts x old e j w turn } ∷ []
+    ≡ past arts x es' js' last.old last.run ++ record { event = e; entry = j; mover = mover } ∷ [] =
+    ap₂ (λ (h : List Happened) (m : Option NodeState). h ++ record { event = e; entry = j; mover = m } ∷ []) before.1 (same.mover ∙ there.1) in
+    (same.world, now ∙ sym last.ends)
+
+pub runs_are_determined : RunsAreDetermined
+runs_are_determined arts x es js w v fits carries one two = (determined arts x es js w v fits carries one two).0
+
+pub past_is_determined : PastIsDetermined
+past_is_determined arts x es js w v fits carries one two = (determined arts x es js w v fits carries one two).1

@@ -1,5 +1,5 @@
--- What each piece of a frame keeps of a flow between its ends.
-use Rattle.std.proofs.Common.{◌≡◌, ◌≤◌, ℕ, ◌+◌, Bool, true, false, cond, List, [], ◌∷◌, ◌++◌, length, Some, refl, sym, ap, subst, ◌∙◌, inl, inr, arith, append_assoc, nat_lt}
+-- What each piece of a frame but an Epoch object keeps of a flow between its ends, under the boots that the node holds of them.
+use Rattle.std.proofs.Common.{◌≡◌, ◌≤◌, ℕ, ◌+◌, Bool, true, false, cond, List, [], ◌∷◌, ◌++◌, length, Some, refl, sym, ap, subst, ◌∙◌, inl, inr, arith, nat_lt}
 use Rattle.std.specs.Prelude.{◌&&◌, ◌==◌}
 use Rattle.std.specs.List.{flat_map}
 use Rattle.std.proofs.lemmas.Bool.{cases_Bool, eq-eqb, eqb-true, ne_eqb}
@@ -20,13 +20,14 @@ use Rattle.sp_rules.proofs.FlowJudged.{found_ends, new_ack, new_rel, same_flow}
 use Rattle.sp_rules.specs.Answers.{ack_answer, is_new, prio_answer, rel_answer, weight_answer}
 use Rattle.sp_rules.specs.Arts.{Arts}
 use Rattle.sp_rules.specs.Flow.{FlowState, acknowledged_by, flow_said, number_said, pushed, received}
-use Rattle.sp_rules.specs.Handle.{Arrival, handle, handle_all, heard_where, offer_to, weight_effects}
-use Rattle.sp_rules.specs.Lives.{are_held, is_dated}
+use Rattle.sp_rules.specs.Handle.{Arrival, handle, heard_where, offer_to, weight_effects}
+use Rattle.sp_rules.specs.Lives.{are_held, held_boot, is_dated}
 use Rattle.sp_rules.specs.Parts.{Parts, is_signed}
 use Rattle.sp_rules.specs.Pieces.{Piece, WeightPiece, PrioAckPiece, PrioPiece, ReportPiece, AckPiece, RelPiece, EpochPiece}
 use Rattle.sp_rules.specs.Prio.{admit_prio, judge_prio, prio_effects}
 use Rattle.sp_rules.specs.Rel.{RelState, admit_ack, admit_rel, delivery, flow_in, is_from, is_to, judge_ack_of, judge_rel_of, rel_effects, reported, with_flow, with_peer, told as told_peer, peer_in}
 use Rattle.sp_rules.specs.Weights.{held}
+use Rattle.sp_rules.specs.declared.lives.Life.{Life}
 use Rattle.sp_rules.specs.declared.answers.Item.{Item}
 use Rattle.sp_rules.specs.declared.answers.Item.TheVariants as items
 use Rattle.sp_rules.specs.declared.answers.PrioAnswer.{PrioAnswer}
@@ -34,13 +35,13 @@ use Rattle.sp_rules.specs.declared.answers.PrioAnswer.TheVariants as prios
 use Rattle.sp_rules.specs.declared.rel.AckJudged.TheVariants as acks
 use Rattle.sp_rules.specs.declared.rel.RelJudged.TheVariants as rels
 use Rattle.laws_node.specs.Asked.{NewKeep}
-use Rattle.laws_node.proofs.AskedLemmas.{new_left, new_right}
 use Rattle.laws_node.proofs.Handles as judged
 use Rattle.laws_node.proofs.Tables.{cond_either}
-use Rattle.sp_runs.specs.Told.{Message, delivered_by, signed_by}
+use Rattle.sp_runs.specs.Told.{Message, delivered_by}
 use Rattle.laws_runs.specs.Flows.{IsIn}
 use Rattle.laws_runs.proofs.FlowFacts.{FlowAt, RelIs, cases_flow, delivered_next, flow_acked, flow_of, flow_received, flow_took, prefix_length, same_rows_is, with_flow_is}
-use Rattle.laws_runs.proofs.NoStarts.{NoStart, NoStarts}
+use Rattle.laws_runs.proofs.Lists.{both}
+use Rattle.laws_runs.proofs.NoStarts.{NoStart}
 use Rattle.laws_runs.proofs.OnePaths.{IsOnePath}
 use Rattle.laws_runs.proofs.Quiet.{Quiet, quiet_acked, quiet_none, quiet_prio, quiet_weight}
 use Rattle.laws_runs.proofs.Tables.{same_node}
@@ -56,7 +57,7 @@ told_quiet u s d es h = elim (cases_Bool (u.0 == d.0)) [
   | inr t ↦ rw t refl
 ]
 
-told_both : (u s d : NodeId) (xs ys : List Effect) → told_here u s d (xs ++ ys) ≡ told_here u s d xs ++ told_here u s d ys
+pub told_both : (u s d : NodeId) (xs ys : List Effect) → told_here u s d (xs ++ ys) ≡ told_here u s d xs ++ told_here u s d ys
 told_both u s d xs ys = elim (cases_Bool (u.0 == d.0)) [
   | inl t ↦ rw t (flat_map-append (delivered_by s) xs ys)
   | inr t ↦ rw t refl
@@ -68,15 +69,26 @@ pub record Handles (C : Type 0) (s d : NodeId) (S D : List Message) (c : ℕ) (u
   pub rel : RelIs C s d S (D ++ told_here u s d es) c u r
   pub prefix : C → IsPrefix (D ++ told_here u s d es) S
   pub low : c ≤ length (D ++ told_here u s d es)
-  pub unsigned : flat_map signed_by es ≡ []
 
--- a new object says of the flow what was sent and acknowledged
-pub record Vouched (C : Type 0) (s d : NodeId) (S : List Message) (c : ℕ) (o : Kept) : Type 0 where
+-- a new object of these boots says of the flow what was sent and acknowledged under them
+pub record Vouched (C : Type 0) (s d : NodeId) (a b : ℕ) (S : List Message) (c : ℕ) (o : Kept) : Type 0 where
   pub one_path : IsOnePath o.body
-  pub message : C → (m : Rel) → o.body ≡ bodies.Rel m → m.src ≡ s → m.dst ≡ d → IsIn S m.seq m.payload
-  pub ack : (a : Ack) → o.body ≡ bodies.Ack a → a.src ≡ s → a.dst ≡ d → a.seq ≤ c
+  pub message : C → (m : Rel) → o.body ≡ bodies.Rel m → m.src ≡ s → m.dst ≡ d → m.sboot ≡ a → m.dboot ≡ b → IsIn S m.seq m.payload
+  pub ack : (k : Ack) → o.body ≡ bodies.Ack k → k.src ≡ s → k.dst ≡ d → k.sboot ≡ a → k.dboot ≡ b → k.seq ≤ c
 
-module _ (C : Type 0) (s d : NodeId) (S : List Message) (c : ℕ) (u : NodeId) (different : s ≡ d → ⊥) where
+-- these are the boots that are held of both ends
+pub record Holding (s d : NodeId) (a b : ℕ) (lives : List Life) : Type 0 where
+  pub src : held_boot lives s ≡ a
+  pub dst : held_boot lives d ≡ b
+
+-- the boots of a dated message are those that are held
+pub dated_rel : (lives : List Life) (m : Rel) → is_dated lives (bodies.Rel m) ≡ true → (m.sboot ≡ held_boot lives m.src) × (m.dboot ≡ held_boot lives m.dst)
+dated_rel lives m t = let two = both _ _ t in (eqb-true _ _ two.0, eqb-true _ _ two.1)
+
+pub dated_ack : (lives : List Life) (k : Ack) → is_dated lives (bodies.Ack k) ≡ true → (k.sboot ≡ held_boot lives k.src) × (k.dboot ≡ held_boot lives k.dst)
+dated_ack lives k t = let two = both _ _ t in (eqb-true _ _ two.0, eqb-true _ _ two.1)
+
+module _ (C : Type 0) (s d : NodeId) (bs bd : ℕ) (S : List Message) (c : ℕ) (u : NodeId) (different : s ≡ d → ⊥) where
   still : (D : List Message) (r r2 : RelState) (es : List Effect) → Quiet es → r2.me ≡ r.me → r2.flows ≡ r.flows → RelIs C s d S D c u r → (C → IsPrefix D S) → c ≤ length D
       → Handles C s d S D c u r2 es
   still D r r2 es quiet e f h prefix low =
@@ -85,7 +97,6 @@ module _ (C : Type 0) (s d : NodeId) (S : List Message) (c : ℕ) (u : NodeId) (
         rel = subst (λ X. RelIs C s d S X c u r2) (sym none) (same_rows_is C s d S D c u r r2 e f h);
         prefix = subst (λ X. C → IsPrefix X S) (sym none) prefix;
         low = subst (λ (X : List Message). c ≤ length X) (sym none) low;
-        unsigned = quiet.no_signature;
       }
 
   chosen : (D : List Message) (answer : Item) (new old : Parts) (es : List Effect) → (is_new answer ≡ true → Handles C s d S D c u new.rel es) → Handles C s d S D c u old.rel []
@@ -127,11 +138,13 @@ module _ (C : Type 0) (s d : NodeId) (S : List Message) (c : ℕ) (u : NodeId) (
   got_ack r flow (bodies.Kack b) good new = absurd good
   got_ack r flow (bodies.Epoch b) good new = absurd (cc)
 
-  ack_taken : (D : List Message) (r : RelState) (flow : Flow) (o : Kept) → judge_ack_of r flow o.body ≡ acks.New → Vouched C s d S c o → RelIs C s d S D c u r → (C → IsPrefix D S) → c ≤ length D
+  ack_taken : (D : List Message) (lives : List Life) (r : RelState) (flow : Flow) (o : Kept) → Holding s d bs bd lives → is_dated lives o.body ≡ true
+      → judge_ack_of r flow o.body ≡ acks.New → Vouched C s d bs bd S c o → RelIs C s d S D c u r → (C → IsPrefix D S) → c ≤ length D
       → Handles C s d S D c u (admit_ack r o) []
-  ack_taken D r flow o new vouched h prefix low =
+  ack_taken D lives r flow o holding dated new vouched h prefix low =
       let got = got_ack r flow o.body vouched.one_path new in
       let a = got.a in
+      let boots = dated_ack lives a (subst (λ x. is_dated lives x ≡ true) got.is dated) in
       let said : flow_said o.body ≡ flow_of a.src a.dst = ap flow_said got.is in
       let number : number_said o.body ≡ a.seq = ap number_said got.is in
       let f = flow_in r.flows (flow_said o.body) in
@@ -143,7 +156,7 @@ module _ (C : Type 0) (s d : NodeId) (S : List Message) (c : ℕ) (u : NodeId) (
       let src : a.src ≡ s = ap (λ (x : Flow). x.src) both in
       let dst : a.dst ≡ d = ap (λ (x : Flow). x.dst) both in
       let here : FlowAt C s d S D c u f = subst (λ fl. FlowAt C s d S D c u (flow_in r.flows fl)) (sym e) h.flow in
-      let known = vouched.ack a got.is src dst in
+      let known = vouched.ack a got.is src dst (boots.0 ∙ ap (held_boot lives) src ∙ holding.src) (boots.1 ∙ ap (held_boot lives) dst ∙ holding.dst) in
       flow_acked C s d S D c u f o (λ z. got.not_to (h.me ∙ z ∙ sym dst)) (omega (arith, number, known)) few
       (λ z. let most = got.at_source (h.me ∙ z ∙ sym src) in let have = ap (λ (g : FlowState). g.at.have) there in omega (arith, most, number, have)) here)
       (λ never. h.flow) in
@@ -152,7 +165,6 @@ module _ (C : Type 0) (s d : NodeId) (S : List Message) (c : ℕ) (u : NodeId) (
         rel = subst (λ X. RelIs C s d S X c u (admit_ack r o)) (sym none) after;
         prefix = subst (λ X. C → IsPrefix X S) (sym none) prefix;
         low = subst (λ (X : List Message). c ≤ length X) (sym none) low;
-        unsigned = refl;
       }
 
   -- ---- a message
@@ -197,10 +209,12 @@ module _ (C : Type 0) (s d : NodeId) (S : List Message) (c : ℕ) (u : NodeId) (
     | inr t ↦ rw t refl
   ]
 
-  delivered_here : (D : List Message) (r : RelState) (o : Kept) (got : GotRel r o.body) → is_to r (flow_said o.body) ≡ true → Vouched C s d S c o → RelIs C s d S D c u r → (C → IsPrefix D S) → c ≤ length D
+  delivered_here : (D : List Message) (lives : List Life) (r : RelState) (o : Kept) (got : GotRel r o.body) → Holding s d bs bd lives
+      → is_dated lives o.body ≡ true → is_to r (flow_said o.body) ≡ true → Vouched C s d bs bd S c o → RelIs C s d S D c u r → (C → IsPrefix D S) → c ≤ length D
       → Handles C s d S D c u (with_flow r (flow_said o.body) (received (flow_in r.flows (flow_said o.body)) (payload_of o.body))) (delivery o.body ∷ [])
-  delivered_here D r o got to vouched h prefix low =
+  delivered_here D lives r o got holding dated to vouched h prefix low =
       let m = got.m in
+      let boots = dated_rel lives m (subst (λ x. is_dated lives x ≡ true) got.is dated) in
       let flow = flow_said o.body in
       let f = flow_in r.flows flow in
       let es = delivery o.body ∷ [] in
@@ -215,7 +229,8 @@ module _ (C : Type 0) (s d : NodeId) (S : List Message) (c : ℕ) (u : NodeId) (
             let ud : u ≡ d = at_dst ∙ ap (λ (x : Flow). x.dst) e in
             let both : flow_of m.src m.dst ≡ flow_of s d = sym said ∙ e in
             let told : told_here u s d es ≡ (m.seq, m.payload) ∷ [] = told_mine o.body e ud ∙ ap (λ n. (n, payload_of o.body) ∷ []) number ∙ ap (λ p. (m.seq, p) ∷ []) payload in
-            let there : C → IsIn S m.seq m.payload = λ k. vouched.message k m got.is (ap (λ (x : Flow). x.src) both) (ap (λ (x : Flow). x.dst) both) in
+            let there : C → IsIn S m.seq m.payload = λ k. vouched.message k m got.is (ap (λ (x : Flow). x.src) both) (ap (λ (x : Flow). x.dst) both)
+            (boots.0 ∙ ap (λ (x : Flow). held_boot lives x.src) both ∙ holding.src) (boots.1 ∙ ap (λ (x : Flow). held_boot lives x.dst) both ∙ holding.dst) in
             let mine : FlowAt C s d S D c u f = subst (λ fl. FlowAt C s d S D c u (flow_in r.flows fl)) (sym e) h.flow in
             let not_s : d ≡ s → ⊥ = λ z. different (sym z) in
             let received_at : FlowAt C s d S (D ++ (m.seq, m.payload) ∷ []) c u (received f (payload_of o.body)) =
@@ -228,7 +243,6 @@ module _ (C : Type 0) (s d : NodeId) (S : List Message) (c : ℕ) (u : NodeId) (
               rel = subst (λ t. RelIs C s d S (D ++ t) c u r2) (sym told) after;
               prefix = subst (λ t. C → IsPrefix (D ++ t) S) (sym told) (λ k. delivered_next S D m.seq m.payload (prefix k) length_is (there k));
               low = subst (λ (t : List Message). c ≤ length (D ++ t)) (sym told) (omega (arith, low, length-append D ((m.seq, m.payload) ∷ [])));
-              unsigned = refl;
             }
         | inr never ↦
             let none : D ++ told_here u s d es ≡ D = ap (λ t. D ++ t) (told_other o.body never at_dst) ∙ append-nil D in
@@ -237,14 +251,16 @@ module _ (C : Type 0) (s d : NodeId) (S : List Message) (c : ℕ) (u : NodeId) (
               rel = subst (λ X. RelIs C s d S X c u r2) (sym none) after;
               prefix = subst (λ X. C → IsPrefix X S) (sym none) prefix;
               low = subst (λ (X : List Message). c ≤ length X) (sym none) low;
-              unsigned = refl;
             }
       ]
 
-  kept_here : (D : List Message) (r : RelState) (o : Kept) (got : GotRel r o.body) → is_to r (flow_said o.body) ≡ false → Vouched C s d S c o → RelIs C s d S D c u r → (C → IsPrefix D S) → c ≤ length D
+  kept_here : (D : List Message) (lives : List Life) (r : RelState) (o : Kept) (got : GotRel r o.body) → Holding s d bs bd lives
+      → is_dated lives o.body ≡ true → is_to r (flow_said o.body) ≡ false → Vouched C s d bs bd S c o → RelIs C s d S D c u r → (C → IsPrefix D S)
+      → c ≤ length D
       → Handles C s d S D c u (with_flow r (flow_said o.body) (pushed (flow_in r.flows (flow_said o.body)) o)) []
-  kept_here D r o got elsewhere vouched h prefix low =
+  kept_here D lives r o got holding dated elsewhere vouched h prefix low =
       let m = got.m in
+      let boots = dated_rel lives m (subst (λ x. is_dated lives x ≡ true) got.is dated) in
       let flow = flow_said o.body in
       let f = flow_in r.flows flow in
       let r2 = with_flow r flow (pushed f o) in
@@ -257,26 +273,28 @@ module _ (C : Type 0) (s d : NodeId) (S : List Message) (c : ℕ) (u : NodeId) (
       let src : m.src ≡ s = ap (λ (x : Flow). x.src) both in
       let dst : m.dst ≡ d = ap (λ (x : Flow). x.dst) both in
       let not_d : u ≡ d → ⊥ = λ z. absurd (let yes : is_to r flow ≡ true = eq-eqb _ _ (ap (λ (v : NodeId). v.0) (h.me ∙ z ∙ sym dst ∙ ap (λ (x : Flow). x.dst) (sym said))) in let g : true ≡ false = sym yes ∙ elsewhere in cc) in
-      flow_took C s d S D c u f o m.payload (λ z. got.not_from (h.me ∙ z ∙ sym src)) not_d (λ k. subst (λ q. IsIn S q m.payload) next (vouched.message k m got.is src dst))
+      let there : C → IsIn S m.seq m.payload =
+      λ k. vouched.message k m got.is src dst (boots.0 ∙ ap (held_boot lives) src ∙ holding.src) (boots.1 ∙ ap (held_boot lives) dst ∙ holding.dst) in
+      flow_took C s d S D c u f o m.payload (λ z. got.not_from (h.me ∙ z ∙ sym src)) not_d (λ k. subst (λ q. IsIn S q m.payload) next (there k))
       (subst (λ fl. FlowAt C s d S D c u (flow_in r.flows fl)) (sym e) h.flow))
       (λ never. h.flow) in
       record {
         rel = subst (λ X. RelIs C s d S X c u r2) (sym none) after;
         prefix = subst (λ X. C → IsPrefix X S) (sym none) prefix;
         low = subst (λ (X : List Message). c ≤ length X) (sym none) low;
-        unsigned = refl;
       }
 
-  rel_taken : (D : List Message) (r : RelState) (flow : Flow) (o : Kept) → judge_rel_of r flow o.body ≡ rels.New → Vouched C s d S c o → RelIs C s d S D c u r → (C → IsPrefix D S) → c ≤ length D
+  rel_taken : (D : List Message) (lives : List Life) (r : RelState) (flow : Flow) (o : Kept) → Holding s d bs bd lives → is_dated lives o.body ≡ true
+      → judge_rel_of r flow o.body ≡ rels.New → Vouched C s d bs bd S c o → RelIs C s d S D c u r → (C → IsPrefix D S) → c ≤ length D
       → Handles C s d S D c u (admit_rel r o) (rel_effects r o)
-  rel_taken D r flow o new vouched h prefix low =
+  rel_taken D lives r flow o holding dated new vouched h prefix low =
       let got = got_rel r flow o.body vouched.one_path new in
       elim (cases_Bool (is_to r (flow_said o.body))) [
-        | inl t ↦ let done = delivered_here D r o got t vouched h prefix low in rw t done
-        | inr t ↦ let done = kept_here D r o got t vouched h prefix low in rw t done
+        | inl t ↦ let done = delivered_here D lives r o got holding dated t vouched h prefix low in rw t done
+        | inr t ↦ let done = kept_here D lives r o got holding dated t vouched h prefix low in rw t done
       ]
 
-  -- ---- all pieces
+  -- ---- a piece that isn't an Epoch object
 
   heard_rel : (answer : PrioAnswer) (v : NodeId) (number : ℕ) (p : Parts) → (heard_where answer v number p).rel ≡ p.rel
   heard_rel prios.New v number p = refl
@@ -290,45 +308,31 @@ module _ (C : Type 0) (s d : NodeId) (S : List Message) (c : ℕ) (u : NodeId) (
   reported_flows true r x e f = (e, f)
   reported_flows false r x e f = (refl, refl)
 
-  one_handled : (D : List Message) (arts : Arts) (at : Arrival) (p : Parts) (piece : Piece) → NoStart piece
-      → NewKeep (Vouched C s d S c) (handle arts at p piece).answered
+  pub one_handled : (D : List Message) (arts : Arts) (at : Arrival) (p : Parts) (piece : Piece) → NoStart piece → Holding s d bs bd p.lives
+      → NewKeep (Vouched C s d bs bd S c) (handle arts at p piece).answered
       → RelIs C s d S D c u p.rel → (C → IsPrefix D S) → c ≤ length D → Handles C s d S D c u (handle arts at p piece).parts.rel (handle arts at p piece).effects
-  one_handled D arts at p (WeightPiece o) none new h prefix low =
+  one_handled D arts at p (WeightPiece o) none holding new h prefix low =
       chosen D (items.Weight (weight_answer (is_signed arts at.fixed o) (offer_to at.fixed.me p.weights o.body))) (record p { weights = held p.weights o }) p (weight_effects o.body)
       (λ t. still D p.rel p.rel (weight_effects o.body) (quiet_weight o.body) refl refl h prefix low) (still D p.rel p.rel [] quiet_none refl refl h prefix low)
-  one_handled D arts at p (PrioAckPiece number) none new h prefix low = still D p.rel p.rel _ (quiet_acked p.prio at.from.0 number) refl refl h prefix low
-  one_handled D arts at p (PrioPiece number o) none new h prefix low =
+  one_handled D arts at p (PrioAckPiece number) none holding new h prefix low = still D p.rel p.rel _
+      (quiet_acked p.prio at.from.0 number) refl refl h prefix low
+  one_handled D arts at p (PrioPiece number o) none holding new h prefix low =
       let answer = prio_answer (is_signed arts at.fixed o) (is_dated p.lives o.body) (judge_prio p.prio o.body at.now) in
       let admitted = record p { prio = admit_prio p.prio o (Some at.from) } in
       subst (λ r. Handles C s d S D c u r (cond (is_new (items.Prio answer)) (prio_effects p.prio o (Some at.from)) []))
       (sym (heard_rel answer at.from number (cond (is_new (items.Prio answer)) admitted p)))
       (chosen D (items.Prio answer) admitted p (prio_effects p.prio o (Some at.from))
       (λ t. still D p.rel p.rel _ (quiet_prio p.prio o (Some at.from)) refl refl h prefix low) (still D p.rel p.rel [] quiet_none refl refl h prefix low))
-  one_handled D arts at p (ReportPiece flow sboot dboot base have) none new h prefix low =
+  one_handled D arts at p (ReportPiece flow sboot dboot base have) none holding new h prefix low =
       let same = reported_flows (flow_in p.rel.flows flow).active p.rel (with_peer p.rel at.from (told_peer (peer_in p.rel.peers at.from) flow base have)) refl refl in
       cond_either (λ (q : Parts). Handles C s d S D c u q.rel []) (are_held p.lives flow sboot dboot) (record p { rel = reported p.rel at.from flow base have }) p
       (still D p.rel (reported p.rel at.from flow base have) [] quiet_none same.0 same.1 h prefix low) (still D p.rel p.rel [] quiet_none refl refl h prefix low)
-  one_handled D arts at p (AckPiece flow o) none new h prefix low =
+  one_handled D arts at p (AckPiece flow o) none holding new h prefix low =
       chosen D (items.Ack (ack_answer (is_signed arts at.fixed o) (is_dated p.lives o.body) (judge_ack_of p.rel flow o.body))) (record p { rel = admit_ack p.rel o }) p []
-      (λ t. ack_taken D p.rel flow o (judged.new_ack _ _ _ t).1 (new.0 t) h prefix low) (still D p.rel p.rel [] quiet_none refl refl h prefix low)
-  one_handled D arts at p (RelPiece flow o) none new h prefix low =
+      (λ t. let is = judged.new_ack _ _ _ t in ack_taken D p.lives p.rel flow o holding is.2 is.1 (new.0 t) h prefix low)
+      (still D p.rel p.rel [] quiet_none refl refl h prefix low)
+  one_handled D arts at p (RelPiece flow o) none holding new h prefix low =
       chosen D (items.Rel (rel_answer (is_signed arts at.fixed o) (is_dated p.lives o.body) (judge_rel_of p.rel flow o.body))) (record p { rel = admit_rel p.rel o }) p (rel_effects p.rel o)
-      (λ t. rel_taken D p.rel flow o (judged.new_rel _ _ _ t).1 (new.0 t) h prefix low) (still D p.rel p.rel [] quiet_none refl refl h prefix low)
-  one_handled D arts at p (EpochPiece o) none new h prefix low = absurd none
-
-  pub all_handled : (D : List Message) (arts : Arts) (at : Arrival) (p : Parts) (pieces : List Piece) → NoStarts pieces → NewKeep (Vouched C s d S c) (handle_all arts at p pieces).answered
-      → RelIs C s d S D c u p.rel → (C → IsPrefix D S) → c ≤ length D → Handles C s d S D c u (handle_all arts at p pieces).parts.rel (handle_all arts at p pieces).effects
-  all_handled D arts at p [] none new h prefix low = still D p.rel p.rel [] quiet_none refl refl h prefix low
-  all_handled D arts at p (piece ∷ pieces) none new h prefix low =
-      let first = handle arts at p piece in
-      let others = handle_all arts at first.parts pieces in
-      let one = one_handled D arts at p piece none.0 (new_left (Vouched C s d S c) first.answered others.answered new) h prefix low in
-      let rest = all_handled (D ++ told_here u s d first.effects) arts at first.parts pieces none.1 (new_right (Vouched C s d S c) first.answered others.answered new) one.rel one.prefix one.low in
-      let both : D ++ told_here u s d (first.effects ++ others.effects) ≡ (D ++ told_here u s d first.effects) ++ told_here u s d others.effects =
-      ap (λ t. D ++ t) (told_both u s d first.effects others.effects) ∙ sym (append_assoc D (told_here u s d first.effects) (told_here u s d others.effects)) in
-      record {
-        rel = subst (λ X. RelIs C s d S X c u others.parts.rel) (sym both) rest.rel;
-        prefix = subst (λ X. C → IsPrefix X S) (sym both) rest.prefix;
-        low = subst (λ (X : List Message). c ≤ length X) (sym both) rest.low;
-        unsigned = flat_map-append signed_by first.effects others.effects ∙ rw (one.unsigned, rest.unsigned) refl;
-      }
+      (λ t. let is = judged.new_rel _ _ _ t in rel_taken D p.lives p.rel flow o holding is.2 is.1 (new.0 t) h prefix low)
+      (still D p.rel p.rel [] quiet_none refl refl h prefix low)
+  one_handled D arts at p (EpochPiece o) none holding new h prefix low = absurd none

@@ -1,5 +1,6 @@
--- What each step of a node keeps of a flow between its ends.
-use Rattle.std.proofs.Common.{◌≡◌, ◌≤◌, ℕ, ◌+◌, max, true, false, cond, eqb, List, [], ◌∷◌, ◌++◌, length, Option, Some, None, Ok, refl, sym, ap, subst, ◌∙◌, inl, inr, arith, append_assoc}
+-- What each step of a node keeps of a flow between its ends, under the boots that the node holds of them.
+use Rattle.std.proofs.Common.{◌≡◌, ◌≤◌, ℕ, ◌+◌, max, true, false, cond, eqb, List, [], ◌∷◌, ◌++◌, length, Option, Some, None, refl, sym, ap, subst}
+use Rattle.std.proofs.Common.{◌∙◌, inl, inr, arith, append_assoc}
 use Rattle.std.specs.Prelude.{◌&&◌, ◌==◌, IsTrue}
 use Rattle.std.specs.List.{flat_map}
 use Rattle.std.specs.Option.{option_and_then, option_map}
@@ -19,97 +20,78 @@ use Rattle.sp_msg.specs.declared.kept.Kept.{Kept}
 use Rattle.sp_rules.proofs.FlowJudged.{found_ends}
 use Rattle.sp_rules.specs.Arts.{Arts}
 use Rattle.sp_rules.specs.Flow.{concluded, after_take, flow_said, number_said, pushed}
+use Rattle.sp_rules.specs.Lives.{held_boot}
 use Rattle.sp_rules.specs.Node.{NodeState, signed_now}
 use Rattle.sp_rules.specs.Rel.{RelState, ack_of, due, due_place, flow_at, flow_in, flow_to_me, own_flow, pushed_in, served, served_at, next_place, settled, settled_at, took}
 use Rattle.sp_rules.specs.Sends.{rel_body, rel_number}
-use Rattle.sp_rules.specs.Window.{greatest}
+use Rattle.sp_rules.specs.declared.lives.Life.{Life}
 use Rattle.laws_node.proofs.Spellings.{no_other_is_spelled_so}
 use Rattle.laws_node.specs.Inputs.{ReadsBack}
 use Rattle.laws_node.specs.Sizes.{Sizes}
 use Rattle.sp_runs.specs.Forgery.{is_among}
 use Rattle.sp_runs.specs.Told.{Message, delivered_by, signed_by}
-use Rattle.laws_runs.specs.Acknowledged.{ack_in, acks_in}
 use Rattle.laws_runs.specs.Flows.{IsIn, AreNumbered}
+use Rattle.laws_runs.proofs.FlowAcks.{NoneAcked, acked_away, acked_ever, acked_here, acked_none, acked_one, acked_other, IsNoAck, not_named}
 use Rattle.laws_runs.proofs.FlowFacts.{FlowAt, RelIs, cases_flow, flow_concluded, flow_grown, flow_of, flow_sent, in_last, same_at, same_rows_is, with_flow_is}
-use Rattle.laws_runs.proofs.FlowPieces.{told_here, told_quiet}
+use Rattle.laws_runs.proofs.FlowPieces.{Holding, told_here, told_quiet}
 use Rattle.laws_runs.proofs.Quiet.{Quiet}
 use Rattle.laws_runs.proofs.Lists.{among_cons}
 use Rattle.laws_runs.proofs.Tables.{same_node}
 
--- ---- what the effects at u say that d acknowledged
+-- ---- the record of a step
 
-abbrev pub acked_here : Arts → NodeId → NodeId → NodeId → List Effect → ℕ
-acked_here arts u s d es = greatest (acks_in arts s d (cond (u.0 == d.0) (flat_map signed_by es) []))
-
-pub record Stepped (arts : Arts) (C : Type 0) (s d : NodeId) (S T D : List Message) (c : ℕ) (u : NodeId) (es : List Effect) (r : RelState) : Type 0 where
-  pub rel : RelIs C s d (S ++ T) (D ++ told_here u s d es) (max c (acked_here arts u s d es)) u r
+-- a step at u, which holds these boots of both ends, says T of what was sent
+pub record Stepped (arts : Arts) (C : Type 0) (s d : NodeId) (bs bd : ℕ) (S T D : List Message) (c : ℕ) (u : NodeId) (es : List Effect)
+    (r : RelState) : Type 0 where
+  pub rel : RelIs C s d (S ++ T) (D ++ told_here u s d es) (max c (acked_here arts bs bd u s d es)) u r
   pub prefix : C → IsPrefix (D ++ told_here u s d es) (S ++ T)
-  pub low : max c (acked_here arts u s d es) ≤ length (D ++ told_here u s d es)
+  pub low : max c (acked_here arts bs bd u s d es) ≤ length (D ++ told_here u s d es)
   pub no_t : (u ≡ s → ⊥) → T ≡ []
   pub numbers : C → AreNumbered (length S) T
   pub messages : C → u ≡ s → (m : Rel) → IsTrue (arts.is_good (bodies.Rel m)) → m.src ≡ s → m.dst ≡ d → is_among (arts.spell (bodies.Rel m)) (flat_map signed_by es) ≡ true
-      → IsIn (S ++ T) m.seq m.payload
+      → (m.sboot ≡ bs) × (m.dboot ≡ bd) × IsIn (S ++ T) m.seq m.payload
+  -- under other boots nothing was acknowledged
+  pub elsewhere : (x y : ℕ) → ((x ≡ bs) × (y ≡ bd) → ⊥) → acked_here arts x y u s d es ≡ 0
+  pub ever : acked_ever arts u s d es ≡ acked_here arts bs bd u s d es
 
--- nothing of this flow is acknowledged
-pub acked_none : (arts : Arts) (u s d : NodeId) (es : List Effect) → flat_map signed_by es ≡ [] → acked_here arts u s d es ≡ 0
-acked_none arts u s d es e = elim (cases_Bool (u.0 == d.0)) [ inl t ↦ rw (t, e) refl | inr t ↦ rw t refl ]
+-- the boots that a reliable message says
+abbrev sboot_said : Body → ℕ
+sboot_said (bodies.Rel r) = r.sboot
+sboot_said _ = 0
 
--- a message that was signed is read as it is
-pub acked_one : (arts : Arts) → ReadsBack arts → (u s d : NodeId) (es : List Effect) (body : Body) → IsTrue (arts.is_good body) → flat_map signed_by es ≡ arts.spell body ∷ [] → u ≡ d
-    → acked_here arts u s d es ≡ greatest (ack_in s d (Ok body))
-acked_one arts reads u s d es body good e z =
-    let here : (u.0 == d.0) ≡ true = eq-eqb _ _ (ap (λ (v : NodeId). v.0) z) in
-    let read : ack_in s d (arts.read (arts.spell body)) ≡ ack_in s d (Ok body) = ap (ack_in s d) (reads body good) in
-    rw (here, e) (ap greatest (append-nil (ack_in s d (arts.read (arts.spell body)))) ∙ ap greatest read)
-
-pub acked_away : (arts : Arts) (u s d : NodeId) (es : List Effect) → (u ≡ d → ⊥) → acked_here arts u s d es ≡ 0
-acked_away arts u s d es never = let away : (u.0 == d.0) ≡ false = ne_eqb _ _ (λ e. never (same_node u d e)) in rw away refl
-
--- a message that isn't an acknowledgement
-abbrev pub IsNoAck : Body → Type 0
-IsNoAck (bodies.Ack a) = ⊥
-IsNoAck _ = Unit {0}
-
-no_ack : (s d : NodeId) (body : Body) → IsNoAck body → greatest (ack_in s d (Ok body)) ≡ 0
-no_ack s d (bodies.Prio p) is = refl
-no_ack s d (bodies.Rel r) is = refl
-no_ack s d (bodies.Weight w) is = refl
-no_ack s d (bodies.Ack a) is = absurd is
-no_ack s d (bodies.Krel w) is = refl
-no_ack s d (bodies.Kack w) is = refl
-no_ack s d (bodies.Epoch w) is = refl
-
-acked_other : (arts : Arts) → ReadsBack arts → (u s d : NodeId) (es : List Effect) (body : Body) → IsTrue (arts.is_good body) → IsNoAck body → flat_map signed_by es ≡ arts.spell body ∷ [] → acked_here arts u s d es ≡ 0
-acked_other arts reads u s d es body good is e = elim (cases_eq u.0 d.0) [
-  | inl z ↦ acked_one arts reads u s d es body good e (same_node u d z) ∙ no_ack s d body is
-  | inr never ↦ acked_away arts u s d es (λ z. never (ap (λ (v : NodeId). v.0) z))
-]
+abbrev dboot_said : Body → ℕ
+dboot_said (bodies.Rel r) = r.dboot
+dboot_said _ = 0
 
 -- ---- a step of which nothing is told
 
-module _ (arts : Arts) (reads : ReadsBack arts) (C : Type 0) (s d : NodeId) (S D : List Message) (c : ℕ) (u : NodeId) (different : s ≡ d → ⊥) where
-  calm : (es : List Effect) (r : RelState) → told_here u s d es ≡ [] → acked_here arts u s d es ≡ 0
+module _ (arts : Arts) (reads : ReadsBack arts) (C : Type 0) (s d : NodeId) (bs bd : ℕ) (S D : List Message) (c : ℕ) (u : NodeId) (different : s ≡ d → ⊥) where
+  calm : (es : List Effect) (r : RelState) → told_here u s d es ≡ [] → NoneAcked arts u s d es
       → (C → u ≡ s → (m : Rel) → IsTrue (arts.is_good (bodies.Rel m)) → m.src ≡ s → m.dst ≡ d → is_among (arts.spell (bodies.Rel m)) (flat_map signed_by es) ≡ true → ⊥)
-      → RelIs C s d S D c u r → (C → IsPrefix D S) → c ≤ length D → Stepped arts C s d S [] D c u es r
-  calm es r none zero no_message h prefix low =
+      → RelIs C s d S D c u r → (C → IsPrefix D S) → c ≤ length D → Stepped arts C s d bs bd S [] D c u es r
+  calm es r none zeros no_message h prefix low =
+      let zero = zeros.under bs bd in
       let same_d : D ++ told_here u s d es ≡ D = ap (λ t. D ++ t) none ∙ append-nil D in
       let same_s : S ++ [] ≡ S = append-nil S in
-      let same_c : max c (acked_here arts u s d es) ≡ c = omega (arith, zero) in
+      let same_c : max c (acked_here arts bs bd u s d es) ≡ c = omega (arith, zero) in
       record {
         rel = subst (λ n. RelIs C s d (S ++ []) (D ++ told_here u s d es) n u r) (sym same_c)
             (subst (λ X. RelIs C s d (S ++ []) X c u r) (sym same_d) (subst (λ X. RelIs C s d X D c u r) (sym same_s) h));
         prefix = subst (λ X. C → IsPrefix X (S ++ [])) (sym same_d) (subst (λ X. C → IsPrefix D X) (sym same_s) prefix);
-        low = subst (λ (X : List Message). max c (acked_here arts u s d es) ≤ length X) (sym same_d) (omega (arith, zero, low));
+        low = subst (λ (X : List Message). max c (acked_here arts bs bd u s d es) ≤ length X) (sym same_d) (omega (arith, zero, low));
         no_t = λ never. refl;
         numbers = λ y. tt;
         messages = λ k z m good src dst among. absurd (no_message k z m good src dst among);
+        elsewhere = λ x y never. zeros.under x y;
+        ever = let all = zeros.ever in omega (arith, all, zero);
       }
 
   no_signature : (es : List Effect) → flat_map signed_by es ≡ [] → C → u ≡ s → (m : Rel) → IsTrue (arts.is_good (bodies.Rel m)) → m.src ≡ s → m.dst ≡ d
       → is_among (arts.spell (bodies.Rel m)) (flat_map signed_by es) ≡ true → ⊥
   no_signature es e k z m good src dst among = let f : false ≡ true = rw e at among in cc
 
-  pub silent : (es : List Effect) (r : RelState) → Quiet es → RelIs C s d S D c u r → (C → IsPrefix D S) → c ≤ length D → Stepped arts C s d S [] D c u es r
+  pub silent : (es : List Effect) (r : RelState) → Quiet es → RelIs C s d S D c u r → (C → IsPrefix D S) → c ≤ length D
+      → Stepped arts C s d bs bd S [] D c u es r
   silent es r quiet h prefix low = calm es r (told_quiet u s d es quiet) (acked_none arts u s d es quiet.no_signature) (no_signature es quiet.no_signature) h prefix low
 
   -- another kind of message was signed
@@ -137,7 +119,7 @@ module _ (arts : Arts) (reads : ReadsBack arts) (C : Type 0) (s d : NodeId) (S D
   other_is_no_rel (bodies.Epoch w) m is e = cc
 
   pub signed_other : (body : Body) (es : List Effect) (r : RelState) → IsOther body → IsTrue (arts.is_good body) → Quiet es → RelIs C s d S D c u r → (C → IsPrefix D S) → c ≤ length D
-      → Stepped arts C s d S [] D c u (Signed (arts.spell body) ∷ es) r
+      → Stepped arts C s d bs bd S [] D c u (Signed (arts.spell body) ∷ es) r
   signed_other body es r other good quiet h prefix low =
       let one : flat_map signed_by (Signed (arts.spell body) ∷ es) ≡ arts.spell body ∷ [] = ap (λ t. arts.spell body ∷ t) quiet.no_signature in
       let none : told_here u s d (Signed (arts.spell body) ∷ es) ≡ [] = elim (cases_Bool (u.0 == d.0)) [ inl t ↦ rw t (quiet.no_delivery s) | inr t ↦ rw t refl ] in
@@ -151,10 +133,12 @@ module _ (arts : Arts) (reads : ReadsBack arts) (C : Type 0) (s d : NodeId) (S D
 
   -- ---- a client's message
 
-  pub sent_step : (k : Sizes) (n : NodeState) (dst : NodeId) (payload : List ℕ) → n.fixed.me ≡ u → IsTrue (arts.is_good (rel_body n dst payload)) → RelIs C s d S D c u n.parts.rel → (C → IsPrefix D S) → c ≤ length D
-      → Stepped arts C s d S (cond (u.0 == s.0 && dst.0 == d.0) ((rel_number n dst, payload) ∷ []) []) D c u (Signed (arts.spell (rel_body n dst payload)) ∷ [])
-      (pushed_in n.parts.rel (signed_now arts n (rel_body n dst payload)))
-  sent_step k n dst payload me good h prefix low =
+  pub sent_step : (k : Sizes) (n : NodeState) (dst : NodeId) (payload : List ℕ) → n.fixed.me ≡ u → IsTrue (arts.is_good (rel_body n dst payload))
+      → Holding s d bs bd n.parts.lives
+      → RelIs C s d S D c u n.parts.rel → (C → IsPrefix D S) → c ≤ length D
+      → Stepped arts C s d bs bd S (cond (u.0 == s.0 && dst.0 == d.0) ((rel_number n dst, payload) ∷ []) []) D c u
+      (Signed (arts.spell (rel_body n dst payload)) ∷ []) (pushed_in n.parts.rel (signed_now arts n (rel_body n dst payload)))
+  sent_step k n dst payload me good holding h prefix low =
       let r = n.parts.rel in
       let o = signed_now arts n (rel_body n dst payload) in
       let flow = flow_said o.body in
@@ -166,9 +150,10 @@ module _ (arts : Arts) (reads : ReadsBack arts) (C : Type 0) (s d : NodeId) (S D
       let es = Signed (arts.spell (rel_body n dst payload)) ∷ [] in
       let number : rel_number n dst ≡ f.at.have + 1 = ap (λ fl. (flow_in r.flows fl).at.have + 1) own in
       let none : told_here u s d es ≡ [] = elim (cases_Bool (u.0 == d.0)) [ inl t ↦ rw t refl | inr t ↦ rw t refl ] in
-      let zero : acked_here arts u s d es ≡ 0 = acked_other arts reads u s d es (rel_body n dst payload) good tt refl in
+      let zeros : NoneAcked arts u s d es = acked_other arts reads u s d es (rel_body n dst payload) good tt refl in
+      let zero = zeros.under bs bd in
       let same_d : D ++ told_here u s d es ≡ D ++ [] = ap (λ t. D ++ t) none in
-      let same_c : max c (acked_here arts u s d es) ≡ c = omega (arith, zero) in
+      let same_c : max c (acked_here arts bs bd u s d es) ≡ c = omega (arith, zero) in
       let mine : flow ≡ flow_of s d → (u ≡ s) × (T ≡ m ∷ []) =
       λ e.
       let us : u ≡ s = sym me ∙ ap (λ (x : Flow). x.src) e in
@@ -189,7 +174,7 @@ module _ (arts : Arts) (reads : ReadsBack arts) (C : Type 0) (s d : NodeId) (S D
       record {
         rel = subst (λ q. RelIs C s d (S ++ T) (D ++ told_here u s d es) q u r2) (sym same_c) (subst (λ X. RelIs C s d (S ++ T) X c u r2) (sym same_d) after);
         prefix = subst (λ X. C → IsPrefix X (S ++ T)) (sym (same_d ∙ append-nil D)) (λ y. ((prefix y).0 ++ T, ap (λ t. t ++ T) (prefix y).1 ∙ append_assoc D (prefix y).0 T));
-        low = subst (λ (X : List Message). max c (acked_here arts u s d es) ≤ length X) (sym (same_d ∙ append-nil D)) (omega (arith, zero, low));
+        low = subst (λ (X : List Message). max c (acked_here arts bs bd u s d es) ≤ length X) (sym (same_d ∙ append-nil D)) (omega (arith, zero, low));
         no_t = λ never. rw (ne_eqb u.0 s.0 (λ e. never (same_node u s e))) refl;
         numbers = λ y. elim (cases_flow flow (flow_of s d)) [
           | inl e ↦
@@ -207,19 +192,29 @@ module _ (arts : Arts) (reads : ReadsBack arts) (C : Type 0) (s d : NodeId) (S D
               let p : payload ≡ w.payload = cc in
               let here : FlowAt C s d S D c u f = subst (λ fl. FlowAt C s d S D c u (flow_in r.flows fl)) (sym e2) h.flow in
               let have : f.at.have ≡ length S = here.have_source y z in
-              subst (λ X. IsIn (S ++ X) w.seq w.payload) (sym is.1)
-              (subst (λ a. IsIn (S ++ m ∷ []) a w.payload) q (subst (λ b. IsIn (S ++ m ∷ []) (rel_number n dst) b) p (in_last S (rel_number n dst) payload (omega (arith, number, have)))))
+              let said_s : held_boot n.parts.lives n.fixed.me ≡ w.sboot = ap sboot_said same in
+              let said_d : held_boot n.parts.lives dst ≡ w.dboot = ap dboot_said same in
+              let to_d : dst ≡ d = ap (λ (x : Flow). x.dst) e2 in (
+                sym said_s ∙ ap (held_boot n.parts.lives) (me ∙ is.0) ∙ holding.src,
+                sym said_d ∙ ap (held_boot n.parts.lives) to_d ∙ holding.dst,
+                subst (λ X. IsIn (S ++ X) w.seq w.payload) (sym is.1)
+                    (subst (λ a. IsIn (S ++ m ∷ []) a w.payload) q
+                    (subst (λ b. IsIn (S ++ m ∷ []) (rel_number n dst) b) p (in_last S (rel_number n dst) payload (omega (arith, number, have))))),
+              )
           | inr g ↦ absurd (let x : false ≡ true = g in cc)
         ];
+        elsewhere = λ x y never. zeros.under x y;
+        ever = let all = zeros.ever in omega (arith, all, zero);
       }
 
   -- ---- the destination's acknowledgement
 
-  pub settled_step : (r : RelState) (raw ack : Ack) (sboot dboot : ℕ) (o : Kept) (es : List Effect) → due r ≡ Some raw
-      → ack ≡ record raw { sboot = sboot; dboot = dboot } → o.body ≡ bodies.Ack ack → ack.dst ≡ u → IsTrue (arts.is_good (bodies.Ack ack)) → Quiet es
+  pub settled_step : (lives : List Life) (r : RelState) (raw ack : Ack) (o : Kept) (es : List Effect) → Holding s d bs bd lives → due r ≡ Some raw
+      → ack ≡ record raw { sboot = held_boot lives raw.src; dboot = held_boot lives raw.dst } → o.body ≡ bodies.Ack ack → ack.dst ≡ u
+      → IsTrue (arts.is_good (bodies.Ack ack)) → Quiet es
       → RelIs C s d S D c u r → (C → IsPrefix D S) → c ≤ length D
-      → Stepped arts C s d S [] D c u (es ++ Signed (arts.spell (bodies.Ack ack)) ∷ []) (settled r o)
-  settled_step r raw ack sboot dboot o es is_due dated body mine good quiet h prefix low =
+      → Stepped arts C s d bs bd S [] D c u (es ++ Signed (arts.spell (bodies.Ack ack)) ∷ []) (settled r o)
+  settled_step lives r raw ack o es holding is_due dated body mine good quiet h prefix low =
       let all = es ++ Signed (arts.spell (bodies.Ack ack)) ∷ [] in
       let flow = flow_said o.body in
       let f = flow_in r.flows flow in
@@ -235,6 +230,8 @@ module _ (arts : Arts) (reads : ReadsBack arts) (C : Type 0) (s d : NodeId) (S D
         | inl e ↦ let same : bodies.Ack ack ≡ bodies.Rel m = no_other_is_spelled_so arts reads (bodies.Ack ack) (bodies.Rel m) good good_m e in cc
         | inr g ↦ let x : false ≡ true = g in cc
       ] in
+      let names : (ack.sboot ≡ held_boot lives ack.src) × (ack.dboot ≡ held_boot lives ack.dst) =
+      subst (λ (a : Ack). (a.sboot ≡ held_boot lives a.src) × (a.dboot ≡ held_boot lives a.dst)) (sym dated) (refl, refl) in
       let seq : ack.seq ≡ (flow_in r.flows (flow_of ack.src ack.dst)).at.have =
       subst (λ (a : Ack). a.seq ≡ (flow_in r.flows (flow_of a.src a.dst)).at.have) (sym dated) (due_number r raw is_due) in
       elim (cases_flow flow (flow_of s d)) [
@@ -243,34 +240,49 @@ module _ (arts : Arts) (reads : ReadsBack arts) (C : Type 0) (s d : NodeId) (S D
             let src : ack.src ≡ s = ap (λ (x : Flow). x.src) both in
             let dst : ack.dst ≡ d = ap (λ (x : Flow). x.dst) both in
             let ud : u ≡ d = sym mine ∙ dst in
-            let number : acked_here arts u s d all ≡ ack.seq =
-            acked_one arts reads u s d all (bodies.Ack ack) good one ud ∙ rw (eq-eqb ack.src.0 s.0 (ap (λ (v : NodeId). v.0) src), eq-eqb ack.dst.0 d.0 (ap (λ (v : NodeId). v.0) dst)) (omega arith) in
+            let sb : ack.sboot ≡ bs = names.0 ∙ ap (held_boot lives) src ∙ holding.src in
+            let db : ack.dboot ≡ bd = names.1 ∙ ap (held_boot lives) dst ∙ holding.dst in
+            let same_src = eq-eqb ack.src.0 s.0 (ap (λ (v : NodeId). v.0) src) in
+            let same_dst = eq-eqb ack.dst.0 d.0 (ap (λ (v : NodeId). v.0) dst) in
+            let number : acked_here arts bs bd u s d all ≡ ack.seq =
+            (acked_one arts reads bs bd u s d all (bodies.Ack ack) good one ud).0 ∙ rw (same_src, same_dst, eq-eqb ack.sboot bs sb, eq-eqb ack.dboot bd db)
+            (omega arith) in
+            let ever : acked_ever arts u s d all ≡ ack.seq =
+            (acked_one arts reads bs bd u s d all (bodies.Ack ack) good one ud).1 ∙ rw (same_src, same_dst) (omega arith) in
             let have : ack.seq ≡ f.at.have = seq ∙ ap (λ fl. (flow_in r.flows fl).at.have) (sym said) in
             let here : FlowAt C s d S D c d f = subst (λ v. FlowAt C s d S D c v f) ud (subst (λ fl. FlowAt C s d S D c u (flow_in r.flows fl)) (sym e) h.flow) in
             let end = here.have_end refl in
-            let c2 : max c (acked_here arts u s d all) ≡ f.at.have = omega (arith, number, have, low, end) in
+            let c2 : max c (acked_here arts bs bd u s d all) ≡ f.at.have = omega (arith, number, have, low, end) in
             let not_s : d ≡ s → ⊥ = λ z. different (sym z) in
-            let at : FlowAt C s d S D (max c (acked_here arts u s d all)) u (concluded f o) =
-            subst (λ v. FlowAt C s d S D (max c (acked_here arts u s d all)) v (concluded f o)) (sym ud) (flow_concluded C s d S D c (max c (acked_here arts u s d all)) f o not_s low c2 here) in
-            let done = after (max c (acked_here arts u s d all)) (λ z. at) (λ never. absurd (never e)) in
+            let at : FlowAt C s d S D (max c (acked_here arts bs bd u s d all)) u (concluded f o) =
+            subst (λ v. FlowAt C s d S D (max c (acked_here arts bs bd u s d all)) v (concluded f o)) (sym ud)
+            (flow_concluded C s d S D c (max c (acked_here arts bs bd u s d all)) f o not_s low c2 here) in
+            let done = after (max c (acked_here arts bs bd u s d all)) (λ z. at) (λ never. absurd (never e)) in
             record {
-              rel = subst (λ X. RelIs C s d (S ++ []) X (max c (acked_here arts u s d all)) u (settled r o)) (sym (ap (λ t. D ++ t) none ∙ append-nil D))
-                  (subst (λ X. RelIs C s d X D (max c (acked_here arts u s d all)) u (settled r o)) (sym (append-nil S)) done);
+              rel = subst (λ X. RelIs C s d (S ++ []) X (max c (acked_here arts bs bd u s d all)) u (settled r o)) (sym (ap (λ t. D ++ t) none ∙ append-nil D))
+                  (subst (λ X. RelIs C s d X D (max c (acked_here arts bs bd u s d all)) u (settled r o)) (sym (append-nil S)) done);
               prefix = subst (λ X. C → IsPrefix X (S ++ [])) (sym (ap (λ t. D ++ t) none ∙ append-nil D)) (subst (λ X. C → IsPrefix D X) (sym (append-nil S)) prefix);
-              low = subst (λ (X : List Message). max c (acked_here arts u s d all) ≤ length X) (sym (ap (λ t. D ++ t) none ∙ append-nil D)) (omega (arith, c2, end));
+              low = subst (λ (X : List Message). max c (acked_here arts bs bd u s d all) ≤ length X) (sym (ap (λ t. D ++ t) none ∙ append-nil D))
+                  (omega (arith, c2, end));
               no_t = λ never. refl;
               numbers = λ y. tt;
               messages = λ y z m good_m sr ds among. absurd (no_rel y z m good_m sr ds among);
+              elsewhere = λ x y never. (acked_one arts reads x y u s d all (bodies.Ack ack) good one ud).0 ∙ not_named s d x y ack
+                  (λ p q. never (sym p ∙ sb, sym q ∙ db));
+              ever = ever ∙ sym number;
             }
         | inr never ↦
-            let zero : acked_here arts u s d all ≡ 0 = elim (cases_eq u.0 d.0) [
+            let zeros : NoneAcked arts u s d all = elim (cases_eq u.0 d.0) [
               | inl z ↦
                   let ud = same_node u d z in
                   let not_src : eqb ack.src.0 s.0 ≡ false = ne_eqb _ _ (λ x. never (said ∙ ap (λ v. flow_of v ack.dst) (same_node ack.src s x) ∙ ap (flow_of s) (mine ∙ ud))) in
-                  acked_one arts reads u s d all (bodies.Ack ack) good one ud ∙ rw not_src refl
+                  record {
+                    under = λ x y. (acked_one arts reads x y u s d all (bodies.Ack ack) good one ud).0 ∙ rw not_src refl;
+                    ever = (acked_one arts reads 0 0 u s d all (bodies.Ack ack) good one ud).1 ∙ rw not_src refl;
+                  }
               | inr x ↦ acked_away arts u s d all (λ z. x (ap (λ (v : NodeId). v.0) z))
             ] in
-            calm all (settled r o) none zero no_rel (after c (λ e. absurd (never e)) (λ z. h.flow)) prefix low
+            calm all (settled r o) none zeros no_rel (after c (λ e. absurd (never e)) (λ z. h.flow)) prefix low
       ]
     where
       due_number : (r : RelState) (ack : Ack) → due r ≡ Some ack → ack.seq ≡ (flow_in r.flows (flow_of ack.src ack.dst)).at.have

@@ -24,8 +24,8 @@ use Rattle.laws_runs.specs.Places.{PlacesAre, Shelf, StoreIs, all_held, as_held,
 use Rattle.laws_runs.specs.Premises.{Carries}
 use Rattle.laws_runs.specs.Signs.{Signs}
 use Rattle.laws_runs.proofs.Beginnings.{beginnings_are_clean}
-use Rattle.laws_runs.proofs.FlowRuns.{flows_are_kept, here_is, nothing_told}
-use Rattle.laws_runs.proofs.Lists.{both, told_more}
+use Rattle.laws_runs.proofs.FlowPlain.{flows_are_kept}
+use Rattle.laws_runs.proofs.Lists.{both, here_is, nothing_told, told_more}
 use Rattle.laws_runs.proofs.OwnDeliveries.{none_of_its_own}
 use Rattle.laws_runs.proofs.PlaceFacts.{row_here, row_there}
 use Rattle.laws_runs.proofs.PlaceRuns.{evictions_leave_shares, places_are_told}

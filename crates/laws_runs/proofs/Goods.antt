@@ -13,6 +13,7 @@ use Rattle.sp_msg.specs.declared.effect.Effect.TheVariants.{Signed}
 use Rattle.sp_msg.specs.declared.kept.Kept.{Kept}
 use Rattle.sp_rules.specs.Arrivals.{pieces_where}
 use Rattle.sp_rules.specs.Arts.{Arts}
+use Rattle.sp_rules.specs.Lives.{start}
 use Rattle.sp_rules.specs.Node.{NodeState, Signer}
 use Rattle.sp_rules.specs.Parts.{Fixed, is_signed, nodes_of}
 use Rattle.sp_rules.specs.Pieces.{Piece, WeightPiece, PrioAckPiece, PrioPiece, ReportPiece, AckPiece, RelPiece, EpochPiece}
@@ -39,7 +40,8 @@ use Rattle.laws_runs.specs.Signs.{Good, Known, NodeIs}
 use Rattle.laws_runs.specs.Premises.{IsOfBytes}
 use Rattle.sp_rules.specs.Rel.{pairs_of}
 use Rattle.laws_runs.proofs.Acks.{all_none}
-use Rattle.laws_runs.proofs.Unborn.{no_flows, none_at_start}
+use Rattle.laws_runs.proofs.Dated.{no_flows_dated}
+use Rattle.laws_runs.proofs.Unborn.{none_at_start, unborn_of}
 use Rattle.laws_runs.proofs.Lists.{among_left, among_right, both, first_among, told_more}
 use Rattle.laws_runs.proofs.Tables.{same_node}
 
@@ -211,9 +213,11 @@ starts arts x P fits u n e =
         signer = record { index = omega arith; bound = omega arith; total = fits.total };
       });
       acks = all_none (pairs_of (nodes_of x.topology));
+      dated = no_flows_dated (start (nodes_of x.topology)) (pairs_of (nodes_of x.topology));
       plain = λ off. record {
         first = refl;
         whole = refl;
-        unborn = record { lives = none_at_start (nodes_of x.topology); flows = no_flows (pairs_of (nodes_of x.topology)) };
+        unborn = unborn_of (node_at_boot x u).parts (none_at_start (nodes_of x.topology))
+            (no_flows_dated (start (nodes_of x.topology)) (pairs_of (nodes_of x.topology)));
       };
     })

@@ -1,10 +1,9 @@
 -- In a run with epochs each node that runs is started, and has the boot and the bound of its key file.
-use Rattle.std.proofs.Common.{◌≡◌, ◌<◌, ◌≤◌, ◌+◌, ◌-◌, ◌*◌, ℕ, zero, suc, Bool, true, false, cond, eqb, List, [], ◌∷◌, ◌++◌, length, map, replicate, Option, Some, None, refl, sym, ap, subst, ◌∙◌, inl, inr, arith}
-use Rattle.std.specs.Prelude.{◌==◌, ◌&&◌, ◌||◌, fold, not, IsTrue, max, slice_index_or}
+use Rattle.std.proofs.Common.{◌≡◌, ◌≤◌, ◌+◌, ◌-◌, ℕ, zero, suc, Bool, true, false, cond, eqb, List, [], ◌∷◌, ◌++◌, length, map, replicate, Option, Some, None, refl, sym, ap, subst, ◌∙◌, inl, inr, arith}
+use Rattle.std.specs.Prelude.{◌==◌, ◌||◌, not, IsTrue, slice_index_or}
 use Rattle.std.specs.List.{list_any}
 use Rattle.std.proofs.lemmas.Bool.{cases_Bool, eq-eqb, eqb-true, ne_eqb}
 use Rattle.std.proofs.lemmas.List.{length-replicate, length_push}
-use Rattle.std.proofs.lemmas.List.Sums.{fold-append}
 use Rattle.sp_base.specs.declared.id.NodeId.{NodeId}
 use Rattle.sp_epoch.specs.Numbers.{IsOneOf, after_more, after_start, next_bound, numbers_at, with_numbers}
 use Rattle.sp_epoch.specs.declared.started.Started.{Started}
@@ -15,15 +14,14 @@ use Rattle.sp_rules.specs.Arts.{Arts}
 use Rattle.sp_rules.specs.Masks.{greatest_id}
 use Rattle.sp_rules.specs.Node.{NodeState, announced, booted, extended}
 use Rattle.sp_rules.specs.Parts.{Fixed, nodes_of}
-use Rattle.sp_rules.specs.Steps.{Input}
 use Rattle.sp_topology.specs.declared.topology.NodeKey.{NodeKey}
-use Rattle.sp_runs.specs.Inputs.{acting, input_of}
+use Rattle.sp_runs.specs.Inputs.{acting}
 use Rattle.sp_runs.specs.Lives.{IsDown, IsOther, IsStart, is_short, next_start, ready, reserved, reserved_if}
-use Rattle.sp_runs.specs.Runs.{InRange, IsCraftOf, Lives, Move, Moves, Starts, Stays, Turn, Turned}
+use Rattle.sp_runs.specs.Runs.{InRange, Lives, Move, Moves, Starts, Stays, Turn, Turned}
 use Rattle.sp_runs.specs.Settings.{Setting, SettingFits, fixed_at, is_correct, is_node, is_one_of, link_keys, node_at_start, signer_from}
 use Rattle.sp_runs.specs.Worlds.{World, at_start, is_me, node_in, with_node, without_node}
 use Rattle.sp_journal.specs.declared.entry.Entry.{Entry}
-use Rattle.sp_schedule_events.specs.Lives.{is_started, may_act, started_after}
+use Rattle.sp_schedule_events.specs.Lives.{is_started, may_act}
 use Rattle.sp_schedule_events.specs.declared.event.Event.{Event}
 use Rattle.sp_schedule_events.specs.declared.event.Event.TheVariants as events
 use Rattle.laws_node.specs.Shapes.{Shape}
@@ -329,7 +327,7 @@ stop_stands x es v new u h world =
 
 -- ---- a turn
 
-started_before : (x : Setting) (es : List Event) (u : NodeId) → x.epochs ≡ true → may_act x.epochs es (events.Start u) ≡ true → is_started es u.0 ≡ false
+pub started_before : (x : Setting) (es : List Event) (u : NodeId) → x.epochs ≡ true → may_act x.epochs es (events.Start u) ≡ true → is_started es u.0 ≡ false
 started_before x es u on may = go (is_started es u.0) (rw on at may)
   where
     go : (t : Bool) → not t ≡ true → t ≡ false

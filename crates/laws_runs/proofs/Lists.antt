@@ -1,6 +1,6 @@
 -- What a longer run tells, and what is among strings of bytes.
-use Rattle.std.proofs.Common.{◌≡◌, ℕ, zero, suc, Bool, true, false, List, [], ◌∷◌, ◌++◌, length, Some, refl, sym, ap, ◌∙◌, inl, inr}
-use Rattle.std.specs.Prelude.{◌&&◌, ◌||◌, ◌⊎◌, nat_eq}
+use Rattle.std.proofs.Common.{◌≡◌, ℕ, zero, suc, Bool, true, false, cond, List, [], ◌∷◌, ◌++◌, length, Some, refl, sym, ap, ◌∙◌, inl, inr}
+use Rattle.std.specs.Prelude.{◌==◌, ◌&&◌, ◌||◌, ◌⊎◌, nat_eq}
 use Rattle.std.specs.Cmp.Lexicographic.{pointwise}
 use Rattle.std.specs.List.{flat_map, slice_get, zip}
 use Rattle.std.proofs.lemmas.Bool.{eqb-true, eq-eqb}
@@ -8,8 +8,11 @@ use Rattle.std.proofs.lemmas.List.{append-nil}
 use Rattle.std.proofs.lemmas.List.Concat.{flat_map-append}
 use Rattle.std.proofs.lemmas.List.Folds.{list_any-append}
 use Rattle.sp_base.proofs.ListLemmas.{zip-push}
+use Rattle.sp_base.specs.declared.id.NodeId.{NodeId}
+use Rattle.sp_msg.specs.declared.effect.Effect.{Effect}
 use Rattle.sp_runs.specs.Forgery.{is_among}
-use Rattle.sp_runs.specs.Told.{told}
+use Rattle.sp_runs.specs.Inputs.{acting}
+use Rattle.sp_runs.specs.Told.{told, told_at}
 use Rattle.sp_journal.specs.declared.entry.Entry.{Entry}
 use Rattle.sp_schedule_events.specs.declared.event.Event.{Event}
 
@@ -18,6 +21,23 @@ pub told_more : {X : Type 0} (tells : Event × Entry → List X) (es : List Even
     → told tells (es ++ e ∷ []) (js ++ j ∷ []) ≡ told tells es js ++ tells (e, j)
 told_more tells es js e j even =
     ap (flat_map tells) (zip-push es js e j even) ∙ flat_map-append tells (zip es js) ((e, j) ∷ []) ∙ ap (λ t. told tells es js ++ t) (append-nil (tells (e, j)))
+
+-- what an event tells at a node is what its effects tell
+pub here_is : {X : Type 0} (v : NodeId) (tells : Effect → List X) (e : Event) (j : Entry) (es : List Effect) → j.effects ≡ es
+    → told_at v tells (e, j) ≡ cond ((acting e).0 == v.0) (flat_map tells es) []
+here_is v tells e j es is = ap (λ (xs : List Effect). cond ((acting e).0 == v.0) (flat_map tells xs) []) is
+
+pub none_either : {X : Type 0} (t : Bool) → cond {A = List X} t [] [] ≡ []
+none_either true = refl
+none_either false = refl
+
+pub nothing_told : {X : Type 0} (v : NodeId) (tells : Effect → List X) (es : List Event) (js : List Entry) (e : Event) (j : Entry) → length es ≡ length js
+    → j.effects ≡ []
+    → flat_map (told_at v tells) (zip (es ++ e ∷ []) (js ++ j ∷ [])) ≡ flat_map (told_at v tells) (zip es js)
+nothing_told v tells es js e j same none =
+    told_more (told_at v tells) es js e j same ∙ ap (λ t. flat_map (told_at v tells) (zip es js) ++ t)
+    (here_is v tells e j [] none ∙ none_either ((acting e).0 == v.0))
+    ∙ append-nil (flat_map (told_at v tells) (zip es js))
 
 -- ---- two tests
 

@@ -50,8 +50,7 @@ use Rattle.laws_runs.specs.Premises.{Carries}
 use Rattle.laws_runs.proofs.NoStarts.{NoStart, NoStarts, met_as_it_was, no_starts_at, pieces_at, without}
 use Rattle.laws_runs.proofs.FlowFacts.{flow_of}
 use Rattle.laws_runs.proofs.Quiet.{quiet_acked, quiet_expired, quiet_gone, quiet_prio, quiet_weight}
-use Rattle.laws_runs.proofs.FlowRuns.{here_is, nothing_told}
-use Rattle.laws_runs.proofs.Lists.{told_more}
+use Rattle.laws_runs.proofs.Lists.{here_is, nothing_told, told_more}
 use Rattle.laws_runs.proofs.Plain.{Goes, Plain, Rests, plain_turn}
 use Rattle.laws_runs.proofs.Signed.{signs}
 use Rattle.laws_runs.proofs.Tables.{same_node}

@@ -30,8 +30,7 @@ use Rattle.laws_runs.specs.Premises.{Carries}
 use Rattle.laws_runs.specs.Good.{PlacesAreTold}
 use Rattle.laws_runs.specs.Shares.{EvictionsLeaveShares}
 use Rattle.laws_runs.specs.Signs.{Good, Signs}
-use Rattle.laws_runs.proofs.FlowRuns.{here_is, none_either}
-use Rattle.laws_runs.proofs.Lists.{as_they_are, told_more}
+use Rattle.laws_runs.proofs.Lists.{as_they_are, here_is, none_either, told_more}
 use Rattle.laws_runs.proofs.PlaceFacts.{Turns, row_here, row_there}
 use Rattle.laws_runs.proofs.Goods.{plain_start, started}
 use Rattle.laws_runs.proofs.Plain.{Goes, Plain, Rests, plain_turn}

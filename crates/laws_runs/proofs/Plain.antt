@@ -1,8 +1,7 @@
 -- The turns of a run without epochs: its acting node moves in the world as it is, or its crafting signer is spent.
-use Rattle.std.proofs.Common.{◌≡◌, Bool, true, false, List, None, refl, sym, subst, ◌∙◌}
+use Rattle.std.proofs.Common.{◌≡◌, true, false, List, None, sym, subst, ◌∙◌}
 use Rattle.sp_rules.specs.Arts.{Arts}
 use Rattle.sp_runs.specs.Forgery.{forged}
-use Rattle.sp_runs.specs.Lives.{ready}
 use Rattle.sp_runs.specs.Runs.{Lives, Move, Moves, Spends, Stays, Turn, forged_in}
 use Rattle.sp_runs.specs.Settings.{Setting}
 use Rattle.sp_runs.specs.Worlds.{World}

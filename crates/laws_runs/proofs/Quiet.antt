@@ -1,5 +1,6 @@
 -- Effects that say nothing of reliable messages and signatures.
 use Rattle.std.proofs.Common.{◌≡◌, ℕ, ◌+◌, Bool, true, false, cond, List, [], ◌∷◌, ◌++◌, map, Option, Some, None, refl, ◌∙◌}
+use Rattle.std.specs.Prelude.{◌&&◌}
 use Rattle.std.specs.List.{flat_map}
 use Rattle.std.proofs.lemmas.List.Concat.{flat_map-append}
 use Rattle.sp_base.specs.declared.id.NodeId.{NodeId}
@@ -15,6 +16,8 @@ use Rattle.sp_rules.specs.Prio as prio
 use Rattle.sp_rules.specs.Prio.{PrioState, acked_effects, prio_effects, expired_effects}
 use Rattle.sp_rules.specs.PrioPeer as rows
 use Rattle.sp_rules.specs.PrioPeer.{PrioPeer}
+use Rattle.sp_rules.specs.Flow.{FlowState, ends}
+use Rattle.sp_rules.specs.Rel.{RelState, ended_by, is_end, restart_effects}
 use Rattle.sp_rules.specs.Store.{Store, entry_in, expired_entries, removed}
 use Rattle.sp_rules.specs.declared.store.Entry.{Entry}
 use Rattle.sp_runs.specs.Told.{delivered_by, signed_by}
@@ -97,3 +100,11 @@ pub quiet_expired : (p : PrioState) (now : ℕ) → Quiet (expired_effects p now
 quiet_expired p now =
     quiet_append (rows.expired_effects 0 p.inbox now) _ (quiet_expiring 0 (expired_entries p.inbox now))
     (quiet_flat (λ (q : PrioPeer). rows.expired_effects q.peer q.store now) (λ q. quiet_expiring q.peer (expired_entries q.store now)) p.peers)
+
+-- flows end where a node starts anew
+pub quiet_ended : (r : RelState) (v : NodeId) → Quiet (restart_effects r v)
+quiet_ended r v = quiet_flat (ended_by v) (λ f. one f (is_end v (ends f) && f.active)) r.flows
+  where
+    one : (f : FlowState) (t : Bool) → Quiet (cond t (effects.Ended (ends f) ∷ []) [])
+    one f true = record { no_delivery = λ a. refl; no_signature = refl }
+    one f false = quiet_none

@@ -1,20 +1,22 @@
 -- The world in which a node acts: it is as before, but for indexes that its node may have reserved.
-use Rattle.std.proofs.Common.{◌≡◌, ◌<◌, ◌≤◌, ◌-◌, ℕ, Bool, true, false, cond, eqb, List, [], ◌∷◌, Option, Some, None, refl, sym, ap, subst, ◌∙◌, inl, inr, arith}
-use Rattle.std.specs.Prelude.{◌⊎◌, ◌&&◌, nat_lt}
+use Rattle.std.proofs.Common.{◌≡◌, ◌<◌, ◌≤◌, ◌-◌, ℕ, zero, suc, Bool, true, false, cond, List, [], ◌∷◌, Option, Some, None, refl, sym, ap, subst, ◌∙◌, inl, inr, arith}
+use Rattle.std.specs.Prelude.{◌⊎◌, ◌&&◌, nat_lt, slice_index_or, slice_set}
 use Rattle.std.specs.List.{list_any}
 use Rattle.std.proofs.lemmas.Bool.{cases_Bool, ltb-false}
 use Rattle.std.proofs.lemmas.Bool.Decides.{nat_tests}
 use Rattle.std.proofs.lemmas.Option.{same_Some}
 use Rattle.sp_base.specs.declared.id.NodeId.{NodeId}
-use Rattle.sp_epoch.specs.Numbers.{next_bound, numbers_at}
+use Rattle.sp_epoch.specs.Numbers.{after_more, next_bound, numbers_at}
 use Rattle.sp_msg.specs.declared.kept.Kept.{Kept}
+use Rattle.sp_keystate.specs.States.{first_numbers}
+use Rattle.sp_keystate.specs.declared.numbers.Numbers.{Numbers}
 use Rattle.sp_keystate.specs.declared.starts.TheConstants.{LEAST_LEFT}
 use Rattle.sp_rules.specs.Arts.{Arts}
 use Rattle.sp_rules.specs.Node.{NodeState, Signer, extended}
 use Rattle.sp_runs.specs.Inputs.{acting}
 use Rattle.sp_runs.specs.Lives.{is_short, ready, reserved, reserved_if}
 use Rattle.sp_runs.specs.Settings.{Setting}
-use Rattle.sp_runs.specs.Worlds.{Crafted, Direction, World, is_me, node_in}
+use Rattle.sp_runs.specs.Worlds.{Crafted, World, is_me, node_in}
 use Rattle.sp_schedule_events.specs.declared.event.Event.{Event}
 use Rattle.laws_node.specs.Shapes.{Shape}
 use Rattle.laws_runs.specs.KeyFiles.{KeysStand}
@@ -114,6 +116,33 @@ was_there x w e u n at = go x.epochs refl (node_in w.nodes (acting e)) refl at
     go true on None here is = same is
     go true on (Some b) here is = short b on here (is_short b) refl is
 
+-- what it keeps is the same
+pub readied_parts : (x : Setting) (w : World) (b n : NodeState) → Readied x w b n → (n.parts ≡ b.parts) × (n.fixed ≡ b.fixed)
+readied_parts x w b n (As_was same) = (ap (λ (m : NodeState). m.parts) same, ap (λ (m : NodeState). m.fixed) same)
+readied_parts x w b n (Extended on short same) = (ap (λ (m : NodeState). m.parts) same, ap (λ (m : NodeState). m.fixed) same)
+
+-- ---- a reserve takes no boot
+
+same_boot : (ks : List Numbers) (i k : ℕ) (n : Numbers) → n.boot ≡ (slice_index_or ks i first_numbers).boot
+    → (slice_index_or (slice_set ks i n) k first_numbers).boot ≡ (slice_index_or ks k first_numbers).boot
+same_boot [] i k n e = refl
+same_boot (m ∷ ks) zero zero n e = e
+same_boot (m ∷ ks) zero (suc k) n e = refl
+same_boot (m ∷ ks) (suc i) zero n e = refl
+same_boot (m ∷ ks) (suc i) (suc k) n e = same_boot ks i k n e
+
+pub ready_boots : (x : Setting) (w : World) (e : Event) (v : NodeId) → (numbers_at (ready x w e).keys v).boot ≡ (numbers_at w.keys v).boot
+ready_boots x w e v = go x.epochs (node_in w.nodes (acting e))
+  where
+    short : (b : NodeState) (t : Bool) → (numbers_at (cond t (reserved x w b) w).keys v).boot ≡ (numbers_at w.keys v).boot
+    short b true = same_boot w.keys (b.fixed.me.0 - 1) (v.0 - 1) (after_more x.total (numbers_at w.keys b.fixed.me)) refl
+    short b false = refl
+
+    go : (on : Bool) (found : Option NodeState) → (numbers_at (cond on (reserved_if x w found) w).keys v).boot ≡ (numbers_at w.keys v).boot
+    go false found = refl
+    go true None = refl
+    go true (Some b) = short b (is_short b)
+
 -- ---- what it is stays
 
 reserve_more : (x : Setting) (es : List Event) (w : World) (u : NodeId) (b : NodeState) → KeysStand x es w → x.epochs ≡ true → node_in w.nodes u ≡ Some b
@@ -144,6 +173,7 @@ extended_is x P u n upto on above within is = record {
     parts = is.holds.parts;
   };
   acks = is.acks;
+  dated = is.dated;
   plain = λ off. absurd (let wrong : false ≡ true = sym off ∙ on in cc);
 }
 

@@ -1,15 +1,14 @@
 -- Which nodes run, after one more does, goes on, or runs no more.
-use Rattle.std.proofs.Common.{◌≡◌, ℕ, Bool, true, false, cond, eqb, List, [], ◌∷◌, ◌++◌, Some, None, refl, sym, ap, subst, ◌∙◌, inl, inr}
+use Rattle.std.proofs.Common.{◌≡◌, ℕ, true, false, eqb, List, [], ◌∷◌, ◌++◌, Some, None, refl, sym, ap, subst, ◌∙◌, inl, inr}
 use Rattle.std.specs.Prelude.{◌⊎◌, ◌||◌}
 use Rattle.std.specs.List.{list_any}
 use Rattle.std.proofs.lemmas.Bool.{cases_Bool, eq-eqb, eqb-true}
 use Rattle.std.proofs.lemmas.List.Folds.{list_any-append}
 use Rattle.sp_base.specs.declared.id.NodeId.{NodeId}
-use Rattle.sp_base.specs.Rows.{replace_where}
 use Rattle.sp_rules.specs.Node.{NodeState}
 use Rattle.sp_runs.specs.Worlds.{is_me, node_in, with_node, without_node}
 use Rattle.laws_runs.specs.KeyFiles.{AreOnce}
-use Rattle.laws_runs.proofs.Tables.{found_passes, same_node}
+use Rattle.laws_runs.proofs.Tables.{same_node}
 
 -- ---- found, and there
 

@@ -1,5 +1,6 @@
 -- The part on links and signed objects: all that correct nodes keep, and all that their frames carry, is signed and known.
-use Rattle.std.proofs.Common.{◌≡◌, ◌<◌, ℕ, true, false, List, [], ◌∷◌, ◌++◌, length, Option, Some, None, Result, Ok, Err, refl, sym, ap, ap₂, subst, ◌∙◌, inl, inr, arith}
+use Rattle.std.proofs.Common.{◌≡◌, ◌<◌, ℕ, true, List, [], ◌∷◌, ◌++◌, length, Option, Some, None, Result, Ok, Err, refl, sym, ap, ap₂, subst, ◌∙◌, inl, inr}
+use Rattle.std.proofs.Common.{arith}
 use Rattle.std.specs.Prelude.{◌⊎◌, IsTrue, slice_get}
 use Rattle.std.proofs.lemmas.Option.{same_Some}
 use Rattle.std.specs.List.{All}
@@ -46,9 +47,11 @@ use Rattle.sp_schedule_events.specs.declared.event.Event.TheVariants as events
 use Rattle.laws_runs.specs.KeyFiles.{KeysStand}
 use Rattle.laws_runs.specs.Signs.{Good, NodeIs, Signs, SignsBegin, TurnsKeepSigns, sizes_at}
 use Rattle.laws_runs.specs.Premises.{Carries, HasGoodMessages, IsOfBytes}
+use Rattle.laws_runs.specs.Unborn.{HoldNone}
 use Rattle.laws_runs.proofs.Acks.{step_ack}
 use Rattle.laws_runs.proofs.NoStarts.{in_keep, pieces_at, without}
-use Rattle.laws_runs.proofs.Unborn.{step_unborn}
+use Rattle.laws_runs.proofs.Dated.{step_dated}
+use Rattle.laws_runs.proofs.Unborn.{lives_stay, unborn_of}
 use Rattle.laws_runs.proofs.KeyFiles.{key_files_stand, ready_once}
 use Rattle.laws_runs.proofs.Ready.{readied_is, ready_frames, was_there}
 use Rattle.laws_runs.proofs.Running.{more_found, without_left}
@@ -132,12 +135,15 @@ acted arts x es js w new e j m fits carries reach asked same unforged is =
           (sym stays.fixed) (sym stays.bound);
       holds = step_holds (sizes_at x Q (acting e)) arts m.node m.input m.output m.after fit reach news owns m.step (node_weaker (sizes_at x P (acting e)) Q more m.node is.holds);
       acks = step_ack arts m.node m.input m.output m.after m.step is.acks;
+      dated = step_dated arts m.node m.input m.output m.after m.step is.dated;
       plain = λ off.
           let was = is.plain off in
           record {
             first = ap (λ (f : Fixed). f.boot) stays.fixed ∙ was.first;
             whole = stays.bound ∙ was.whole;
-            unborn = step_unborn arts m.node m.input m.output m.after m.step (without x P (acting e) m.node off is) was.unborn;
+            unborn = unborn_of m.after.parts (subst HoldNone
+                (sym (lives_stay arts m.node m.input m.output m.after m.step (without x P (acting e) m.node off is))) was.unborn.lives)
+                (step_dated arts m.node m.input m.output m.after m.step is.dated);
           };
     }
 
@@ -255,6 +261,7 @@ node_more x P Q u n less is = record {
   shape = is.shape;
   holds = node_weaker (sizes_at x P u) Q less n is.holds;
   acks = is.acks;
+  dated = is.dated;
   plain = is.plain;
 }
 

@@ -1,6 +1,5 @@
 -- Who is started after one more event.
 use Rattle.std.proofs.Common.{◌≡◌, ℕ, Bool, true, false, List, [], ◌∷◌, ◌++◌, Some, refl, ◌∙◌}
-use Rattle.std.specs.Prelude.{fold}
 use Rattle.std.proofs.lemmas.List.Sums.{fold-append}
 use Rattle.sp_base.specs.declared.id.NodeId.{NodeId}
 use Rattle.sp_rules.specs.Arts.{Arts}

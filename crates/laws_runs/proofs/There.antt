@@ -1,5 +1,5 @@
 -- Each correct node is there in every state of a clean run.
-use Rattle.std.proofs.Common.{◌≡◌, Bool, cond, true, false, eqb, List, [], ◌∷◌, filter, map, Some, refl, sym, ap, subst, ◌∙◌, inl, inr}
+use Rattle.std.proofs.Common.{◌≡◌, Bool, cond, true, false, eqb, List, [], ◌∷◌, filter, map, Some, refl, ap, ◌∙◌, inl, inr}
 use Rattle.std.specs.List.{list_any}
 use Rattle.std.proofs.lemmas.Bool.{cases_Bool, eqb-true}
 use Rattle.sp_base.specs.declared.id.NodeId.{NodeId}

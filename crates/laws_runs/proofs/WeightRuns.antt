@@ -31,8 +31,7 @@ use Rattle.sp_topology.specs.declared.topology.Edge.{Edge}
 use Rattle.laws_runs.specs.Premises.{Carries}
 use Rattle.laws_runs.specs.Weights.{EachHeld, IsSaid, WeightsAreKept, TurnsKeepWeights, WeightClaims, WeightPart}
 use Rattle.laws_runs.specs.Signs.{Good, Known, Signs}
-use Rattle.laws_runs.proofs.FlowRuns.{here_is, none_either}
-use Rattle.laws_runs.proofs.Lists.{among_left, as_they_are, told_more}
+use Rattle.laws_runs.proofs.Lists.{among_left, as_they_are, here_is, none_either, told_more}
 use Rattle.laws_runs.proofs.Goods.{new_known, own_known, plain_start, started, unforged_tag}
 use Rattle.laws_runs.proofs.Plain.{Goes, Plain, Rests, plain_turn}
 use Rattle.laws_runs.proofs.Reaches.{input_fits}

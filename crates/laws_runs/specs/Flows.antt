@@ -1,5 +1,5 @@
 -- Reliable messages over a run: what stands at each node of the flow from any node to a correct one.
-use Rattle.std.specs.Prelude.{ℕ, ◌≡◌, ◌+◌, ◌-◌, ◌≤◌, true, IsTrue, List, [], ◌∷◌, ◌++◌, length, None, Some, slice_get}
+use Rattle.std.specs.Prelude.{ℕ, ◌≡◌, ◌+◌, ◌-◌, ◌≤◌, true, IsTrue, List, [], ◌∷◌, length, Some, slice_get}
 use Rattle.sp_base.specs.Lists.{IsPrefix}
 use Rattle.sp_base.specs.declared.id.NodeId.{NodeId}
 use Rattle.sp_msg.specs.Bodies.{payload_of}
@@ -11,7 +11,7 @@ use Rattle.sp_rules.specs.Flow.{FlowState}
 use Rattle.sp_rules.specs.Node.{NodeState}
 use Rattle.sp_rules.specs.Rel.{flow_in}
 use Rattle.sp_runs.specs.Forgery.{is_among}
-use Rattle.sp_runs.specs.Runs.{Clean, InRange, Turn, forged_in}
+use Rattle.sp_runs.specs.Runs.{Clean}
 use Rattle.sp_runs.specs.Settings.{Setting, StaysUp, is_correct, is_node}
 use Rattle.sp_runs.specs.Told.{Message, delivered, sent, signed}
 use Rattle.sp_runs.specs.Worlds.{World, node_in}
@@ -19,7 +19,6 @@ use Rattle.sp_journal.specs.declared.entry.Entry.{Entry}
 use Rattle.sp_schedule_events.specs.declared.event.Event.{Event}
 use Rattle.laws_runs.specs.Acknowledged.{acknowledged}
 use Rattle.laws_runs.specs.Premises.{Carries}
-use Rattle.laws_runs.specs.Signs.{Signs}
 
 -- the messages have the numbers after this one, in order
 abbrev pub AreNumbered : ℕ → List Message → Type 0
@@ -75,11 +74,3 @@ abbrev pub FlowsAreKept : Type 0
 FlowsAreKept = (arts : Arts) (x : Setting) (es : List Event) (js : List Entry) (w : World) → StaysUp arts x → Carries x.topology.format arts
     → Clean arts x es js w
     → (s d : NodeId) → IsTrue (is_node x s) → IsTrue (is_correct x d) → (s ≡ d → ⊥) → FlowClaims arts x s d es js w
-
--- each turn of which nothing is forged keeps them, where signed objects are as they are in a run
-abbrev pub TurnsKeepFlows : Type 0
-TurnsKeepFlows = (arts : Arts) (x : Setting) (es : List Event) (js : List Entry) (old : World) (e : Event) (j : Entry) (new : World)
-    → StaysUp arts x → Carries x.topology.format arts
-    → Signs arts x es js old → InRange x es e → (turn : Turn arts x old e j new) → forged_in arts x es js old e j new turn ≡ None
-    → (s d : NodeId) → IsTrue (is_node x s) → IsTrue (is_correct x d) → (s ≡ d → ⊥) → FlowClaims arts x s d es js old
-    → FlowClaims arts x s d (es ++ e ∷ []) (js ++ j ∷ []) new

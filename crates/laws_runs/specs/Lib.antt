@@ -1,11 +1,17 @@
 pub mod Premises
 pub mod Unborn
+pub mod Dated
 pub mod KeyFiles
 pub mod Signs
+pub mod HeldBoots
 pub mod Laws
 pub mod Acknowledged
 pub mod Flows
+pub mod Past
+pub mod LifeKeys
+pub mod LifeFlows
 pub mod Priority
+pub mod LifePriority
 pub mod Weights
 pub mod States
 pub mod Shares

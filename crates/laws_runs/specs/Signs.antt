@@ -21,6 +21,7 @@ use Rattle.sp_journal.specs.declared.entry.Entry.{Entry}
 use Rattle.sp_schedule_events.specs.declared.event.Event.{Event}
 use Rattle.laws_runs.specs.Premises.{Carries, IsOfBytes}
 use Rattle.laws_runs.specs.KeyFiles.{KeysStand}
+use Rattle.laws_runs.specs.Dated.{AreDated}
 use Rattle.laws_runs.specs.Unborn.{Unborn}
 use Rattle.std.specs.List.{All}
 use Rattle.laws_node.specs.Objects.{objects_in}
@@ -82,6 +83,8 @@ pub record NodeIs (x : Setting) (P : Kept → Type 0) (u : NodeId) (n : NodeStat
   pub shape : shape_of n ≡ shape_at_start (fixed_at x u n.fixed.boot) (signer_from x u 0 n.signer.bound) (link_keys x u) x.buffer x.store
   pub holds : NodeHolds (sizes_at x P u) n
   pub acks : All FlowAck n.parts.rel.flows
+  -- what it keeps of a flow names the boots that it holds of both ends
+  pub dated : AreDated n.parts
   -- without epochs it is in its first life, has all indexes of its key, and knows of no start
   pub plain : x.epochs ≡ false → IsPlainNode x n
 

@@ -19,6 +19,7 @@ use Rattle.sp_runs.specs.Told.{signed}
 use Rattle.sp_runs.specs.Worlds.{World, frames_in, node_in}
 use Rattle.sp_journal.specs.declared.entry.Entry.{Entry}
 use Rattle.sp_schedule_events.specs.declared.event.Event.{Event}
+use Rattle.laws_runs.specs.Past.{past}
 use Rattle.laws_runs.specs.Premises.{Carries}
 
 -- ---- who is there
@@ -77,5 +78,10 @@ BeginningsAreClean = (arts : Arts) (x : Setting) (es : List Event) (js : List En
 
 -- the events of a run and their journal lead to one world, though the paths of a message are chosen freely among the cheapest ones
 abbrev pub RunsAreDetermined : Type 0
-RunsAreDetermined = (arts : Arts) (x : Setting) (es : List Event) (js : List Entry) (w v : World) → StaysUp arts x → Carries x.topology.format arts
+RunsAreDetermined = (arts : Arts) (x : Setting) (es : List Event) (js : List Entry) (w v : World) → SettingFits arts x → Carries x.topology.format arts
     → Clean arts x es js w → Clean arts x es js v → w ≡ v
+
+-- and in the same states of the nodes that moved. So what is claimed of the past of a run is claimed of its events and their journal
+abbrev pub PastIsDetermined : Type 0
+PastIsDetermined = (arts : Arts) (x : Setting) (es : List Event) (js : List Entry) (w v : World) → SettingFits arts x → Carries x.topology.format arts
+    → (one : Clean arts x es js w) (two : Clean arts x es js v) → past arts x es js w one ≡ past arts x es js v two

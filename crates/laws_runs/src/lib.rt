@@ -2,15 +2,20 @@
 #![tactic(auto)]
 
 ghost use Rattle.laws_runs.specs.Calls.{EachReplyHasWords, FramesAreCounted, FramesAreMade, LinksHaveTheirKeys, NeighboursAreAnswered};
-ghost use Rattle.laws_runs.specs.Flows.{FlowsAreKept, TurnsKeepFlows};
+ghost use Rattle.laws_runs.specs.Flows.{FlowsAreKept};
 ghost use Rattle.laws_runs.specs.Good.{PlacesAreTold, RunsAreGood};
+ghost use Rattle.laws_runs.specs.HeldBoots.{BootsBegin, HeldBootsAreBorn, TurnsKeepBoots};
 ghost use Rattle.laws_runs.specs.KeyFiles.{KeyFilesStand};
+ghost use Rattle.laws_runs.specs.LifeKeys.{KeysRise};
+ghost use Rattle.laws_runs.specs.LifeFlows.{LifeFlowsAreKept, TurnsKeepFlows};
+ghost use Rattle.laws_runs.specs.LifePriority.{LifePriorityIsKept, TurnsKeepPriority};
 ghost use Rattle.laws_runs.specs.Laws.{BoundsFollow, BuffersStayBounded, OnlyTheAdversaryForges};
-ghost use Rattle.laws_runs.specs.Priority.{PriorityIsKept, TurnsKeepPriority};
+ghost use Rattle.laws_runs.specs.Priority.{PriorityIsKept};
 ghost use Rattle.laws_runs.specs.Places.{TurnsKeepShares};
 ghost use Rattle.laws_runs.specs.Shares.{EvictionsLeaveShares};
 ghost use Rattle.laws_runs.specs.Signs.{SignsBegin, TurnsKeepSigns};
-ghost use Rattle.laws_runs.specs.States.{BeginningsAreClean, CorrectNodesAreThere, OnlyCorrectNodesRun, RunsAreDetermined, WhatIsKeptWasSigned};
+ghost use Rattle.laws_runs.specs.States.{BeginningsAreClean, CorrectNodesAreThere, OnlyCorrectNodesRun, WhatIsKeptWasSigned};
+ghost use Rattle.laws_runs.specs.States.{PastIsDetermined, RunsAreDetermined};
 ghost use Rattle.laws_runs.specs.Weights.{TurnsKeepWeights, WeightsAreKept};
 ghost use Rattle.laws_runs.specs.Crafts.{NoFrameIsForged, OwnCraftsForgeNothing};
 ghost use Rattle.laws_runs.specs.Story.{StoriesArePlayed};
@@ -41,6 +46,18 @@ pub fn priority_is_kept()
     ensures { PriorityIsKept }
 {}
 
+/// A law: over starts and stops, what a correct node delivered of a correct one, while it held a boot of it, is a prefix of what that one sent while it held
+/// this node's boot, under the numbers 1, 2, 3 and so on; and of any source, nothing counts as acknowledged under two boots that wasn't delivered under them.
+pub fn flows_are_kept_over_lives()
+    ensures { LifeFlowsAreKept }
+{}
+
+/// A law: over starts and stops, a correct node tells its clients no number of a source twice under one boot of each, whoever the source is; and what it tells
+/// of a correct source that one sent under that boot.
+pub fn priority_is_kept_over_lives()
+    ensures { LifePriorityIsKept }
+{}
+
 /// A law: at a correct node the weight of a link is the greatest of its minimum and the last that the node held of each end; and what it held of
 /// a correct end that one signed.
 pub fn weights_are_kept()
@@ -50,6 +67,17 @@ pub fn weights_are_kept()
 /// A law: in a run with epochs each node that runs is started and runs once, and has the boot and the bound of its key file.
 pub fn key_files_stand()
     ensures { KeyFilesStand }
+{}
+
+/// A law: with epochs each node that runs holds the boot of its own life, and of a correct node no boot above the last one that this one took; so who holds
+/// the boot of a node's last start keeps it until that node starts again. Without epochs each holds 0 of each.
+pub fn held_boots_are_born()
+    ensures { HeldBootsAreBorn }
+{}
+
+/// A law: over starts and stops, no one-time index of a correct node signs twice, and its boots rise.
+pub fn keys_rise()
+    ensures { KeysRise }
 {}
 
 /// A law: after each event exactly the correct nodes have a state, each as the header made it. With epochs only correct nodes have one, each as the
@@ -85,9 +113,11 @@ pub fn runs_are_good()
     ensures { RunsAreGood }
 {}
 
-/// A law: the events of a run and their journal lead to one world: to one state of each node, and to the same frames.
+/// A law: the events of a run and their journal lead to one world: to one state of each node, and to the same frames; and to one past, so to the same boots
+/// that the nodes held which sent and delivered.
 pub fn events_and_journal_determine_a_run()
-    ensures { RunsAreDetermined }
+    ensures world { RunsAreDetermined }
+    ensures past { PastIsDetermined }
 {}
 
 /// A law: a correct node answers polls and datagrams of each of its neighbours, after fewer events than a node answers calls.
@@ -139,12 +169,19 @@ pub fn turns_keep_what_is_signed()
     ensures turn { TurnsKeepSigns }
 {}
 
-/// The part on flows: each turn of which nothing is forged keeps it, where signed objects are as the part on them says.
+/// The part on boots that nodes hold: it holds at the start, and each turn of which nothing is forged keeps it, where key files and signed objects are as the
+/// parts on them say.
+pub fn turns_keep_held_boots()
+    ensures begin { BootsBegin }
+    ensures turn { TurnsKeepBoots }
+{}
+
+/// The part on flows: each turn of which nothing is forged keeps it, where key files, signed objects and held boots are as the laws on them say.
 pub fn turns_keep_flows()
     ensures { TurnsKeepFlows }
 {}
 
-/// The part on priority messages: each turn of which nothing is forged keeps it, where signed objects are as the part on them says.
+/// The part on priority messages: each turn of which nothing is forged keeps it, where key files, signed objects and held boots are as the parts on them say.
 pub fn turns_keep_priority()
     ensures { TurnsKeepPriority }
 {}

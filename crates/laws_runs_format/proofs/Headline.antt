@@ -10,11 +10,14 @@ use Rattle.laws_runs.specs.Premises.{Carries}
 use Rattle.laws_runs.proofs.Beginnings.{beginnings_are_clean}
 use Rattle.laws_runs.proofs.Bounds.{buffers_stay_bounded}
 use Rattle.laws_runs.proofs.Determined.{runs_are_determined}
-use Rattle.laws_runs.proofs.FlowRuns.{flows_are_kept}
+use Rattle.laws_runs.proofs.FlowPlain.{flows_are_kept}
+use Rattle.laws_runs.proofs.FlowRuns.{flows_are_kept_over_lives}
+use Rattle.laws_runs.proofs.HeldBoots.{held_boots_are_born}
 use Rattle.laws_runs.proofs.KeyFiles.{key_files_stand}
 use Rattle.laws_runs.proofs.Kept.{what_is_kept_was_signed}
+use Rattle.laws_runs.proofs.LifeKeys.{keys_rise}
 use Rattle.laws_runs.proofs.PlaceRuns.{evictions_leave_shares}
-use Rattle.laws_runs.proofs.PrioRuns.{priority_is_kept}
+use Rattle.laws_runs.proofs.PrioRuns.{life_priority_is_kept, priority_is_kept}
 use Rattle.laws_runs.proofs.There.{correct_nodes_are_there, only_correct_nodes_run}
 use Rattle.laws_runs.proofs.WeightRuns.{weights_are_kept}
 use Rattle.laws_runs_format.specs.Arts.{arts_of}
@@ -42,7 +45,7 @@ every_run s es js w graph plain some run =
     let carries = format_carries x.topology.format in
     record {
       reached = λ n. beginnings_are_clean (arts_of x) x es js w run n;
-      one = λ n v u first second. runs_are_determined (arts_of x) x _ _ v u fits carries first second;
+      one = λ n v u first second. runs_are_determined (arts_of x) x _ _ v u fits.fits carries first second;
       delivered = schedules_deliver s graph plain some;
       returned = schedules_return s graph plain some;
       claims = λ n v beginning. all_claims x _ _ v fits carries beginning;
@@ -51,10 +54,14 @@ every_run s es js w graph plain some run =
 -- ---- with epochs too
 
 lives_claims : (x : Setting) (es : List Event) (js : List Entry) (w : World) → SettingFits (arts_of x) x → Carries x.topology.format (arts_of x)
-    → Clean (arts_of x) x es js w → LivesClaims x es js w
+    → (run : Clean (arts_of x) x es js w) → LivesClaims x es js w run
 lives_claims x es js w fits carries run = record {
   nodes = only_correct_nodes_run (arts_of x) x es js w fits carries run;
   keys = key_files_stand (arts_of x) x es js w fits run;
+  boots = held_boots_are_born (arts_of x) x es js w fits carries run;
+  rise = λ u correct. keys_rise (arts_of x) x es js w fits carries run u correct;
+  reliable = λ s d there correct apart. flows_are_kept_over_lives (arts_of x) x es js w fits carries run s d there correct apart;
+  priority = λ s d correct. life_priority_is_kept (arts_of x) x es js w fits carries run s d correct;
   bounded = λ u n at. buffers_stay_bounded (arts_of x) x es js w fits carries run u n at;
   signed = what_is_kept_was_signed (arts_of x) x es js w fits carries run;
 }

@@ -14,7 +14,12 @@ use Rattle.sp_schedule_events.specs.declared.event.Event.{Event}
 use Rattle.sp_schedule_events.specs.declared.scenario.Scenario.{Scenario}
 use Rattle.laws_progress.specs.Delivery.{DeliversInRounds, ReturnsInRounds}
 use Rattle.laws_runs.specs.Flows.{FlowClaims}
+use Rattle.laws_runs.specs.HeldBoots.{BootClaims}
 use Rattle.laws_runs.specs.KeyFiles.{KeysStand}
+use Rattle.laws_runs.specs.LifeFlows.{LifeFlowClaims}
+use Rattle.laws_runs.specs.LifeKeys.{KeyClaims}
+use Rattle.laws_runs.specs.LifePriority.{LifePrioClaims}
+use Rattle.laws_runs.specs.Past.{past}
 use Rattle.laws_runs.specs.Priority.{PrioClaims}
 use Rattle.laws_runs.specs.States.{NodeClaims, SignClaims}
 use Rattle.laws_runs.specs.Weights.{WeightClaims}
@@ -55,11 +60,22 @@ EveryRun = (s : Scenario) (es : List Event) (js : List Entry) (w : World) → Is
 -- ---- with epochs too
 
 -- what holds of every run of these events, whether nodes start and stop or not
-pub record LivesClaims (x : Setting) (es : List Event) (js : List Entry) (w : World) : Type 0 where
+pub record LivesClaims (x : Setting) (es : List Event) (js : List Entry) (w : World) (run : Clean (arts_of x) x es js w) : Type 0 where
   -- only correct nodes run, each as the header makes it for the boot of its life
   pub nodes : (u : NodeId) (n : NodeState) → node_in w.nodes u ≡ Some n → IsTrue (is_correct x u) × (n.fixed ≡ fixed_at x u n.fixed.boot)
   -- each that runs has the boot of its key file, and signs below its bound
   pub keys : KeysStand x es w
+  -- of itself each holds the boot of its life, and of a correct node no boot that this one didn't take
+  pub boots : BootClaims (arts_of x) x es js w
+  -- no one-time index signs twice, whatever starts and stops are between, and boots rise
+  pub rise : (u : NodeId) → IsTrue (is_correct x u) → KeyClaims u (past (arts_of x) x es js w run)
+  -- Reliable messages from any node to a correct one, of each pair of boots. What was delivered of a correct source, while the destination had its boot and
+  -- held that of the source, is a prefix of what the source sent while it had this boot and held that one, under the numbers 1, 2, 3 and so on; and nothing
+  -- counts as acknowledged under two boots that wasn't delivered under them
+  pub reliable : (s d : NodeId) → IsTrue (is_node x s) → IsTrue (is_correct x d) → (s ≡ d → ⊥)
+      → LifeFlowClaims (arts_of x) x s d es js (past (arts_of x) x es js w run) w
+  -- priority messages of any source at a correct node, of each pair of boots: each number at most once, and those of a correct source were sent under that boot
+  pub priority : (s d : NodeId) → IsTrue (is_correct x d) → LifePrioClaims x s d (past (arts_of x) x es js w run)
   -- no buffer of a correct node is above its bound
   pub bounded : (u : NodeId) (n : NodeState) → node_in w.nodes u ≡ Some n → IsBounded x u n
   -- whatever a correct node keeps or sends bears its signer's valid signature, and a correct signer signed it in this run, in one of its lives
@@ -67,7 +83,7 @@ pub record LivesClaims (x : Setting) (es : List Event) (js : List Entry) (w : Wo
 
 pub record RunLives (x : Setting) (es : List Event) (js : List Entry) : Type 0 where
   pub reached : (n : ℕ) → (w : World) × Clean (arts_of x) x (take n es) (take n js) w
-  pub claims : (n : ℕ) (w : World) → Clean (arts_of x) x (take n es) (take n js) w → LivesClaims x (take n es) (take n js) w
+  pub claims : (n : ℕ) (w : World) → (run : Clean (arts_of x) x (take n es) (take n js) w) → LivesClaims x (take n es) (take n js) w run
 
 -- of each run of a header in its ranges
 abbrev pub EveryLife : Type 0

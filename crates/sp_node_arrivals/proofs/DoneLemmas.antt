@@ -4,7 +4,7 @@ use Rattle.std.proofs.lemmas.List.{map-append}
 use Rattle.sp_msg.specs.Caused.{Caused}
 use Rattle.sp_msg.specs.declared.effect.Effect.{Effect}
 use Rattle.sp_msg.specs.declared.kept.Kept.{Kept}
-use Rattle.sp_prio.proofs.TellLemmas.{told_both, told_none}
+use Rattle.sp_rules.proofs.ToldLemmas.{told_both, told_none}
 use Rattle.sp_rules.specs.Arts.{Arts}
 use Rattle.sp_rules.specs.Handle.{Arrival, Handled, handle, handle_all, quietly}
 use Rattle.sp_rules.specs.Parts.{Parts}

@@ -1,5 +1,5 @@
 -- Effects that are told one after another.
-use Rattle.std.proofs.Common.{◌≡◌, ◌≤◌, ◌<◌, ℕ, suc, ◌+◌, ◌-◌, Bool, true, false, List, [], ◌∷◌, ◌++◌, length, map, get_or, drop, Option, Some, None, refl, sym, ap, ◌∙◌, arith, append-nil, append_assoc, drop-cons, length-append}
+use Rattle.std.proofs.Common.{◌≡◌, ◌≤◌, ◌<◌, ℕ, suc, ◌+◌, Bool, true, false, List, [], ◌∷◌, ◌++◌, length, map, get_or, drop, Option, Some, None, refl, sym, ap, ◌∙◌, arith, drop-cons, length-append}
 use Rattle.std.specs.Prelude.{filter, find, not, sum_by}
 use Rattle.std.proofs.lemmas.List.Sums.{sum_by-cons}
 use Rattle.std.proofs.lemmas.List.Concat.{flat_map-cons}
@@ -18,19 +18,7 @@ use Rattle.sp_rules.specs.PrioPeer.{PrioPeer, expired_effects, given_effects, go
 use Rattle.sp_rules.specs.Store.{Store, evicted, expired_entries, expired_entry, is_expired, less_expired, less_expired_entry}
 use Rattle.sp_rules.specs.declared.store.Entry.{Entry}
 use Rattle.sp_rules.specs.Told.{told}
-
-caused : List Effect → ℕ → Caused
-caused list room = record { list = list; room = room }
-
-pub told_none : (c : Caused) → told c [] ≡ c
-unfolding caused
-told_none c = ap (λ (es : List Effect). caused es (c.room - 0)) (append-nil c.list) ∙ ap (caused c.list) (let e : c.room - 0 ≡ c.room = omega arith in e)
-
-pub told_both : (c : Caused) (xs ys : List Effect) → told (told c xs) ys ≡ told c (xs ++ ys)
-unfolding caused
-told_both c xs ys =
-    ap (λ (es : List Effect). caused es (c.room - length xs - length ys)) (append_assoc c.list xs ys)
-    ∙ ap (caused (c.list ++ (xs ++ ys))) (let e : c.room - length xs - length ys ≡ c.room - length (xs ++ ys) = omega (arith, length-append xs ys) in e)
+use Rattle.sp_rules.proofs.ToldLemmas.{told_both, told_none}
 
 -- ---- all that pass go, the first of them first
 

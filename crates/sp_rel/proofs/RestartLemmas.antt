@@ -1,6 +1,6 @@
 -- The rows of flows where another life of a node begins: how many end, what is told, and that no row moves.
-use Rattle.std.proofs.Common.{◌≡◌, ◌<◌, ℕ, ◌+◌, ◌-◌, Bool, true, false, List, [], ◌∷◌, ◌++◌, length, map, get_or, set, not, take, cond}
-use Rattle.std.proofs.Common.{refl, sym, ap, ◌∙◌, subst, arith, append_assoc, length-append}
+use Rattle.std.proofs.Common.{◌≡◌, ◌<◌, ℕ, ◌+◌, Bool, true, false, List, [], ◌∷◌, ◌++◌, length, map, get_or, set, not, take, cond}
+use Rattle.std.proofs.Common.{refl, sym, ap, ◌∙◌, subst, arith}
 use Rattle.std.specs.Prelude.{count_by}
 use Rattle.std.specs.List.{flat_map, position, prefix_len}
 use Rattle.std.proofs.lemmas.List.{flat_map_more, length-map, take_more}
@@ -20,6 +20,7 @@ use Rattle.sp_rules.specs.Rel.{ended_by, flow_less, is_due, is_end}
 use Rattle.sp_rules.specs.Told.{told}
 use Rattle.sp_rel.proofs.SoundLemmas.{sound_at, sound_with}
 use Rattle.sp_rules.proofs.Standing.{standing_at_start}
+use Rattle.sp_rules.proofs.ToldLemmas.{told_both}
 
 -- ---- what ends
 
@@ -38,15 +39,6 @@ pub ended_of_rows : (v : NodeId) (rows : List RowState) → flat_map (ended_by v
 ended_of_rows v rows = flat_map-map (ended_by v) (λ (row : RowState). row.state) rows
 
 -- ---- what is told
-
-caused : List Effect → ℕ → Caused
-caused list room = record { list = list; room = room }
-
-told_both : (c : Caused) (xs ys : List Effect) → told (told c xs) ys ≡ told c (xs ++ ys)
-unfolding caused
-told_both c xs ys =
-    ap (λ (es : List Effect). caused es (c.room - length xs - length ys)) (append_assoc c.list xs ys)
-    ∙ ap (caused (c.list ++ (xs ++ ys))) (let e : c.room - length xs - length ys ≡ c.room - length (xs ++ ys) = omega (arith, length-append xs ys) in e)
 
 -- the next row tells after those before it
 pub told_more : {X : Type 0} (f : X → List Effect) (c out new : Caused) (xs : List X) (i : ℕ) (d : X) → i < length xs

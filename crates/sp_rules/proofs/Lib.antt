@@ -4,4 +4,5 @@ pub mod FlowDue
 pub mod FlowJudged
 pub mod MaskLemmas
 pub mod Standing
+pub mod ToldLemmas
 pub mod WindowLemmas

@@ -1,4 +1,4 @@
-use Rattle.laws_runs.proofs.FlowRuns.{flows_are_kept}
+use Rattle.laws_runs.proofs.FlowPlain.{flows_are_kept}
 use Rattle.laws_runs.proofs.flows_are_kept.Goals as goal
 
 pub returns : goal.returns

@@ -5,7 +5,7 @@ use Rattle.sp_base.proofs.FewLemmas.{drop_past}
 use Rattle.sp_rules.specs.PrioPeer.{lands, left_effects, less_all}
 use Rattle.sp_rules.specs.Told.{told}
 use Rattle.sp_prio.proofs.FlightLemmas.{above_stays, fails_at, passes_at, stays, within_stays}
-use Rattle.sp_prio.proofs.TellLemmas.{told_none}
+use Rattle.sp_rules.proofs.ToldLemmas.{told_none}
 use Rattle.sp_prio.proofs.flight.+land_from.Goals as goal
 
 pub returns-in_default-clause-pairs : goal.returns-in_default-clause-pairs

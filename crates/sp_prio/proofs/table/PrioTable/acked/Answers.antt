@@ -6,7 +6,7 @@ use Rattle.sp_rules.specs.PrioPeer as rows
 use Rattle.sp_rules.specs.PrioPeer.{PrioPeer}
 use Rattle.sp_rules.specs.Told.{told}
 use Rattle.sp_prio.proofs.RowLemmas.{nothing_acked}
-use Rattle.sp_prio.proofs.TellLemmas.{told_none}
+use Rattle.sp_rules.proofs.ToldLemmas.{told_none}
 use Rattle.sp_prio.proofs.table.PrioTable.acked.Goals as goal
 
 pub returns-in_default-clause-told : goal.returns-in_default-clause-told

@@ -1,0 +1,100 @@
+-- Which index one step signs with: where it signs, it signs one message with the next index, and then the one after that is next.
+use Rattle.std.proofs.Common.{◌≡◌, ℕ, ◌+◌, List, [], ◌∷◌, ◌++◌, Option, Some, None, refl, sym, ap, subst, ◌∙◌}
+use Rattle.std.specs.List.{flat_map}
+use Rattle.std.proofs.lemmas.List.{append-nil}
+use Rattle.std.proofs.lemmas.List.Concat.{flat_map-append}
+use Rattle.sp_msg.specs.declared.body.Ack.{Ack}
+use Rattle.sp_msg.specs.declared.body.Body.TheVariants as bodies
+use Rattle.sp_msg.specs.declared.effect.Effect.{Effect}
+use Rattle.sp_msg.specs.declared.effect.Effect.TheVariants.{Signed}
+use Rattle.sp_msg.specs.declared.effect.Why.TheVariants.{Taken}
+use Rattle.sp_msg.specs.declared.refused.SendRefused.{SendRefused}
+use Rattle.sp_rules.specs.Arrivals.{arrival_at, handled, link_after, parts_met}
+use Rattle.sp_rules.specs.Arts.{Arts}
+use Rattle.sp_rules.specs.Link.{advanced}
+use Rattle.sp_rules.specs.Node.{NodeState, call_refusal, called, kept_or, link_in, signed_now, signed_once, with_link}
+use Rattle.sp_rules.specs.Polls.{frame_to, polled}
+use Rattle.sp_rules.specs.Prio.{admit_prio, expired_effects}
+use Rattle.sp_rules.specs.Rel.{pushed_in}
+use Rattle.sp_rules.specs.Sends.{mask_in, own_prio, prio_body, prio_sent, rel_body, rel_number, rel_refusal, rel_sent, send_prio_refusal, signer_refusal, weight_body, weight_number, weight_refusal, weight_sent}
+use Rattle.sp_rules.specs.Steps as steps
+use Rattle.sp_rules.specs.Steps.{Input, NodeStep, Output, accepted, arrived, refused_call, refused_send, replied}
+use Rattle.sp_rules.specs.Store.{oldest}
+use Rattle.sp_rules.specs.Ticks.{ack_effects, at_time, due_now, settled_by, time_after}
+use Rattle.sp_rules.specs.Weights.{held}
+use Rattle.sp_rules.specs.declared.node.NodeRefused.{NodeRefused}
+use Rattle.sp_runs.specs.Told.{signed_by}
+use Rattle.laws_runs.proofs.NoStarts.{pieces_at}
+use Rattle.laws_runs.proofs.Quiet.{quiet_expired, quiet_gone, quiet_prio, quiet_weight}
+use Rattle.laws_runs.proofs.StepSigns.{unsigned_all}
+
+pub data Uses (n : NodeState) (es : List Effect) (after : NodeState) : Type 0 where
+  Uses_none : flat_map signed_by es ≡ [] → after.signer.index ≡ n.signer.index → Uses n es after
+  Uses_one : (message : List ℕ) → flat_map signed_by es ≡ message ∷ [] → after.signer.index ≡ n.signer.index + 1 → Uses n es after
+
+pub step_uses : (arts : Arts) (n : NodeState) (i : Input) (output : Output) (after : NodeState) → NodeStep arts n i output after → Uses n output.effects after
+step_uses arts n (steps.Poll v) output after step = go (call_refusal n v) (ap (λ (o : Output). o.effects) step.0) step.1
+  where
+    go : (r : Option NodeRefused) → output.effects ≡ (refused_call r (replied (steps.Frame (frame_to arts n v)))).effects
+        → after ≡ kept_or r n (called n (with_link n v (advanced (link_in n v))) (polled n.fixed n.parts v)) → Uses n output.effects after
+    go None e f = Uses_none (ap (flat_map signed_by) e) (ap (λ (m : NodeState). m.signer.index) f)
+    go (Some refused) e f = Uses_none (ap (flat_map signed_by) e) (ap (λ (m : NodeState). m.signer.index) f)
+step_uses arts n (steps.Datagram v bytes) output after step = go (call_refusal n v) (ap (λ (o : Output). o.effects) step.0) step.1
+  where
+    go : (r : Option NodeRefused) → output.effects ≡ (refused_call r (arrived arts n v bytes)).effects
+        → after ≡ kept_or r n (called n (with_link n v (link_after arts n v bytes)) (handled arts n v bytes).parts) → Uses n output.effects after
+    go None e f =
+        Uses_none (ap (flat_map signed_by) e ∙ unsigned_all arts (arrival_at n v) (parts_met arts n v bytes) (pieces_at arts n v bytes))
+        (ap (λ (m : NodeState). m.signer.index) f)
+    go (Some refused) e f = Uses_none (ap (flat_map signed_by) e) (ap (λ (m : NodeState). m.signer.index) f)
+step_uses arts n (steps.Tick now) output after step =
+    subst (λ (es : List Effect). Uses n es after) (sym (ap (λ (o : Output). o.effects) step.0))
+    (subst (λ (m : NodeState). Uses n (expired_effects n.parts.prio (time_after n now) ++ ack_effects arts (due_now n) (signer_refusal n.signer)) m) (sym step.1)
+    (go (due_now n) (signer_refusal n.signer)))
+  where
+    none : flat_map signed_by (expired_effects n.parts.prio (time_after n now) ++ []) ≡ []
+    none =
+        ap (flat_map signed_by) (append-nil (expired_effects n.parts.prio (time_after n now))) ∙ (quiet_expired n.parts.prio (time_after n now)).no_signature
+
+    go : (o : Option Ack) (r : Option SendRefused)
+        → Uses n (expired_effects n.parts.prio (time_after n now) ++ ack_effects arts o r) (settled_by arts (at_time n now) o r)
+    go None r = Uses_none none refl
+    go (Some k) (Some refusal) = Uses_none none refl
+    go (Some k) None =
+        Uses_one (arts.spell (bodies.Ack k))
+        (flat_map-append signed_by (expired_effects n.parts.prio (time_after n now)) (Signed (arts.spell (bodies.Ack k)) ∷ [])
+        ∙ ap (λ t. t ++ arts.spell (bodies.Ack k) ∷ []) (quiet_expired n.parts.prio (time_after n now)).no_signature)
+        refl
+step_uses arts n (steps.SendRel dst payload) output after step = go (rel_refusal n dst) (ap (λ (o : Output). o.effects) step.0) step.1
+  where
+    go : (r : Option SendRefused) → output.effects ≡ (refused_send r (accepted (rel_number n dst) (rel_sent arts n dst payload))).effects
+        → after ≡ kept_or r n (signed_once n (record n.parts { rel = pushed_in n.parts.rel (signed_now arts n (rel_body n dst payload)) }))
+        → Uses n output.effects after
+    go None e f = Uses_one (arts.spell (rel_body n dst payload)) (ap (flat_map signed_by) e) (ap (λ (m : NodeState). m.signer.index) f)
+    go (Some refused) e f = Uses_none (ap (flat_map signed_by) e) (ap (λ (m : NodeState). m.signer.index) f)
+step_uses arts n (steps.SendPrio m) output after step = go (send_prio_refusal n m step.choice) (ap (λ (o : Output). o.effects) step.output_is) step.new_is
+  where
+    go : (r : Option SendRefused) → output.effects ≡ (refused_send r (accepted n.parts.prio.next (prio_sent arts n m step.choice))).effects
+        → after ≡ kept_or r n (signed_once n (record n.parts { prio = admit_prio n.parts.prio (own_prio arts n m step.choice) None }))
+        → Uses n output.effects after
+    go None e f =
+        Uses_one (arts.spell (prio_body n m (mask_in step.choice)))
+        (ap (flat_map signed_by) e
+        ∙ ap (λ t. arts.spell (prio_body n m (mask_in step.choice)) ∷ t) (quiet_prio n.parts.prio (own_prio arts n m step.choice) None).no_signature)
+        (ap (λ (k : NodeState). k.signer.index) f)
+    go (Some refused) e f = Uses_none (ap (flat_map signed_by) e) (ap (λ (k : NodeState). k.signer.index) f)
+step_uses arts n (steps.SetWeight v weight) output after step = go (weight_refusal n v weight) (ap (λ (o : Output). o.effects) step.0) step.1
+  where
+    go : (r : Option SendRefused) → output.effects ≡ (refused_send r (accepted (weight_number n v) (weight_sent arts n v weight))).effects
+        → after ≡ kept_or r n (signed_once n (record n.parts { weights = held n.parts.weights (signed_now arts n (weight_body n v weight)) }))
+        → Uses n output.effects after
+    go None e f =
+        Uses_one (arts.spell (weight_body n v weight))
+        (ap (flat_map signed_by) e ∙ ap (λ t. arts.spell (weight_body n v weight) ∷ t) (quiet_weight (weight_body n v weight)).no_signature)
+        (ap (λ (m : NodeState). m.signer.index) f)
+    go (Some refused) e f = Uses_none (ap (flat_map signed_by) e) (ap (λ (m : NodeState). m.signer.index) f)
+step_uses arts n (steps.TakeRel src) output after step =
+    Uses_none (ap (λ (o : Output). flat_map signed_by o.effects) step.0) (ap (λ (m : NodeState). m.signer.index) step.1)
+step_uses arts n steps.TakePrio output after step =
+    Uses_none (ap (λ (o : Output). flat_map signed_by o.effects) step.0 ∙ (quiet_gone 0 Taken (oldest n.parts.prio.inbox)).no_signature)
+    (ap (λ (m : NodeState). m.signer.index) step.1)

@@ -1,0 +1,191 @@
+-- What one step signs: nothing, or one message of the kind that its call asks for. Only a start signs what says of a start.
+use Rattle.std.proofs.Common.{◌≡◌, ℕ, Bool, true, false, cond, List, [], ◌∷◌, ◌++◌, Option, Some, None, refl, sym, ap, subst, ◌∙◌}
+use Rattle.std.specs.Prelude.{◌&&◌, IsTrue}
+use Rattle.std.specs.List.{flat_map}
+use Rattle.std.proofs.lemmas.List.Concat.{flat_map-append}
+use Rattle.sp_base.specs.declared.id.NodeId.{NodeId}
+use Rattle.sp_msg.specs.declared.body.Ack.{Ack}
+use Rattle.sp_msg.specs.declared.body.Body.{Body}
+use Rattle.sp_msg.specs.declared.body.Body.TheVariants as bodies
+use Rattle.sp_msg.specs.declared.body.Epoch.{Epoch}
+use Rattle.sp_msg.specs.declared.effect.Effect.{Effect}
+use Rattle.sp_msg.specs.declared.effect.Effect.TheVariants.{Ended, Signed}
+use Rattle.sp_msg.specs.declared.effect.Why.TheVariants.{Taken}
+use Rattle.sp_msg.specs.declared.kept.Kept.{Kept}
+use Rattle.sp_msg.specs.declared.refused.SendRefused.{SendRefused}
+use Rattle.sp_rules.specs.Answers.{ack_answer, epoch_answer, is_new, prio_answer, rel_answer, weight_answer}
+use Rattle.sp_rules.specs.Arrivals.{arrival_at, parts_met}
+use Rattle.sp_rules.specs.Arts.{Arts}
+use Rattle.sp_rules.specs.Flow.{FlowState, ends, flow_said}
+use Rattle.sp_rules.specs.Handle.{Arrival, handle, handle_all, offer_to, weight_effects}
+use Rattle.sp_rules.specs.Lives.{is_dated, judge_epoch, origin_said}
+use Rattle.sp_rules.specs.Node.{NodeState, call_refusal}
+use Rattle.sp_rules.specs.Parts.{Parts, is_signed}
+use Rattle.sp_rules.specs.Pieces.{Piece, WeightPiece, PrioAckPiece, PrioPiece, ReportPiece, AckPiece, RelPiece, EpochPiece}
+use Rattle.sp_rules.specs.Polls.{frame_to}
+use Rattle.sp_rules.specs.Prio.{expired_effects, judge_prio, prio_effects}
+use Rattle.sp_rules.specs.Rel.{delivery, ended_by, is_end, is_to, judge_ack_of, judge_rel_of, rel_effects, restart_effects}
+use Rattle.sp_rules.specs.Sends.{PrioSend, mask_in, no_paths, own_prio, prio_body, prio_refusal, prio_sent, rel_body, rel_number, rel_refusal, rel_sent, send_prio_refusal, signer_refusal, weight_body, weight_number, weight_refusal, weight_sent}
+use Rattle.sp_rules.specs.Steps as steps
+use Rattle.sp_rules.specs.Steps.{Input, NodeStep, Output, accepted, arrived, refused_call, refused_send, replied}
+use Rattle.sp_rules.specs.Store.{oldest}
+use Rattle.sp_rules.specs.Ticks.{ack_effects, due_now, time_after}
+use Rattle.sp_rules.specs.declared.answers.Item.TheVariants as items
+use Rattle.sp_rules.specs.declared.node.NodeRefused.{NodeRefused}
+use Rattle.laws_node.specs.Inputs.{InputFits}
+use Rattle.laws_node.proofs.About.{ack_good, prio_good, rel_good, weight_good}
+use Rattle.laws_node.proofs.Own.{either}
+use Rattle.sp_runs.specs.Settings.{Setting, SettingFits}
+use Rattle.sp_runs.specs.Told.{signed_by}
+use Rattle.laws_runs.specs.Signs.{NodeIs, sizes_at}
+use Rattle.laws_runs.proofs.Goods.{arts_fit}
+use Rattle.laws_runs.proofs.NoStarts.{pieces_at}
+use Rattle.laws_runs.proofs.Quiet.{quiet_acked, quiet_expired, quiet_gone, quiet_prio, quiet_weight}
+
+-- ---- pieces sign nothing
+
+where_unsigned : (t : Bool) (es : List Effect) → flat_map signed_by es ≡ [] → flat_map signed_by (cond t es []) ≡ []
+where_unsigned true es e = e
+where_unsigned false es e = refl
+
+rel_unsigned : (t : Bool) (body : Body) → flat_map signed_by (cond t (delivery body ∷ []) []) ≡ []
+rel_unsigned true body = refl
+rel_unsigned false body = refl
+
+restart_unsigned : (v : NodeId) (fs : List FlowState) → flat_map signed_by (flat_map (ended_by v) fs) ≡ []
+restart_unsigned v [] = refl
+restart_unsigned v (f ∷ fs) =
+    flat_map-append signed_by (ended_by v f) (flat_map (ended_by v) fs)
+    ∙ rw (where_unsigned (is_end v (ends f) && f.active) (Ended (ends f) ∷ []) refl, restart_unsigned v fs) refl
+
+unsigned_piece : (arts : Arts) (at : Arrival) (p : Parts) (piece : Piece) → flat_map signed_by (handle arts at p piece).effects ≡ []
+unsigned_piece arts at p (WeightPiece o) =
+    where_unsigned (is_new (items.Weight (weight_answer (is_signed arts at.fixed o) (offer_to at.fixed.me p.weights o.body)))) (weight_effects o.body)
+    (quiet_weight o.body).no_signature
+unsigned_piece arts at p (PrioAckPiece number) = (quiet_acked p.prio at.from.0 number).no_signature
+unsigned_piece arts at p (PrioPiece number o) =
+    where_unsigned (is_new (items.Prio (prio_answer (is_signed arts at.fixed o) (is_dated p.lives o.body) (judge_prio p.prio o.body at.now))))
+    (prio_effects p.prio o (Some at.from)) (quiet_prio p.prio o (Some at.from)).no_signature
+unsigned_piece arts at p (ReportPiece flow sboot dboot base have) = refl
+unsigned_piece arts at p (AckPiece flow o) =
+    where_unsigned (is_new (items.Ack (ack_answer (is_signed arts at.fixed o) (is_dated p.lives o.body) (judge_ack_of p.rel flow o.body)))) [] refl
+unsigned_piece arts at p (RelPiece flow o) =
+    where_unsigned (is_new (items.Rel (rel_answer (is_signed arts at.fixed o) (is_dated p.lives o.body) (judge_rel_of p.rel flow o.body))))
+    (rel_effects p.rel o) (rel_unsigned (is_to p.rel (flow_said o.body)) o.body)
+unsigned_piece arts at p (EpochPiece o) =
+    where_unsigned (is_new (items.Epoch (epoch_answer (is_signed arts at.fixed o) (judge_epoch at.fixed.me p.lives o.body))))
+    (restart_effects p.rel (origin_said o.body)) (restart_unsigned (origin_said o.body) p.rel.flows)
+
+pub unsigned_all : (arts : Arts) (at : Arrival) (p : Parts) (pieces : List Piece) → flat_map signed_by (handle_all arts at p pieces).effects ≡ []
+unsigned_all arts at p [] = refl
+unsigned_all arts at p (piece ∷ pieces) =
+    let first = handle arts at p piece in
+    flat_map-append signed_by first.effects (handle_all arts at first.parts pieces).effects
+    ∙ rw (unsigned_piece arts at p piece, unsigned_all arts at first.parts pieces) refl
+
+-- ---- a step
+
+-- the kind of message that a node may sign on this call
+abbrev pub IsAskedBy : Input → Body → Type 0
+IsAskedBy (steps.Tick now) (bodies.Ack a) = Unit {0}
+IsAskedBy (steps.SendRel dst payload) (bodies.Rel r) = Unit {0}
+IsAskedBy (steps.SendPrio m) (bodies.Prio p) = Unit {0}
+IsAskedBy (steps.SetWeight v weight) (bodies.Weight w) = Unit {0}
+IsAskedBy _ _ = ⊥
+
+pub data StepSigns (arts : Arts) (input : Input) (effects : List Effect) : Type 0 where
+  Signs_none : flat_map signed_by effects ≡ [] → StepSigns arts input effects
+  Signs_one : (body : Body) → IsAskedBy input body → IsTrue (arts.is_good body) → flat_map signed_by effects ≡ arts.spell body ∷ []
+      → StepSigns arts input effects
+
+-- never what says of a start
+pub no_start_asked : (input : Input) (body : Body) (e : Epoch) → IsAskedBy input body → body ≡ bodies.Epoch e → ⊥
+no_start_asked (steps.Tick now) (bodies.Ack a) e kind is = cc
+no_start_asked (steps.SendRel dst payload) (bodies.Rel r) e kind is = cc
+no_start_asked (steps.SendPrio m) (bodies.Prio p) e kind is = cc
+no_start_asked (steps.SetWeight v weight) (bodies.Weight w) e kind is = cc
+no_start_asked input body e kind is = go input (subst (IsAskedBy input) is kind)
+  where
+    go : (i : Input) → IsAskedBy i (bodies.Epoch e) → ⊥
+    go (steps.Poll v) k = k
+    go (steps.Datagram v bytes) k = k
+    go (steps.Tick now) k = k
+    go (steps.SendRel dst payload) k = k
+    go (steps.SendPrio m) k = k
+    go (steps.SetWeight v weight) k = k
+    go (steps.TakeRel src) k = k
+    go steps.TakePrio k = k
+
+module _ (arts : Arts) (x : Setting) (P : Kept → Type 0) (fits : SettingFits arts x) (u : NodeId) (n : NodeState) (output : Output) (after : NodeState)
+    (is : NodeIs x P u n) where
+  tick_signs : (now : ℕ) → NodeStep arts n (steps.Tick now) output after → StepSigns arts (steps.Tick now) output.effects
+  tick_signs now step =
+      subst (StepSigns arts (steps.Tick now)) (sym (ap (λ (o : Output). o.effects) step.0)) (go (due_now n) refl (signer_refusal n.signer))
+    where
+      none : (es : List Effect) → flat_map signed_by (expired_effects n.parts.prio (time_after n now) ++ es) ≡ flat_map signed_by es
+      none es = flat_map-append signed_by (expired_effects n.parts.prio (time_after n now)) es
+          ∙ rw (quiet_expired n.parts.prio (time_after n now)).no_signature refl
+
+      go : (o : Option Ack) → due_now n ≡ o → (r : Option SendRefused)
+          → StepSigns arts (steps.Tick now) (expired_effects n.parts.prio (time_after n now) ++ ack_effects arts o r)
+      go None due r = Signs_none (none [])
+      go (Some ack) due (Some refusal) = Signs_none (none [])
+      go (Some ack) due None =
+          Signs_one (bodies.Ack ack) tt (ack_good arts (sizes_at x P u) n ack (arts_fit arts x P u n fits is) due is.holds)
+          (none (Signed (arts.spell (bodies.Ack ack)) ∷ []))
+
+  rel_signs : (dst : NodeId) (payload : List ℕ) → InputFits (steps.SendRel dst payload) → NodeStep arts n (steps.SendRel dst payload) output after
+      → StepSigns arts (steps.SendRel dst payload) output.effects
+  rel_signs dst payload short step =
+      subst (StepSigns arts (steps.SendRel dst payload)) (sym (ap (λ (o : Output). o.effects) step.0)) (go (rel_refusal n dst) refl)
+    where
+      go : (r : Option SendRefused) → rel_refusal n dst ≡ r
+          → StepSigns arts (steps.SendRel dst payload) (refused_send r (accepted (rel_number n dst) (rel_sent arts n dst payload))).effects
+      go None free = Signs_one (rel_body n dst payload) tt
+          (rel_good arts (sizes_at x P u) n dst payload (arts_fit arts x P u n fits is) short free is.holds) refl
+      go (Some refused) free = Signs_none refl
+
+  weight_signs : (v : NodeId) (weight : ℕ) → InputFits (steps.SetWeight v weight) → NodeStep arts n (steps.SetWeight v weight) output after
+      → StepSigns arts (steps.SetWeight v weight) output.effects
+  weight_signs v weight sizes step =
+      subst (StepSigns arts (steps.SetWeight v weight)) (sym (ap (λ (o : Output). o.effects) step.0)) (go (weight_refusal n v weight) refl)
+    where
+      go : (r : Option SendRefused) → weight_refusal n v weight ≡ r
+          → StepSigns arts (steps.SetWeight v weight) (refused_send r (accepted (weight_number n v) (weight_sent arts n v weight))).effects
+      go None free =
+          Signs_one (weight_body n v weight) tt (weight_good arts (sizes_at x P u) n v weight (arts_fit arts x P u n fits is) sizes.0 sizes.1 free is.holds)
+          (ap (λ t. arts.spell (weight_body n v weight) ∷ t) (quiet_weight (weight_body n v weight)).no_signature)
+      go (Some refused) free = Signs_none refl
+
+  prio_signs : (m : PrioSend) → InputFits (steps.SendPrio m) → NodeStep arts n (steps.SendPrio m) output after
+      → StepSigns arts (steps.SendPrio m) output.effects
+  prio_signs m sizes step =
+      subst (StepSigns arts (steps.SendPrio m)) (sym (ap (λ (o : Output). o.effects) step.output_is)) (go (send_prio_refusal n m step.choice) refl)
+    where
+      go : (r : Option SendRefused) → send_prio_refusal n m step.choice ≡ r
+          → StepSigns arts (steps.SendPrio m) (refused_send r (accepted n.parts.prio.next (prio_sent arts n m step.choice))).effects
+      go None free =
+          Signs_one (prio_body n m (mask_in step.choice)) tt
+          (prio_good arts (sizes_at x P u) n m step.choice (arts_fit arts x P u n fits is) sizes free
+          (step.is_choice (either (prio_refusal n m) (no_paths step.choice) free).0) is.holds)
+          (ap (λ t. arts.spell (prio_body n m (mask_in step.choice)) ∷ t) (quiet_prio n.parts.prio (own_prio arts n m step.choice) None).no_signature)
+      go (Some refused) free = Signs_none refl
+
+  pub step_signs : (input : Input) → InputFits input → NodeStep arts n input output after → StepSigns arts input output.effects
+  step_signs (steps.Poll v) input step = Signs_none (ap (λ (o : Output). flat_map signed_by o.effects) step.0 ∙ go (call_refusal n v))
+    where
+      go : (r : Option NodeRefused) → flat_map signed_by (refused_call r (replied (steps.Frame (frame_to arts n v)))).effects ≡ []
+      go None = refl
+      go (Some refused) = refl
+  step_signs (steps.Datagram v bytes) input step = Signs_none (ap (λ (o : Output). flat_map signed_by o.effects) step.0 ∙ go (call_refusal n v))
+    where
+      go : (r : Option NodeRefused) → flat_map signed_by (refused_call r (arrived arts n v bytes)).effects ≡ []
+      go None = unsigned_all arts (arrival_at n v) (parts_met arts n v bytes) (pieces_at arts n v bytes)
+      go (Some refused) = refl
+  step_signs (steps.Tick now) input step = tick_signs now step
+  step_signs (steps.SendRel dst payload) input step = rel_signs dst payload input step
+  step_signs (steps.SendPrio m) input step = prio_signs m input step
+  step_signs (steps.SetWeight v weight) input step = weight_signs v weight input step
+  step_signs (steps.TakeRel src) input step = Signs_none (ap (λ (o : Output). flat_map signed_by o.effects) step.0)
+  step_signs steps.TakePrio input step =
+      Signs_none (ap (λ (o : Output). flat_map signed_by o.effects) step.0 ∙ (quiet_gone 0 Taken (oldest n.parts.prio.inbox)).no_signature)
