@@ -185,8 +185,8 @@ ready_goes_on x es w e u keys = record {
     same_index b n (Extended on short same) = let is = ap (λ (m : NodeState). m.signer.index) same in omega (arith, is)
 
 -- one thing after another
-pub then : (u : NodeId) (a b c : World) → GoesOn u a b → GoesOn u b c → GoesOn u a c
-then u a b c one two = record {
+pub in_turn : (u : NodeId) (a b c : World) → GoesOn u a b → GoesOn u b c → GoesOn u a c
+in_turn u a b c one two = record {
   node = λ n at.
       let last = two.node n at in
       let first = one.node last.0 last.1 in

@@ -46,6 +46,9 @@ pub mod KeyPasts
 pub mod LifeKeys
 pub mod PrioMoves
 pub mod PrioRuns
+pub mod SinceFacts
+pub mod Rests
+pub mod WeightFacts
 pub mod WeightSteps
 pub mod WeightRuns
 pub mod There

@@ -38,7 +38,7 @@ use Rattle.laws_runs.proofs.Signed.{signs}
 use Rattle.laws_runs.proofs.Started.{craft_other, moves_other}
 use Rattle.laws_runs.proofs.StepIndexes.{Uses, Uses_none, Uses_one, step_uses}
 use Rattle.laws_runs.proofs.Tables.{node_is, node_put, same_node}
-use Rattle.laws_runs.proofs.KeyPasts.{PastHolds, UpTo, as_before, below_more, boot_one, keys_go_on, more_bound, no_boot, past_goes_on, past_holds, ready_goes_on, sign_one, then, told_none, up_to_more}
+use Rattle.laws_runs.proofs.KeyPasts.{PastHolds, UpTo, as_before, below_more, boot_one, in_turn, keys_go_on, more_bound, no_boot, past_goes_on, past_holds, ready_goes_on, sign_one, told_none, up_to_more}
 
 -- ---- a node moves
 
@@ -233,7 +233,7 @@ keys_of_life arts x es old e j new fits on keys range (Exhausts a is none) u bef
 keys_of_life arts x es old e j new fits on keys range (Stops a is stop) u before h =
     let v = ready x old (events.Stop a) in
     past_goes_on x u before e j None old new (told_none u e j (ap (flat_map signed_by) stop.effects)) (ap (λ (f : Event). boot_in u f j.reply) is)
-    (then u old v new (ready_goes_on x es old (events.Stop a) u keys)
+    (in_turn u old v new (ready_goes_on x es old (events.Stop a) u keys)
     (as_before u v new
     (λ n at. without_left u a n v.nodes (subst (λ (w : World). node_in w.nodes u ≡ Some n) stop.world at) (ready_once x es old (events.Stop a) on keys))
     (ap (λ (w : World). w.keys) stop.world))) h

@@ -2,7 +2,7 @@
 use Rattle.sp_base.proofs.FormatLemmas.{few_nodes}
 use Rattle.sp_msg.proofs.GoodFields.{good_prio}
 use Rattle.laws_runs.specs.Places.{PlacesAre, StoreIs, shelf}
-use Rattle.std.proofs.Common.{◌≡◌, ◌<◌, ℕ, zero, suc, ◌-◌, Bool, true, false, cond, List, [], ◌∷◌, ◌++◌, length, Option, Some, None, refl, sym, ap, subst, ◌∙◌, inl, inr, arith}
+use Rattle.std.proofs.Common.{◌≡◌, ◌<◌, ◌&&◌, ℕ, zero, suc, ◌-◌, Bool, true, false, cond, List, [], ◌∷◌, ◌++◌, length, Option, Some, None, refl, sym, ap, subst, ◌∙◌, inl, inr, arith}
 use Rattle.std.specs.List.{flat_map}
 use Rattle.std.proofs.lemmas.Bool.{cases_Bool}
 use Rattle.std.proofs.lemmas.List.{append-nil}
@@ -17,13 +17,13 @@ use Rattle.sp_msg.specs.declared.effect.Effect.TheVariants as effects
 use Rattle.sp_msg.specs.declared.effect.Why.TheVariants as whys
 use Rattle.sp_msg.specs.declared.kept.Kept.{Kept}
 use Rattle.sp_msg.specs.declared.refused.SendRefused.{SendRefused}
-use Rattle.sp_rules.specs.Answers.{ack_answer, is_new, prio_answer, rel_answer, weight_answer}
-use Rattle.sp_rules.specs.Arrivals.{arrival_at, handled, link_after, parts_met}
+use Rattle.sp_rules.specs.Answers.{ack_answer, epoch_answer, is_new, prio_answer, rel_answer, weight_answer}
+use Rattle.sp_rules.specs.Arrivals.{arrival_at, handled, has_risen, link_after, parts_met}
 use Rattle.sp_rules.specs.Arts.{Arts}
-use Rattle.sp_rules.specs.Flow.{flow_said}
-use Rattle.sp_rules.specs.Handle.{Arrival, handle, handle_all, heard_where, offer_to, weight_effects}
+use Rattle.sp_rules.specs.Flow.{FlowState, ends, flow_said}
+use Rattle.sp_rules.specs.Handle.{Arrival, handle, handle_all, heard_where, met, offer_to, weight_effects}
 use Rattle.sp_rules.specs.Link.{advanced}
-use Rattle.sp_rules.specs.Lives.{are_held, is_dated}
+use Rattle.sp_rules.specs.Lives.{are_held, is_dated, judge_epoch, origin_said}
 use Rattle.sp_rules.specs.Node.{NodeState, call_refusal, called, kept_or, link_in, signed_now, signed_once, with_link}
 use Rattle.sp_rules.specs.Parts.{Parts, is_signed}
 use Rattle.sp_rules.specs.Pieces.{Piece, WeightPiece, PrioAckPiece, PrioPiece, ReportPiece, AckPiece, RelPiece, EpochPiece}
@@ -32,7 +32,8 @@ use Rattle.sp_rules.specs.Prio as prio
 use Rattle.sp_rules.specs.Prio.{PrioState, admit_prio, judge_prio, no_peer, peer_in, prio_effects}
 use Rattle.sp_rules.specs.PrioPeer as rows
 use Rattle.sp_rules.specs.PrioPeer.{PrioPeer, filled, landed, launch, launched, settled}
-use Rattle.sp_rules.specs.Rel.{admit_ack, admit_rel, delivery, is_to, judge_ack_of, judge_rel_of, pushed_in, rel_effects, reported}
+use Rattle.sp_rules.specs.Rel as rel
+use Rattle.sp_rules.specs.Rel.{RelState, admit_ack, admit_rel, delivery, ended_by, is_end, is_to, judge_ack_of, judge_rel_of, pushed_in, rel_effects, reported, restart_effects}
 use Rattle.sp_rules.specs.Sends.{after_take_prio, after_take_rel, mask_in, no_paths, own_prio, prio_body, prio_refusal, prio_sent, rel_body, rel_number, rel_refusal, rel_sent, send_prio_refusal, signer_refusal, weight_body, weight_number, weight_refusal, weight_sent}
 use Rattle.sp_rules.specs.Steps as steps
 use Rattle.sp_rules.specs.Steps.{Input, NodeStep, Output, accepted, arrived, refused_call, refused_send, replied}
@@ -53,12 +54,12 @@ use Rattle.laws_node.proofs.Carried.{pieces_new}
 use Rattle.laws_node.proofs.Handles as judged
 use Rattle.laws_node.proofs.Own.{either, prio_sent_fits}
 use Rattle.laws_node.proofs.Arrived.{step_fields}
-use Rattle.sp_runs.specs.Settings.{Setting, StaysUp}
+use Rattle.sp_runs.specs.Settings.{Setting, SettingFits}
 use Rattle.laws_runs.specs.Signs.{NodeIs, sizes_at}
 use Rattle.laws_runs.proofs.PlaceFacts.{AllAway, Turns, admitted_turns, all_turn, inbox_turns, row_turns, turns_on, turns_same}
 use Rattle.laws_runs.proofs.Goods.{arts_fit}
-use Rattle.laws_runs.proofs.NoStarts.{NoStart, NoStarts, met_as_it_was, no_starts_at, pieces_at, without}
-use Rattle.laws_runs.proofs.StoreFacts.{Leads, Signs_it, Tells_rel, Tells_weight, expired_away, expired_is, expired_leads, gone_away, leads_nowhere, left_away, left_is, left_leads, oldest_is, oldest_leads}
+use Rattle.laws_runs.proofs.NoStarts.{pieces_at}
+use Rattle.laws_runs.proofs.StoreFacts.{AreAway, Ends_flow, Leads, Signs_it, Tells_rel, Tells_weight, away_both, expired_away, expired_is, expired_leads, gone_away, leads_nowhere, left_away, left_is, left_leads, oldest_is, oldest_leads}
 
 -- ---- effects of no place
 
@@ -71,7 +72,7 @@ weight_away (bodies.Krel b) = λ place. tt
 weight_away (bodies.Kack b) = λ place. tt
 weight_away (bodies.Epoch b) = λ place. tt
 
-either_away : (t : Bool) (es : List Effect) → AllAway es → AllAway (cond t es [])
+pub either_away : (t : Bool) (es : List Effect) → AllAway es → AllAway (cond t es [])
 either_away true es h = h
 either_away false es h = λ place. tt
 
@@ -79,7 +80,16 @@ rel_away : (t : Bool) (body : Body) → AllAway (cond t (delivery body ∷ []) [
 rel_away true body = λ place. (Tells_rel, tt)
 rel_away false body = λ place. tt
 
-none_away : AllAway []
+restart_away : (r : RelState) (v : NodeId) → AllAway (restart_effects r v)
+restart_away r v = λ place. each place r.flows
+  where
+    each : (place : ℕ) (fs : List FlowState) → AreAway place (flat_map (ended_by v) fs)
+    each place [] = tt
+    each place (f ∷ fs) =
+        away_both place (ended_by v f) (flat_map (ended_by v) fs)
+        (either_away (is_end v (ends f) && f.active) (effects.Ended (ends f) ∷ []) (λ p. (Ends_flow, tt)) place) (each place fs)
+
+pub none_away : AllAway []
 none_away = λ place. tt
 
 small_of : (format : ℕ) (body : Body) → IsPrio body → HasGoodFieldsIn format body → said (λ p. p.src.0) body < IDS
@@ -117,13 +127,15 @@ module _ (capacity format : ℕ) where
       (λ none. ap (λ (r : PrioPeer). rows.acked_effects r number) none) h
 
   -- a row whose store stays
-  row_stays : (p : PrioState) (v : ℕ) (r : PrioPeer) → r.peer ≡ (peer_in p v).peer → r.store ≡ (peer_in p v).store → PlacesAre capacity p → Turns capacity p [] (prio.with_peer p v r)
+  row_stays : (p : PrioState) (v : ℕ) (r : PrioPeer) → r.peer ≡ (peer_in p v).peer → r.store ≡ (peer_in p v).store → PlacesAre capacity p
+      → Turns capacity p [] (prio.with_peer p v r)
   row_stays p v r e f h =
       row_turns capacity p v r [] e (λ s. subst (StoreIs capacity) (sym f) s)
       (λ g s. subst (λ (t : Store). Leads capacity v (shelf (peer_in p v).store) [] (shelf t)) (sym f) (leads_nowhere capacity v (shelf (peer_in p v).store)))
       (λ place other. tt) (λ none. refl) h
 
-  heard_turns : (answer : PrioAnswer) (v : NodeId) (number : ℕ) (p : Parts) → PlacesAre capacity p.prio → Turns capacity p.prio [] (heard_where answer v number p).prio
+  heard_turns : (answer : PrioAnswer) (v : NodeId) (number : ℕ) (p : Parts) → PlacesAre capacity p.prio
+      → Turns capacity p.prio [] (heard_where answer v number p).prio
   heard_turns prios.New v number p h = row_stays p.prio v.0 (rows.heard (peer_in p.prio v.0) number) refl refl h
   heard_turns prios.Seen v number p h = row_stays p.prio v.0 (rows.heard (peer_in p.prio v.0) number) refl refl h
   heard_turns prios.BadEnd v number p h = turns_same capacity p.prio p.prio [] none_away refl refl h
@@ -135,53 +147,75 @@ module _ (capacity format : ℕ) where
   same_prio true x p e = e
   same_prio false x p e = refl
 
+  -- windows alone change
+  either_stays : (t : Bool) (x p : Parts) → x.prio.inbox ≡ p.prio.inbox → x.prio.peers ≡ p.prio.peers
+      → ((cond t x p).prio.inbox ≡ p.prio.inbox) × ((cond t x p).prio.peers ≡ p.prio.peers)
+  either_stays true x p e f = (e, f)
+  either_stays false x p e f = (refl, refl)
+
+  -- the frame of another life of its neighbour takes nothing from a place
+  greeted_turns : (t : Bool) (v : NodeId) (p : Parts) → PlacesAre capacity p.prio
+      → Turns capacity p.prio [] (cond t (record p { prio = prio.unheard p.prio v.0; rel = rel.unheard p.rel v }) p).prio
+  greeted_turns true v p h = row_stays p.prio v.0 (rows.unheard (peer_in p.prio v.0)) refl refl h
+  greeted_turns false v p h = turns_same capacity p.prio p.prio [] none_away refl refl h
+
   quiet_turns : (old new : PrioState) (es : List Effect) → AllAway es → new ≡ old → PlacesAre capacity old → Turns capacity old es new
   quiet_turns old new es away e h = turns_same capacity old new es away (ap (λ (p : PrioState). p.inbox) e) (ap (λ (p : PrioState). p.peers) e) h
 
-  one_turns : (arts : Arts) (at : Arrival) (p : Parts) (piece : Piece) → NoStart piece
+  one_turns : (arts : Arts) (at : Arrival) (p : Parts) (piece : Piece)
       → NewKeep (λ o. HasGoodFieldsIn format o.body) (handle arts at p piece).answered
       → PlacesAre capacity p.prio
       → Turns capacity p.prio (handle arts at p piece).effects (handle arts at p piece).parts.prio
-  one_turns arts at p (WeightPiece o) none new h =
+  one_turns arts at p (WeightPiece o) new h =
       let t = is_new (items.Weight (weight_answer (is_signed arts at.fixed o) (offer_to at.fixed.me p.weights o.body))) in
-      quiet_turns p.prio (cond t (record p { weights = held_weight p.weights o }) p).prio (cond t (weight_effects o.body) []) (either_away t (weight_effects o.body) (weight_away o.body)) (same_prio t (record p { weights = held_weight p.weights o }) p refl) h
-  one_turns arts at p (PrioAckPiece number) none new h = acked_turns p.prio at.from.0 number h
-  one_turns arts at p (PrioPiece number o) none new h =
+      quiet_turns p.prio (cond t (record p { weights = held_weight p.weights o }) p).prio (cond t (weight_effects o.body) [])
+      (either_away t (weight_effects o.body) (weight_away o.body)) (same_prio t (record p { weights = held_weight p.weights o }) p refl) h
+  one_turns arts at p (PrioAckPiece number) new h = acked_turns p.prio at.from.0 number h
+  one_turns arts at p (PrioPiece number o) new h =
       let answer = prio_answer (is_signed arts at.fixed o) (is_dated p.lives o.body) (judge_prio p.prio o.body at.now) in
       let admitted = record p { prio = admit_prio p.prio o (Some at.from) } in
       let es = prio_effects p.prio o (Some at.from) in
       let first : Turns capacity p.prio (cond (is_new (items.Prio answer)) es []) (cond (is_new (items.Prio answer)) admitted p).prio =
       elim (cases_Bool (is_new (items.Prio answer))) [
         | inl t ↦
-            let is = judged.is_prio p.prio o.body at.now (judged.new_prio (is_signed arts at.fixed o) (is_dated p.lives o.body) (judge_prio p.prio o.body at.now) t).1 in
+            let is =
+            judged.is_prio p.prio o.body at.now (judged.new_prio (is_signed arts at.fixed o) (is_dated p.lives o.body) (judge_prio p.prio o.body at.now) t).1 in
             let done = admitted_turns capacity p.prio o (Some at.from) is (small_of format o.body is (new.0 t)) h in
             rw t done
         | inr t ↦ let same = turns_same capacity p.prio p.prio [] none_away refl refl h in rw t same
       ] in
       let after = cond (is_new (items.Prio answer)) admitted p in
       subst (λ xs. Turns capacity p.prio xs (heard_where answer at.from number after).prio) (append-nil (cond (is_new (items.Prio answer)) es []))
-      (turns_on capacity p.prio after.prio (heard_where answer at.from number after).prio (cond (is_new (items.Prio answer)) es []) [] first (heard_turns answer at.from number after first.are))
-  one_turns arts at p (ReportPiece flow sboot dboot base have) none new h =
+      (turns_on capacity p.prio after.prio (heard_where answer at.from number after).prio (cond (is_new (items.Prio answer)) es []) [] first
+      (heard_turns answer at.from number after first.are))
+  one_turns arts at p (ReportPiece flow sboot dboot base have) new h =
       quiet_turns p.prio (handle arts at p (ReportPiece flow sboot dboot base have)).parts.prio [] none_away
       (same_prio (are_held p.lives flow sboot dboot) (record p { rel = reported p.rel at.from flow base have }) p refl) h
-  one_turns arts at p (AckPiece flow o) none new h =
+  one_turns arts at p (AckPiece flow o) new h =
       let t = is_new (items.Ack (ack_answer (is_signed arts at.fixed o) (is_dated p.lives o.body) (judge_ack_of p.rel flow o.body))) in
-      quiet_turns p.prio (cond t (record p { rel = admit_ack p.rel o }) p).prio (cond t [] []) (either_away t [] none_away) (same_prio t (record p { rel = admit_ack p.rel o }) p refl) h
-  one_turns arts at p (RelPiece flow o) none new h =
+      quiet_turns p.prio (cond t (record p { rel = admit_ack p.rel o }) p).prio (cond t [] []) (either_away t [] none_away)
+      (same_prio t (record p { rel = admit_ack p.rel o }) p refl) h
+  one_turns arts at p (RelPiece flow o) new h =
       let t = is_new (items.Rel (rel_answer (is_signed arts at.fixed o) (is_dated p.lives o.body) (judge_rel_of p.rel flow o.body))) in
-      quiet_turns p.prio (cond t (record p { rel = admit_rel p.rel o }) p).prio (cond t (rel_effects p.rel o) []) (either_away t (rel_effects p.rel o) (rel_away (is_to p.rel (flow_said o.body)) o.body))
+      quiet_turns p.prio (cond t (record p { rel = admit_rel p.rel o }) p).prio (cond t (rel_effects p.rel o) [])
+      (either_away t (rel_effects p.rel o) (rel_away (is_to p.rel (flow_said o.body)) o.body))
       (same_prio t (record p { rel = admit_rel p.rel o }) p refl) h
-  one_turns arts at p (EpochPiece o) none new h = absurd none
+  one_turns arts at p (EpochPiece o) new h =
+      let t = is_new (items.Epoch (epoch_answer (is_signed arts at.fixed o) (judge_epoch at.fixed.me p.lives o.body))) in
+      let es = restart_effects p.rel (origin_said o.body) in
+      let away = either_away t es (restart_away p.rel (origin_said o.body)) in
+      let same = either_stays t (met p o) p refl refl in
+      turns_same capacity p.prio (cond t (met p o) p).prio (cond t es []) away same.0 same.1 h
 
-  all_turns : (arts : Arts) (at : Arrival) (p : Parts) (pieces : List Piece) → NoStarts pieces
+  all_turns : (arts : Arts) (at : Arrival) (p : Parts) (pieces : List Piece)
       → NewKeep (λ o. HasGoodFieldsIn format o.body) (handle_all arts at p pieces).answered → PlacesAre capacity p.prio
       → Turns capacity p.prio (handle_all arts at p pieces).effects (handle_all arts at p pieces).parts.prio
-  all_turns arts at p [] none new h = turns_same capacity p.prio p.prio [] none_away refl refl h
-  all_turns arts at p (piece ∷ pieces) none new h =
+  all_turns arts at p [] new h = turns_same capacity p.prio p.prio [] none_away refl refl h
+  all_turns arts at p (piece ∷ pieces) new h =
       let first = handle arts at p piece in
       let others = handle_all arts at first.parts pieces in
-      let one = one_turns arts at p piece none.0 (new_left (λ o. HasGoodFieldsIn format o.body) first.answered others.answered new) h in
-      let rest = all_turns arts at first.parts pieces none.1 (new_right (λ o. HasGoodFieldsIn format o.body) first.answered others.answered new) one.are in
+      let one = one_turns arts at p piece (new_left (λ o. HasGoodFieldsIn format o.body) first.answered others.answered new) h in
+      let rest = all_turns arts at first.parts pieces (new_right (λ o. HasGoodFieldsIn format o.body) first.answered others.answered new) one.are in
       turns_on capacity p.prio first.parts.prio others.parts.prio first.effects others.effects one rest
 
   -- ---- the other calls
@@ -195,7 +229,9 @@ module _ (capacity format : ℕ) where
   expired_turns : (p : PrioState) (now : ℕ) → PlacesAre capacity p → Turns capacity p (prio.expired_effects p now) (prio.expired p now)
   expired_turns p now h =
       let mid = record p { inbox = less_expired p.inbox now } in
-      let one = inbox_turns capacity p mid (rows.expired_effects 0 p.inbox now) refl (expired_leads capacity 0 p.inbox now h.inbox) (expired_is capacity p.inbox now h.inbox)
+      let one =
+      inbox_turns capacity p mid (rows.expired_effects 0 p.inbox now) refl (expired_leads capacity 0 p.inbox now h.inbox)
+      (expired_is capacity p.inbox now h.inbox)
       (λ place other. expired_away place 0 p.inbox now other) h in
       let two = all_turn capacity mid (prio.expired p now) (λ q. rows.expired q now) (λ q. rows.expired_effects q.peer q.store now)
       (λ q s. record {
@@ -204,74 +240,98 @@ module _ (capacity format : ℕ) where
         away = λ place other. expired_away place q.peer q.store now other;
         after = expired_is capacity q.store now s;
       }) refl refl one.are in
-      turns_on capacity p mid (prio.expired p now) (rows.expired_effects 0 p.inbox now) (flat_map (λ (q : PrioPeer). rows.expired_effects q.peer q.store now) p.peers) one two
+      turns_on capacity p mid (prio.expired p now) (rows.expired_effects 0 p.inbox now)
+      (flat_map (λ (q : PrioPeer). rows.expired_effects q.peer q.store now) p.peers) one two
 
   taken_turns : (p : PrioState) → PlacesAre capacity p → Turns capacity p (rows.gone 0 whys.Taken (oldest p.inbox)) (prio.taken p)
-  taken_turns p h = inbox_turns capacity p (prio.taken p) (rows.gone 0 whys.Taken (oldest p.inbox)) refl (oldest_leads capacity 0 p.inbox h.inbox) (oldest_is capacity p.inbox h.inbox)
+  taken_turns p h =
+      inbox_turns capacity p (prio.taken p) (rows.gone 0 whys.Taken (oldest p.inbox)) refl (oldest_leads capacity 0 p.inbox h.inbox)
+      (oldest_is capacity p.inbox h.inbox)
       (λ place other. gone_away place 0 whys.Taken (oldest p.inbox) other) h
 
   -- a signature first
-  signed_turns : (p new : PrioState) (bytes : List ℕ) (es : List Effect) → PlacesAre capacity p → Turns capacity p es new → Turns capacity p (effects.Signed bytes ∷ es) new
-  signed_turns p new bytes es h turns = turns_on capacity p p new (effects.Signed bytes ∷ []) es (turns_same capacity p p (effects.Signed bytes ∷ []) (λ place. (Signs_it, tt)) refl refl h) turns
+  signed_turns : (p new : PrioState) (bytes : List ℕ) (es : List Effect) → PlacesAre capacity p → Turns capacity p es new
+      → Turns capacity p (effects.Signed bytes ∷ es) new
+  signed_turns p new bytes es h turns =
+      turns_on capacity p p new (effects.Signed bytes ∷ []) es (turns_same capacity p p (effects.Signed bytes ∷ []) (λ place. (Signs_it, tt)) refl refl h) turns
 
 -- ---- all cases
 
-module _ (x : Setting) (arts : Arts) (fits : StaysUp arts x) (P : Kept → Type 0) (u : NodeId) where
+module _ (x : Setting) (arts : Arts) (fits : SettingFits arts x) (P : Kept → Type 0) (u : NodeId) where
   abbrev Done : NodeState → Output → NodeState → Type 0
   Done n output after = Turns x.store n.parts.prio output.effects after.parts.prio
 
-  by : (n : NodeState) (output : Output) (after m : NodeState) (es : List Effect) → output.effects ≡ es → after ≡ m → Turns x.store n.parts.prio es m.parts.prio → Done n output after
-  by n output after m es e f turns = subst (λ xs. Turns x.store n.parts.prio xs after.parts.prio) (sym e) (subst (λ (y : NodeState). Turns x.store n.parts.prio es y.parts.prio) (sym f) turns)
+  by : (n : NodeState) (output : Output) (after m : NodeState) (es : List Effect) → output.effects ≡ es → after ≡ m → Turns x.store n.parts.prio es m.parts.prio
+      → Done n output after
+  by n output after m es e f turns =
+      subst (λ xs. Turns x.store n.parts.prio xs after.parts.prio) (sym e) (subst (λ (y : NodeState). Turns x.store n.parts.prio es y.parts.prio) (sym f) turns)
 
   still : (n : NodeState) → PlacesAre x.store n.parts.prio → Turns x.store n.parts.prio [] n.parts.prio
   still n h = turns_same x.store n.parts.prio n.parts.prio [] none_away refl refl h
 
-  pub turned : (n : NodeState) (i : Input) (output : Output) (after : NodeState) → NodeStep arts n i output after → InputFits i → NodeIs x P u n → PlacesAre x.store n.parts.prio → Done n output after
+  pub turned : (n : NodeState) (i : Input) (output : Output) (after : NodeState) → NodeStep arts n i output after → InputFits i → NodeIs x P u n
+      → PlacesAre x.store n.parts.prio → Done n output after
   turned n (steps.Poll v) output after step input is h = go (call_refusal n v) (ap (λ (o : Output). o.effects) step.0) step.1
     where
       go : (r : Option NodeRefused) → output.effects ≡ (refused_call r (replied (steps.Frame (frame_to arts n v)))).effects
           → after ≡ kept_or r n (called n (with_link n v (advanced (link_in n v))) (polled n.fixed n.parts v)) → Done n output after
-      go None e f = by n output after (called n (with_link n v (advanced (link_in n v))) (polled n.fixed n.parts v)) [] e f (carried_turns x.store x.topology.format n.parts.prio v.0 h)
+      go None e f =
+          by n output after (called n (with_link n v (advanced (link_in n v))) (polled n.fixed n.parts v)) [] e f
+          (carried_turns x.store x.topology.format n.parts.prio v.0 h)
       go (Some refused) e f = by n output after n [] e f (still n h)
   turned n (steps.Datagram v bytes) output after step input is h = go (call_refusal n v) (ap (λ (o : Output). o.effects) step.0) step.1
     where
       news : NewKeep (λ o. HasGoodFieldsIn x.topology.format o.body) (handled arts n v bytes).answered
       news = pieces_new (λ y. HasGoodFieldsIn x.topology.format y.body) arts (arrival_at n v) (parts_met arts n v bytes) (pieces_at arts n v bytes)
-          (step_fields (sizes_at x P u) arts n v bytes (arts_fit arts x P u n fits.fits is) input is.holds)
+          (step_fields (sizes_at x P u) arts n v bytes (arts_fit arts x P u n fits is) input is.holds)
 
       go : (r : Option NodeRefused) → output.effects ≡ (refused_call r (arrived arts n v bytes)).effects
           → after ≡ kept_or r n (called n (with_link n v (link_after arts n v bytes)) (handled arts n v bytes).parts) → Done n output after
       go None e f = by n output after (called n (with_link n v (link_after arts n v bytes)) (handled arts n v bytes).parts) (handled arts n v bytes).effects e f
-          (let met = met_as_it_was arts n v bytes (without x P u n fits.plain is) in
-          subst (λ (p : Parts). Turns x.store p.prio (handled arts n v bytes).effects (handled arts n v bytes).parts.prio) met
-          (all_turns x.store x.topology.format arts (arrival_at n v) (parts_met arts n v bytes) (pieces_at arts n v bytes)
-          (no_starts_at arts n v bytes (without x P u n fits.plain is)) news (subst (λ (p : Parts). PlacesAre x.store p.prio) (sym met) h)))
+          (let first = greeted_turns x.store x.topology.format (n.fixed.epochs && has_risen (link_in n v) (link_after arts n v bytes)) v n.parts h in
+          turns_on x.store n.parts.prio (parts_met arts n v bytes).prio (handled arts n v bytes).parts.prio [] (handled arts n v bytes).effects first
+          (all_turns x.store x.topology.format arts (arrival_at n v) (parts_met arts n v bytes) (pieces_at arts n v bytes) news first.are))
       go (Some refused) e f = by n output after n [] e f (still n h)
   turned n (steps.Tick now) output after step input is h =
-      by n output after (settled_by arts (at_time n now) (due_now n) (signer_refusal n.signer)) (prio.expired_effects n.parts.prio (time_after n now) ++ ack_effects arts (due_now n) (signer_refusal n.signer))
+      by n output after (settled_by arts (at_time n now) (due_now n) (signer_refusal n.signer))
+      (prio.expired_effects n.parts.prio (time_after n now) ++ ack_effects arts (due_now n) (signer_refusal n.signer))
       (ap (λ (o : Output). o.effects) step.0) step.1 (go (due_now n) (signer_refusal n.signer))
     where
-      go : (o : Option Ack) (r : Option SendRefused) → Turns x.store n.parts.prio (prio.expired_effects n.parts.prio (time_after n now) ++ ack_effects arts o r) (settled_by arts (at_time n now) o r).parts.prio
+      go : (o : Option Ack) (r : Option SendRefused)
+          → Turns x.store n.parts.prio (prio.expired_effects n.parts.prio (time_after n now) ++ ack_effects arts o r)
+          (settled_by arts (at_time n now) o r).parts.prio
       go None r = let t = expired_turns x.store x.topology.format n.parts.prio (time_after n now) h in
-          turns_on x.store n.parts.prio (prio.expired n.parts.prio (time_after n now)) (prio.expired n.parts.prio (time_after n now)) (prio.expired_effects n.parts.prio (time_after n now)) [] t (turns_same x.store (prio.expired n.parts.prio (time_after n now)) (prio.expired n.parts.prio (time_after n now)) [] none_away refl refl t.are)
+          turns_on x.store n.parts.prio (prio.expired n.parts.prio (time_after n now)) (prio.expired n.parts.prio (time_after n now))
+          (prio.expired_effects n.parts.prio (time_after n now)) [] t
+          (turns_same x.store (prio.expired n.parts.prio (time_after n now)) (prio.expired n.parts.prio (time_after n now)) [] none_away refl refl t.are)
       go (Some ack) (Some refusal) = let t = expired_turns x.store x.topology.format n.parts.prio (time_after n now) h in
-          turns_on x.store n.parts.prio (prio.expired n.parts.prio (time_after n now)) (prio.expired n.parts.prio (time_after n now)) (prio.expired_effects n.parts.prio (time_after n now)) [] t (turns_same x.store (prio.expired n.parts.prio (time_after n now)) (prio.expired n.parts.prio (time_after n now)) [] none_away refl refl t.are)
+          turns_on x.store n.parts.prio (prio.expired n.parts.prio (time_after n now)) (prio.expired n.parts.prio (time_after n now))
+          (prio.expired_effects n.parts.prio (time_after n now)) [] t
+          (turns_same x.store (prio.expired n.parts.prio (time_after n now)) (prio.expired n.parts.prio (time_after n now)) [] none_away refl refl t.are)
       go (Some ack) None = let t = expired_turns x.store x.topology.format n.parts.prio (time_after n now) h in
-          turns_on x.store n.parts.prio (prio.expired n.parts.prio (time_after n now)) (prio.expired n.parts.prio (time_after n now)) (prio.expired_effects n.parts.prio (time_after n now)) (effects.Signed (arts.spell (bodies.Ack ack)) ∷ []) t
-          (turns_same x.store (prio.expired n.parts.prio (time_after n now)) (prio.expired n.parts.prio (time_after n now)) (effects.Signed (arts.spell (bodies.Ack ack)) ∷ []) (λ place. (Signs_it, tt)) refl refl t.are)
+          turns_on x.store n.parts.prio (prio.expired n.parts.prio (time_after n now)) (prio.expired n.parts.prio (time_after n now))
+          (prio.expired_effects n.parts.prio (time_after n now)) (effects.Signed (arts.spell (bodies.Ack ack)) ∷ []) t
+          (turns_same x.store (prio.expired n.parts.prio (time_after n now)) (prio.expired n.parts.prio (time_after n now))
+          (effects.Signed (arts.spell (bodies.Ack ack)) ∷ []) (λ place. (Signs_it, tt)) refl refl t.are)
   turned n (steps.SendRel dst payload) output after step input is h = go (rel_refusal n dst) (ap (λ (o : Output). o.effects) step.0) step.1
     where
       go : (r : Option SendRefused) → output.effects ≡ (refused_send r (accepted (rel_number n dst) (rel_sent arts n dst payload))).effects
-          → after ≡ kept_or r n (signed_once n (record n.parts { rel = pushed_in n.parts.rel (signed_now arts n (rel_body n dst payload)) })) → Done n output after
-      go None e f = by n output after (signed_once n (record n.parts { rel = pushed_in n.parts.rel (signed_now arts n (rel_body n dst payload)) })) (rel_sent arts n dst payload) e f
+          → after ≡ kept_or r n (signed_once n (record n.parts { rel = pushed_in n.parts.rel (signed_now arts n (rel_body n dst payload)) }))
+          → Done n output after
+      go None e f =
+          by n output after (signed_once n (record n.parts { rel = pushed_in n.parts.rel (signed_now arts n (rel_body n dst payload)) }))
+          (rel_sent arts n dst payload) e f
           (turns_same x.store n.parts.prio n.parts.prio (rel_sent arts n dst payload) (λ place. (Signs_it, tt)) refl refl h)
       go (Some refused) e f = by n output after n [] e f (still n h)
-  turned n (steps.SendPrio m) output after step input is h = go (send_prio_refusal n m step.choice) refl (ap (λ (o : Output). o.effects) step.output_is) step.new_is
+  turned n (steps.SendPrio m) output after step input is h =
+      go (send_prio_refusal n m step.choice) refl (ap (λ (o : Output). o.effects) step.output_is) step.new_is
     where
-      go : (r : Option SendRefused) → send_prio_refusal n m step.choice ≡ r → output.effects ≡ (refused_send r (accepted n.parts.prio.next (prio_sent arts n m step.choice))).effects
+      go : (r : Option SendRefused) → send_prio_refusal n m step.choice ≡ r
+          → output.effects ≡ (refused_send r (accepted n.parts.prio.next (prio_sent arts n m step.choice))).effects
           → after ≡ kept_or r n (signed_once n (record n.parts { prio = admit_prio n.parts.prio (own_prio arts n m step.choice) None })) → Done n output after
       go None free e f =
-          let facts = prio_sent_fits (sizes_at x P u) n m step.choice input free (step.is_choice (either (prio_refusal n m) (no_paths step.choice) free).0) is.holds in
+          let facts =
+          prio_sent_fits (sizes_at x P u) n m step.choice input free (step.is_choice (either (prio_refusal n m) (no_paths step.choice) free).0) is.holds in
           let body = prio_body n m (mask_in step.choice) in
           let o = own_prio arts n m step.choice in
           by n output after (signed_once n (record n.parts { prio = admit_prio n.parts.prio o None })) (prio_sent arts n m step.choice) e f
@@ -281,10 +341,16 @@ module _ (x : Setting) (arts : Arts) (fits : StaysUp arts x) (P : Kept → Type 
   turned n (steps.SetWeight v weight) output after step input is h = go (weight_refusal n v weight) (ap (λ (o : Output). o.effects) step.0) step.1
     where
       go : (r : Option SendRefused) → output.effects ≡ (refused_send r (accepted (weight_number n v) (weight_sent arts n v weight))).effects
-          → after ≡ kept_or r n (signed_once n (record n.parts { weights = held_weight n.parts.weights (signed_now arts n (weight_body n v weight)) })) → Done n output after
-      go None e f = by n output after (signed_once n (record n.parts { weights = held_weight n.parts.weights (signed_now arts n (weight_body n v weight)) })) (weight_sent arts n v weight) e f
+          → after ≡ kept_or r n (signed_once n (record n.parts { weights = held_weight n.parts.weights (signed_now arts n (weight_body n v weight)) }))
+          → Done n output after
+      go None e f =
+          by n output after (signed_once n (record n.parts { weights = held_weight n.parts.weights (signed_now arts n (weight_body n v weight)) }))
+          (weight_sent arts n v weight) e f
           (signed_turns x.store x.topology.format n.parts.prio n.parts.prio (arts.spell (weight_body n v weight)) (weight_effects (weight_body n v weight)) h
           (turns_same x.store n.parts.prio n.parts.prio (weight_effects (weight_body n v weight)) (weight_away (weight_body n v weight)) refl refl h))
       go (Some refused) e f = by n output after n [] e f (still n h)
-  turned n (steps.TakeRel src) output after step input is h = by n output after (after_take_rel n src) [] (ap (λ (o : Output). o.effects) step.0) step.1 (still n h)
-  turned n steps.TakePrio output after step input is h = by n output after (after_take_prio n) (rows.gone 0 whys.Taken (oldest n.parts.prio.inbox)) (ap (λ (o : Output). o.effects) step.0) step.1 (taken_turns x.store x.topology.format n.parts.prio h)
+  turned n (steps.TakeRel src) output after step input is h =
+      by n output after (after_take_rel n src) [] (ap (λ (o : Output). o.effects) step.0) step.1 (still n h)
+  turned n steps.TakePrio output after step input is h =
+      by n output after (after_take_prio n) (rows.gone 0 whys.Taken (oldest n.parts.prio.inbox)) (ap (λ (o : Output). o.effects) step.0) step.1
+      (taken_turns x.store x.topology.format n.parts.prio h)

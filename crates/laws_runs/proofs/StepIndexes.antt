@@ -49,8 +49,8 @@ step_uses arts n (steps.Datagram v bytes) output after step = go (call_refusal n
     go (Some refused) e f = Uses_none (ap (flat_map signed_by) e) (ap (λ (m : NodeState). m.signer.index) f)
 step_uses arts n (steps.Tick now) output after step =
     subst (λ (es : List Effect). Uses n es after) (sym (ap (λ (o : Output). o.effects) step.0))
-    (subst (λ (m : NodeState). Uses n (expired_effects n.parts.prio (time_after n now) ++ ack_effects arts (due_now n) (signer_refusal n.signer)) m) (sym step.1)
-    (go (due_now n) (signer_refusal n.signer)))
+    (subst (λ (m : NodeState). Uses n (expired_effects n.parts.prio (time_after n now) ++ ack_effects arts (due_now n) (signer_refusal n.signer)) m)
+    (sym step.1) (go (due_now n) (signer_refusal n.signer)))
   where
     none : flat_map signed_by (expired_effects n.parts.prio (time_after n now) ++ []) ≡ []
     none =

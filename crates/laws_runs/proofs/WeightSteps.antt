@@ -1,8 +1,8 @@
 -- What each step tells and keeps of weights.
-use Rattle.std.proofs.Common.{◌≡◌, ℕ, ◌+◌, ◌*◌, ◌==◌, Bool, true, false, cond, List, [], ◌∷◌, ◌++◌, length, map, Option, Some, None, refl, sym, ap, subst, ◌∙◌, inl, inr, nat_lt}
+use Rattle.std.proofs.Common.{◌≡◌, ℕ, ◌*◌, ◌==◌, Bool, true, false, cond, List, [], ◌∷◌, ◌++◌, length, Option, Some, None, refl, sym, ap, subst, ◌∙◌, inl, inr, nat_lt}
 use Rattle.std.specs.Prelude.{◌&&◌}
 use Rattle.std.specs.Option.{option_and_then}
-use Rattle.std.specs.List.{flat_map, slice_get}
+use Rattle.std.specs.List.{slice_get}
 use Rattle.std.proofs.lemmas.Bool.{cases_Bool}
 use Rattle.sp_base.specs.declared.id.NodeId.{NodeId}
 use Rattle.sp_msg.specs.declared.body.Ack.{Ack}
@@ -11,17 +11,16 @@ use Rattle.sp_msg.specs.declared.body.Body.TheVariants as bodies
 use Rattle.sp_msg.specs.declared.body.WeightBody.{WeightBody}
 use Rattle.sp_msg.specs.declared.effect.Effect.{Effect}
 use Rattle.sp_msg.specs.declared.effect.Effect.TheVariants as effects
-use Rattle.sp_msg.specs.declared.effect.Why.{Why}
 use Rattle.sp_msg.specs.declared.effect.Why.TheVariants as whys
 use Rattle.sp_msg.specs.declared.kept.Kept.{Kept}
 use Rattle.sp_msg.specs.declared.refused.SendRefused.{SendRefused}
-use Rattle.sp_rules.specs.Answers.{ack_answer, is_new, prio_answer, rel_answer, weight_answer}
-use Rattle.sp_rules.specs.Arrivals.{arrival_at, handled, link_after, parts_met}
+use Rattle.sp_rules.specs.Answers.{ack_answer, epoch_answer, is_new, prio_answer, rel_answer, weight_answer}
+use Rattle.sp_rules.specs.Arrivals.{arrival_at, handled, has_risen, link_after, parts_met}
 use Rattle.sp_rules.specs.Arts.{Arts}
 use Rattle.sp_rules.specs.Flow.{flow_said}
-use Rattle.sp_rules.specs.Handle.{Arrival, handle, handle_all, heard_where, offer_of, offer_to, weight_effects}
+use Rattle.sp_rules.specs.Handle.{Arrival, handle, handle_all, heard_where, met, offer_of, offer_to, weight_effects}
 use Rattle.sp_rules.specs.Link.{advanced}
-use Rattle.sp_rules.specs.Lives.{are_held, is_dated}
+use Rattle.sp_rules.specs.Lives.{are_held, is_dated, judge_epoch, origin_said}
 use Rattle.sp_rules.specs.Node.{NodeState, call_refusal, called, kept_or, link_in, signed_now, signed_once, with_link}
 use Rattle.sp_rules.specs.Parts.{Fixed, Parts, is_signed}
 use Rattle.sp_rules.specs.Pieces.{Piece, WeightPiece, PrioAckPiece, PrioPiece, ReportPiece, AckPiece, RelPiece, EpochPiece}
@@ -30,18 +29,18 @@ use Rattle.sp_rules.specs.Prio as prio
 use Rattle.sp_rules.specs.Prio.{PrioState, admit_prio, judge_prio, prio_effects}
 use Rattle.sp_rules.specs.PrioPeer as rows
 use Rattle.sp_rules.specs.PrioPeer.{PrioPeer}
-use Rattle.sp_rules.specs.Rel.{admit_ack, admit_rel, delivery, is_to, judge_ack_of, judge_rel_of, pushed_in, rel_effects, reported}
+use Rattle.sp_rules.specs.Rel as rel
+use Rattle.sp_rules.specs.Rel.{RelState, admit_ack, admit_rel, delivery, ended_by, is_end, is_to, judge_ack_of, judge_rel_of, pushed_in, rel_effects, reported, restart_effects}
 use Rattle.sp_rules.specs.Sends.{after_take_prio, after_take_rel, mask_in, own_prio, prio_body, prio_sent, rel_body, rel_number, rel_refusal, rel_sent, send_prio_refusal, signer_refusal, weight_body, weight_number, weight_refusal, weight_sent}
 use Rattle.sp_rules.specs.Steps as steps
 use Rattle.sp_rules.specs.Steps.{Input, NodeStep, Output, accepted, arrived, refused_call, refused_send, replied}
-use Rattle.sp_rules.specs.Store.{Store, entry_in, evicted, expired_entries, oldest, removed}
+use Rattle.sp_rules.specs.Store.{oldest}
 use Rattle.sp_rules.specs.Ticks.{ack_effects, at_time, due_now, settled_by, time_after}
 use Rattle.sp_rules.specs.Weights.{WeightState, held, held_in, offer, row_for, row_of, weight_of}
 use Rattle.sp_rules.specs.declared.answers.Item.TheVariants as items
 use Rattle.sp_rules.specs.declared.answers.PrioAnswer.{PrioAnswer}
 use Rattle.sp_rules.specs.declared.answers.PrioAnswer.TheVariants as prios
 use Rattle.sp_rules.specs.declared.node.NodeRefused.{NodeRefused}
-use Rattle.sp_rules.specs.declared.store.Entry.{Entry}
 use Rattle.sp_rules.specs.declared.weights.Offer.TheVariants as offers
 use Rattle.sp_rules.specs.declared.weights.TheConstants.{MAX_OWN_HEARD}
 use Rattle.sp_topology.specs.declared.topology.Edge.{Edge}
@@ -54,122 +53,12 @@ use Rattle.laws_node.proofs.About.{weight_about}
 use Rattle.laws_node.proofs.Own.{in_own_format, left, weight_sent_fits}
 use Rattle.laws_node.specs.HeldUpdates as lists
 use Rattle.laws_node.proofs.LastWeights.{At, HasRows, IsUpdateAt, held_said, length_stays, new_at, said as row_said}
-use Rattle.laws_node.specs.Lives.{last_told, weight_told}
 use Rattle.sp_runs.specs.Settings.{Setting}
 use Rattle.laws_runs.specs.Weights.{EachHeld}
 use Rattle.laws_runs.specs.Signs.{NodeIs, sizes_at}
 use Rattle.laws_runs.proofs.Lists.{both}
-use Rattle.laws_runs.proofs.NoStarts.{NoStart, NoStarts, met_as_it_was, no_starts_at, pieces_at, without}
-
--- the last weight that is told of an end of an edge
-abbrev pub last_weight : (edge : ℕ) → NodeId → ℕ → List Effect → ℕ
-last_weight edge end weight es = last_told edge end.0 weight es
-
-abbrev weight_after : (edge : ℕ) → NodeId → ℕ → Effect → ℕ
-weight_after edge end weight e = weight_told edge end.0 weight e
-
--- ---- effects without an update
-
-pub record NoUpdates (es : List Effect) : Type 1 where
-  pub last : (edge : ℕ) (end : NodeId) (w : ℕ) → last_weight edge end w es ≡ w
-  pub each : (P : WeightBody → Type 0) → EachHeld P es
-
-no_none : NoUpdates []
-no_none = record { last = λ edge end w. refl; each = λ P. tt }
-
-pub last_both : (edge : ℕ) (end : NodeId) (w : ℕ) (xs ys : List Effect) → last_weight edge end w (xs ++ ys) ≡ last_weight edge end (last_weight edge end w xs) ys
-last_both edge end w [] ys = refl
-last_both edge end w (e ∷ xs) ys = last_both edge end (weight_after edge end w e) xs ys
-
-pub each_both : (P : WeightBody → Type 0) (xs ys : List Effect) → EachHeld P xs → EachHeld P ys → EachHeld P (xs ++ ys)
-each_both P [] ys one two = two
-each_both P (effects.WeightHeld origin edge seq weight ∷ xs) ys one two = (one.0, each_both P xs ys one.1 two)
-each_both P (effects.Signed bytes ∷ xs) ys one two = each_both P xs ys one two
-each_both P (effects.Stored place id src seq prio ∷ xs) ys one two = each_both P xs ys one two
-each_both P (effects.Gone place id why ∷ xs) ys one two = each_both P xs ys one two
-each_both P (effects.Delivered src seq payload ∷ xs) ys one two = each_both P xs ys one two
-each_both P (effects.DeliveredPrio src seq payload ∷ xs) ys one two = each_both P xs ys one two
-each_both P (effects.Ended flow ∷ xs) ys one two = each_both P xs ys one two
-
-pub each_less : (P Q : WeightBody → Type 0) → ((u : WeightBody) → P u → Q u) → (es : List Effect) → EachHeld P es → EachHeld Q es
-each_less P Q less [] h = tt
-each_less P Q less (effects.WeightHeld origin edge seq weight ∷ es) h = (less (record { origin = origin; edge = edge; seq = seq; weight = weight }) h.0, each_less P Q less es h.1)
-each_less P Q less (effects.Signed bytes ∷ es) h = each_less P Q less es h
-each_less P Q less (effects.Stored place id src seq prio ∷ es) h = each_less P Q less es h
-each_less P Q less (effects.Gone place id why ∷ es) h = each_less P Q less es h
-each_less P Q less (effects.Delivered src seq payload ∷ es) h = each_less P Q less es h
-each_less P Q less (effects.DeliveredPrio src seq payload ∷ es) h = each_less P Q less es h
-each_less P Q less (effects.Ended flow ∷ es) h = each_less P Q less es h
-
-no_both : (xs ys : List Effect) → NoUpdates xs → NoUpdates ys → NoUpdates (xs ++ ys)
-no_both xs ys h k = record {
-  last = λ edge end w. last_both edge end w xs ys ∙ ap (λ v. last_weight edge end v ys) (h.last edge end w) ∙ k.last edge end w;
-  each = λ P. each_both P xs ys (h.each P) (k.each P);
-}
-
-no_signed : (bytes : List ℕ) (es : List Effect) → NoUpdates es → NoUpdates (effects.Signed bytes ∷ es)
-no_signed bytes es h = record { last = λ edge end w. h.last edge end w; each = λ P. h.each P }
-
-no_either : (t : Bool) (es : List Effect) → NoUpdates es → NoUpdates (cond t es [])
-no_either true es h = h
-no_either false es h = no_none
-
-no_flat : {X : Type 0} (f : X → List Effect) → ((x : X) → NoUpdates (f x)) → (xs : List X) → NoUpdates (flat_map f xs)
-no_flat f each [] = no_none
-no_flat f each (x ∷ xs) = no_both (f x) (flat_map f xs) (each x) (no_flat f each xs)
-
-no_gone : (place : ℕ) (why : Why) (e : Option Entry) → NoUpdates (rows.gone place why e)
-no_gone place why None = no_none
-no_gone place why (Some e) = record { last = λ edge end w. refl; each = λ P. tt }
-
-no_stored : (place id : ℕ) (body : Body) → NoUpdates (rows.stored place id body)
-no_stored place id (bodies.Prio p) = record { last = λ edge end w. refl; each = λ P. tt }
-no_stored place id (bodies.Rel r) = no_none
-no_stored place id (bodies.Ack a) = no_none
-no_stored place id (bodies.Weight u) = no_none
-no_stored place id (bodies.Krel u) = no_none
-no_stored place id (bodies.Kack u) = no_none
-no_stored place id (bodies.Epoch u) = no_none
-
-no_put : (place : ℕ) (s : Store) (o : Kept) → NoUpdates (rows.put_effects place s o)
-no_put place s o = no_both (rows.stored place (s.last + 1) o.body) (rows.gone place whys.Evicted (evicted s o)) (no_stored place (s.last + 1) o.body) (no_gone place whys.Evicted (evicted s o))
-
-no_delivered : (body : Body) → NoUpdates (prio.delivered body)
-no_delivered (bodies.Prio p) = record { last = λ edge end w. refl; each = λ P. tt }
-no_delivered (bodies.Rel r) = no_none
-no_delivered (bodies.Ack a) = no_none
-no_delivered (bodies.Weight u) = no_none
-no_delivered (bodies.Krel u) = no_none
-no_delivered (bodies.Kack u) = no_none
-no_delivered (bodies.Epoch u) = no_none
-
-no_prio : (p : PrioState) (o : Kept) (came : Option NodeId) → NoUpdates (prio_effects p o came)
-no_prio p o came = elim (cases_Bool (prio.is_here p o.body)) [
-  | inl t ↦ let all = no_both (prio.delivered o.body) (rows.put_effects 0 p.inbox o) (no_delivered o.body) (no_put 0 p.inbox o) in rw t all
-  | inr t ↦ let all = no_flat (rows.given_effects o came) (λ q. no_either (rows.goes_to o.body came q) (rows.put_effects q.peer q.store o) (no_put q.peer q.store o)) p.peers in rw t all
-]
-
-no_left : (place : ℕ) (s : Store) (pairs : List (ℕ × ℕ)) → NoUpdates (rows.left_effects place s pairs)
-no_left place s [] = no_none
-no_left place s (pair ∷ pairs) =
-    no_both (rows.gone place whys.Acked (entry_in s pair.1)) (rows.left_effects place (removed s pair.1) pairs)
-    (no_gone place whys.Acked (entry_in s pair.1)) (no_left place (removed s pair.1) pairs)
-
-no_acked : (p : PrioState) (v number : ℕ) → NoUpdates (prio.acked_effects p v number)
-no_acked p v number = let q = prio.peer_in p v in no_left q.peer q.store (rows.landed q number)
-
-no_expiring : (place : ℕ) (es : List Entry) → NoUpdates (map (λ e. effects.Gone place e.id whys.Expired) es)
-no_expiring place [] = no_none
-no_expiring place (e ∷ es) = let rest = no_expiring place es in record { last = λ edge end w. rest.last edge end w; each = λ P. rest.each P }
-
-no_expired : (p : PrioState) (now : ℕ) → NoUpdates (prio.expired_effects p now)
-no_expired p now =
-    no_both (rows.expired_effects 0 p.inbox now) (flat_map (λ (q : PrioPeer). rows.expired_effects q.peer q.store now) p.peers) (no_expiring 0 (expired_entries p.inbox now))
-    (no_flat (λ (q : PrioPeer). rows.expired_effects q.peer q.store now) (λ q. no_expiring q.peer (expired_entries q.store now)) p.peers)
-
-no_rel : (t : Bool) (body : Body) → NoUpdates (cond t (delivery body ∷ []) [])
-no_rel true body = record { last = λ edge end w. refl; each = λ P. tt }
-no_rel false body = no_none
+use Rattle.laws_runs.proofs.NoStarts.{pieces_at}
+use Rattle.laws_runs.proofs.WeightFacts.{NoUpdates, each_both, last_both, last_weight, no_acked, no_both, no_either, no_expired, no_gone, no_none, no_prio, no_rel, no_restart, no_signed}
 
 -- ---- what a step makes of the weights
 
@@ -182,7 +71,8 @@ pub record WTurns (P : WeightBody → Type 0) (old : WeightState) (es : List Eff
 pub at_later : (old new : WeightState) (edge end row : ℕ) → new.edges ≡ old.edges → At old edge end row → At new edge end row
 at_later old new edge end row e at = record { joined = at.joined; there = ap (λ es. slice_get es edge) e ∙ at.there; placed = at.placed }
 
-w_same : (P : WeightBody → Type 0) (old new : WeightState) (es : List Effect) → NoUpdates es → new.edges ≡ old.edges → new.rows ≡ old.rows → HasRows old → WTurns P old es new
+w_same : (P : WeightBody → Type 0) (old new : WeightState) (es : List Effect) → NoUpdates es → new.edges ≡ old.edges → new.rows ≡ old.rows → HasRows old
+    → WTurns P old es new
 w_same P old new es none e f h = record {
   edges = e;
   rows = record { rows = ap length f ∙ h.rows ∙ ap (λ (x : List Edge). 2 * length x) (sym e) };
@@ -194,12 +84,15 @@ w_on : (P : WeightBody → Type 0) (old mid new : WeightState) (xs ys : List Eff
 w_on P old mid new xs ys one two = record {
   edges = two.edges ∙ one.edges;
   rows = two.rows;
-  said = λ edge end row at. two.said edge end row (at_later old mid edge end.0 row one.edges at) ∙ ap (λ w. last_weight edge end w ys) (one.said edge end row at) ∙ sym (last_both edge end (row_said old row) xs ys);
+  said =
+      λ edge end row at. two.said edge end row (at_later old mid edge end.0 row one.edges at) ∙ ap (λ w. last_weight edge end w ys) (one.said edge end row at)
+      ∙ sym (last_both edge end (row_said old row) xs ys);
   each = each_both P xs ys one.each two.each;
 }
 
 -- an update is held
-held_turns : (P : WeightBody → Type 0) (s : WeightState) (o : Kept) → IsUpdateAt s o.body → ((u : WeightBody) → o.body ≡ bodies.Weight u → P u) → HasRows s → WTurns P s (weight_effects o.body) (held s o)
+held_turns : (P : WeightBody → Type 0) (s : WeightState) (o : Kept) → IsUpdateAt s o.body → ((u : WeightBody) → o.body ≡ bodies.Weight u → P u) → HasRows s
+    → WTurns P s (weight_effects o.body) (held s o)
 held_turns P s o at vouched h = record {
   edges = refl;
   rows = record { rows = length_stays s.rows o (row_for s.edges o.body) ∙ h.rows };
@@ -234,7 +127,8 @@ offered me s (bodies.Epoch u) e = absurd (cc)
 own_at : (s : WeightState) (u : WeightBody) (row : ℕ) → row_for s.edges (bodies.Weight u) ≡ Some row → IsUpdateAt s (bodies.Weight u)
 own_at s u row e = go (slice_get s.edges u.edge.0) refl e
   where
-    go : (o : Option Edge) → slice_get s.edges u.edge.0 ≡ o → option_and_then (λ (f : Edge). row_of u.edge.0 f u.origin.0) o ≡ Some row → IsUpdateAt s (bodies.Weight u)
+    go : (o : Option Edge) → slice_get s.edges u.edge.0 ≡ o → option_and_then (λ (f : Edge). row_of u.edge.0 f u.origin.0) o ≡ Some row
+        → IsUpdateAt s (bodies.Weight u)
     go None there e = absurd (cc)
     go (Some f) there e = record { update = u; is = refl; edge = f; there = there; row = row; placed = e }
 
@@ -252,104 +146,143 @@ w_heard prios.Expired v number p = refl
 w_heard prios.BadSig v number p = refl
 w_heard prios.Epoch v number p = refl
 
+-- the frame of another life of its neighbour changes no weight
+w_greeted : (t : Bool) (v : NodeId) (p : Parts) → (cond t (record p { prio = prio.unheard p.prio v.0; rel = rel.unheard p.rel v }) p).weights ≡ p.weights
+w_greeted t v p = w_either t (record p { prio = prio.unheard p.prio v.0; rel = rel.unheard p.rel v }) p refl
+
 module _ (P : WeightBody → Type 0) where
   still : (p : Parts) (w : WeightState) (es : List Effect) → NoUpdates es → w ≡ p.weights → HasRows p.weights → WTurns P p.weights es w
   still p w es none e h = w_same P p.weights w es none (ap (λ (s : WeightState). s.edges) e) (ap (λ (s : WeightState). s.rows) e) h
 
-  one_turns : (arts : Arts) (at : Arrival) (p : Parts) (piece : Piece) → NoStart piece → NewKeep (λ o. (u : WeightBody) → o.body ≡ bodies.Weight u → P u) (handle arts at p piece).answered → HasRows p.weights
+  one_turns : (arts : Arts) (at : Arrival) (p : Parts) (piece : Piece)
+      → NewKeep (λ o. (u : WeightBody) → o.body ≡ bodies.Weight u → P u) (handle arts at p piece).answered → HasRows p.weights
       → WTurns P p.weights (handle arts at p piece).effects (handle arts at p piece).parts.weights
-  one_turns arts at p (WeightPiece o) none new h = elim (cases_Bool (is_new (items.Weight (weight_answer (is_signed arts at.fixed o) (offer_to at.fixed.me p.weights o.body))))) [
-    | inl t ↦
-        let is = judged.new_weight (is_signed arts at.fixed o) (offer_to at.fixed.me p.weights o.body) t in
-        let done = held_turns P p.weights o (new_at p.weights o.body (offered at.fixed.me p.weights o.body is.1)) (new.0 t) h in
-        rw t done
-    | inr t ↦ let same = still p p.weights [] no_none refl h in rw t same
-  ]
-  one_turns arts at p (PrioAckPiece number) none new h =
+  one_turns arts at p (WeightPiece o) new h =
+      elim (cases_Bool (is_new (items.Weight (weight_answer (is_signed arts at.fixed o) (offer_to at.fixed.me p.weights o.body))))) [
+        | inl t ↦
+            let is = judged.new_weight (is_signed arts at.fixed o) (offer_to at.fixed.me p.weights o.body) t in
+            let done = held_turns P p.weights o (new_at p.weights o.body (offered at.fixed.me p.weights o.body is.1)) (new.0 t) h in
+            rw t done
+        | inr t ↦ let same = still p p.weights [] no_none refl h in rw t same
+      ]
+  one_turns arts at p (PrioAckPiece number) new h =
       still p p.weights (prio.acked_effects p.prio at.from.0 number) (no_acked p.prio at.from.0 number) refl h
-  one_turns arts at p (PrioPiece number o) none new h =
+  one_turns arts at p (PrioPiece number o) new h =
       let answer = prio_answer (is_signed arts at.fixed o) (is_dated p.lives o.body) (judge_prio p.prio o.body at.now) in
       let t = is_new (items.Prio answer) in
       let admitted = record p { prio = admit_prio p.prio o (Some at.from) } in
-      still p (heard_where answer at.from number (cond t admitted p)).weights (cond t (prio_effects p.prio o (Some at.from)) []) (no_either t (prio_effects p.prio o (Some at.from)) (no_prio p.prio o (Some at.from)))
+      still p (heard_where answer at.from number (cond t admitted p)).weights (cond t (prio_effects p.prio o (Some at.from)) [])
+      (no_either t (prio_effects p.prio o (Some at.from)) (no_prio p.prio o (Some at.from)))
       (w_heard answer at.from number (cond t admitted p) ∙ w_either t admitted p refl) h
-  one_turns arts at p (ReportPiece flow sboot dboot base have) none new h =
+  one_turns arts at p (ReportPiece flow sboot dboot base have) new h =
       still p (handle arts at p (ReportPiece flow sboot dboot base have)).parts.weights [] no_none
       (w_either (are_held p.lives flow sboot dboot) (record p { rel = reported p.rel at.from flow base have }) p refl) h
-  one_turns arts at p (AckPiece flow o) none new h =
+  one_turns arts at p (AckPiece flow o) new h =
       let t = is_new (items.Ack (ack_answer (is_signed arts at.fixed o) (is_dated p.lives o.body) (judge_ack_of p.rel flow o.body))) in
-      still p (cond t (record p { rel = admit_ack p.rel o }) p).weights (cond t [] []) (no_either t [] no_none) (w_either t (record p { rel = admit_ack p.rel o }) p refl) h
-  one_turns arts at p (RelPiece flow o) none new h =
+      still p (cond t (record p { rel = admit_ack p.rel o }) p).weights (cond t [] []) (no_either t [] no_none)
+      (w_either t (record p { rel = admit_ack p.rel o }) p refl) h
+  one_turns arts at p (RelPiece flow o) new h =
       let t = is_new (items.Rel (rel_answer (is_signed arts at.fixed o) (is_dated p.lives o.body) (judge_rel_of p.rel flow o.body))) in
-      still p (cond t (record p { rel = admit_rel p.rel o }) p).weights (cond t (rel_effects p.rel o) []) (no_either t (rel_effects p.rel o) (no_rel (is_to p.rel (flow_said o.body)) o.body)) (w_either t (record p { rel = admit_rel p.rel o }) p refl) h
-  one_turns arts at p (EpochPiece o) none new h = absurd none
+      still p (cond t (record p { rel = admit_rel p.rel o }) p).weights (cond t (rel_effects p.rel o) [])
+      (no_either t (rel_effects p.rel o) (no_rel (is_to p.rel (flow_said o.body)) o.body)) (w_either t (record p { rel = admit_rel p.rel o }) p refl) h
+  one_turns arts at p (EpochPiece o) new h =
+      let t = is_new (items.Epoch (epoch_answer (is_signed arts at.fixed o) (judge_epoch at.fixed.me p.lives o.body))) in
+      still p (cond t (met p o) p).weights (cond t (restart_effects p.rel (origin_said o.body)) [])
+      (no_either t (restart_effects p.rel (origin_said o.body)) (no_restart p.rel (origin_said o.body))) (w_either t (met p o) p refl) h
 
-  all_turns : (arts : Arts) (at : Arrival) (p : Parts) (pieces : List Piece) → NoStarts pieces → NewKeep (λ o. (u : WeightBody) → o.body ≡ bodies.Weight u → P u) (handle_all arts at p pieces).answered → HasRows p.weights
+  all_turns : (arts : Arts) (at : Arrival) (p : Parts) (pieces : List Piece)
+      → NewKeep (λ o. (u : WeightBody) → o.body ≡ bodies.Weight u → P u) (handle_all arts at p pieces).answered → HasRows p.weights
       → WTurns P p.weights (handle_all arts at p pieces).effects (handle_all arts at p pieces).parts.weights
-  all_turns arts at p [] none new h = still p p.weights [] no_none refl h
-  all_turns arts at p (piece ∷ pieces) none new h =
+  all_turns arts at p [] new h = still p p.weights [] no_none refl h
+  all_turns arts at p (piece ∷ pieces) new h =
       let first = handle arts at p piece in
       let others = handle_all arts at first.parts pieces in
-      let one = one_turns arts at p piece none.0 (new_left (λ o. (u : WeightBody) → o.body ≡ bodies.Weight u → P u) first.answered others.answered new) h in
-      let rest = all_turns arts at first.parts pieces none.1 (new_right (λ o. (u : WeightBody) → o.body ≡ bodies.Weight u → P u) first.answered others.answered new) one.rows in
+      let one = one_turns arts at p piece (new_left (λ o. (u : WeightBody) → o.body ≡ bodies.Weight u → P u) first.answered others.answered new) h in
+      let rest =
+      all_turns arts at first.parts pieces (new_right (λ o. (u : WeightBody) → o.body ≡ bodies.Weight u → P u) first.answered others.answered new) one.rows in
       w_on P p.weights first.parts.weights others.parts.weights first.effects others.effects one rest
 
 -- ---- all cases
 
-module _ (x : Setting) (off : x.epochs ≡ false) (arts : Arts) (K : Kept → Type 0) (P : WeightBody → Type 0) (u : NodeId) where
+module _ (x : Setting) (arts : Arts) (K : Kept → Type 0) (P : WeightBody → Type 0) (u : NodeId) where
   abbrev Done : NodeState → Output → NodeState → Type 0
   Done n output after = WTurns P n.parts.weights output.effects after.parts.weights
 
-  by : (n : NodeState) (output : Output) (after m : NodeState) (es : List Effect) → output.effects ≡ es → after ≡ m → WTurns P n.parts.weights es m.parts.weights → Done n output after
-  by n output after m es e f turns = subst (λ xs. WTurns P n.parts.weights xs after.parts.weights) (sym e) (subst (λ (y : NodeState). WTurns P n.parts.weights es y.parts.weights) (sym f) turns)
+  by : (n : NodeState) (output : Output) (after m : NodeState) (es : List Effect) → output.effects ≡ es → after ≡ m
+      → WTurns P n.parts.weights es m.parts.weights → Done n output after
+  by n output after m es e f turns =
+      subst (λ xs. WTurns P n.parts.weights xs after.parts.weights) (sym e)
+      (subst (λ (y : NodeState). WTurns P n.parts.weights es y.parts.weights) (sym f) turns)
 
   plain : (n : NodeState) (es : List Effect) → NoUpdates es → HasRows n.parts.weights → WTurns P n.parts.weights es n.parts.weights
   plain n es none h = w_same P n.parts.weights n.parts.weights es none refl refl h
 
-  pub turned : (n : NodeState) (i : Input) (output : Output) (after : NodeState) → NodeStep arts n i output after → InputFits i → NodeIs x K u n → NewKeep (λ o. (v : WeightBody) → o.body ≡ bodies.Weight v → P v) output.answered
+  pub turned : (n : NodeState) (i : Input) (output : Output) (after : NodeState) → NodeStep arts n i output after → InputFits i → NodeIs x K u n
+      → NewKeep (λ o. (v : WeightBody) → o.body ≡ bodies.Weight v → P v) output.answered
       → ((v : WeightBody) → IsOwn arts n i output.effects (bodies.Weight v) → P v) → HasRows n.parts.weights → Done n output after
   turned n (steps.Poll v) output after step input is new own h = go (call_refusal n v) (ap (λ (o : Output). o.effects) step.0) step.1
     where
       go : (r : Option NodeRefused) → output.effects ≡ (refused_call r (replied (steps.Frame (frame_to arts n v)))).effects
           → after ≡ kept_or r n (called n (with_link n v (advanced (link_in n v))) (polled n.fixed n.parts v)) → Done n output after
-      go None e f = by n output after (called n (with_link n v (advanced (link_in n v))) (polled n.fixed n.parts v)) [] e f (w_same P n.parts.weights (polled n.fixed n.parts v).weights [] no_none refl refl h)
+      go None e f =
+          by n output after (called n (with_link n v (advanced (link_in n v))) (polled n.fixed n.parts v)) [] e f
+          (w_same P n.parts.weights (polled n.fixed n.parts v).weights [] no_none refl refl h)
       go (Some refused) e f = by n output after n [] e f (plain n [] no_none h)
-  turned n (steps.Datagram v bytes) output after step input is new own h = go (call_refusal n v) (subst (λ (o : Output). NewKeep (λ y. (w : WeightBody) → y.body ≡ bodies.Weight w → P w) o.answered) step.0 new) (ap (λ (o : Output). o.effects) step.0) step.1
+  turned n (steps.Datagram v bytes) output after step input is new own h =
+      go (call_refusal n v) (subst (λ (o : Output). NewKeep (λ y. (w : WeightBody) → y.body ≡ bodies.Weight w → P w) o.answered) step.0 new)
+      (ap (λ (o : Output). o.effects) step.0) step.1
     where
-      go : (r : Option NodeRefused) → NewKeep (λ y. (w : WeightBody) → y.body ≡ bodies.Weight w → P w) (refused_call r (arrived arts n v bytes)).answered → output.effects ≡ (refused_call r (arrived arts n v bytes)).effects
+      go : (r : Option NodeRefused) → NewKeep (λ y. (w : WeightBody) → y.body ≡ bodies.Weight w → P w) (refused_call r (arrived arts n v bytes)).answered
+          → output.effects ≡ (refused_call r (arrived arts n v bytes)).effects
           → after ≡ kept_or r n (called n (with_link n v (link_after arts n v bytes)) (handled arts n v bytes).parts) → Done n output after
-      go None new e f = by n output after (called n (with_link n v (link_after arts n v bytes)) (handled arts n v bytes).parts) (handled arts n v bytes).effects e f
-          (let met = met_as_it_was arts n v bytes (without x K u n off is) in
-          subst (λ (p : Parts). WTurns P p.weights (handled arts n v bytes).effects (handled arts n v bytes).parts.weights) met
-          (all_turns P arts (arrival_at n v) (parts_met arts n v bytes) (pieces_at arts n v bytes) (no_starts_at arts n v bytes (without x K u n off is)) new
-          (subst (λ (p : Parts). HasRows p.weights) (sym met) h)))
+      go None new e f =
+          by n output after (called n (with_link n v (link_after arts n v bytes)) (handled arts n v bytes).parts) (handled arts n v bytes).effects e f
+          (let met = w_greeted (n.fixed.epochs && has_risen (link_in n v) (link_after arts n v bytes)) v n.parts in
+          subst (λ (s : WeightState). WTurns P s (handled arts n v bytes).effects (handled arts n v bytes).parts.weights) met
+          (all_turns P arts (arrival_at n v) (parts_met arts n v bytes) (pieces_at arts n v bytes) new (subst HasRows (sym met) h)))
       go (Some refused) new e f = by n output after n [] e f (plain n [] no_none h)
   turned n (steps.Tick now) output after step input is new own h =
-      by n output after (settled_by arts (at_time n now) (due_now n) (signer_refusal n.signer)) (prio.expired_effects n.parts.prio (time_after n now) ++ ack_effects arts (due_now n) (signer_refusal n.signer))
+      by n output after (settled_by arts (at_time n now) (due_now n) (signer_refusal n.signer))
+      (prio.expired_effects n.parts.prio (time_after n now) ++ ack_effects arts (due_now n) (signer_refusal n.signer))
       (ap (λ (o : Output). o.effects) step.0) step.1 (go (due_now n) (signer_refusal n.signer))
     where
-      go : (o : Option Ack) (r : Option SendRefused) → WTurns P n.parts.weights (prio.expired_effects n.parts.prio (time_after n now) ++ ack_effects arts o r) (settled_by arts (at_time n now) o r).parts.weights
+      go : (o : Option Ack) (r : Option SendRefused)
+          → WTurns P n.parts.weights (prio.expired_effects n.parts.prio (time_after n now) ++ ack_effects arts o r)
+          (settled_by arts (at_time n now) o r).parts.weights
       go None r = w_same P n.parts.weights n.parts.weights _ (no_both _ [] (no_expired n.parts.prio (time_after n now)) no_none) refl refl h
       go (Some ack) (Some refusal) = w_same P n.parts.weights n.parts.weights _ (no_both _ [] (no_expired n.parts.prio (time_after n now)) no_none) refl refl h
-      go (Some ack) None = w_same P n.parts.weights n.parts.weights _ (no_both _ (effects.Signed (arts.spell (bodies.Ack ack)) ∷ []) (no_expired n.parts.prio (time_after n now)) (no_signed (arts.spell (bodies.Ack ack)) [] no_none)) refl refl h
+      go (Some ack) None =
+          w_same P n.parts.weights n.parts.weights _
+          (no_both _ (effects.Signed (arts.spell (bodies.Ack ack)) ∷ []) (no_expired n.parts.prio (time_after n now))
+          (no_signed (arts.spell (bodies.Ack ack)) [] no_none)) refl refl h
   turned n (steps.SendRel dst payload) output after step input is new own h = go (rel_refusal n dst) (ap (λ (o : Output). o.effects) step.0) step.1
     where
       go : (r : Option SendRefused) → output.effects ≡ (refused_send r (accepted (rel_number n dst) (rel_sent arts n dst payload))).effects
-          → after ≡ kept_or r n (signed_once n (record n.parts { rel = pushed_in n.parts.rel (signed_now arts n (rel_body n dst payload)) })) → Done n output after
-      go None e f = by n output after (signed_once n (record n.parts { rel = pushed_in n.parts.rel (signed_now arts n (rel_body n dst payload)) })) (rel_sent arts n dst payload) e f
+          → after ≡ kept_or r n (signed_once n (record n.parts { rel = pushed_in n.parts.rel (signed_now arts n (rel_body n dst payload)) }))
+          → Done n output after
+      go None e f =
+          by n output after (signed_once n (record n.parts { rel = pushed_in n.parts.rel (signed_now arts n (rel_body n dst payload)) }))
+          (rel_sent arts n dst payload) e f
           (w_same P n.parts.weights n.parts.weights (rel_sent arts n dst payload) (no_signed (arts.spell (rel_body n dst payload)) [] no_none) refl refl h)
       go (Some refused) e f = by n output after n [] e f (plain n [] no_none h)
-  turned n (steps.SendPrio m) output after step input is new own h = go (send_prio_refusal n m step.choice) (ap (λ (o : Output). o.effects) step.output_is) step.new_is
+  turned n (steps.SendPrio m) output after step input is new own h =
+      go (send_prio_refusal n m step.choice) (ap (λ (o : Output). o.effects) step.output_is) step.new_is
     where
       go : (r : Option SendRefused) → output.effects ≡ (refused_send r (accepted n.parts.prio.next (prio_sent arts n m step.choice))).effects
           → after ≡ kept_or r n (signed_once n (record n.parts { prio = admit_prio n.parts.prio (own_prio arts n m step.choice) None })) → Done n output after
-      go None e f = by n output after (signed_once n (record n.parts { prio = admit_prio n.parts.prio (own_prio arts n m step.choice) None })) (prio_sent arts n m step.choice) e f
-          (w_same P n.parts.weights n.parts.weights (prio_sent arts n m step.choice) (no_signed (arts.spell (prio_body n m (mask_in step.choice))) (prio_effects n.parts.prio (own_prio arts n m step.choice) None) (no_prio n.parts.prio (own_prio arts n m step.choice) None)) refl refl h)
+      go None e f =
+          by n output after (signed_once n (record n.parts { prio = admit_prio n.parts.prio (own_prio arts n m step.choice) None }))
+          (prio_sent arts n m step.choice) e f
+          (w_same P n.parts.weights n.parts.weights (prio_sent arts n m step.choice)
+          (no_signed (arts.spell (prio_body n m (mask_in step.choice))) (prio_effects n.parts.prio (own_prio arts n m step.choice) None)
+          (no_prio n.parts.prio (own_prio arts n m step.choice) None)) refl refl h)
       go (Some refused) e f = by n output after n [] e f (plain n [] no_none h)
   turned n (steps.SetWeight v weight) output after step input is new own h = go (weight_refusal n v weight) refl (ap (λ (o : Output). o.effects) step.0) step.1
     where
-      go : (r : Option SendRefused) → weight_refusal n v weight ≡ r → output.effects ≡ (refused_send r (accepted (weight_number n v) (weight_sent arts n v weight))).effects
-          → after ≡ kept_or r n (signed_once n (record n.parts { weights = held n.parts.weights (signed_now arts n (weight_body n v weight)) })) → Done n output after
+      go : (r : Option SendRefused) → weight_refusal n v weight ≡ r
+          → output.effects ≡ (refused_send r (accepted (weight_number n v) (weight_sent arts n v weight))).effects
+          → after ≡ kept_or r n (signed_once n (record n.parts { weights = held n.parts.weights (signed_now arts n (weight_body n v weight)) }))
+          → Done n output after
       go None free e f =
           let facts = weight_sent_fits (sizes_at x K u) n v weight input.0 input.1 free is.holds in
           let me : HasNode n.fixed.topology n.fixed.me = subst (λ (f : Fixed). HasNode f.topology f.me) (sym is.fixed) (both _ _ is.correct).0 in
@@ -357,13 +290,24 @@ module _ (x : Setting) (off : x.epochs ≡ false) (arts : Arts) (K : Kept → Ty
           let o = signed_now arts n body in
           let row : row_for n.parts.weights.edges body ≡ Some facts.row = ap (λ (es : List Edge). row_for es body) is.holds.parts.weights.edges ∙ facts.place in
           let mine : (w : WeightBody) → body ≡ bodies.Weight w → P w = λ w same. own w (subst (IsOwn arts n (steps.SetWeight v weight) output.effects) same
-          (record { mine = refl; fields = in_own_format (sizes_at x K u) n body is.holds facts.fields; about = weight_about n v weight me free; payload = refl; left = left n.signer is.holds.signer facts.free; before = []; after = weight_effects body; told = e })) in
+          (record {
+            mine = refl;
+            fields = in_own_format (sizes_at x K u) n body is.holds facts.fields;
+            about = weight_about n v weight me free;
+            payload = refl;
+            left = left n.signer is.holds.signer facts.free;
+            before = [];
+            after = weight_effects body;
+            told = e;
+          })) in
           by n output after (signed_once n (record n.parts { weights = held n.parts.weights o })) (weight_sent arts n v weight) e f
           (w_on P n.parts.weights n.parts.weights (held n.parts.weights o) (effects.Signed (arts.spell body) ∷ []) (weight_effects body)
           (plain n (effects.Signed (arts.spell body) ∷ []) (no_signed (arts.spell body) [] no_none) h)
           (held_turns P n.parts.weights o (own_at n.parts.weights _ facts.row row) mine h))
       go (Some refused) free e f = by n output after n [] e f (plain n [] no_none h)
-  turned n (steps.TakeRel src) output after step input is new own h = by n output after (after_take_rel n src) [] (ap (λ (o : Output). o.effects) step.0) step.1 (plain n [] no_none h)
+  turned n (steps.TakeRel src) output after step input is new own h =
+      by n output after (after_take_rel n src) [] (ap (λ (o : Output). o.effects) step.0) step.1 (plain n [] no_none h)
   turned n steps.TakePrio output after step input is new own h =
       by n output after (after_take_prio n) (rows.gone 0 whys.Taken (oldest n.parts.prio.inbox)) (ap (λ (o : Output). o.effects) step.0) step.1
-      (w_same P n.parts.weights n.parts.weights (rows.gone 0 whys.Taken (oldest n.parts.prio.inbox)) (no_gone 0 whys.Taken (oldest n.parts.prio.inbox)) refl refl h)
+      (w_same P n.parts.weights n.parts.weights (rows.gone 0 whys.Taken (oldest n.parts.prio.inbox))
+      (no_gone 0 whys.Taken (oldest n.parts.prio.inbox)) refl refl h)

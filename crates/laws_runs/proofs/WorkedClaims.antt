@@ -1,9 +1,9 @@
 -- The worked claims: what each says of a small run, and what it refuses.
-use Rattle.std.proofs.Common.{◌≡◌, ◌<◌, ◌≤◌, ℕ, zero, suc, ◌==◌, ◌&&◌, ◌||◌, Bool, true, false, not, cond, List, [], ◌∷◌, ◌++◌, Option, Some, None, refl, sym, ap, subst, ◌∙◌, inl, inr, arith}
+use Rattle.std.proofs.Common.{◌≡◌, ◌<◌, ◌≤◌, ℕ, zero, suc, ◌==◌, ◌&&◌, ◌||◌, Bool, true, false, not, cond, List, [], ◌∷◌, ◌++◌, map, Option, Some, None, refl, sym, ap, subst, ◌∙◌, inl, inr, arith}
 use Rattle.std.specs.Prelude.{◌⊎◌, IsTrue, if◌then◌else◌, slice_get, slice_index_or}
 use Rattle.std.specs.List.{All, Contains}
 use Rattle.std.proofs.lemmas.Bool.{eqb-true}
-use Rattle.std.proofs.lemmas.List.Elements.{All-contains_itself, All-head}
+use Rattle.std.proofs.lemmas.List.Elements.{All-contains_itself, All-head, All-nil}
 use Rattle.sp_base.specs.Formats.{max_nodes}
 use Rattle.sp_base.specs.Reading.{number_at}
 use Rattle.sp_base.specs.declared.format.TheConstants.{FORMAT_1}
@@ -36,7 +36,7 @@ use Rattle.laws_runs.specs.Priority.{AreOnce}
 use Rattle.laws_runs.specs.States.{NodeClaims, SignClaims, is_good_in}
 use Rattle.laws_runs.specs.Story.{line, object, send}
 use Rattle.laws_runs.specs.Weights.{EachHeld, IsSaid}
-use Rattle.laws_runs.specs.WorkedClaims.{NodesAreWorked, PriorityIsWorked, SignaturesAreWorked, WeightsAreWorked, believed, believer, boots, flow, half, hearsay, hi, holds_it, holds_update, keeps, message, sends, signed_one}
+use Rattle.laws_runs.specs.WorkedClaims.{LivesAreWorked, NodesAreWorked, PriorityIsWorked, SignaturesAreWorked, WeightsAreWorked, believed, believer, boots, flow, half, hearsay, hi, holds_it, holds_update, keeps, message, second, sends, signed_one}
 use Rattle.laws_runs.proofs.Lists.{among_cons, both}
 use Rattle.laws_runs.proofs.Tables.{same_node}
 use Rattle.laws_node.specs.Story as stories
@@ -202,4 +202,86 @@ signatures_are_worked = record {
   other_signature = λ h. wrong (kept_good (send ∷ []) signed_one (message (2 ∷ [])) h);
   never_signed = λ h. wrong (kept_good [] [] (message (1 ∷ [])) h);
   sent_unsigned = λ h. wrong (sent_good [] [] h);
+}
+
+-- ---- lives
+
+-- three numbers rise
+three_rise : {X : Type 0} (f : X → ℕ) (a b c : X) → f a < f b → f b < f c → (i j : ℕ) (d : X) → i < j → j < 3
+    → f (slice_index_or (a ∷ b ∷ c ∷ []) i d) < f (slice_index_or (a ∷ b ∷ c ∷ []) j d)
+three_rise f a b c one two zero (suc zero) d low within = one
+three_rise f a b c one two zero (suc (suc zero)) d low within = omega (arith, one, two)
+three_rise f a b c one two (suc zero) (suc (suc zero)) d low within = two
+three_rise f a b c one two i zero d low within = absurd (omega (arith, low))
+three_rise f a b c one two (suc i) (suc zero) d low within = absurd (omega (arith, low))
+three_rise f a b c one two (suc (suc i)) (suc (suc zero)) d low within = absurd (omega (arith, low))
+three_rise f a b c one two i (suc (suc (suc j))) d low within = absurd (omega (arith, within))
+
+two_rise : (a b : ℕ) → a < b → (i j d : ℕ) → i < j → j < 2 → slice_index_or (a ∷ b ∷ []) i d < slice_index_or (a ∷ b ∷ []) j d
+two_rise a b up zero (suc zero) d low within = up
+two_rise a b up i zero d low within = absurd (omega (arith, low))
+two_rise a b up (suc i) (suc zero) d low within = absurd (omega (arith, low))
+two_rise a b up i (suc (suc j)) d low within = absurd (omega (arith, within))
+
+-- what is told under two boots, where their tests say this
+abbrev number_once : Bool → List Message
+number_once t = cond t ((7, hi) ∷ []) []
+
+abbrev none_told : Bool → List Message
+none_told t = cond t [] []
+
+none_once : AreOnce []
+none_once = λ i j d less inside. absurd (omega (arith, inside))
+
+once_across : (t : Bool) → AreOnce (map (λ m. m.0) (none_told t ++ (number_once t ++ [])))
+once_across true = one_once 7
+once_across false = none_once
+
+sent_across : (t u : Bool) → All (Contains (number_once t ++ (none_told t ++ []))) (none_told (t && u) ++ (number_once (t && u) ++ []))
+sent_across true true = All-contains_itself ((7, hi) ∷ [])
+sent_across true false = All-nil (Contains ((7, hi) ∷ []))
+sent_across false u = All-nil (Contains [])
+
+-- and where it comes in two lives of 3
+no_two : (b : ℕ) → (1 == b) ≡ true → (2 == b) ≡ true → ⊥
+no_two b e f = let one = eqb-true 1 b e in let two = eqb-true 2 b f in omega (arith, one, two)
+
+once_in_each : (t u v : Bool) → (u ≡ true → v ≡ true → ⊥)
+    → AreOnce (map (λ m. m.0) (none_told (t && u) ++ (number_once (t && u) ++ (number_once (t && v) ++ []))))
+once_in_each true true true apart = absurd (apart refl refl)
+once_in_each true true false apart = one_once 7
+once_in_each true false true apart = one_once 7
+once_in_each true false false apart = none_once
+once_in_each false u v apart = none_once
+
+sent_in_each : (t u v : Bool) → (u ≡ true → v ≡ true → ⊥)
+    → All (Contains (number_once t ++ (none_told t ++ (none_told t ++ [])))) (none_told (t && u) ++ (number_once (t && u) ++ (number_once (t && v) ++ [])))
+sent_in_each true true true apart = absurd (apart refl refl)
+sent_in_each true true false apart = All-contains_itself ((7, hi) ∷ [])
+sent_in_each true false true apart = All-contains_itself ((7, hi) ∷ [])
+sent_in_each true false false apart = All-nil (Contains ((7, hi) ∷ []))
+sent_in_each false u v apart = All-nil (Contains [])
+
+pub lives_are_worked : LivesAreWorked
+unfolding ids read_body_in body_at_in number_at of_fields field_at
+lives_are_worked = record {
+  later = record {
+    indexes = three_rise (λ (s : ℕ × List ℕ). s.0) _ _ _ (omega arith) (omega arith);
+    boots = two_rise 1 2 (omega arith);
+  };
+  first_again = λ h. absurd (let e : 0 < 0 = h.indexes 0 2 (0, []) (omega arith) (omega arith) in omega (arith, e));
+  last_again = λ h. absurd (let e : 1 < 1 = h.indexes 1 2 (0, []) (omega arith) (omega arith) in omega (arith, e));
+  same_boot = λ h. absurd (let e : 1 < 1 = h.boots 0 1 0 (omega arith) (omega arith) in omega (arith, e));
+  alone = refl;
+  alone_later = refl;
+  next_held = refl;
+  with_word = refl;
+  with_word_later = refl;
+  is_kept = record { once = λ a b. once_across ((1 == a) && (1 == b)); authentic = λ correct a b. sent_across (1 == a) (1 == b) };
+  sent_later = λ h. (let it = All-head (Contains []) (7, hi) [] (h.authentic refl 1 1) in let inside = it.1 in omega (arith, inside));
+  twice = λ h. not_twice 7 (h.once 1 1);
+  other_life = record {
+    once = λ a b. once_in_each (1 == a) (1 == b) (2 == b) (no_two b);
+    authentic = λ correct a b. sent_in_each (1 == a) (1 == b) (2 == b) (no_two b);
+  };
 }

@@ -8,14 +8,17 @@ pub mod Laws
 pub mod Acknowledged
 pub mod Flows
 pub mod Past
+pub mod Since
 pub mod LifeKeys
 pub mod LifeFlows
 pub mod Priority
 pub mod LifePriority
 pub mod Weights
+pub mod LifeWeights
 pub mod States
 pub mod Shares
 pub mod Places
+pub mod LifeShares
 pub mod Good
 pub mod Calls
 pub mod Turns

@@ -1,26 +1,22 @@
--- The part on places: what a place holds, as its effects say it one after the other, and as the node has it.
-use Rattle.std.specs.Prelude.{ℕ, zero, suc, ◌≡◌, ◌<◌, ◌≤◌, ◌==◌, not, List, [], ◌∷◌, ◌++◌, cond, filter, length, map, None, Some}
+-- What a place holds, as its effects say it one after the other, and as the node has it.
+use Rattle.std.specs.Prelude.{ℕ, zero, suc, ◌≡◌, ◌<◌, ◌≤◌, ◌==◌, not, List, [], ◌∷◌, ◌++◌, cond, filter, length, map, Some}
 use Rattle.std.specs.List.{All}
 use Rattle.sp_base.specs.Rows.{first_where}
 use Rattle.sp_base.specs.declared.id.NodeId.{NodeId}
 use Rattle.sp_rules.specs.declared.store.TheConstants.{IDS}
 use Rattle.sp_msg.specs.declared.effect.Effect.{Effect}
 use Rattle.sp_msg.specs.declared.effect.Effect.TheVariants as effects
-use Rattle.sp_rules.specs.Arts.{Arts}
 use Rattle.sp_rules.specs.Node.{NodeState}
 use Rattle.sp_rules.specs.Prio.{PrioState, is_peer, no_peer}
 use Rattle.sp_rules.specs.PrioPeer.{PrioPeer}
 use Rattle.sp_rules.specs.Store.{Store, priority, said, source}
 use Rattle.sp_rules.specs.declared.store.Entry.{Entry}
-use Rattle.sp_runs.specs.Held.{AreShares, Held, ShareIf}
-use Rattle.sp_runs.specs.Runs.{InRange, Turn, forged_in}
-use Rattle.sp_runs.specs.Settings.{Setting, StaysUp}
+use Rattle.sp_runs.specs.Held.{Held, ShareIf}
+use Rattle.sp_runs.specs.Settings.{Setting}
 use Rattle.sp_runs.specs.Told.{effects_at}
 use Rattle.sp_runs.specs.Worlds.{World, node_in}
 use Rattle.sp_journal.specs.declared.entry.Entry.{Entry as JournalEntry}
 use Rattle.sp_schedule_events.specs.declared.event.Event.{Event}
-use Rattle.laws_runs.specs.Premises.{Carries}
-use Rattle.laws_runs.specs.Signs.{Signs}
 
 -- ---- by effects
 
@@ -108,21 +104,12 @@ store_at p (suc v) = row_store p.peers (suc v)
 abbrev pub no_shelf : Shelf
 no_shelf = record { top = 0; held = [] }
 
--- where the effects of a node lead a place
+-- where all effects of a node lead a place
 abbrev pub played : List Event → List JournalEntry → NodeId → ℕ → Shelf
 played es js u place = shelf_by place no_shelf (effects_at es js u)
 
--- what turns keep of all places: what each holds is what its effects say, and each eviction among these left a share
+-- of all places, where no node starts by an event: what each holds is what its effects say, and each eviction among these left a share
 pub record SharePart (x : Setting) (es : List Event) (js : List JournalEntry) (w : World) : Type 0 where
   pub nodes : (u : NodeId) (n : NodeState) → node_in w.nodes u ≡ Some n → PlacesAre x.store n.parts.prio
   pub held_is : (u : NodeId) (n : NodeState) (place : ℕ) → node_in w.nodes u ≡ Some n → played es js u place ≡ shelf (store_at n.parts.prio place)
   pub shares : (u : NodeId) (place : ℕ) → Steps x.store place no_shelf (effects_at es js u)
-
--- each turn of which nothing is forged keeps it, where signed objects are as they are in a run; and each eviction leaves a share
-pub record TurnsKeepShares : Type 0 where
-  pub turn : (arts : Arts) (x : Setting) (es : List Event) (js : List JournalEntry) (old : World) (e : Event) (j : JournalEntry) (new : World)
-      → StaysUp arts x → Carries x.topology.format arts
-      → Signs arts x es js old → InRange x es e → (turn : Turn arts x old e j new) → forged_in arts x es js old e j new turn ≡ None
-      → SharePart x es js old → SharePart x (es ++ e ∷ []) (js ++ j ∷ []) new
-  pub claims : (x : Setting) (es : List Event) (js : List JournalEntry) (w : World) → SharePart x es js w
-      → (u : NodeId) (place : ℕ) → AreShares x.store place [] (effects_at es js u)

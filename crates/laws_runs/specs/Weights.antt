@@ -1,5 +1,5 @@
 -- Weights of links over a run.
-use Rattle.std.specs.Prelude.{ℕ, ◌≡◌, true, IsTrue, List, [], ◌∷◌, ◌++◌, None, Some, slice_get}
+use Rattle.std.specs.Prelude.{ℕ, ◌≡◌, true, IsTrue, List, [], ◌∷◌, Some, slice_get}
 use Rattle.sp_base.specs.declared.id.NodeId.{NodeId}
 use Rattle.sp_msg.specs.declared.body.Body.TheVariants as bodies
 use Rattle.sp_msg.specs.declared.body.WeightBody.{WeightBody}
@@ -8,18 +8,16 @@ use Rattle.sp_msg.specs.declared.effect.Effect.TheVariants as effects
 use Rattle.sp_topology.specs.declared.topology.Edge.{Edge}
 use Rattle.sp_rules.specs.Arts.{Arts}
 use Rattle.sp_rules.specs.Node.{NodeState}
-use Rattle.sp_rules.specs.Weights.{effective, held_in, row_of, weight_of}
+use Rattle.sp_rules.specs.Weights.{effective}
 use Rattle.sp_runs.specs.Forgery.{is_among}
 use Rattle.sp_runs.specs.Weights.{effective_weight}
-use Rattle.sp_runs.specs.Runs.{Clean, InRange, Turn, forged_in}
+use Rattle.sp_runs.specs.Runs.{Clean}
 use Rattle.sp_runs.specs.Settings.{Setting, StaysUp, is_correct}
 use Rattle.sp_runs.specs.Told.{effects_at, signed}
 use Rattle.sp_runs.specs.Worlds.{World, node_in}
 use Rattle.sp_journal.specs.declared.entry.Entry.{Entry}
 use Rattle.sp_schedule_events.specs.declared.event.Event.{Event}
-use Rattle.laws_node.specs.Lives.{last_told}
 use Rattle.laws_runs.specs.Premises.{Carries}
-use Rattle.laws_runs.specs.Signs.{Signs}
 
 -- this holds of each update that the effects say is held
 abbrev pub EachHeld : (WeightBody → Type 0) → List Effect → Type 0
@@ -42,20 +40,3 @@ abbrev pub WeightsAreKept : Type 0
 WeightsAreKept = (arts : Arts) (x : Setting) (es : List Event) (js : List Entry) (w : World) → StaysUp arts x → Carries x.topology.format arts
     → Clean arts x es js w
     → WeightClaims arts x es js w
-
--- what turns keep of it
-pub record WeightPart (arts : Arts) (x : Setting) (es : List Event) (js : List Entry) (w : World) : Type 0 where
-  -- what a node holds of an end of an edge is what it told last of it
-  pub last : (u : NodeId) (n : NodeState) (edge : ℕ) (e : Edge) (end : NodeId) (row : ℕ) → node_in w.nodes u ≡ Some n → slice_get x.topology.edges edge ≡ Some e
-      → row_of edge e end.0 ≡ Some row → weight_of (held_in n.parts.weights.rows row) ≡ last_told edge end.0 0 (effects_at es js u)
-  pub said : (u : NodeId) → EachHeld (IsSaid arts x es js) (effects_at es js u)
-
--- each turn of which nothing is forged keeps it, where signed objects are as they are in a run; and the claims follow
-pub record TurnsKeepWeights : Type 0 where
-  pub turn : (arts : Arts) (x : Setting) (es : List Event) (js : List Entry) (old : World) (e : Event) (j : Entry) (new : World)
-      → StaysUp arts x → Carries x.topology.format arts
-      → Signs arts x es js old → InRange x es e → (turn : Turn arts x old e j new) → forged_in arts x es js old e j new turn ≡ None
-      → WeightPart arts x es js old → WeightPart arts x (es ++ e ∷ []) (js ++ j ∷ []) new
-  pub claims : (arts : Arts) (x : Setting) (es : List Event) (js : List Entry) (w : World) → StaysUp arts x → Signs arts x es js w
-      → WeightPart arts x es js w
-      → WeightClaims arts x es js w

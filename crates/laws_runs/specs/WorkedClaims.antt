@@ -1,30 +1,41 @@
--- The claims of who is there, of priority messages, of weights and of what is signed, on three nodes in a row: what each says of a small run, and what it
--- refuses.
-use Rattle.std.specs.Prelude.{ℕ, ◌≡◌, true, List, [], ◌∷◌, None, Some, option_map, replicate, slice_get, take}
+-- The claims of who is there, of priority messages, of weights, of what is signed and of lives, on three nodes in a row: what each says of a small run, and
+-- what it refuses.
+use Rattle.std.specs.Prelude.{ℕ, ◌≡◌, true, List, [], ◌∷◌, ◌++◌, map, Option, None, Some, option_map, replicate, slice_get, take}
 use Rattle.sp_base.specs.declared.id.Flow.{Flow}
 use Rattle.sp_base.specs.declared.id.NodeId.{NodeId}
 use Rattle.sp_frame.specs.declared.head.Head.{Head}
 use Rattle.sp_msg.specs.Bodies.{encoded}
+use Rattle.sp_msg.specs.Masks.{mask_from}
 use Rattle.sp_msg.specs.Views.{signer_of}
 use Rattle.sp_msg.specs.declared.body.Body.TheVariants as bodies
 use Rattle.sp_msg.specs.declared.effect.Effect.{Effect}
 use Rattle.sp_msg.specs.declared.effect.Effect.TheVariants as effects
 use Rattle.sp_msg.specs.declared.kept.Kept.{Kept}
+use Rattle.sp_rules.specs.Arrivals.{arrival_at}
 use Rattle.sp_rules.specs.Flow.{no_flow}
+use Rattle.sp_rules.specs.Handle.{Handled, handle_all}
+use Rattle.sp_rules.specs.Lives.{held, held_boot}
 use Rattle.sp_rules.specs.Node.{NodeState}
+use Rattle.sp_rules.specs.Pieces.{EpochPiece, PrioPiece}
 use Rattle.sp_rules.specs.Rel.{put_flow}
 use Rattle.sp_rules.specs.Weights.{effective}
 use Rattle.laws_node.specs.Story.{node, toy_frame, toys}
 use Rattle.sp_runs.specs.Inputs.{slot_alone}
 use Rattle.sp_runs.specs.Settings.{Setting, node_at_boot}
+use Rattle.sp_runs.specs.Told.{Message}
 use Rattle.sp_runs.specs.Worlds.{World, at_start, node_in}
+use Rattle.sp_journal.specs.declared.entry.AnswerWord.TheVariants as answers
 use Rattle.sp_journal.specs.declared.entry.Entry.{Entry}
+use Rattle.sp_journal.specs.declared.entry.ItemWord.TheVariants as items
 use Rattle.sp_journal.specs.declared.entry.LinkWord.TheVariants as links
 use Rattle.sp_journal.specs.declared.entry.Reply.{Reply}
 use Rattle.sp_journal.specs.declared.entry.Reply.TheVariants as replies
 use Rattle.sp_schedule_events.specs.declared.event.Event.{Event}
 use Rattle.sp_schedule_events.specs.declared.event.Event.TheVariants as events
 use Rattle.laws_runs.specs.Flows.{flow_at}
+use Rattle.laws_runs.specs.LifeKeys.{KeyClaims}
+use Rattle.laws_runs.specs.LifePriority.{LifePrioClaims}
+use Rattle.laws_runs.specs.Past.{Happened, prio_delivered_under}
 use Rattle.laws_runs.specs.Priority.{PrioClaims}
 use Rattle.laws_runs.specs.States.{NodeClaims, SignClaims, is_good_in}
 use Rattle.laws_runs.specs.Story.{Played, line, object, play, send}
@@ -169,3 +180,96 @@ pub record SignaturesAreWorked : Type 0 where
   pub other_signature : SignClaims toys (line []) (send ∷ []) signed_one (keeps (message (2 ∷ []))) → ⊥
   pub never_signed : SignClaims toys (line []) [] [] (keeps (message (1 ∷ []))) → ⊥
   pub sent_unsigned : SignClaims toys (line []) [] [] (sends (message (1 ∷ []))) → ⊥
+
+-- ---- lives: with epochs, 1 starts, sends a message, and starts again
+
+abbrev pub with_epochs : Setting
+with_epochs = record (line []) { epochs = true }
+
+-- what v says of its start with this boot
+abbrev pub word_of : (v boot : ℕ) → Kept
+word_of v boot = record { body = bodies.Epoch (record { origin = node v; boot = boot }); signature = v ∷ [] }
+
+abbrev pub happens : Event → Entry → Option NodeState → Happened
+happens e j mover = record { event = e; entry = j; mover = mover }
+
+-- 1 starts with this boot, and signs it with this index
+abbrev pub starts : (boot index : ℕ) → Happened
+starts boot index =
+    happens (events.Start (node 1)) (entry (replies.Started boot index) (effects.Signed (encoded (word_of 1 boot).body) ∷ [])) None
+
+-- 1, and this is its next index
+abbrev pub signs_next : ℕ → NodeState
+signs_next index =
+    let n = node_at_boot with_epochs (node 1) in
+    record n { signer = record n.signer { index = index } }
+
+-- it signs a message with that index
+abbrev pub sends_with : ℕ → Happened
+sends_with index = happens send (entry (replies.Accepted 1) (effects.Signed object ∷ [])) (Some (signs_next index))
+
+-- the first life signs with 0 and 1. The second has this boot, and signs with this index
+abbrev pub two_lives : (boot index : ℕ) → List Happened
+two_lives boot index = starts 1 0 ∷ sends_with 1 ∷ starts boot index ∷ []
+
+-- ---- lives: number 7 of the first life of 1 comes to 3 in a frame that may bring word of the second
+
+-- u where it holds these boots of 1 and of 3
+abbrev pub holds_boots : (u one three : ℕ) → NodeState
+holds_boots u one three =
+    let n = node_at_boot with_epochs (node u) in
+    record n { parts = record n.parts { lives = held (held n.parts.lives (word_of 1 one)) (word_of 3 three) } }
+
+abbrev pub number_7 : Kept
+number_7 = record {
+  body = bodies.Prio (record { src = node 1; dst = node 3; sboot = 1; seq = 7; prio = 5; expiry = 1000; mask = mask_from 3; payload = hi });
+  signature = 1 ∷ [];
+}
+
+-- what 3 does with a frame of 2 that brings the message, and behind it these words of starts
+abbrev pub crossed : List Kept → NodeState → Handled
+crossed words n = handle_all toys (arrival_at n (node 2)) n.parts (PrioPiece 1 number_7 ∷ map EpochPiece words)
+
+abbrev pub comes : List Kept → NodeState → Happened
+comes words n =
+    happens (events.Pass (node 2) (node 3) 1)
+    (entry (replies.Arrived links.Fresh (items.Prio answers.New ∷ map (λ o. items.Epoch answers.New) words)) (crossed words n).effects) (Some n)
+
+-- 1 sends it in its life of this boot
+abbrev pub sent_in : ℕ → Happened
+sent_in boot = happens (events.Prio (node 1) (node 3) 5 1000 0 hi) (entry (replies.Accepted 7) []) (Some (holds_boots 1 boot 1))
+
+-- and it comes to 3, which holds the first boot of 1
+abbrev pub across : ℕ → List Kept → List Happened
+across boot words = sent_in boot ∷ comes words (holds_boots 3 1 1) ∷ []
+
+-- what came to 3 in its first life, under this boot of 1
+abbrev pub under_boot : ℕ → List Kept → List Message
+under_boot boot words = prio_delivered_under (across 1 words) (node 1) boot (node 3) 1
+
+-- word of the second start of 1
+abbrev pub second : List Kept
+second = word_of 1 2 ∷ []
+
+-- what is claimed at 3 of 1
+abbrev pub IsKept : List Happened → Type 0
+IsKept happened = LifePrioClaims with_epochs (node 1) (node 3) happened
+
+pub record LivesAreWorked : Type 0 where
+  -- a later index, and a later boot
+  pub later : KeyClaims (node 1) (two_lives 2 32)
+  -- an index that signed in the first life, or its boot once more
+  pub first_again : KeyClaims (node 1) (two_lives 2 0) → ⊥
+  pub last_again : KeyClaims (node 1) (two_lives 2 1) → ⊥
+  pub same_boot : KeyClaims (node 1) (two_lives 1 32) → ⊥
+  -- the message counts under the boot that 3 held before it came: where nothing else comes, and where word of the second life does, after which 3 holds that
+  pub alone : under_boot 1 [] ≡ (7, hi) ∷ []
+  pub alone_later : under_boot 2 [] ≡ []
+  pub next_held : held_boot (crossed second (holds_boots 3 1 1)).parts.lives (node 1) ≡ 2
+  pub with_word : under_boot 1 second ≡ (7, hi) ∷ []
+  pub with_word_later : under_boot 2 second ≡ []
+  -- so it must have been sent in the first life, and comes once in each life of 3
+  pub is_kept : IsKept (across 1 second)
+  pub sent_later : IsKept (across 2 second) → ⊥
+  pub twice : IsKept (across 1 [] ++ comes second (holds_boots 3 1 1) ∷ []) → ⊥
+  pub other_life : IsKept (across 1 [] ++ comes second (holds_boots 3 1 2) ∷ [])

@@ -6,22 +6,23 @@ ghost use Rattle.laws_runs.specs.Flows.{FlowsAreKept};
 ghost use Rattle.laws_runs.specs.Good.{PlacesAreTold, RunsAreGood};
 ghost use Rattle.laws_runs.specs.HeldBoots.{BootsBegin, HeldBootsAreBorn, TurnsKeepBoots};
 ghost use Rattle.laws_runs.specs.KeyFiles.{KeyFilesStand};
-ghost use Rattle.laws_runs.specs.LifeKeys.{KeysRise};
 ghost use Rattle.laws_runs.specs.LifeFlows.{LifeFlowsAreKept, TurnsKeepFlows};
+ghost use Rattle.laws_runs.specs.LifeKeys.{KeysRise};
+ghost use Rattle.laws_runs.specs.LifeShares.{LifeEvictionsLeaveShares, TurnsKeepShares};
+ghost use Rattle.laws_runs.specs.LifeWeights.{LifeWeightsAreKept, TurnsKeepWeights};
 ghost use Rattle.laws_runs.specs.LifePriority.{LifePriorityIsKept, TurnsKeepPriority};
 ghost use Rattle.laws_runs.specs.Laws.{BoundsFollow, BuffersStayBounded, OnlyTheAdversaryForges};
 ghost use Rattle.laws_runs.specs.Priority.{PriorityIsKept};
-ghost use Rattle.laws_runs.specs.Places.{TurnsKeepShares};
 ghost use Rattle.laws_runs.specs.Shares.{EvictionsLeaveShares};
 ghost use Rattle.laws_runs.specs.Signs.{SignsBegin, TurnsKeepSigns};
 ghost use Rattle.laws_runs.specs.States.{BeginningsAreClean, CorrectNodesAreThere, OnlyCorrectNodesRun, WhatIsKeptWasSigned};
 ghost use Rattle.laws_runs.specs.States.{PastIsDetermined, RunsAreDetermined};
-ghost use Rattle.laws_runs.specs.Weights.{TurnsKeepWeights, WeightsAreKept};
+ghost use Rattle.laws_runs.specs.Weights.{WeightsAreKept};
 ghost use Rattle.laws_runs.specs.Crafts.{NoFrameIsForged, OwnCraftsForgeNothing};
 ghost use Rattle.laws_runs.specs.Story.{StoriesArePlayed};
 ghost use Rattle.laws_runs.specs.Turns.{EachEventHasATurn};
 ghost use Rattle.laws_runs.specs.WorkedBounds.{BoundsAreWorked};
-ghost use Rattle.laws_runs.specs.WorkedClaims.{NodesAreWorked, PriorityIsWorked, SignaturesAreWorked, WeightsAreWorked};
+ghost use Rattle.laws_runs.specs.WorkedClaims.{LivesAreWorked, NodesAreWorked, PriorityIsWorked, SignaturesAreWorked, WeightsAreWorked};
 
 /// A law: only bytes that the adversary brings are ever forged. A frame that is passed as it was made never is.
 pub fn only_the_adversary_forges()
@@ -62,6 +63,18 @@ pub fn priority_is_kept_over_lives()
 /// a correct end that one signed.
 pub fn weights_are_kept()
     ensures { WeightsAreKept }
+{}
+
+/// A law: over starts and stops, each eviction takes the first entry of lowest priority of the source that has most since the node's last start, and leaves
+/// that source at least its share.
+pub fn evictions_leave_shares_over_lives()
+    ensures { LifeEvictionsLeaveShares }
+{}
+
+/// A law: over starts and stops, the weight of a link at a correct node is the greatest of its minimum and the last that the node held of each end since its
+/// last start; and what it held of a correct end in any life that one said.
+pub fn weights_are_kept_over_lives()
+    ensures { LifeWeightsAreKept }
 {}
 
 /// A law: in a run with epochs each node that runs is started and runs once, and has the boot and the bound of its key file.
@@ -186,14 +199,14 @@ pub fn turns_keep_priority()
     ensures { TurnsKeepPriority }
 {}
 
-/// The part on weights: each turn of which nothing is forged keeps it, where signed objects are as the part on them says, and the claims follow
-/// from both.
+/// The part on weights: each turn of which nothing is forged keeps it, where key files and signed objects are as the parts on them say, and the claims
+/// follow from it.
 pub fn turns_keep_weights()
     ensures { TurnsKeepWeights }
 {}
 
-/// The part on places: each turn of which nothing is forged keeps it, where signed objects are as the part on them says, and each eviction leaves
-/// a share.
+/// The part on places: each turn of which nothing is forged keeps it, where key files and signed objects are as the parts on them say, and each eviction
+/// leaves a share.
 pub fn turns_keep_shares()
     ensures { TurnsKeepShares }
 {}
@@ -210,11 +223,13 @@ pub fn stories_are_played()
 {}
 
 /// A law: what the claims say of small states and runs, both ways: the bounds of a node with two messages a flow and four entries a store, in numbers; who is
-/// there, priority messages, weights after two updates, and what is signed. States and journals that break one are refused.
+/// there, priority messages, weights after two updates, what is signed, and the indexes and priority messages of two lives. States, journals and pasts that
+/// break one are refused.
 pub fn claims_are_worked()
     ensures bounds { BoundsAreWorked }
     ensures nodes { NodesAreWorked }
     ensures priority { PriorityIsWorked }
     ensures weights { WeightsAreWorked }
     ensures signatures { SignaturesAreWorked }
+    ensures lives { LivesAreWorked }
 {}

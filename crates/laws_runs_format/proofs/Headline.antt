@@ -16,10 +16,10 @@ use Rattle.laws_runs.proofs.HeldBoots.{held_boots_are_born}
 use Rattle.laws_runs.proofs.KeyFiles.{key_files_stand}
 use Rattle.laws_runs.proofs.Kept.{what_is_kept_was_signed}
 use Rattle.laws_runs.proofs.LifeKeys.{keys_rise}
-use Rattle.laws_runs.proofs.PlaceRuns.{evictions_leave_shares}
+use Rattle.laws_runs.proofs.PlaceRuns.{evictions_leave_shares, evictions_leave_shares_over_lives}
 use Rattle.laws_runs.proofs.PrioRuns.{life_priority_is_kept, priority_is_kept}
 use Rattle.laws_runs.proofs.There.{correct_nodes_are_there, only_correct_nodes_run}
-use Rattle.laws_runs.proofs.WeightRuns.{weights_are_kept}
+use Rattle.laws_runs.proofs.WeightRuns.{weights_are_kept, weights_are_kept_over_lives}
 use Rattle.laws_runs_format.specs.Arts.{arts_of}
 use Rattle.laws_runs_format.specs.Headline.{Claims, EveryLife, EveryRun, LivesClaims}
 use Rattle.laws_runs_format.proofs.Headers.{headers_fit, plain_headers_fit}
@@ -63,6 +63,8 @@ lives_claims x es js w fits carries run = record {
   reliable = λ s d there correct apart. flows_are_kept_over_lives (arts_of x) x es js w fits carries run s d there correct apart;
   priority = λ s d correct. life_priority_is_kept (arts_of x) x es js w fits carries run s d correct;
   bounded = λ u n at. buffers_stay_bounded (arts_of x) x es js w fits carries run u n at;
+  shares = λ u place. evictions_leave_shares_over_lives (arts_of x) x es js w fits carries run u place;
+  weights = weights_are_kept_over_lives (arts_of x) x es js w fits carries run;
   signed = what_is_kept_was_signed (arts_of x) x es js w fits carries run;
 }
 

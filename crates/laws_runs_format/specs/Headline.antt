@@ -19,8 +19,10 @@ use Rattle.laws_runs.specs.KeyFiles.{KeysStand}
 use Rattle.laws_runs.specs.LifeFlows.{LifeFlowClaims}
 use Rattle.laws_runs.specs.LifeKeys.{KeyClaims}
 use Rattle.laws_runs.specs.LifePriority.{LifePrioClaims}
+use Rattle.laws_runs.specs.LifeWeights.{LifeWeightClaims}
 use Rattle.laws_runs.specs.Past.{past}
 use Rattle.laws_runs.specs.Priority.{PrioClaims}
+use Rattle.laws_runs.specs.Since.{effects_since}
 use Rattle.laws_runs.specs.States.{NodeClaims, SignClaims}
 use Rattle.laws_runs.specs.Weights.{WeightClaims}
 use Rattle.laws_runs_format.specs.Arts.{arts_of}
@@ -78,6 +80,10 @@ pub record LivesClaims (x : Setting) (es : List Event) (js : List Entry) (w : Wo
   pub priority : (s d : NodeId) → IsTrue (is_correct x d) → LifePrioClaims x s d (past (arts_of x) x es js w run)
   -- no buffer of a correct node is above its bound
   pub bounded : (u : NodeId) (n : NodeState) → node_in w.nodes u ≡ Some n → IsBounded x u n
+  -- since the last start of a node, each eviction takes from the source that has most, and leaves it its share
+  pub shares : (u : NodeId) (place : ℕ) → AreShares x.store place [] (effects_since es js u)
+  -- the weight of a link is the greatest of its minimum and what its ends said last since then
+  pub weights : LifeWeightClaims (arts_of x) x es js w
   -- whatever a correct node keeps or sends bears its signer's valid signature, and a correct signer signed it in this run, in one of its lives
   pub signed : SignClaims (arts_of x) x es js w
 

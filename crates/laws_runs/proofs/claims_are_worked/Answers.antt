@@ -1,5 +1,5 @@
 use Rattle.laws_runs.proofs.WorkedBounds.{bounds_are_worked}
-use Rattle.laws_runs.proofs.WorkedClaims.{nodes_are_worked, priority_is_worked, signatures_are_worked, weights_are_worked}
+use Rattle.laws_runs.proofs.WorkedClaims.{lives_are_worked, nodes_are_worked, priority_is_worked, signatures_are_worked, weights_are_worked}
 use Rattle.laws_runs.proofs.claims_are_worked.Goals as goal
 
 pub returns-clause-bounds : goal.returns-clause-bounds
@@ -16,3 +16,6 @@ returns-clause-weights c = weights_are_worked
 
 pub returns-clause-signatures : goal.returns-clause-signatures
 returns-clause-signatures c = signatures_are_worked
+
+pub returns-clause-lives : goal.returns-clause-lives
+returns-clause-lives c = lives_are_worked
