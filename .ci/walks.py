@@ -3,7 +3,7 @@
 Each walk is a schedule of as many nodes as its format has, three of them compromised, with the largest bounds: messages of 0, 1 and 1,024 bytes,
 up to eight paths, weights, clocks, crafted messages, and some thousands of frames, of which some have all four sections. The 16 nodes of format 1 are
 joined each with every other; each of the 32 of format 2 with the eight before it and the eight behind it in a ring, which are all 256 edges, and there
-messages with crafted masks arrive too. What is asked is less than a journal: that the program ends with 0 and not with want of memory, that each event
+messages with crafted masks arrive too. In one more walk of format 2 nodes stop and start again, each as often as its key allows. What is asked is less than a journal: that the program ends with 0 and not with want of memory, that each event
 has its one answer in its turn, that each poll made a frame, and that what was sent and delivered is what the summary says. The walks are the same on
 each machine.
 """
@@ -23,6 +23,7 @@ class Walk:
     """Events that may follow one another, drawn from a few busy flows so that frames fill up; in format 1."""
 
     FORMAT, NODES, REACH, BAD, WALKS, EVENTS = 1, 16, 8, (5, 11, 16), 3, 7_000
+    NAME, EPOCHS = "format 1", ()
 
     def __init__(self, walk):
         self.walk, self.random = walk, random.Random(walk)
@@ -44,6 +45,7 @@ class Walk:
         edges = [(low, high) for low, joined in self.joined.items() for high in joined if low < high]
         yield from (f"edge {low} {high} {1 + (7 * low + 3 * high + self.walk) % 20}" for low, high in edges)
         yield from (f"bad {node}" for node in self.BAD)
+        yield from self.EPOCHS
         yield "begin"
 
     def hub(self):
@@ -91,6 +93,7 @@ class SecondWalk(Walk):
     """The same in format 2, where hubs are neighbours, and crafted messages have masks of 64 digits."""
 
     FORMAT, NODES, REACH, BAD, WALKS, EVENTS = 2, 32, 8, (9, 20, 32), 3, 5_000
+    NAME = "format 2"
 
     def __init__(self, walk):
         super().__init__(walk)
@@ -105,6 +108,26 @@ class SecondWalk(Walk):
             f"craft {c} {v} {c} rel {c} {d} {self.random.randint(1, 3)} {payload}",
             f"craft {c} {v} {c} prio {c} {d} {number} {self.random.randint(1, 10)} {self.random.randint(0, 2 ** 63)} {mask:064x} {payload}",
         ))
+
+
+class LivesWalk(SecondWalk):
+    """The same with nodes that stop and start again. A node of height 5 starts 32 times: each start takes 32 of its 1,024 indexes."""
+
+    WALKS, NAME, EPOCHS, STARTS = 1, "format 2 with restarts", ("epochs",), 32
+
+    def __init__(self, walk):
+        super().__init__(walk)
+        self.left = {node: self.STARTS - 1 for node in self.correct}
+
+    def events(self):
+        yield from (f"start {node}" for node in self.correct)
+        for event in super().events():
+            if self.random.random() < 0.02:
+                node = self.hub()
+                if self.left[node]:
+                    self.left[node] -= 1
+                    yield from (f"stop {node}", f"start {node}")
+            yield event
 
 
 def wrong_in(events, output):
@@ -137,14 +160,14 @@ def main():
     if len(sys.argv) != 2:
         sys.exit("usage: python3 .ci/walks.py PATH/TO/PROGRAM")
     wrong = 0
-    for kind in (Walk, SecondWalk):
+    for kind in (Walk, SecondWalk, LivesWalk):
         begin, frames = time.monotonic(), 0
         for number in range(1, kind.WALKS + 1):
             made, fault = tried(os.path.abspath(sys.argv[1]), kind(number))
             frames, wrong = frames + made, wrong + (fault is not None)
             if fault:
-                print(f"walk {number} of format {kind.FORMAT}: {fault}")
-        print(f"{kind.WALKS} walks of format {kind.FORMAT} with {kind.EVENTS} events, {frames} frames, {time.monotonic() - begin:.0f} s")
+                print(f"walk {number} of {kind.NAME}: {fault}")
+        print(f"{kind.WALKS} walks of {kind.NAME} with {kind.EVENTS} events, {frames} frames, {time.monotonic() - begin:.0f} s")
     print(f"{wrong} walks went wrong")
     sys.exit(1 if wrong else 0)
 

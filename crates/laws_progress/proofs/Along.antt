@@ -6,15 +6,67 @@ use Rattle.sp_schedule_events.specs.declared.event.Event.{Event}
 use Rattle.sp_runs.specs.Runs.{is_poll, polls}
 use Rattle.laws_progress.proofs.Service.{is_on}
 use Rattle.sp_runs.specs.Rounds.{is_take, are_passed, IsHopServed}
-use Rattle.laws_progress.proofs.Facts.{Goes, Stays, Steps, Sight, Facts}
+use Rattle.laws_progress.proofs.Facts.{Goes, Stays, Steps, Sight, IsHeard, Facts}
 use Rattle.std.specs.List.{list_any}
 use Rattle.std.proofs.lemmas.List.Sums.{sum_by-append}
 use Rattle.laws_progress.proofs.Places.{cases_node, counts_one}
-use Rattle.laws_progress.proofs.Sweeps.{joined, apart, rises, stays, within_later, some_heard, swept}
+use Rattle.laws_progress.proofs.Sweeps as sweeps
+use Rattle.laws_progress.proofs.Sweeps.{Turning, joined, apart, rises, stays}
+
+-- ---- the slots of a flow go in turn
+
+abbrev slots : (W : Type 0) (Next : W → Event → W → Type 0) (Hop : NodeId → NodeId → Type 0) (at : Sight W) (place bound least : ℕ) (s d : NodeId)
+    → Facts W Next Hop at place bound least s d → Turning
+slots W Next Hop at place bound least s d facts = record {
+  State = W;
+  Next = Next;
+  Hop = Hop;
+  polled = at.polled;
+  actives = at.actives;
+  last = at.last;
+  among = facts.among;
+  place = place;
+  Holds = λ w u. is_on (at.actives w u) place ≡ true;
+  Heard = λ w z u v. IsHeard W at place bound d w z u v;
+  one_polled = facts.one_polled;
+  none_polled = facts.none_polled;
+  serves = facts.serves;
+  serves_none = facts.serves_none;
+  within = λ w u v hop. facts.within w u;
+  active = λ w u v hop on. on;
+  holds_on = λ w x e u v hop next on. facts.stays_active w x e u next on;
+  heard = facts.heard;
+}
+
+-- a sweep of at least as many polls as flows are ever active serves a flow that is active when it begins
+swept : (W : Type 0) (Next : W → Event → W → Type 0) (Hop : NodeId → NodeId → Type 0) (at : Sight W) (place bound least : ℕ) (s d : NodeId)
+    → (facts : Facts W Next Hop at place bound least s d) → (u v : NodeId) → Hop u v
+    → (es : List Event) (w y : W) → Goes W Next w es y → are_passed u v (at.polled w u v) es ≡ true
+    → 1 ≤ least → least ≤ polls es u v
+    → is_on (at.actives w u) place ≡ true → sweeps.Served (slots W Next Hop at place bound least s d facts) u v w y
+swept W Next Hop at place bound least s d facts u v hop es w y g passes one enough on =
+    let few = facts.few in
+    sweeps.swept (slots W Next Hop at place bound least s d facts) u v hop es w y g passes (omega (arith, one, enough)) (omega (arith, few, enough)) on
+
+-- one frame at least
+some_heard : (W : Type 0) (Next : W → Event → W → Type 0) (Hop : NodeId → NodeId → Type 0) (at : Sight W) (place bound least : ℕ) (s d : NodeId)
+    → (facts : Facts W Next Hop at place bound least s d) → (u v : NodeId) → Hop u v
+    → (es : List Event) (w y : W) → Goes W Next w es y → are_passed u v (at.polled w u v) es ≡ true
+    → 1 ≤ polls es u v
+    → sweeps.Heard (slots W Next Hop at place bound least s d facts) u v w y
+some_heard W Next Hop at place bound least s d facts u v hop es w y g passes one =
+    sweeps.some_heard (slots W Next Hop at place bound least s d facts) u v hop es w y g passes one
+
+-- what is active stays so
+active_later : (W : Type 0) (Next : W → Event → W → Type 0) (Hop : NodeId → NodeId → Type 0) (at : Sight W) (place bound least : ℕ) (s d : NodeId)
+    → Facts W Next Hop at place bound least s d → (u : NodeId) (es : List Event) (w y : W) → Goes W Next w es y → is_on (at.actives w u) place ≡ true
+    → is_on (at.actives y u) place ≡ true
+active_later W Next Hop at place bound least s d facts u es w y g on =
+    stays W Next (λ x. is_on (at.actives x u) place) (λ p q e n. facts.stays_active p q e u n) es w y g on
 
 -- ---- how many polls there were
 
-polls_append : (u v : NodeId) (es fs : List Event) → polls (es ++ fs) u v ≡ polls es u v + polls fs u v
+pub polls_append : (u v : NodeId) (es fs : List Event) → polls (es ++ fs) u v ≡ polls es u v + polls fs u v
 polls_append u v es fs = sum_by-append (λ e. cond (is_poll u v e) 1 0) es fs
 
 -- the states know how many frames were made
@@ -116,7 +168,7 @@ went_back W Next Hop at place bound least s d facts u v hop pho es w y g passes 
       record {
         base = omega (arith, b0, b1, b2);
         view_have = λ on_u.
-            let h1 = it.heard.view_have k t.turn (within_later W Next Hop at place bound least s d facts u it.before w it.made it.first place on_u) in
+            let h1 = it.heard.view_have k t.turn (active_later W Next Hop at place bound least s d facts u it.before w it.made it.first on_u) in
             omega (arith, h0, h1, h2);
       }
   | inr off ↦
@@ -179,7 +231,7 @@ hop_round W Next Hop at place bound least s d facts u v hop pho inner before dur
     let view_b = rises W Next (λ x. at.view_have x u v) (λ p q e n. facts.view_have_rises p q e u v hop n) served.between t.b t.c t.to_c in
     let forth = went_forth W Next Hop at place bound least s d facts u v (at.have w u) (at.have w v) hop inner served.forth t.c t.e t.to_e (rw nc served.is_forth.passed) one served.is_forth.enough kc have_u
     (λ some.
-    let on = within_later W Next Hop at place bound least s d facts u served.early w t.a t.to_a place (facts.is_active w u some) in
+    let on = active_later W Next Hop at place bound least s d facts u served.early w t.a t.to_a (facts.is_active w u some) in
     let seen = back.view_have on in omega (arith, seen, have_v, view_b))
     (λ is. let r = room W Next Hop at place bound least s d facts _ w t.c to_c (served.take is) in rw is r) in
     let base_e = rises W Next (λ x. at.base x v) (λ p q e n. facts.base_rises p q e v n) served.late t.e y t.to_y in

@@ -1,134 +1,244 @@
--- What one event of a run does to a node that is seen: nothing, or one step of it.
-use Rattle.std.proofs.Common.{◌≡◌, ◌≤◌, ◌⊎◌, Bool, true, false, List, [], ◌∷◌, find, Some, refl, sym, ap, subst, ◌∙◌, inl, inr}
-use Rattle.std.proofs.lemmas.Bool.{cases_Bool, cases_eq, eq-eqb, eqb-true, ne_eqb}
-use Rattle.sp_base.specs.Rows.{replace_where}
+-- What one event makes of a node that is watched: nothing of its life, its start, rest, or one step of it. And what it makes of a flow there.
+use Rattle.std.proofs.Common.{◌≡◌, ◌≤◌, ◌⊎◌, ℕ, ◌==◌, ◌&&◌, true, false, List, Option, None, Some, refl, sym, ap, subst, ◌∙◌, inl, inr, arith}
+use Rattle.std.proofs.lemmas.Bool.{cases_Bool, eq-eqb, eqb-true}
+use Rattle.std.proofs.lemmas.Option.{same_Some}
 use Rattle.sp_base.specs.declared.id.Flow.{Flow}
 use Rattle.sp_base.specs.declared.id.NodeId.{NodeId}
 use Rattle.sp_rules.specs.Arts.{Arts}
-use Rattle.sp_rules.specs.Flow.{no_flow}
-use Rattle.sp_rules.specs.Node.{NodeState}
+use Rattle.sp_rules.specs.Flow.{FlowState, no_flow}
+use Rattle.sp_rules.specs.Lives.{held_boot}
+use Rattle.sp_rules.specs.Node.{NodeState, extended}
 use Rattle.sp_rules.specs.Parts.{Fixed}
 use Rattle.sp_rules.specs.Rel.{flow_in}
 use Rattle.sp_rules.specs.Steps.{Input, NodeStep, Output}
-use Rattle.laws_runs.proofs.Lives.{step_stays}
-use Rattle.laws_runs.proofs.Plain as turns
-use Rattle.laws_runs.proofs.Plain.{Plain, plain_turn}
-use Rattle.sp_runs.specs.Forgery.{forged_object, has_forged_tag}
+use Rattle.sp_runs.specs.Forgery.{has_forged_tag}
 use Rattle.sp_runs.specs.Inputs.{acting, input_of}
 use Rattle.sp_runs.specs.Journals.{Says}
-use Rattle.sp_runs.specs.Runs.{IsCraftOf, next_frame}
-use Rattle.sp_runs.specs.Settings.{Setting, StaysUp}
-use Rattle.sp_runs.specs.Worlds.{is_me, node_in, with_node}
+use Rattle.sp_runs.specs.Lives.{next_start, ready}
+use Rattle.sp_runs.specs.Runs.{Turn, next_frame}
+use Rattle.sp_runs.specs.Settings.{Setting, SettingFits, node_at_start}
+use Rattle.sp_runs.specs.Worlds.{World, node_in}
 use Rattle.sp_journal.specs.declared.entry.Entry.{Entry}
 use Rattle.sp_schedule_events.specs.declared.event.Event.{Event}
+use Rattle.laws_runs.specs.Past.{holds}
 use Rattle.laws_runs.specs.Premises.{Carries}
-use Rattle.laws_runs.proofs.Goods.{unforged_tag}
-use Rattle.laws_runs.proofs.NoStarts.{without}
-use Rattle.laws_runs.proofs.Signed.{signs}
-use Rattle.laws_runs.specs.Signs.{Good}
-use Rattle.laws_runs.proofs.Tables.{find_other, same_node}
-use Rattle.laws_progress.proofs.States.{Follows, Follow, State, flow_seen, seen_at, sight}
-use Rattle.laws_progress.proofs.Rises.{FlowLater, same_later, step_later}
+use Rattle.laws_runs.proofs.Lives.{step_stays}
+use Rattle.laws_runs.proofs.Ready.{Readied}
+use Rattle.laws_runs.proofs.Running.{found_there}
+use Rattle.laws_progress.proofs.Becomes.{Acts, Becomes, Begins, MovesNobody, Remains, becomes, readied_keeps}
+use Rattle.laws_progress.proofs.LastBoots.{held_below, last_boot, last_rises, running_boot, held_none}
+use Rattle.laws_progress.proofs.Rises.{Begins_anew, FlowLater, Goes_on, PartsGo, same_later, step_go}
+use Rattle.laws_progress.proofs.States.{Era, Follow, IsEra, Leads, Watched, flow_of, flow_seen, in_era, in_life, seen_at}
 
-find_put : {X : Type 0} (p : X → Bool) (y z : X) (xs : List X) → p y ≡ true → find p xs ≡ Some z → find p (replace_where p y xs) ≡ Some y
-find_put p y z [] is e = absurd cc
-find_put p y z (x ∷ xs) is e = elim (cases_Bool (p x)) [
-  | inl t ↦ rw (t, is) refl
-  | inr t ↦ rw (t, t) (find_put p y z xs is (rw t at e))
+-- ---- reading nodes
+
+-- the boots that count are held
+pub holds_both : (n : NodeState) (s d : NodeId) (a b : ℕ) → holds n s a d b ≡ true → (held_boot n.parts.lives s ≡ a) × (held_boot n.parts.lives d ≡ b)
+holds_both n s d a b is = elim (cases_Bool (held_boot n.parts.lives s == a)) [
+  | inl t ↦ (eqb-true _ _ t, eqb-true _ _ (rw t at is))
+  | inr t ↦ absurd (let f : false ≡ true = rw t at is in cc)
 ]
 
-node_after : (u a : NodeId) (after n : NodeState) (ns : List NodeState) → after.fixed.me ≡ a → node_in ns a ≡ Some n
-    → ((u ≡ a) × (node_in (with_node ns a after) u ≡ Some after)) ⊎ ((u ≡ a → ⊥) × (node_in (with_node ns a after) u ≡ node_in ns u))
-node_after u a after n ns me e = elim (cases_eq u.0 a.0) [
-  | inl same ↦
-      let is : u ≡ a = same_node u a same in
-      inl (is, subst (λ v. node_in (with_node ns a after) v ≡ Some after) (sym is) (find_put (is_me a) after n ns (eq-eqb _ _ (ap (λ (v : NodeId). v.0) me)) e))
-  | inr other ↦
-      inr (
-        λ is. other (ap (λ (v : NodeId). v.0) is),
-        find_other (is_me a) (is_me u) after ns
-            (ne_eqb _ _ (λ z. other (sym z ∙ ap (λ (v : NodeId). v.0) me)))
-            (λ x t. ne_eqb _ _ (λ z. other (sym z ∙ eqb-true _ _ t))),
-      )
+pub both_held : (n : NodeState) (s d : NodeId) (a b : ℕ) → held_boot n.parts.lives s ≡ a → held_boot n.parts.lives d ≡ b → holds n s a d b ≡ true
+both_held n s d a b one two = let t = eq-eqb _ _ one in let z = eq-eqb _ _ two in rw (t, z) refl
+
+pub life_is : (era : Era) (u : NodeId) (n : NodeState) → in_life era u n ≡ true → (era.on u ≡ true) × (n.fixed.boot ≡ era.life u)
+life_is era u n is = elim (cases_Bool (era.on u)) [
+  | inl t ↦ (t, eqb-true _ _ (rw t at is))
+  | inr t ↦ absurd (let f : false ≡ true = rw t at is in cc)
 ]
+
+pub life_of : (era : Era) (u : NodeId) (n : NodeState) → era.on u ≡ true → n.fixed.boot ≡ era.life u → in_life era u n ≡ true
+life_of era u n on is = let t = eq-eqb _ _ is in rw (on, t) refl
+
+pub era_is : (era : Era) (flow : Flow) (u : NodeId) (n : NodeState) → in_era era flow u n ≡ true
+    → (in_life era u n ≡ true) × (holds n flow.src era.sboot flow.dst era.dboot ≡ true)
+era_is era flow u n is = elim (cases_Bool (in_life era u n)) [
+  | inl t ↦ (t, rw t at is)
+  | inr t ↦ absurd (let f : false ≡ true = rw t at is in cc)
+]
+
+pub era_off : (era : Era) (flow : Flow) (u : NodeId) (n : NodeState) → in_life era u n ≡ false → in_era era flow u n ≡ false
+era_off era flow u n off = rw off refl
+
+-- what is read of a node in its life is nothing where it isn't
+pub dark : {X : Type 0} (none : X) (read : NodeState → X) (o : Option NodeState) → ((n : NodeState) → o ≡ Some n → read n ≡ none) → seen_at none read o ≡ none
+dark none read None off = refl
+dark none read (Some n) off = off n refl
+
+-- what is read of a node that is there
+pub lit : {X : Type 0} (none : X) (read : NodeState → X) (o : Option NodeState) (n : NodeState) → o ≡ Some n → seen_at none read o ≡ read n
+lit none read o n at = ap (seen_at none read) at
+
+-- what asks not for the bound of its indexes is read the same where it reserved more
+pub same_read : {X : Type 0} (x : Setting) (w : World) (b n : NodeState) (read : NodeState → X) → ((upto : ℕ) → read (extended b upto) ≡ read b) → Readied x w b n → read n ≡ read b
+same_read x w b n read same is = readied_keeps x w b n (λ m. read m ≡ read b) (λ upto h. same upto) is refl
+
+-- ---- one event
 
 -- a step of the node u
-pub record Acted (arts : Arts) (x : Setting) (all : List Event) (w y : State arts x all) (e : Event) (u : NodeId) : Type 0 where
+pub record Acted (arts : Arts) (x : Setting) (all : List Event) (era : Era) (w y : Watched arts x all era) (e : Event) (u : NodeId) : Type 0 where
   pub acts : acting e ≡ u
+  pub before : NodeState
+  pub there : node_in w.at.world.nodes u ≡ Some before
+  -- it acts as this, with the indexes that it reserved
   pub node : NodeState
-  pub there : node_in w.world.nodes u ≡ Some node
+  pub readied : Readied x w.at.world before node
   pub input : Input
-  pub reaches : input_of arts x w.world node e ≡ Some input
+  pub reaches : input_of arts x (ready x w.at.world e) node e ≡ Some input
   pub output : Output
   pub after : NodeState
   pub step : NodeStep arts node input output after
   pub entry : Entry
-  pub journal : Says x (next_frame w.world e) output entry
-  pub unforged : has_forged_tag arts x w.world node input ≡ false
-  pub left : node_in y.world.nodes u ≡ Some after
+  pub journal : Says x (next_frame (ready x w.at.world e) e) output entry
+  pub unforged : has_forged_tag arts x (ready x w.at.world e) node input ≡ false
+  pub left : node_in y.at.world.nodes u ≡ Some after
 
--- no step of the node u: another one acts, or no node does
-pub record Unmoved (arts : Arts) (x : Setting) (all : List Event) (w y : State arts x all) (e : Event) (u : NodeId) : Type 0 where
-  pub same : node_in y.world.nodes u ≡ node_in w.world.nodes u
-  pub why : (acting e ≡ u → ⊥) ⊎ ((key : NodeId) × IsCraftOf key e)
+-- no step of it: another one acts, or no node does
+pub record Unmoved (arts : Arts) (x : Setting) (all : List Event) (era : Era) (w y : Watched arts x all era) (e : Event) (u : NodeId) : Type 0 where
+  pub before : NodeState
+  pub there : node_in w.at.world.nodes u ≡ Some before
+  pub now : NodeState
+  pub readied : Readied x w.at.world before now
+  pub left : node_in y.at.world.nodes u ≡ Some now
+  pub why : (acting e ≡ u → ⊥) ⊎ MovesNobody w.at.world e
 
-changed : (arts : Arts) (x : Setting) (all : List Event) → StaysUp arts x → Carries x.topology.format arts → (w y : State arts x all) (e : Event) (j : Entry)
-    → Plain arts x w.events w.journal w.world e j y.world → (u : NodeId)
-    → Unmoved arts x all w y e u ⊎ Acted arts x all w y e u
-changed arts x all fits reads w y e j (turns.Rests s) u = inl (record { same = ap (λ z. node_in z.nodes u) s.world; why = inr (s.key, s.is_craft) })
-changed arts x all fits reads w y e j (turns.Goes m unforged) u =
-    let is = (signs arts x w.events w.journal w.world fits.fits reads w.run).nodes (acting e) m.node m.is_there in
-    let me : m.after.fixed.me ≡ acting e = ap (λ (f : Fixed). f.me) ((step_stays arts m.node m.input m.output m.after m.step).fixed ∙ is.fixed) in
-    let world = ap (λ z. node_in z.nodes u) m.world in
-    elim (node_after u (acting e) m.after m.node w.world.nodes me m.is_there) [
-      | inl here ↦ inr (record {
-        acts = sym here.0;
-        node = m.node;
-        there = subst (λ v. node_in w.world.nodes v ≡ Some m.node) (sym here.0) m.is_there;
-        input = m.input;
-        reaches = m.reaches;
-        output = m.output;
-        after = m.after;
-        step = m.step;
-        entry = j;
-        journal = m.journal;
-        unforged = (unforged_tag (has_forged_tag arts x w.world m.node m.input) (forged_object arts x w.events w.journal m.output.answered) unforged).0;
-        left = world ∙ here.1;
-      })
-      | inr other ↦ inl (record { same = world ∙ other.1; why = inl (λ acts. other.0 (sym acts)) })
+-- what becomes of the life of u that is watched
+pub data Course (arts : Arts) (x : Setting) (all : List Event) (era : Era) (w y : Watched arts x all era) (e : Event) (u : NodeId) : Type 0 where
+  -- it isn't in it before nor after
+  Away : ((n : NodeState) → node_in w.at.world.nodes u ≡ Some n → in_life era u n ≡ false) → ((n : NodeState) → node_in y.at.world.nodes u ≡ Some n → in_life era u n ≡ false)
+      → Course arts x all era w y e u
+  Born : x.epochs ≡ true → ((n : NodeState) → node_in w.at.world.nodes u ≡ Some n → in_life era u n ≡ false)
+      → node_in y.at.world.nodes u ≡ Some (node_at_start arts x u (next_start x w.at.world u)) → Course arts x all era w y e u
+  Rests : (q : Unmoved arts x all era w y e u) → in_life era u q.before ≡ true → in_life era u q.now ≡ true → Course arts x all era w y e u
+  Steps : (a : Acted arts x all era w y e u) → in_life era u a.node ≡ true → in_life era u a.after ≡ true → Course arts x all era w y e u
+
+module _ (arts : Arts) (x : Setting) (all : List Event) (era : Era) (fits : SettingFits arts x) (reads : Carries x.topology.format arts)
+    (w y : Watched arts x all era) (e : Event) where
+  boot_at : (z : Watched arts x all era) (u : NodeId) (n : NodeState) → node_in z.at.world.nodes u ≡ Some n → n.fixed.boot ≡ last_boot x z.at.world u
+  boot_at z u n at = running_boot arts x z.at.events z.at.journal z.at.world fits reads z.at.run u n at
+
+  -- whoever is in its life goes on in it
+  none_now : (j : Entry) → Turn arts x w.at.world e j y.at.world → (u : NodeId) → era.on u ≡ true → node_in y.at.world.nodes u ≡ None
+      → (n : NodeState) → node_in w.at.world.nodes u ≡ Some n → in_life era u n ≡ false
+  none_now j turn u on none n at = elim (cases_Bool (in_life era u n)) [
+    | inr off ↦ off
+    | inl is ↦
+        let boot = boot_at w u n at in
+        let life = (life_is era u n is).1 in
+        let up = last_rises arts x w.at.world e j y.at.world turn u in
+        let top = y.latest u on in
+        let m = y.runs u on (omega (arith, boot, life, up, top)) in
+        absurd (let f : None ≡ Some m.0 = sym none ∙ m.1 in cc)
+  ]
+
+  of_one : (j : Entry) (u : NodeId) (m : NodeState) → era.on u ≡ true → node_in y.at.world.nodes u ≡ Some m → Becomes arts x w.at.world e j y.at.world u m
+      → Course arts x all era w y e u
+  of_one j u m on at (Remains b there readied why) =
+      let same = same_read x w.at.world b m (in_life era u) (λ upto. refl) readied in
+      elim (cases_Bool (in_life era u b)) [
+        | inl t ↦ Rests (record { before = b; there = there; now = m; readied = readied; left = at; why = why }) t (same ∙ t)
+        | inr t ↦ Away (λ n is. ap (in_life era u) (same_Some n b (sym is ∙ there)) ∙ t) (λ n is. ap (in_life era u) (same_Some n m (sym is ∙ at)) ∙ same ∙ t)
+      ]
+  of_one j u m on at (Acts acts b there mv readied after unforged) =
+      let same = same_read x w.at.world b mv.node (in_life era u) (λ upto. refl) readied in
+      let stays : in_life era u mv.after ≡ in_life era u mv.node =
+      ap (λ (f : Fixed). era.on u && (f.boot == era.life u)) (step_stays arts mv.node mv.input mv.output mv.after mv.step).fixed in
+      elim (cases_Bool (in_life era u b)) [
+        | inl t ↦ Steps (record {
+          acts = acts;
+          before = b;
+          there = there;
+          node = mv.node;
+          readied = readied;
+          input = mv.input;
+          reaches = mv.reaches;
+          output = mv.output;
+          after = mv.after;
+          step = mv.step;
+          entry = j;
+          journal = mv.journal;
+          unforged = unforged;
+          left = at ∙ ap Some after;
+        }) (same ∙ t) (stays ∙ same ∙ t)
+        | inr t ↦ Away (λ n is. ap (in_life era u) (same_Some n b (sym is ∙ there)) ∙ t)
+            (λ n is. ap (in_life era u) (same_Some n m (sym is ∙ at) ∙ after) ∙ stays ∙ same ∙ t)
+      ]
+  of_one j u m on at (Begins epochs is start after none) =
+      Born epochs (λ n there. absurd (let f : true ≡ false = sym (found_there u n w.at.world.nodes there) ∙ none in cc)) (at ∙ ap Some after)
+
+  pub course : Leads arts x all era w e y → (u : NodeId) → Course arts x all era w y e u
+  course (Follow j events journal range turn unforged) u = elim (cases_Bool (era.on u)) [
+    | inr off ↦ Away (λ n at. rw off refl) (λ n at. rw off refl)
+    | inl on ↦ go on (node_in y.at.world.nodes u) refl
+  ]
+    where
+      go : era.on u ≡ true → (o : Option NodeState) → node_in y.at.world.nodes u ≡ o → Course arts x all era w y e u
+      go on None none = Away (none_now j turn u on none) (λ n at. absurd (let f : None ≡ Some n = sym none ∙ at in cc))
+      go on (Some m) at =
+          of_one j u m on at (becomes arts x w.at.events w.at.journal w.at.world e j y.at.world fits reads w.at.run range turn unforged u m at)
+
+  -- ---- the flow
+
+  module _ (flow : Flow) (is_era : IsEra x flow era) where
+    -- no node holds later boots than those that count
+    pub held_most : (z : Watched arts x all era) (u : NodeId) (n : NodeState) → node_in z.at.world.nodes u ≡ Some n
+        → (held_boot n.parts.lives flow.src ≤ era.sboot) × (held_boot n.parts.lives flow.dst ≤ era.dboot)
+    held_most z u n at = elim (cases_Bool x.epochs) [
+      | inl on ↦
+          let born = is_era.taken on in
+          let top_s = z.latest flow.src is_era.source in
+          let top_d = z.latest flow.dst is_era.end in
+          let low_s = held_below arts x z.at.events z.at.journal z.at.world fits reads z.at.run u flow.src n at is_era.right.from in
+          let low_d = held_below arts x z.at.events z.at.journal z.at.world fits reads z.at.run u flow.dst n at is_era.right.to in
+          let a = born.0 in let b = born.1 in
+          (omega (arith, top_s, low_s, a), omega (arith, top_d, low_d, b))
+      | inr off ↦
+          let none = held_none arts x z.at.events z.at.journal z.at.world fits reads z.at.run off u n at in
+          let s = none flow.src in let d = none flow.dst in
+          (omega (arith, s), omega (arith, d))
     ]
 
-pub change : (arts : Arts) (x : Setting) (all : List Event) → StaysUp arts x → Carries x.topology.format arts → (w y : State arts x all) (e : Event)
-    → Follows arts x all w e y → (u : NodeId)
-    → Unmoved arts x all w y e u ⊎ Acted arts x all w y e u
-change arts x all fits reads w y e (Follow j events journal range turn unforged) u =
-    changed arts x all fits reads w y e j (plain_turn arts x w.events w.journal w.world y.world e j fits.plain turn unforged) u
+    -- the boots that count stay where they are held, and the flow goes on
+    pub era_goes : (u : NodeId) (n m : NodeState) → node_in y.at.world.nodes u ≡ Some m → holds n flow.src era.sboot flow.dst era.dboot ≡ true → PartsGo flow n.parts m.parts
+        → (holds m flow.src era.sboot flow.dst era.dboot ≡ true) × FlowLater (flow_in n.parts.rel.flows flow) (flow_in m.parts.rel.flows flow)
+    era_goes u n m at held (Goes_on src dst later) =
+        let h = holds_both n flow.src flow.dst era.sboot era.dboot held in
+        (both_held m flow.src flow.dst era.sboot era.dboot (src ∙ h.0) (dst ∙ h.1), later)
+    era_goes u n m at held (Begins_anew rises none views) =
+        let h = holds_both n flow.src flow.dst era.sboot era.dboot held in
+        let most = held_most y u m at in
+        let a = h.0 in let b = h.1 in let c = most.0 in let d = most.1 in
+        absurd (elim rises [ inl up ↦ omega (arith, up, a, c) | inr up ↦ omega (arith, up, b, d) ])
 
--- ---- flows only go on
+    none_later : (f : FlowState) → FlowLater (no_flow flow) f
+    none_later f = record { base = omega arith; have = omega arith; active = λ on. absurd (let z : false ≡ true = on in cc); taken = omega arith }
 
-pub flow_later : (arts : Arts) (x : Setting) (all : List Event) (flow : Flow) → StaysUp arts x → Carries x.topology.format arts
-    → (w y : State arts x all) (e : Event) → Follows arts x all w e y → (u : NodeId)
-    → FlowLater (flow_seen arts x all flow w u) (flow_seen arts x all flow y u)
-flow_later arts x all flow fits reads w y e follows u = elim (change arts x all fits reads w y e follows u) [
-  | inl q ↦ subst (λ o. FlowLater (flow_seen arts x all flow w u) (seen_at (no_flow flow) (λ n. flow_in n.parts.rel.flows flow) o)) (sym q.same) (same_later _)
-  | inr a ↦
-      let plain = without x (Good arts x w.events w.journal) u a.node fits.plain ((signs arts x w.events w.journal w.world fits.fits reads w.run).nodes u a.node a.there) in
-      let later = step_later arts a.node a.input a.output a.after a.step plain flow in
-      subst (λ o. FlowLater (flow_seen arts x all flow w u) (seen_at (no_flow flow) (λ n. flow_in n.parts.rel.flows flow) o)) (sym a.left)
-      (subst (λ o. FlowLater (seen_at (no_flow flow) (λ n. flow_in n.parts.rel.flows flow) o) (flow_in a.after.parts.rel.flows flow)) (sym a.there) later)
-]
+    pub step_flow : (u : NodeId) (n m : NodeState) → node_in y.at.world.nodes u ≡ Some m → in_life era u n ≡ true → in_life era u m ≡ true → PartsGo flow n.parts m.parts
+        → FlowLater (flow_of era flow u n) (flow_of era flow u m)
+    step_flow u n m at first second go = elim (cases_Bool (holds n flow.src era.sboot flow.dst era.dboot)) [
+      | inl held ↦ let it = era_goes u n m at held go in let now = it.0 in rw (first, held, second, now) it.1
+      | inr not ↦ rw (first, not) (none_later (flow_of era flow u m))
+    ]
 
-pub base_rises : (arts : Arts) (x : Setting) (all : List Event) (flow : Flow) → StaysUp arts x → Carries x.topology.format arts
-    → (w y : State arts x all) (e : Event) (u : NodeId) → Follows arts x all w e y
-    → (sight arts x all flow).base w u ≤ (sight arts x all flow).base y u
-base_rises arts x all flow fits reads w y e u follows = (flow_later arts x all flow fits reads w y e follows u).base
+    pub flow_later : Leads arts x all era w e y → (u : NodeId) → FlowLater (flow_seen arts x all era flow w u) (flow_seen arts x all era flow y u)
+    flow_later leads u = go (course leads u)
+      where
+        off : (z : Watched arts x all era) → ((n : NodeState) → node_in z.at.world.nodes u ≡ Some n → in_life era u n ≡ false) → flow_seen arts x all era flow z u ≡ no_flow flow
+        off z away = dark (no_flow flow) (flow_of era flow u) (node_in z.at.world.nodes u) (λ n at. let t = era_off era flow u n (away n at) in rw t refl)
 
-pub have_rises : (arts : Arts) (x : Setting) (all : List Event) (flow : Flow) → StaysUp arts x → Carries x.topology.format arts
-    → (w y : State arts x all) (e : Event) (u : NodeId) → Follows arts x all w e y
-    → (sight arts x all flow).have w u ≤ (sight arts x all flow).have y u
-have_rises arts x all flow fits reads w y e u follows = (flow_later arts x all flow fits reads w y e follows u).have
-
-pub taken_rises : (arts : Arts) (x : Setting) (all : List Event) (flow : Flow) → StaysUp arts x → Carries x.topology.format arts
-    → (w y : State arts x all) (e : Event) → Follows arts x all w e y
-    → (sight arts x all flow).taken w ≤ (sight arts x all flow).taken y
-taken_rises arts x all flow fits reads w y e follows = (flow_later arts x all flow fits reads w y e follows flow.dst).taken
+        go : Course arts x all era w y e u → FlowLater (flow_seen arts x all era flow w u) (flow_seen arts x all era flow y u)
+        go (Away before after) = subst (λ f. FlowLater f (flow_seen arts x all era flow y u)) (sym (off w before)) (none_later _)
+        go (Born on before at) = subst (λ f. FlowLater f (flow_seen arts x all era flow y u)) (sym (off w before)) (none_later _)
+        go (Rests q first second) =
+            let was = lit (no_flow flow) (flow_of era flow u) (node_in w.at.world.nodes u) q.before q.there in
+            let is = lit (no_flow flow) (flow_of era flow u) (node_in y.at.world.nodes u) q.now q.left in
+            let same = same_read x w.at.world q.before q.now (flow_of era flow u) (λ upto. refl) q.readied in
+            subst (λ f. FlowLater f (flow_seen arts x all era flow y u)) (sym was)
+            (subst (FlowLater (flow_of era flow u q.before)) (sym (is ∙ same)) (same_later _))
+        go (Steps a first second) =
+            let was = lit (no_flow flow) (flow_of era flow u) (node_in w.at.world.nodes u) a.before a.there in
+            let is = lit (no_flow flow) (flow_of era flow u) (node_in y.at.world.nodes u) a.after a.left in
+            let same = same_read x w.at.world a.before a.node (flow_of era flow u) (λ upto. refl) a.readied in
+            subst (λ f. FlowLater f (flow_seen arts x all era flow y u)) (same ∙ sym was)
+            (subst (FlowLater (flow_of era flow u a.node)) (sym is) (step_flow u a.node a.after a.left first second (step_go flow arts a.node a.input a.output a.after a.step)))

@@ -1,5 +1,5 @@
 -- The active flows at a node are at most as many as the run may have.
-use Rattle.std.proofs.Common.{◌≡◌, ◌≤◌, ℕ, zero, suc, ◌+◌, ◌&&◌, ◌⊎◌, Bool, true, false, cond, not, List, [], ◌∷◌, ◌++◌, eqb, length, map, filter, Option, Some, None, refl, sym, ap, subst, ◌∙◌, inl, inr, arith}
+use Rattle.std.proofs.Common.{◌≡◌, ◌≤◌, ℕ, zero, suc, ◌+◌, ◌&&◌, Bool, true, false, not, List, [], ◌∷◌, ◌++◌, eqb, length, map, filter, Option, Some, None, refl, sym, ap, subst, ◌∙◌, inl, inr, arith, append-nil}
 use Rattle.std.specs.Prelude.{slice_get}
 use Rattle.std.specs.List.{flat_map, list_any}
 use Rattle.std.proofs.lemmas.Bool.{cases_Bool, eqb-false}
@@ -15,9 +15,9 @@ use Rattle.sp_rules.specs.Rel.{flows_from, pairs_of}
 use Rattle.laws_node.specs.Flows.{FlowHolds}
 use Rattle.laws_node.proofs.Reliable.{found}
 use Rattle.laws_node.proofs.Tables.{all_get}
-use Rattle.sp_runs.specs.Runs.{Clean}
-use Rattle.sp_runs.specs.Settings.{Setting, StaysUp}
-use Rattle.sp_runs.specs.Told.{accepted_in, sent}
+use Rattle.sp_runs.specs.Runs.{Clean, Turned, Starts}
+use Rattle.sp_runs.specs.Settings.{Setting, SettingFits}
+use Rattle.sp_runs.specs.Told.{accepted_in, Message}
 use Rattle.sp_runs.specs.Worlds.{World, node_in}
 use Rattle.sp_journal.specs.declared.entry.Entry.{Entry}
 use Rattle.sp_journal.specs.declared.entry.Reply.{Reply}
@@ -26,35 +26,21 @@ use Rattle.sp_schedule_events.specs.declared.event.Event.{Event}
 use Rattle.sp_schedule_events.specs.declared.event.Event.TheVariants as events
 use Rattle.laws_runs.specs.Premises.{Carries}
 use Rattle.laws_runs.specs.Signs.{Good, sizes_at}
-use Rattle.laws_runs.proofs.FlowPlain.{flows_are_kept}
+use Rattle.laws_runs.specs.Past.{Happened, holds, mover_in, past, sent_under, told_under}
+use Rattle.laws_runs.proofs.FlowRuns.{flows_are_kept_over_lives}
+use Rattle.laws_runs.proofs.PastFacts.{past_more}
+use Rattle.sp_rules.specs.Lives.{held_boot}
+use Rattle.std.specs.Prelude.{◌||◌}
+use Rattle.laws_progress.proofs.Standing.{get_map, on_at, rel_of, there_on}
 use Rattle.laws_runs.proofs.Lists.{both}
 use Rattle.laws_runs.proofs.Signed.{signs}
 use Rattle.sp_runs.specs.Rounds.{flow_count, has_correct_ends, is_send}
-use Rattle.laws_progress.proofs.States.{State, seen_at, sight}
-use Rattle.laws_progress.proofs.Service.{number_on}
-
--- rows that are active pass one of two tests
-count_rows : (p q : Flow → Bool) (fs : List FlowState) → ((i : ℕ) (f : FlowState) → slice_get fs i ≡ Some f → f.active ≡ true → (p (ends f) ≡ true) ⊎ (q (ends f) ≡ true))
-    → number_on (map (λ f. f.active) fs) ≤ length (filter p (map ends fs)) + length (filter q (map ends fs))
-count_rows p q [] h = omega arith
-count_rows p q (f ∷ fs) h =
-    let rest = count_rows p q fs (λ i g at on. h (suc i) g at on) in
-    let more_p = more p (ends f) (map ends fs) in
-    let more_q = more q (ends f) (map ends fs) in
-    elim (cases_Bool f.active) [
-      | inr off ↦ rw off (omega (arith, rest, more_p, more_q))
-      | inl on ↦ elim (h 0 f refl on) [
-        | inl t ↦ rw (on, t) (omega (arith, rest, more_q))
-        | inr t ↦ rw (on, t) (omega (arith, rest, more_p))
-      ]
-    ]
-  where
-    more : (t : Flow → Bool) (x : Flow) (xs : List Flow) → length (filter t xs) ≤ length (filter t (x ∷ xs))
-    more t x xs = elim (cases_Bool (t x)) [ inl on ↦ rw on (omega arith) | inr off ↦ rw off (omega arith) ]
+use Rattle.laws_progress.proofs.States.{Era, State, Watched, actives_of, in_era, seen_at, sight}
+use Rattle.laws_progress.proofs.Service.{number_on, IsWithin, is_on}
 
 -- ---- what was sent was asked for
 
-or_true : (a : Bool) → (cond a true true) ≡ true
+or_true : (a : Bool) → (a || true) ≡ true
 or_true true = refl
 or_true false = refl
 
@@ -92,16 +78,27 @@ silent flow (events.CraftStatus a b c f g h) r off = refl
 silent flow (events.Start a) r off = refl
 silent flow (events.Stop a) r off = refl
 
-asked_in : (flow : Flow) (es : List Event) (js : List Entry) → 1 ≤ length (sent es js flow.src flow.dst) → list_any (is_send flow) es ≡ true
-asked_in flow [] js some = absurd (omega (arith, some))
-asked_in flow (e ∷ es) [] some = absurd (omega (arith, some))
-asked_in flow (e ∷ es) (j ∷ js) some = elim (cases_Bool (is_send flow e)) [
-  | inl t ↦ rw t refl
-  | inr t ↦ rw t (asked_in flow es js (rest e j.reply t some))
-]
-  where
-    rest : (e : Event) (r : Reply) → is_send flow e ≡ false → 1 ≤ length (accepted_in flow.src flow.dst e r ++ sent es js flow.src flow.dst) → 1 ≤ length (sent es js flow.src flow.dst)
-    rest e r off some = rw (silent flow e r off) at some
+none_told : (s d : NodeId) (a b : ℕ) (mover : Option NodeState) (ms : List Message) → ms ≡ [] → told_under s a d b ms mover ≡ []
+none_told s d a b None ms none = refl
+none_told s d a b (Some n) ms none = ap (λ (zs : List Message). told_under s a d b zs (Some n)) none ∙ elim (cases_Bool (holds n s a d b)) [ inl t ↦ rw t refl | inr t ↦ rw t refl ]
+
+-- under whatever boots
+asked_under : (arts : Arts) (x : Setting) (es : List Event) (js : List Entry) (w : World) (run : Clean arts x es js w) (flow : Flow) (a b : ℕ)
+    → 1 ≤ length (sent_under (past arts x es js w run) flow.src a flow.dst b) → list_any (is_send flow) es ≡ true
+asked_under arts x es js w Starts flow a b some = absurd (omega (arith, some))
+asked_under arts x es js w (Turned {es = es'} {js = js'} {old = old} {e = e} {j = j} run range turn unforged) flow a b some =
+    list_any-append (is_send flow) es' (e ∷ []) ∙ elim (cases_Bool (is_send flow e)) [
+      | inl t ↦ rw t (or_true (list_any (is_send flow) es'))
+      | inr t ↦
+          let before = past arts x es' js' old run in
+          let h : Happened = record { event = e; entry = j; mover = mover_in arts x old e j w turn } in
+          let none : told_under flow.src a flow.dst b (accepted_in flow.src flow.dst e j.reply) (mover_in arts x old e j w turn) ≡ [] =
+          none_told flow.src flow.dst a b (mover_in arts x old e j w turn) (accepted_in flow.src flow.dst e j.reply) (silent flow e j.reply t) in
+          let more : sent_under (before ++ h ∷ []) flow.src a flow.dst b ≡ sent_under before flow.src a flow.dst b =
+          past_more (λ q. told_under flow.src a flow.dst b (accepted_in flow.src flow.dst q.event q.entry.reply) q.mover) before h
+          ∙ ap (λ ms. sent_under before flow.src a flow.dst b ++ ms) none ∙ append-nil _ in
+          rw (asked_under arts x es' js' old run flow a b (subst (λ (ms : List Message). 1 ≤ length ms) more some)) refl
+    ]
 
 -- ---- no flow has two equal ends
 
@@ -132,47 +129,97 @@ apart_at (g ∷ fs) (suc i) f apart at = apart_at fs i f apart.1 at
 -- ---- the bound
 
 -- a client sent to each active flow between correct nodes
-pub asked_at : (arts : Arts) (x : Setting) (es : List Event) (js : List Entry) (w : World) → StaysUp arts x → Carries x.topology.format arts
+pub asked_at : (arts : Arts) (x : Setting) (es : List Event) (js : List Entry) (w : World) → SettingFits arts x → Carries x.topology.format arts
     → Clean arts x es js w → (u : NodeId) (n : NodeState)
     → node_in w.nodes u ≡ Some n → (i : ℕ) (f : FlowState) → slice_get n.parts.rel.flows i ≡ Some f → f.active ≡ true → has_correct_ends x (ends f) ≡ true
     → list_any (is_send (ends f)) es ≡ true
 asked_at arts x es js w fits reads run u n at i f there on correct =
-    let is = (signs arts x es js w fits.fits reads run).nodes u n at in
+    let is = (signs arts x es js w fits reads run).nodes u n at in
     let rel = is.holds.parts.rel in
     let flows = n.parts.rel.flows in
     let apart = subst AreApart (sym rel.keys) (apart_all (nodes_of x.topology) (nodes_of x.topology)) in
     let c = both _ _ correct in
-    let claims = flows_are_kept arts x es js w fits reads run f.src f.dst (both _ _ c.0).0 c.1 (apart_at flows i f apart there) in
+    let claims = flows_are_kept_over_lives arts x es js w fits reads run f.src f.dst (both _ _ c.0).0 c.1 (apart_at flows i f apart there) in
     let busy = (all_get (FlowHolds (sizes_at x (Good arts x es js) u) n.signer.index) flows i f rel.flows there).busy on in
     let have = claims.have c.0 u n at in
     let same = ap (λ (g : FlowState). g.at.have) (found flows i f rel.once there) in
-    asked_in (ends f) es js (omega (arith, busy, have, same))
+    asked_under arts x es js w run (ends f) (held_boot n.parts.lives f.src) (held_boot n.parts.lives f.dst) (omega (arith, busy, have, same))
 
-pub few_at : (arts : Arts) (x : Setting) (all : List Event) → StaysUp arts x → Carries x.topology.format arts
+-- a flow that may wait for its turn, by all events of the run
+abbrev pub may_wait : Setting → List Event → Flow → Bool
+may_wait x all flow = (has_correct_ends x flow && list_any (is_send flow) all) || not (has_correct_ends x flow)
+
+-- each that is active may
+pub waits_at : (arts : Arts) (x : Setting) (all : List Event) → SettingFits arts x → Carries x.topology.format arts → (w : State arts x all) (u : NodeId) (n : NodeState)
+    → node_in w.world.nodes u ≡ Some n → (i : ℕ) (f : FlowState) → slice_get n.parts.rel.flows i ≡ Some f → f.active ≡ true → may_wait x all (ends f) ≡ true
+waits_at arts x all fits reads w u n at i f there on = elim (cases_Bool (has_correct_ends x (ends f))) [
+  | inl t ↦
+      let asked = asked_at arts x w.events w.journal w.world fits reads w.run u n at i f there on t in
+      let asked_all : list_any (is_send (ends f)) all ≡ true = ap (λ es. list_any (is_send (ends f)) es) w.whole ∙ list_any-append (is_send (ends f)) w.events w.rest ∙ rw asked refl in
+      rw (t, asked_all) refl
+  | inr t ↦ rw t refl
+]
+
+-- the places of all flows that may wait
+abbrev pub waiting : Setting → List Event → List Bool
+waiting x all = map (may_wait x all) (pairs_of (nodes_of x.topology))
+
+pub rows_within : (arts : Arts) (x : Setting) (all : List Event) → SettingFits arts x → Carries x.topology.format arts → (w : State arts x all) (u : NodeId) (n : NodeState)
+    → node_in w.world.nodes u ≡ Some n → IsWithin (map (λ f. f.active) n.parts.rel.flows) (waiting x all)
+rows_within arts x all fits reads w u n at place on =
+    let rel = rel_of arts x w.events w.journal w.world fits reads w.run u n at in
+    let f = there_on n.parts.rel.flows place on in
+    let key : slice_get (pairs_of (nodes_of x.topology)) place ≡ Some (ends f.0) = ap (λ ks. slice_get ks place) (sym rel.keys) ∙ get_map n.parts.rel.flows place f.0 f.1 in
+    on_at (may_wait x all) (pairs_of (nodes_of x.topology)) place (ends f.0) key ∙ waits_at arts x all fits reads w u n at place f.0 f.1 f.2
+
+count_two : (p q : Flow → Bool) (fs : List Flow) → number_on (map (λ f. p f || q f) fs) ≤ length (filter p fs) + length (filter q fs)
+count_two p q [] = omega arith
+count_two p q (f ∷ fs) =
+    let rest = count_two p q fs in
+    elim (cases_Bool (p f)) [
+      | inl t ↦ elim (cases_Bool (q f)) [ inl z ↦ rw (t, z) (omega (arith, rest)) | inr z ↦ rw (t, z) (omega (arith, rest)) ]
+      | inr t ↦ elim (cases_Bool (q f)) [ inl z ↦ rw (t, z) (omega (arith, rest)) | inr z ↦ rw (t, z) (omega (arith, rest)) ]
+    ]
+
+-- they are as many as are counted
+pub few_wait : (x : Setting) (all : List Event) → number_on (waiting x all) ≤ flow_count x all
+few_wait x all =
+    let p : Flow → Bool = λ flow. has_correct_ends x flow && list_any (is_send flow) all in
+    let q : Flow → Bool = λ flow. not (has_correct_ends x flow) in
+    let bound = count_two p q (pairs_of (nodes_of x.topology)) in
+    omega (arith, bound, length-filter p (pairs_of (nodes_of x.topology)), length-filter q (pairs_of (nodes_of x.topology)))
+
+pub within : (arts : Arts) (x : Setting) (all : List Event) (era : Era) (flow : Flow) → SettingFits arts x → Carries x.topology.format arts
+    → (w : Watched arts x all era) (u : NodeId) → IsWithin ((sight arts x all era flow).actives w u) (waiting x all)
+within arts x all era flow fits reads w u = go (node_in w.at.world.nodes u) refl
+  where
+    go : (o : Option NodeState) → node_in w.at.world.nodes u ≡ o → IsWithin (seen_at [] (actives_of era flow u) o) (waiting x all)
+    go None e place on = absurd (let f : false ≡ true = on in cc)
+    go (Some n) e place on = elim (cases_Bool (in_era era flow u n)) [
+      | inl t ↦ rows_within arts x all fits reads w.at u n e place (rw t at on)
+      | inr t ↦ absurd (let f : is_on [] place ≡ true = rw t at on in let g : false ≡ true = f in cc)
+    ]
+
+-- so at each node no more are active. A place that is on in the first list is on in the second
+number_within : (xs ys : List Bool) → IsWithin xs ys → number_on xs ≤ number_on ys
+number_within [] ys in_them = omega arith
+number_within (a ∷ xs) [] in_them =
+    let rest = number_within xs [] (λ p on. absurd (let f : false ≡ true = in_them (suc p) on in cc)) in
+    elim (cases_Bool a) [
+      | inl t ↦ absurd (let f : false ≡ true = in_them 0 t in cc)
+      | inr t ↦ rw t (omega (arith, rest))
+    ]
+number_within (a ∷ xs) (b ∷ ys) in_them =
+    let rest = number_within xs ys (λ p on. in_them (suc p) on) in
+    elim (cases_Bool a) [
+      | inl t ↦ let on : b ≡ true = in_them 0 t in rw (t, on) (omega (arith, rest))
+      | inr t ↦ rw t (omega (arith, rest))
+    ]
+
+pub few_at : (arts : Arts) (x : Setting) (all : List Event) → SettingFits arts x → Carries x.topology.format arts
     → (w : State arts x all) (u : NodeId) (n : NodeState) → node_in w.world.nodes u ≡ Some n
     → number_on (map (λ f. f.active) n.parts.rel.flows) ≤ flow_count x all
 few_at arts x all fits reads w u n at =
-    let rel = ((signs arts x w.events w.journal w.world fits.fits reads w.run).nodes u n at).holds.parts.rel in
-    let flows = n.parts.rel.flows in
-    let p : Flow → Bool = λ flow. has_correct_ends x flow && list_any (is_send flow) all in
-    let q : Flow → Bool = λ flow. not (has_correct_ends x flow) in
-    let count = count_rows p q flows (λ i f there on. elim (cases_Bool (has_correct_ends x (ends f))) [
-      | inl t ↦
-          let asked = asked_at arts x w.events w.journal w.world fits reads w.run u n at i f there on t in
-          let asked_all : list_any (is_send (ends f)) all ≡ true = ap (λ es. list_any (is_send (ends f)) es) w.whole ∙ list_any-append (is_send (ends f)) w.events w.rest ∙ rw asked refl in
-          inl (rw (t, asked_all) refl)
-      | inr t ↦ inr (rw t refl)
-    ]) in
-    let keys : map ends flows ≡ pairs_of (nodes_of x.topology) = rel.keys in
-    let bound : number_on (map (λ f. f.active) flows) ≤ length (filter p (pairs_of (nodes_of x.topology))) + length (filter q (pairs_of (nodes_of x.topology))) =
-    subst (λ fs. number_on (map (λ f. f.active) flows) ≤ length (filter p fs) + length (filter q fs)) keys count in
-    omega (arith, bound, length-filter p (pairs_of (nodes_of x.topology)), length-filter q (pairs_of (nodes_of x.topology)))
-
-pub few : (arts : Arts) (x : Setting) (all : List Event) (flow : Flow) → StaysUp arts x → Carries x.topology.format arts
-    → (w : State arts x all) (u : NodeId)
-    → number_on ((sight arts x all flow).actives w u) ≤ flow_count x all
-few arts x all flow fits reads w u = go (node_in w.world.nodes u) refl
-  where
-    go : (o : Option NodeState) → node_in w.world.nodes u ≡ o → number_on (seen_at [] (λ n. map (λ f. f.active) n.parts.rel.flows) o) ≤ flow_count x all
-    go None e = omega arith
-    go (Some n) e = few_at arts x all fits reads w u n e
+    let less = number_within _ (waiting x all) (rows_within arts x all fits reads w u n at) in
+    let few = few_wait x all in
+    omega (arith, less, few)

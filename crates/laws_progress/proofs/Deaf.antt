@@ -1,5 +1,9 @@
 -- The view of a neighbour stays where nothing comes from it.
-use Rattle.std.proofs.Common.{◌≡◌, ℕ, true, false, List, [], ◌∷◌, Option, Some, None, refl, sym, ap, subst, ◌∙◌, inl, inr}
+use Rattle.laws_progress.proofs.Slots.{one_same}
+use Rattle.laws_runs.proofs.NoStarts.{NoStart, pieces_at}
+use Rattle.sp_rules.specs.declared.node.NodeRefused.{NodeRefused}
+use Rattle.laws_runs.proofs.StartPieces.{StartLast, same_lives, greeted_lives, last_where}
+use Rattle.std.proofs.Common.{◌≡◌, ℕ, true, false, List, [], ◌∷◌, Option, Some, None, refl, sym, ap, subst, ◌∙◌, inl, inr, Bool}
 use Rattle.sp_base.specs.declared.id.Flow.{Flow}
 use Rattle.sp_base.specs.declared.id.NodeId.{NodeId}
 use Rattle.sp_msg.specs.declared.body.Ack.{Ack}
@@ -8,13 +12,13 @@ use Rattle.sp_msg.specs.declared.kept.Kept.{Kept}
 use Rattle.sp_msg.specs.declared.refused.SendRefused.{SendRefused}
 use Rattle.sp_rules.specs.Answers.{ack_answer, is_new, prio_answer, rel_answer, weight_answer}
 use Rattle.sp_rules.specs.Arts.{Arts}
-use Rattle.sp_rules.specs.Arrivals.{arrival_at, parts_met}
+use Rattle.sp_rules.specs.Arrivals.{handled, reply_at, arrival_at, parts_met, greeted, link_after, handled, has_risen, reply_at, sections_in}
 use Rattle.sp_rules.specs.Handle.{Arrival, handle, handle_all, offer_to, prio_handled}
-use Rattle.sp_rules.specs.Lives.{are_held, is_dated}
-use Rattle.sp_rules.specs.Node.{NodeState, call_refusal, kept_or, signed_now}
+use Rattle.sp_rules.specs.Lives.{are_held, is_dated, held_boot}
+use Rattle.sp_rules.specs.Node.{NodeState, call_refusal, kept_or, signed_now, called, with_link, link_in}
 use Rattle.sp_rules.specs.Parts.{Parts, is_signed}
 use Rattle.sp_rules.specs.Pieces.{Piece, AckPiece, PrioAckPiece, PrioPiece, RelPiece, ReportPiece, WeightPiece, EpochPiece}
-use Rattle.sp_rules.specs.Rel.{RelState, admit_ack, admit_rel, due_place, flow_in, judge_ack_of, judge_rel_of, next_place, peer_in, reported, served, served_at, settled, settled_at, told, with_peer}
+use Rattle.sp_rules.specs.Rel.{RelState, admit_ack, admit_rel, due_place, flow_in, judge_ack_of, judge_rel_of, next_place, peer_in, reported, served, served_at, settled, settled_at, told, with_peer, no_views}
 use Rattle.sp_rules.specs.Sends.{rel_refusal, send_prio_refusal, signer_refusal, weight_refusal}
 use Rattle.sp_rules.specs.Steps.{Input, NodeStep, Output, Poll, Datagram, Tick, SendRel, SendPrio, SetWeight, TakeRel, TakePrio}
 use Rattle.sp_rules.specs.Ticks.{at_time, due_now, settled_by}
@@ -28,7 +32,6 @@ use Rattle.sp_base.specs.Rows.{replace_where}
 use Rattle.sp_rules.specs.Rel.{RelPeer, View, view_in, is_peer, new_peer}
 use Rattle.std.specs.List.{list_any}
 use Rattle.std.proofs.lemmas.Bool.{cases_eq, eqb-true, eq-eqb, ne_eqb}
-use Rattle.laws_runs.proofs.NoStarts.{NoStart, NoStarts, met_as_it_was, no_starts_at, pieces_at}
 use Rattle.laws_runs.proofs.FlowFacts.{first_replaced, other_replaced}
 use Rattle.laws_runs.proofs.Tables.{same_node}
 use Rattle.laws_progress.proofs.Keys.{peer_is}
@@ -97,10 +100,39 @@ piece_view u flow w0 arts at p (AckPiece fl o) none away h = cond_either (λ (q 
 piece_view u flow w0 arts at p (RelPiece fl o) none away h = cond_either (λ (q : Parts). ViewIs u flow w0 q.rel) (is_new (items.Rel (rel_answer (is_signed arts at.fixed o) (is_dated p.lives o.body) (judge_rel_of p.rel fl o.body)))) (record p { rel = admit_rel p.rel o }) p h h
 piece_view u flow w0 arts at p (EpochPiece o) none away h = absurd none
 
-pub pieces_view : (u : NodeId) (flow : Flow) (w0 : View) (arts : Arts) (at : Arrival) (p : Parts) (pieces : List Piece) → NoStarts pieces → (at.from ≡ u → ⊥) → ViewIs u flow w0 p.rel → ViewIs u flow w0 (handle_all arts at p pieces).parts.rel
-pieces_view u flow w0 arts at p [] none away h = h
-pieces_view u flow w0 arts at p (piece ∷ pieces) none away h =
-    pieces_view u flow w0 arts at (handle arts at p piece).parts pieces none.1 away (piece_view u flow w0 arts at p piece none.0 away h)
+-- where the boots of the flow's ends stay
+pub pieces_view : (u : NodeId) (flow : Flow) (w0 : View) (arts : Arts) (at : Arrival) (p : Parts) (pieces : List Piece) → StartLast pieces → (at.from ≡ u → ⊥)
+    → held_boot (handle_all arts at p pieces).parts.lives flow.src ≡ held_boot p.lives flow.src
+    → held_boot (handle_all arts at p pieces).parts.lives flow.dst ≡ held_boot p.lives flow.dst
+    → ViewIs u flow w0 p.rel → ViewIs u flow w0 (handle_all arts at p pieces).parts.rel
+pieces_view u flow w0 arts at p [] last away src dst h = h
+pieces_view u flow w0 arts at p (piece ∷ pieces) (inl plain) away src dst h =
+    let first = (handle arts at p piece).parts in
+    let same = same_lives arts at p piece plain.0 in
+    pieces_view u flow w0 arts at first pieces plain.1 away (src ∙ ap (λ ls. held_boot ls flow.src) (sym same)) (dst ∙ ap (λ ls. held_boot ls flow.dst) (sym same))
+    (piece_view u flow w0 arts at p piece plain.0 away h)
+pieces_view u flow w0 arts at p (piece ∷ pieces) (inr none) away src dst h =
+    let lone : held_boot (handle arts at p piece).parts.lives flow.src ≡ held_boot p.lives flow.src =
+    ap (λ ps. held_boot (handle_all arts at (handle arts at p piece).parts ps).parts.lives flow.src) (sym none) ∙ src in
+    let twin : held_boot (handle arts at p piece).parts.lives flow.dst ≡ held_boot p.lives flow.dst =
+    ap (λ ps. held_boot (handle_all arts at (handle arts at p piece).parts ps).parts.lives flow.dst) (sym none) ∙ dst in
+    subst (λ ps. ViewIs u flow w0 (handle_all arts at (handle arts at p piece).parts ps).parts.rel) (sym none) (one_view piece lone twin)
+  where
+    one_view : (q : Piece) → held_boot (handle arts at p q).parts.lives flow.src ≡ held_boot p.lives flow.src
+        → held_boot (handle arts at p q).parts.lives flow.dst ≡ held_boot p.lives flow.dst → ViewIs u flow w0 (handle arts at p q).parts.rel
+    one_view (EpochPiece o) src dst = (one_same arts at p o flow src dst).views u ∙ h
+    one_view (WeightPiece o) src dst = piece_view u flow w0 arts at p (WeightPiece o) tt away h
+    one_view (PrioAckPiece number) src dst = piece_view u flow w0 arts at p (PrioAckPiece number) tt away h
+    one_view (PrioPiece number o) src dst = piece_view u flow w0 arts at p (PrioPiece number o) tt away h
+    one_view (ReportPiece fl sboot dboot base have) src dst = piece_view u flow w0 arts at p (ReportPiece fl sboot dboot base have) tt away h
+    one_view (AckPiece fl o) src dst = piece_view u flow w0 arts at p (AckPiece fl o) tt away h
+    one_view (RelPiece fl o) src dst = piece_view u flow w0 arts at p (RelPiece fl o) tt away h
+
+-- another neighbour's new life leaves it
+greeted_view : (u : NodeId) (flow : Flow) (w0 : View) (epochs risen : Bool) (v : NodeId) (p : Parts) → (v ≡ u → ⊥) → ViewIs u flow w0 p.rel → ViewIs u flow w0 (greeted epochs risen v p).rel
+greeted_view u flow w0 true true v p away h = ap (λ (q : RelPeer). view_in q.views flow) (other_peer u v (no_views (peer_in p.rel.peers v)) p.rel.peers (peer_is p.rel v) away) ∙ h
+greeted_view u flow w0 true false v p away h = h
+greeted_view u flow w0 false risen v p away h = h
 
 -- ---- steps
 
@@ -108,21 +140,34 @@ kept_view : {X : Type 0} (u : NodeId) (flow : Flow) (w0 : View) (r : Option X) (
 kept_view u flow w0 None n m old new = new
 kept_view u flow w0 (Some x) n m old new = old
 
-pub step_view : (u : NodeId) (flow : Flow) (w0 : View) (arts : Arts) (n : NodeState) (input : Input) (output : Output) (new : NodeState) → NodeStep arts n input output new → n.fixed.epochs ≡ false
+pub step_view : (u : NodeId) (flow : Flow) (w0 : View) (arts : Arts) (n : NodeState) (input : Input) (output : Output) (new : NodeState) → NodeStep arts n input output new
+    → held_boot new.parts.lives flow.src ≡ held_boot n.parts.lives flow.src → held_boot new.parts.lives flow.dst ≡ held_boot n.parts.lives flow.dst
     → list_any (is_peer u) n.parts.rel.peers ≡ true → NoHear u input → ViewIs u flow w0 n.parts.rel → ViewIs u flow w0 new.parts.rel
-step_view u flow w0 arts n (Poll v) output new s plain there quiet h = subst (λ (m : NodeState). ViewIs u flow w0 m.parts.rel) (sym s.1) (kept_view u flow w0 (call_refusal n v) n _ h (served_view u flow w0 n.parts.rel v there h))
-step_view u flow w0 arts n (Datagram v bytes) output new s plain there quiet h =
-    subst (λ (m : NodeState). ViewIs u flow w0 m.parts.rel) (sym s.1) (kept_view u flow w0 (call_refusal n v) n _ h
-    (pieces_view u flow w0 arts (arrival_at n v) (parts_met arts n v bytes) (pieces_at arts n v bytes) (no_starts_at arts n v bytes plain) quiet
-    (subst (λ (p : Parts). ViewIs u flow w0 p.rel) (sym (met_as_it_was arts n v bytes plain)) h)))
-step_view u flow w0 arts n (Tick now) output new s plain there quiet h = subst (λ (m : NodeState). ViewIs u flow w0 m.parts.rel) (sym s.1) (go (due_now n) refl (signer_refusal n.signer))
+step_view u flow w0 arts n (Poll v) output new s at_src at_dst there quiet h = subst (λ (m : NodeState). ViewIs u flow w0 m.parts.rel) (sym s.1) (kept_view u flow w0 (call_refusal n v) n _ h (served_view u flow w0 n.parts.rel v there h))
+step_view u flow w0 arts n (Datagram v bytes) output new s at_src at_dst there quiet h =
+    subst (λ (m : NodeState). ViewIs u flow w0 m.parts.rel) (sym s.1)
+    (go (call_refusal n v) (ap (λ (m : NodeState). held_boot m.parts.lives flow.src) (sym s.1) ∙ at_src) (ap (λ (m : NodeState). held_boot m.parts.lives flow.dst) (sym s.1) ∙ at_dst))
+  where
+    go : (r : Option NodeRefused)
+        → held_boot (kept_or r n (called n (with_link n v (link_after arts n v bytes)) (handled arts n v bytes).parts)).parts.lives flow.src ≡ held_boot n.parts.lives flow.src
+        → held_boot (kept_or r n (called n (with_link n v (link_after arts n v bytes)) (handled arts n v bytes).parts)).parts.lives flow.dst ≡ held_boot n.parts.lives flow.dst
+        → ViewIs u flow w0 (kept_or r n (called n (with_link n v (link_after arts n v bytes)) (handled arts n v bytes).parts)).parts.rel
+    go (Some refused) src dst = h
+    go None src dst =
+        let risen = has_risen (link_in n v) (link_after arts n v bytes) in
+        let lives = greeted_lives n.fixed.epochs risen v n.parts in
+        pieces_view u flow w0 arts (arrival_at n v) (parts_met arts n v bytes) (pieces_at arts n v bytes)
+        (last_where (reply_at arts n v bytes) n.fixed (sections_in arts n.fixed bytes)) quiet
+        (src ∙ ap (λ ls. held_boot ls flow.src) (sym lives)) (dst ∙ ap (λ ls. held_boot ls flow.dst) (sym lives))
+        (greeted_view u flow w0 n.fixed.epochs risen v n.parts quiet h)
+step_view u flow w0 arts n (Tick now) output new s at_src at_dst there quiet h = subst (λ (m : NodeState). ViewIs u flow w0 m.parts.rel) (sym s.1) (go (due_now n) refl (signer_refusal n.signer))
   where
     go : (o : Option Ack) → due_now n ≡ o → (r : Option SendRefused) → ViewIs u flow w0 (settled_by arts (at_time n now) o r).parts.rel
     go None e r = h
     go (Some ack) e (Some refusal) = h
     go (Some ack) e None = settled_view u flow w0 n.parts.rel (signed_now arts (at_time n now) (bodies.Ack ack)) h
-step_view u flow w0 arts n (SendRel dst payload) output new s plain there quiet h = subst (λ (m : NodeState). ViewIs u flow w0 m.parts.rel) (sym s.1) (kept_view u flow w0 (rel_refusal n dst) n _ h h)
-step_view u flow w0 arts n (SendPrio m) output new s plain there quiet h = subst (λ (m : NodeState). ViewIs u flow w0 m.parts.rel) (sym s.new_is) (kept_view u flow w0 (send_prio_refusal n m s.choice) n _ h h)
-step_view u flow w0 arts n (SetWeight v weight) output new s plain there quiet h = subst (λ (m : NodeState). ViewIs u flow w0 m.parts.rel) (sym s.1) (kept_view u flow w0 (weight_refusal n v weight) n _ h h)
-step_view u flow w0 arts n (TakeRel src) output new s plain there quiet h = subst (λ (m : NodeState). ViewIs u flow w0 m.parts.rel) (sym s.1) h
-step_view u flow w0 arts n TakePrio output new s plain there quiet h = subst (λ (m : NodeState). ViewIs u flow w0 m.parts.rel) (sym s.1) h
+step_view u flow w0 arts n (SendRel dst payload) output new s at_src at_dst there quiet h = subst (λ (m : NodeState). ViewIs u flow w0 m.parts.rel) (sym s.1) (kept_view u flow w0 (rel_refusal n dst) n _ h h)
+step_view u flow w0 arts n (SendPrio m) output new s at_src at_dst there quiet h = subst (λ (m : NodeState). ViewIs u flow w0 m.parts.rel) (sym s.new_is) (kept_view u flow w0 (send_prio_refusal n m s.choice) n _ h h)
+step_view u flow w0 arts n (SetWeight v weight) output new s at_src at_dst there quiet h = subst (λ (m : NodeState). ViewIs u flow w0 m.parts.rel) (sym s.1) (kept_view u flow w0 (weight_refusal n v weight) n _ h h)
+step_view u flow w0 arts n (TakeRel src) output new s at_src at_dst there quiet h = subst (λ (m : NodeState). ViewIs u flow w0 m.parts.rel) (sym s.1) h
+step_view u flow w0 arts n TakePrio output new s at_src at_dst there quiet h = subst (λ (m : NodeState). ViewIs u flow w0 m.parts.rel) (sym s.1) h

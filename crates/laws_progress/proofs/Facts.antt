@@ -56,7 +56,7 @@ pub record Facts (W : Type 0) (Next : W → Event → W → Type 0) (Hop : NodeI
   pub view_base_rises : (w x : W) (e : Event) (u v : NodeId) → Hop u v → Next w e x → at.view_base w u v ≤ at.view_base x u v
   pub view_have_rises : (w x : W) (e : Event) (u v : NodeId) → Hop u v → Next w e x → at.view_have w u v ≤ at.view_have x u v
   pub known : (w x : W) (e : Event) (u v : NodeId) → Hop u v → Next w e x → at.knows w u v ≡ true → at.knows x u v ≡ true
-  pub actives_rise : (w x : W) (e : Event) (u : NodeId) → Next w e x → IsWithin (at.actives w u) (at.actives x u)
+  pub stays_active : (w x : W) (e : Event) (u : NodeId) → Next w e x → is_on (at.actives w u) place ≡ true → is_on (at.actives x u) place ≡ true
   pub one_polled : (w x : W) (e : Event) (u v : NodeId) → Hop u v → Next w e x → is_poll u v e ≡ true → at.polled x u v ≡ at.polled w u v + 1
   pub none_polled : (w x : W) (e : Event) (u v : NodeId) → Hop u v → Next w e x → is_poll u v e ≡ false → at.polled x u v ≡ at.polled w u v
   pub serves : (w x : W) (e : Event) (u v : NodeId) (p : ℕ) → Hop u v → Next w e x → is_poll u v e ≡ true → next_after (at.last w u v) (at.actives w u) ≡ Some p → at.last x u v ≡ Some p
@@ -66,7 +66,10 @@ pub record Facts (W : Type 0) (Next : W → Event → W → Type 0) (Hop : NodeI
   -- ---- of one state
   pub sound : (w : W) (u : NodeId) → at.base w u ≤ at.have w u
   pub is_active : (w : W) (u : NodeId) → 0 < at.have w u → is_on (at.actives w u) place ≡ true
-  pub few : (w : W) (u v : NodeId) → Hop u v → number_on (at.actives w u) ≤ least
+  -- all flows that are ever active at a node are among so few
+  pub among : List Bool
+  pub within : (w : W) (u : NodeId) → IsWithin (at.actives w u) among
+  pub few : number_on among ≤ least
   -- ---- of a frame that is passed before the next is made
   pub heard : (w x y z : W) (e p : Event) (es : List Event) (u v : NodeId) → Hop u v → Next w e x → is_poll u v e ≡ true
       → Goes W Next x es y → AreNoPolls u v es → Next y p z → is_pass u v (at.polled x u v) p ≡ true → IsHeard W at place bound d w z u v

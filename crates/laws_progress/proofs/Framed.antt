@@ -21,15 +21,14 @@ use Rattle.laws_node.proofs.Frames.{contents_fit}
 use Rattle.laws_runs.specs.Signs.{Good, sizes_at}
 use Rattle.laws_runs.proofs.Goods.{all_of}
 use Rattle.laws_runs.proofs.Signed.{signs}
-use Rattle.laws_runs.proofs.There.{first_life}
-use Rattle.sp_runs.specs.Runs.{Clean, is_hop, polls}
-use Rattle.sp_runs.specs.Settings.{Setting, StaysUp}
+use Rattle.sp_runs.specs.Runs.{Clean, is_hop}
+use Rattle.sp_runs.specs.Settings.{Setting, SettingFits}
 use Rattle.sp_runs.specs.Worlds.{World, node_in}
 use Rattle.sp_journal.specs.declared.entry.Entry.{Entry}
 use Rattle.sp_schedule_events.specs.declared.event.Event.{Event}
 use Rattle.laws_runs.specs.Premises.{ComesThrough, HasGoodMessages}
 use Rattle.laws_progress.proofs.States.{IsHop}
-use Rattle.laws_progress.proofs.Heads.{HeadIs, head_range, made_head}
+use Rattle.laws_progress.proofs.Heads.{HeadIs, frame_head, head_range}
 use Rattle.laws_progress.proofs.Keys.{link_is}
 use Rattle.laws_progress.proofs.LinkKeys.{first_edge, keys_are, same_edge}
 use Rattle.laws_progress.proofs.LinkRuns.{links_at}
@@ -37,24 +36,23 @@ use Rattle.laws_progress.proofs.Origins.{Origin}
 use Rattle.laws_progress.proofs.Polls.{both_ways}
 use Rattle.laws_progress.proofs.Rows.{link_there, rows_are}
 
--- what is read of a frame of u for v
-pub record Framed (arts : Arts) (x : Setting) (u v : NodeId) (number : ℕ) (node : NodeState) (bytes : List ℕ) : Type 0 where
-  pub head : HeadIs u v number (arts.head bytes)
+-- what is read of a frame that this node, which is u, makes for v
+pub record Framed (arts : Arts) (x : Setting) (u v : NodeId) (node : NodeState) (bytes : List ℕ) : Type 0 where
+  pub head : HeadIs u v node.fixed.boot ((link_in node v).sent + 1) (arts.head bytes)
   pub topology : (arts.head bytes).topology ≡ x.topology.version
   pub echo : (arts.head bytes).echo ≡ (link_in node v).peer_boot
   pub sections : arts.sections x.signature_len bytes ≡ Ok (contents_to node.fixed node.parts v)
   pub opens : arts.opened bytes ≡ Ok bytes
   pub right : is_right arts (x.link_key (first_edge u v 0 x.topology.edges)) bytes ≡ true
 
-pub frame_at : (arts : Arts) (x : Setting) (es : List Event) (js : List Entry) (w : World) → StaysUp arts x
+pub frame_at : (arts : Arts) (x : Setting) (es : List Event) (js : List Entry) (w : World) → SettingFits arts x
     → ComesThrough x.topology.format arts x.signature_len → Clean arts x es js w
-    → (u v : NodeId) → is_hop x u v ≡ true → (n : NodeState) → node_in w.nodes u ≡ Some n → Framed arts x u v (polls es u v + 1) n (frame_to arts n v)
+    → (u v : NodeId) → is_hop x u v ≡ true → (n : NodeState) → node_in w.nodes u ≡ Some n → Framed arts x u v n (frame_to arts n v)
 frame_at arts x es js w fits reads run u v hop n at =
-    let is = (signs arts x es js w fits.fits reads.carries run).nodes u n at in
-    let fixed = first_life x (Good arts x es js) u n fits.plain is in
+    let is = (signs arts x es js w fits reads.carries run).nodes u n at in
+    let fixed = is.fixed in
     let rows = rows_are arts x es js w fits reads.carries run u n at in
     let range = head_range x (Good arts x es js) u n v is.holds (link_there x u v n rows hop) in
-    let link = links_at arts x es js w fits reads.carries run u v hop n at in
     let l = link_in n v in
     let version = n.fixed.topology.version in
     let h = next_head l version n.fixed.topology.format in
@@ -67,7 +65,7 @@ frame_at arts x es js w fits reads run u v hop n at =
     all_of (λ o. IsTrue (arts.is_good o.body)) (pieces_of s) (all_less (Good arts x es js) (λ o. IsTrue (arts.is_good o.body)) (λ o is_it. is_it.good) (pieces_of s) kept) in
     let read = reads.heads h s l.key range in
     record {
-      head = made_head arts n u v es reads.heads range link;
+      head = frame_head arts x es js w fits reads.carries reads.heads run u v hop n at;
       topology = ap (λ (g : Head). g.topology) read ∙ ap (λ (f : Fixed). f.topology.version) fixed;
       echo = ap (λ (g : Head). g.echo) read;
       sections = reads.carries.back x.signature_len h s l.key format few goods;
@@ -75,49 +73,48 @@ frame_at arts x es js w fits reads run u v hop n at =
       right = subst (λ k. is_right arts k (frame_to arts n v) ≡ true) (keys_are arts x es js w fits reads.carries run u v hop n at) (reads.tags_are_right h s l.key);
     }
 
-pub framed : (arts : Arts) (x : Setting) → StaysUp arts x → ComesThrough x.topology.format arts x.signature_len → (u v : NodeId) (number : ℕ)
-    → is_hop x u v ≡ true → (bytes : List ℕ) → (o : Origin arts x u v number bytes) → Framed arts x u v number o.node bytes
+pub framed : (arts : Arts) (x : Setting) → SettingFits arts x → ComesThrough x.topology.format arts x.signature_len → (u v : NodeId) (number : ℕ)
+    → is_hop x u v ≡ true → (bytes : List ℕ) → (o : Origin arts x u v number bytes) → Framed arts x u v o.node bytes
 framed arts x fits reads u v number hop bytes o =
-    subst (λ k. Framed arts x u v k o.node bytes) o.number_is
-    (subst (Framed arts x u v (polls o.events u v + 1) o.node) (sym o.is) (frame_at arts x o.events o.journal o.world fits reads o.run u v hop o.node o.there))
+    subst (Framed arts x u v o.node) (sym o.is) (frame_at arts x o.events o.journal o.world fits reads o.run u v hop o.node o.there)
 
 -- ---- what becomes of it at the link of v
 
-data Answers (l : Link) (h : Head) (right : Bool) (number : ℕ) : Type 0 where
-  Learn : (h.echo == 1) ≡ false → link_answer l h right ≡ answers.Learned (max l.peer_boot 1) → Answers l h right number
-  Late : (h.echo == 1) ≡ true → is_above (1, number) l.seen ≡ false → link_answer l h right ≡ answers.Stale l.seen.0 l.seen.1 → Answers l h right number
-  Take : (h.echo == 1) ≡ true → is_above (1, number) l.seen ≡ true → link_answer l h right ≡ answers.Fresh → Answers l h right number
+data Answers (l : Link) (h : Head) (right : Bool) (mine : ℕ) : Type 0 where
+  Learn : (h.echo == mine) ≡ false → link_answer l h right ≡ answers.Learned (max l.peer_boot h.boot) → Answers l h right mine
+  Late : (h.echo == mine) ≡ true → is_above (pair_of h) l.seen ≡ false → link_answer l h right ≡ answers.Stale l.seen.0 l.seen.1 → Answers l h right mine
+  Take : (h.echo == mine) ≡ true → is_above (pair_of h) l.seen ≡ true → link_answer l h right ≡ answers.Fresh → Answers l h right mine
 
-answers_for : (l : Link) (h : Head) (right : Bool) (u v : NodeId) (number : ℕ) → HeadIs u v number h → l.peer ≡ u → l.me ≡ v → l.boot ≡ 1 → right ≡ true → Answers l h right number
-answers_for l h right u v number is peer me boot r =
-    let from : (h.from.0 == l.peer.0) ≡ true = eq-eqb _ _ (ap (λ (n : NodeId). n.0) (is.from ∙ sym peer)) in
-    let to : (h.to.0 == l.me.0) ≡ true = eq-eqb _ _ (ap (λ (n : NodeId). n.0) (is.to ∙ sym me)) in
-    let echo : (h.echo == l.boot) ≡ (h.echo == 1) = ap (λ b. h.echo == b) boot in
-    let pair : is_above (pair_of h) l.seen ≡ is_above (1, number) l.seen = ap (λ b. is_above (b, h.counter) l.seen) is.boot ∙ ap (λ c. is_above (1, c) l.seen) is.counter in
-    elim (cases_Bool (h.echo == 1)) [
-      | inr off ↦ let no : (h.echo == l.boot) ≡ false = echo ∙ off in Learn off (rw (from, to, r, no) (ap (λ b. answers.Learned (max l.peer_boot b)) is.boot))
+answers_for : (l : Link) (h : Head) (right : Bool) (u v : NodeId) (mine : ℕ) → h.from ≡ u → h.to ≡ v → l.peer ≡ u → l.me ≡ v → l.boot ≡ mine → right ≡ true → Answers l h right mine
+answers_for l h right u v mine sender end peer me boot r =
+    let from : (h.from.0 == l.peer.0) ≡ true = eq-eqb _ _ (ap (λ (n : NodeId). n.0) (sender ∙ sym peer)) in
+    let to : (h.to.0 == l.me.0) ≡ true = eq-eqb _ _ (ap (λ (n : NodeId). n.0) (end ∙ sym me)) in
+    let echo : (h.echo == l.boot) ≡ (h.echo == mine) = ap (λ b. h.echo == b) boot in
+    elim (cases_Bool (h.echo == mine)) [
+      | inr off ↦ let no : (h.echo == l.boot) ≡ false = echo ∙ off in Learn off (rw (from, to, r, no) refl)
       | inl on ↦
           let yes_ : (h.echo == l.boot) ≡ true = echo ∙ on in
-          elim (cases_Bool (is_above (1, number) l.seen)) [
-            | inl above ↦ let t : is_above (pair_of h) l.seen ≡ true = pair ∙ above in Take on above (rw (from, to, r, yes_, t) refl)
-            | inr below ↦ let t : is_above (pair_of h) l.seen ≡ false = pair ∙ below in Late on below (rw (from, to, r, yes_, t) refl)
+          elim (cases_Bool (is_above (pair_of h) l.seen)) [
+            | inl above ↦ Take on above (rw (from, to, r, yes_, above) refl)
+            | inr below ↦ Late on below (rw (from, to, r, yes_, below) refl)
           ]
     ]
 
-pub data Came (arts : Arts) (n : NodeState) (u : NodeId) (number : ℕ) (bytes : List ℕ) : Type 0 where
-  Learns : ((arts.head bytes).echo == 1) ≡ false → link_after arts n u bytes ≡ after_answer (link_in n u) (arts.head bytes) (answers.Learned (max (link_in n u).peer_boot 1))
-      → reply_at arts n u bytes ≡ replies.Learned (max (link_in n u).peer_boot 1) → Came arts n u number bytes
-  Too_late : ((arts.head bytes).echo == 1) ≡ true → is_above (1, number) (link_in n u).seen ≡ false → link_after arts n u bytes ≡ link_in n u
-      → reply_at arts n u bytes ≡ replies.Stale (link_in n u).seen.0 (link_in n u).seen.1 → Came arts n u number bytes
-  Taken : ((arts.head bytes).echo == 1) ≡ true → is_above (1, number) (link_in n u).seen ≡ true → link_after arts n u bytes ≡ after_answer (link_in n u) (arts.head bytes) answers.Fresh
-      → reply_at arts n u bytes ≡ replies.Fresh → Came arts n u number bytes
+pub data Came (arts : Arts) (n : NodeState) (u : NodeId) (bytes : List ℕ) : Type 0 where
+  Learns : ((arts.head bytes).echo == n.fixed.boot) ≡ false
+      → link_after arts n u bytes ≡ after_answer (link_in n u) (arts.head bytes) (answers.Learned (max (link_in n u).peer_boot (arts.head bytes).boot))
+      → reply_at arts n u bytes ≡ replies.Learned (max (link_in n u).peer_boot (arts.head bytes).boot) → Came arts n u bytes
+  Too_late : ((arts.head bytes).echo == n.fixed.boot) ≡ true → is_above (pair_of (arts.head bytes)) (link_in n u).seen ≡ false → link_after arts n u bytes ≡ link_in n u
+      → reply_at arts n u bytes ≡ replies.Stale (link_in n u).seen.0 (link_in n u).seen.1 → Came arts n u bytes
+  Taken : ((arts.head bytes).echo == n.fixed.boot) ≡ true → is_above (pair_of (arts.head bytes)) (link_in n u).seen ≡ true
+      → link_after arts n u bytes ≡ after_answer (link_in n u) (arts.head bytes) answers.Fresh → reply_at arts n u bytes ≡ replies.Fresh → Came arts n u bytes
 
-pub came : (arts : Arts) (x : Setting) (es : List Event) (js : List Entry) (w : World) → StaysUp arts x
+pub came : (arts : Arts) (x : Setting) (es : List Event) (js : List Entry) (w : World) → SettingFits arts x
     → ComesThrough x.topology.format arts x.signature_len → Clean arts x es js w
-    → (u v : NodeId) (number : ℕ) → IsHop x u v → (n : NodeState) → node_in w.nodes v ≡ Some n → (node : NodeState) (bytes : List ℕ) → Framed arts x u v number node bytes → Came arts n u number bytes
-came arts x es js w fits reads run u v number hop n at node bytes f =
-    let is = (signs arts x es js w fits.fits reads.carries run).nodes v n at in
-    let fixed = first_life x (Good arts x es js) v n fits.plain is in
+    → (u v : NodeId) → IsHop x u v → (n : NodeState) → node_in w.nodes v ≡ Some n → (node : NodeState) (bytes : List ℕ) → Framed arts x u v node bytes → Came arts n u bytes
+came arts x es js w fits reads run u v hop n at node bytes f =
+    let is = (signs arts x es js w fits reads.carries run).nodes v n at in
+    let fixed = is.fixed in
     let back = both_ways x u v hop in
     let link = links_at arts x es js w fits reads.carries run v u back.joined n at in
     let l = link_in n u in
@@ -131,7 +128,7 @@ came arts x es js w fits reads run u v number hop n at node bytes f =
     let sections : sections_in arts n.fixed bytes ≡ Ok (contents_to node.fixed node.parts v) = ap (λ (g : Fixed). sections_in arts g bytes) fixed ∙ f.sections in
     let fresh : not_read n.fixed.topology.version h.topology (sections_in arts n.fixed bytes) ≡ None = rw (topology, sections) refl in
     let said : reply_at arts n u bytes ≡ of_link (link_answer l h right) (not_read n.fixed.topology.version h.topology (sections_in arts n.fixed bytes)) = ap (of_frame arts n.fixed l bytes) f.opens in
-    elim (answers_for l h right u v number f.head (link_is n u) link.me link.boot r) [
+    elim (answers_for l h right u v n.fixed.boot f.head.from f.head.to (link_is n u) link.me link.boot_is r) [
       | Learn off a ↦ Learns off (left ∙ ap (after_answer l h) a) (said ∙ ap (λ z. of_link z (not_read n.fixed.topology.version h.topology (sections_in arts n.fixed bytes))) a)
       | Late on below a ↦ Too_late on below (left ∙ ap (after_answer l h) a) (said ∙ ap (λ z. of_link z (not_read n.fixed.topology.version h.topology (sections_in arts n.fixed bytes))) a)
       | Take on above a ↦ Taken on above (left ∙ ap (after_answer l h) a) (said ∙ ap (λ z. of_link z (not_read n.fixed.topology.version h.topology (sections_in arts n.fixed bytes))) a ∙ ap (λ (r : Option LinkReply). unwrap_or r replies.Fresh) fresh)

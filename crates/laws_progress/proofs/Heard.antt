@@ -5,18 +5,17 @@ use Rattle.std.proofs.lemmas.Bool.{cases_Bool, cases_lt}
 use Rattle.sp_schedule_events.specs.declared.event.Event.{Event}
 use Rattle.sp_schedule_events.specs.declared.event.Event.TheVariants as events
 use Rattle.sp_runs.specs.Runs.{is_poll}
-use Rattle.laws_progress.proofs.Service.{is_on, IsWithin}
+use Rattle.laws_progress.proofs.Service.{is_on}
 use Rattle.sp_runs.specs.Rounds.{is_pass}
 use Rattle.laws_progress.proofs.Facts.{Goes, Stays, Steps, AreNoPolls, Sight, IsTurn, IsHeard, Facts}
-use Rattle.laws_progress.proofs.Hops.{Told, Wires, IsMade, IsFit, IsHeeded, Steady}
-use Rattle.laws_progress.proofs.HopLemmas.{IsBehind, hops_hold}
+use Rattle.laws_progress.proofs.Hops.{IsBehind, IsFit, IsHeeded, IsMade, IsServed, Steady, Told, Wires}
 
 -- what is known of a neighbour never falls
 views_rise : (W : Type 0) (Next : W → Event → W → Type 0) (Hop : NodeId → NodeId → Type 0) (at : Sight W) (on : Wires W) (place bound least : ℕ) (s d : NodeId) → Steady W Next Hop at on place bound least s d
     → (w x : W) (e : Event) (u v : NodeId) → Hop u v → Next w e x → (at.view_base w u v ≤ at.view_base x u v) × (at.view_have w u v ≤ at.view_have x u v)
 views_rise W Next Hop at on place bound least s d steady w x e u v hop step =
     let pho = steady.both_ways u v hop in
-    let h = hops_hold W Next Hop at on place bound least s d steady w v u pho in
+    let h = steady.holds w v u pho in
     elim (steady.hears w x e v u pho step) [
       | inl deaf ↦ let b = deaf.views.base in let c = deaf.views.have in (omega (arith, b), omega (arith, c))
       | inr hearing ↦ elim hearing.1.views [
@@ -39,15 +38,15 @@ record Since (W : Type 0) (at : Sight W) (on : Wires W) (place bound : ℕ) (d :
   number : at.polled y u v ≡ n
   frame : on.told y u v n ≡ f
   taken : at.taken w ≤ at.taken y
-  active : IsWithin (at.actives w v) (at.actives y v)
+  active : is_on (at.actives w v) place ≡ true → is_on (at.actives y v) place ≡ true
   heard : (on.seen y v u < n) ⊎ ((on.seen y v u ≡ n) × (f.mine ≡ true → IsLeft W at place bound d w y u v f))
 
 -- each frame that is there is fit
 fit : (W : Type 0) (Next : W → Event → W → Type 0) (Hop : NodeId → NodeId → Type 0) (at : Sight W) (on : Wires W) (place bound least : ℕ) (s d : NodeId) → Steady W Next Hop at on place bound least s d
-    → (w : W) (u v : NodeId) (f : Told) → IsBehind W at bound w u v f → IsFit W at bound s d w v f
-fit W Next Hop at on place bound least s d steady w u v f h = record {
-  base = let a = h.base in let b = steady.acknowledged w u in omega (arith, a, b);
-  have = let a = h.have in let b = steady.sent w u in omega (arith, a, b);
+    → (w x : W) (e : Event) (u v : NodeId) → Next w e x → (f : Told) → IsBehind W at bound w u v f → IsFit W at bound s d w v f
+fit W Next Hop at on place bound least s d steady w x e u v step f h = record {
+  base = let a = h.base in let b = steady.acknowledged w x e u step in omega (arith, a, b);
+  have = let a = h.have in let b = steady.sent w x e u step in omega (arith, a, b);
   window = h.window;
   no_ack = h.no_ack;
   next_there = h.next_there;
@@ -77,7 +76,7 @@ since_step W Next Hop at on place bound least s d steady w x y e u v n f hop pos
       number = count ∙ h.number;
       frame = stay ∙ h.frame;
       taken = omega (arith, old, up);
-      active = λ p is. steady.actives_rise x y e v step p (h.active p is);
+      active = λ is. steady.stays_active x y e v step (h.active is);
       heard = elim (steady.hears x y e u v hop step) [
         | inl deaf ↦ let z = deaf.seen in elim h.heard [
           | inl before ↦ inl (omega (arith, z, before))
@@ -97,15 +96,15 @@ since_step W Next Hop at on place bound least s d steady w x y e u v n f hop pos
                   inr (
                     z ∙ is,
                     λ mine.
-                        let holds = hops_hold W Next Hop at on place bound least s d steady x u v hop in
+                        let holds = steady.holds x u v hop in
                         let mine_k : (on.told x u v k).mine ≡ true = rw told mine in
                         let behind = holds.frames k (omega (arith, is, pos)) made mine_k in
-                        let heeded : IsHeeded W at place bound d x y u v f = rw told at (it.heeded mine_k (fit W Next Hop at on place bound least s d steady x u v (on.told x u v k) behind)) in
+                        let heeded : IsHeeded W at place bound d x y u v f = rw told at (hearing.2 mine_k (fit W Next Hop at on place bound least s d steady x y e u v step (on.told x u v k) behind)) in
                         record {
                           base = heeded.base;
                           have = heeded.have;
                           have_at_end = λ at_d. let m = heeded.have_at_end at_d in omega (arith, m, old);
-                          view = λ on_v. let m = heeded.view (h.active place on_v) in let m0 = m.0 in let m1 = m.1 in (omega (arith, m0), omega (arith, m1));
+                          view = λ on_v. let m = heeded.view (h.active on_v) in let m0 = m.0 in let m1 = m.1 in (omega (arith, m0), omega (arith, m1));
                         },
                   )
             ]
@@ -124,11 +123,11 @@ pass_no_poll u v a b k (events.Poll x y) is = absurd (let f : false ≡ true = i
 pass_no_poll u v a b k p is = refl
 
 -- what is left at v gives the message that v wants
-wanted : (W : Type 0) (at : Sight W) (place : ℕ) (d : NodeId) (w z : W) (u v : NodeId) (f : Told) → IsMade W at place d w u v f → f.mine ≡ true → (u ≡ d → ⊥) → at.view_have w u v ≤ at.have w v → at.have w v ≤ at.have z v → at.base z v ≤ at.have z v
+wanted : (W : Type 0) (at : Sight W) (place : ℕ) (d : NodeId) (w z : W) (u v : NodeId) (f : Told) → IsMade W at w u v f → IsServed W at place d w u v f → f.mine ≡ true → (u ≡ d → ⊥) → at.view_have w u v ≤ at.have w v → at.have w v ≤ at.have z v → at.base z v ≤ at.have z v
     → (more : ℕ) → min f.next more ≤ at.have z v → f.base ≤ at.base z v → min (min (at.have w u) (max (at.view_have w u v) (at.base w u) + 1)) more ≤ at.have z v
-wanted W at place d w z u v f made mine inner view up sound more got base =
+wanted W at place d w z u v f made now mine inner view up sound more got base =
     let b = made.base mine in
-    elim (made.next_is mine inner) [
+    elim (now.next_is mine inner) [
       | inl low ↦ omega (arith, low, view, up, sound, base, b)
       | inr is ↦ omega (arith, is, got)
     ]
@@ -146,8 +145,9 @@ heard W Next Hop at on place bound least s d steady w x y z e p es u v hop step 
     let f = on.told x u v n in
     let count = steady.one_polled w x e u v hop step poll in
     let made = steady.makes w x e u v hop step poll in
-    let here = hops_hold W Next Hop at on place bound least s d steady w u v hop in
-    let back = hops_hold W Next Hop at on place bound least s d steady w v u (steady.both_ways u v hop) in
+    let now = steady.made_now w x e u v hop step poll in
+    let here = steady.holds w u v hop in
+    let back = steady.holds w v u (steady.both_ways u v hop) in
     let low = here.seen in
     let before : on.seen x v u < n = elim (steady.hears w x e u v hop step) [
       | inl deaf ↦ let q = deaf.seen in omega (arith, q, low, count)
@@ -157,7 +157,7 @@ heard W Next Hop at on place bound least s d steady w x y z e p es u v hop step 
       number = refl;
       frame = refl;
       taken = steady.taken_rises w x e step;
-      active = λ q is_on. steady.actives_rise w x e v step q is_on;
+      active = λ is. steady.stays_active w x e v step is;
       heard = inl before;
     } in
     let pos : 0 < n = omega (arith, count) in
@@ -165,13 +165,13 @@ heard W Next Hop at on place bound least s d steady w x y z e p es u v hop step 
     let at_z = since_step W Next Hop at on place bound least s d steady w y z p u v n f hop pos pass (pass_no_poll u v u v n p is) at_y in
     let frame_y = at_y.frame in
     let known : at.knows w u v ≡ true → n ≤ on.seen z v u = λ k.
-    let echo : (on.told y u v n).echo ≡ true = rw frame_y (made.echo ∙ k) in
+    let echo : (on.told y u v n).echo ≡ true = rw frame_y (now.echo ∙ k) in
     steady.comes y z p u v n hop pass is pos echo in
     let left : at.knows w u v ≡ true → IsTurn W at place w u v → IsLeft W at place bound d w z u v f = λ k turn.
     let late = known k in
     elim at_z.heard [
       | inl not_yet ↦ absurd (omega (arith, late, not_yet))
-      | inr there ↦ there.1 (made.mine turn)
+      | inr there ↦ there.1 (now.mine k turn)
     ] in
     let have_up : at.have w v ≤ at.have z v =
     let a = steady.have_rises w x e v step in
@@ -182,19 +182,19 @@ heard W Next Hop at on place bound least s d steady w x y z e p es u v hop step 
     record {
       learned = elim (cases_Bool (at.knows w u v)) [
         | inl t ↦ let late = known t in steady.seen_known z u v hop (omega (arith, late, pos))
-        | inr t ↦ steady.learns y z p u v n hop pass is (rw frame_y (made.echo ∙ t))
+        | inr t ↦ steady.learns y z p u v n hop pass is (rw frame_y now.here) (rw frame_y (now.echo ∙ t))
       ];
-      base = λ k turn. let l = left k turn in let b = made.base (made.mine turn) in let c = l.base in omega (arith, b, c);
-      view_base = λ k turn on_v. let l = left k turn in let b = made.base (made.mine turn) in let c = (l.view on_v).0 in omega (arith, b, c);
-      view_have = λ k turn on_v. let l = left k turn in let b = made.have (made.mine turn) in let c = (l.view on_v).1 in omega (arith, b, c);
+      base = λ k turn. let l = left k turn in let b = made.base (now.mine k turn) in let c = l.base in omega (arith, b, c);
+      view_base = λ k turn on_v. let l = left k turn in let b = made.base (now.mine k turn) in let c = (l.view on_v).0 in omega (arith, b, c);
+      view_have = λ k turn on_v. let l = left k turn in let b = made.have (now.mine k turn) in let c = (l.view on_v).1 in omega (arith, b, c);
       have = λ k turn inner other.
           let l = left k turn in
           let got = l.have other in
-          let all = wanted W at place d w z u v f made (made.mine turn) inner view have_up sound (at.have w u) (omega (arith, got)) l.base in omega (arith, all);
+          let all = wanted W at place d w z u v f made now (now.mine k turn) inner view have_up sound (at.have w u) (omega (arith, got)) l.base in omega (arith, all);
       have_at_end = λ k turn inner at_d.
           let l = left k turn in
           let got = l.have_at_end at_d in
-          wanted W at place d w z u v f made (made.mine turn) inner view have_up sound (at.taken w + bound) got l.base;
+          wanted W at place d w z u v f made now (now.mine k turn) inner view have_up sound (at.taken w + bound) got l.base;
     }
 
 -- one-step facts give the facts on which progress rests
@@ -206,7 +206,7 @@ facts_of W Next Hop at on place bound least s d steady = record {
   view_base_rises = λ w x e u v hop step. (views_rise W Next Hop at on place bound least s d steady w x e u v hop step).0;
   view_have_rises = λ w x e u v hop step. (views_rise W Next Hop at on place bound least s d steady w x e u v hop step).1;
   known = steady.known;
-  actives_rise = steady.actives_rise;
+  stays_active = steady.stays_active;
   one_polled = steady.one_polled;
   none_polled = steady.none_polled;
   serves = steady.serves;
@@ -214,6 +214,8 @@ facts_of W Next Hop at on place bound least s d steady = record {
   makes_room = steady.makes_room;
   sound = steady.sound;
   is_active = steady.is_active;
+  among = steady.among;
+  within = steady.within;
   few = steady.few;
   heard = heard W Next Hop at on place bound least s d steady;
 }

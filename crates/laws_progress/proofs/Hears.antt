@@ -1,56 +1,61 @@
 -- A node hears a neighbour by its fresh frames alone, and heeds what the slot of the flow says.
-use Rattle.std.proofs.Common.{◌≡◌, ◌≤◌, ◌<◌, ◌⊎◌, ℕ, ◌+◌, Bool, true, false, cond, max, List, [], ◌∷◌, ◌++◌, map, Option, Some, None, Ok, option_map, refl, sym, ap, subst, ◌∙◌, inl, inr, arith}
-use Rattle.std.specs.Prelude.{nat_lt, slice_get}
-use Rattle.std.proofs.lemmas.Bool.{cases_eq, ltb-true}
+use Rattle.laws_progress.proofs.LastBoots.{running_boot, without_epochs}
+use Rattle.laws_runs.proofs.KeyFiles.{key_files_stand}
+use Rattle.sp_rules.specs.Lives.{held_boot}
+use Rattle.laws_runs.proofs.Ready.{readied_is}
+use Rattle.laws_progress.proofs.Known.{known_rises, after_is, above_boot}
+use Rattle.laws_progress.proofs.Rises.{PartsGo, step_go, Goes_on, Begins_anew}
+use Rattle.laws_runs.proofs.StartPieces.{greeted_lives}
+use Rattle.laws_progress.proofs.Becomes.{readied_keeps}
+use Rattle.std.specs.List.{list_any}
+use Rattle.laws_progress.proofs.Standing.{same_flow}
+use Rattle.laws_runs.specs.Past.{holds}
+use Rattle.sp_runs.specs.Lives.{ready}
+use Rattle.std.proofs.Common.{◌≡◌, ◌≤◌, ◌<◌, ◌⊎◌, ℕ, Bool, true, false, cond, max, List, [], ◌∷◌, ◌++◌, map, Option, Some, None, Ok, option_map, refl, sym, ap, subst, ◌∙◌, inl, inr, arith, ◌==◌, not, ne_eqb, ltb-false}
+use Rattle.std.specs.Prelude.{nat_lt, ◌&&◌, ◌||◌}
+use Rattle.std.proofs.lemmas.Bool.{cases_eq, ltb-true, cases_lt, cases_Bool}
 use Rattle.sp_base.specs.declared.id.Flow.{Flow}
 use Rattle.sp_base.specs.declared.id.NodeId.{NodeId}
 use Rattle.sp_frame.specs.Reliable.{Report}
 use Rattle.sp_frame.specs.Sections.{Contents}
 use Rattle.sp_frame.specs.Views.{as_list}
-use Rattle.sp_frame.specs.declared.head.Head.{Head}
 use Rattle.sp_msg.specs.declared.kept.Kept.{Kept}
 use Rattle.sp_rules.specs.Arts.{Arts}
-use Rattle.sp_rules.specs.Arrivals.{arrival_at, handled, heeded, link_after, parts_met, pieces_in, pieces_where, reply_at, sections_in}
+use Rattle.sp_rules.specs.Arrivals.{arrival_at, handled, heeded, link_after, parts_met, pieces_in, pieces_where, reply_at, sections_in, has_risen}
 use Rattle.sp_rules.specs.Handle.{handle_all}
-use Rattle.sp_rules.specs.Link.{Link, after_answer, is_above, kept}
-use Rattle.sp_rules.specs.Node.{NodeState, link_in}
+use Rattle.sp_rules.specs.Link.{Link, is_above, pair_of}
+use Rattle.sp_rules.specs.Node.{NodeState, link_in, called, with_link, is_link}
 use Rattle.sp_rules.specs.Parts.{Fixed, Parts}
 use Rattle.sp_rules.specs.Pieces.{AckPiece, EpochPiece, Piece, PrioAckPiece, RelPiece, WeightPiece, pieces_of, prio_piece, slot_pieces}
 use Rattle.sp_rules.specs.Polls.{contents_to, dated}
-use Rattle.sp_rules.specs.Rel.{RelState, next_flow, slot_for, slot_of}
+use Rattle.sp_rules.specs.Rel.{RelState, next_flow, slot_for, slot_of, is_peer, no_view, view_in, peer_in}
 use Rattle.sp_rules.specs.Steps.{Input, NodeStep, Poll, Datagram, Tick, SendRel, SendPrio, SetWeight, TakeRel, TakePrio}
-use Rattle.sp_rules.specs.declared.link.LinkAnswer.TheVariants as answers
 use Rattle.sp_rules.specs.declared.lives.Life.{Life}
 use Rattle.laws_node.specs.Flows.{RelHolds}
 use Rattle.laws_node.specs.Sizes.{Sizes}
 use Rattle.laws_node.proofs.Carried.{AllKeep}
-use Rattle.laws_runs.proofs.NoStarts.{heeded_epoch, heeded_slot, met_as_it_was, pieces_at, without}
+use Rattle.laws_runs.proofs.NoStarts.{pieces_at}
 use Rattle.laws_runs.proofs.Signed.{signs}
-use Rattle.laws_runs.specs.Signs.{Good}
-use Rattle.laws_runs.proofs.There.{first_life}
+use Rattle.laws_runs.specs.Signs.{Good, NodeIs}
 use Rattle.laws_runs.proofs.Tables.{same_node}
 use Rattle.sp_runs.specs.Forgery.{has_forged_tag}
 use Rattle.sp_runs.specs.Runs.{next_frame}
-use Rattle.sp_runs.specs.Settings.{Setting, StaysUp, fixed_of}
-use Rattle.sp_runs.specs.Worlds.{World, frames_in}
+use Rattle.sp_runs.specs.Settings.{Setting, SettingFits}
 use Rattle.sp_schedule_events.specs.declared.event.Event.{Event}
 use Rattle.laws_runs.specs.Premises.{ComesThrough}
-use Rattle.laws_runs.specs.Unborn.{Unborn}
-use Rattle.laws_progress.proofs.States.{IsHop, State}
+use Rattle.laws_progress.proofs.States.{Era, IsBetween, IsEra, IsHop, Watched, has_met, heard_of, in_era, in_life, knows_life, numbered, view_at}
 use Rattle.laws_runs.proofs.Acks.{RelAck}
-use Rattle.laws_progress.proofs.Arrives.{Arrived, SeenIs, arrives, seen_is}
-use Rattle.laws_progress.proofs.Changes.{Acted}
+use Rattle.laws_progress.proofs.Arrives.{Arrived, arrives}
+use Rattle.laws_progress.proofs.Changes.{Acted, both_held, era_goes, holds_both}
+use Rattle.laws_progress.proofs.Greets.{greet_view}
 use Rattle.laws_progress.proofs.Deaf.{NoHear, step_view}
-use Rattle.laws_progress.proofs.Framed.{Came, Framed, Learns, Too_late, Taken}
-use Rattle.laws_progress.proofs.KnownRuns.{low_boot}
+use Rattle.laws_progress.proofs.Framed.{Came, Learns, Too_late, Taken}
+use Rattle.laws_progress.proofs.KnownRuns.{KnowsOf, knows_of}
 use Rattle.laws_progress.proofs.Links.{LinkAfter, Rests, Sends, Hears, link_step}
-use Rattle.laws_progress.proofs.Makes.{SlotAck, SlotMade, SlotRel, SlotUnborn, mine_is, slot_dated, slot_made, slot_unborn}
-use Rattle.laws_progress.proofs.Origins.{Origin}
+use Rattle.laws_progress.proofs.Makes.{SlotAck, SlotMade, SlotRel, slot_dated, slot_made}
 use Rattle.laws_progress.proofs.Passes.{datagram_after, datagram_link}
 use Rattle.laws_progress.proofs.Polls.{both_ways}
-use Rattle.laws_progress.proofs.Rows.{link_there, peer_there, rows_are}
-use Rattle.laws_progress.proofs.SlotHeeds.{view_of}
-use Rattle.laws_progress.proofs.Slots.{after_slot, frame_rel}
+use Rattle.laws_progress.proofs.Rows.{link_there, peer_there, rows_are, RowsAre}
 use Rattle.laws_progress.proofs.Wires.{is_mine}
 
 -- ---- what a slot of the flow has
@@ -66,23 +71,12 @@ slot_parts k index r v format ls flow t h acks is mine = go (next_flow r v) is
     go (Some fl) e =
         let f : Some (dated format ls (slot_of r v fl)) ≡ Some t = e in
         let same : dated format ls (slot_of r v fl) ≡ t = cc in
-        let its : fl ≡ flow = mine_is flow fl (ap (λ (z : Report). is_mine flow z.flow) same ∙ mine) in
+        let its : fl ≡ flow = same_flow flow fl (ap (λ (z : Report). is_mine flow z.flow) same ∙ mine) in
         let s : SlotMade flow r v (slot_of r v fl) = subst (λ g. SlotMade flow r v (slot_of r v g)) (sym its) (slot_made k index r v flow h acks) in (
           ap (λ (z : Report). z.flow) (sym same) ∙ its,
           subst (λ (z : Report). SlotAck flow z.base z.ack) same s.ack,
           subst (λ (z : Report). SlotRel flow z.rels) same (slot_dated flow format ls (slot_of r v fl) s.rels),
         )
-
--- it names no boot, where the node holds none
-pub slot_names : (p : Parts) (v : NodeId) (format : ℕ) (t : Report) → Unborn p → option_map (dated format p.lives) (slot_for p.rel v) ≡ Some t → SlotUnborn t
-slot_names p v format t h is = go (next_flow p.rel v) is
-  where
-    go : (o : Option Flow) → option_map (dated format p.lives) (option_map (slot_of p.rel v) o) ≡ Some t → SlotUnborn t
-    go None e = absurd (let f : None ≡ Some t = e in cc)
-    go (Some fl) e =
-        let f : Some (dated format p.lives (slot_of p.rel v fl)) ≡ Some t = e in
-        let same : dated format p.lives (slot_of p.rel v fl) ≡ t = cc in
-        subst SlotUnborn same (slot_unborn p v fl format h)
 
 pub keep_right : (P : Kept → Type 0) (xs ys : List Piece) → AllKeep P (xs ++ ys) → AllKeep P ys
 keep_right P [] ys h = h
@@ -107,19 +101,6 @@ rel_keeps P flow rs h o os e = (subst (λ (zs : List Kept). AllKeep P (map (RelP
 
 -- ---- what a node hears
 
-pub record DeafAt (flow : Flow) (n m : NodeState) (u : NodeId) : Type 0 where
-  pub seen : (link_in m u).seen.1 ≡ (link_in n u).seen.1
-  pub view : view_of m.parts.rel u flow ≡ view_of n.parts.rel u flow
-
-pub record HearingAt (arts : Arts) (x : Setting) (w : World) (n m : NodeState) (u v : NodeId) (k : ℕ) : Type 0 where
-  pub bytes : List ℕ
-  pub there : slice_get (frames_in w.directions u v) k ≡ Some (Some bytes)
-  pub from : Origin arts x u v (k + 1) bytes
-  pub framed : Framed arts x u v (k + 1) from.node bytes
-  pub above : (link_in n u).seen.1 < k + 1
-  pub seen : (link_in m u).seen.1 ≡ k + 1
-  pub rel : m.parts.rel ≡ after_slot arts n.fixed n.parts.lives n.parts.rel u (contents_to from.node.fixed from.node.parts v).slot
-
 hears_or : (u : NodeId) (i : Input) → NoHear u i ⊎ ((bytes : List ℕ) × (i ≡ Datagram u bytes))
 hears_or u (Datagram from bytes) = elim (cases_eq from.0 u.0) [
   | inl z ↦ inr (bytes, ap (λ f. Datagram f bytes) (same_node from u z))
@@ -133,87 +114,271 @@ hears_or u (SetWeight v weight) = inl tt
 hears_or u (TakeRel src) = inl tt
 hears_or u TakePrio = inl tt
 
-quiet_seen : (arts : Arts) (n m : NodeState) (i : Input) (u : NodeId) → NoHear u i → LinkAfter arts n i m u → (link_in m u).seen.1 ≡ (link_in n u).seen.1
-quiet_seen arts n m i u quiet (Rests q same) = ap (λ (l : Link). l.seen.1) same
-quiet_seen arts n m i u quiet (Sends is same) = ap (λ (l : Link). l.seen.1) same
-quiet_seen arts n m i u quiet (Hears bytes is same) = absurd ((subst (NoHear u) is quiet) refl)
+-- what is seen of u at v is the same
+pub record SameHere (x : Setting) (era : Era) (flow : Flow) (u v : NodeId) (n m : NodeState) : Type 0 where
+  pub seen : heard_of era v u m ≡ heard_of era v u n
+  pub view : view_at x era flow v u m ≡ view_at x era flow v u n
 
-learned_same : (l : Link) (h : Head) → l.peer_boot ≤ 1 → SeenIs l → (after_answer l h (answers.Learned (max l.peer_boot 1))).seen.1 ≡ l.seen.1
-learned_same l h low s = go (nat_lt l.peer_boot (max l.peer_boot 1)) refl s
-  where
-    go : (t : Bool) → nat_lt l.peer_boot (max l.peer_boot 1) ≡ t → SeenIs l → (kept l (max l.peer_boot 1) (cond t (max l.peer_boot 1, 0) l.seen)).seen.1 ≡ l.seen.1
-    go false e s = refl
-    go true e (inl none) = sym (ap (λ (p : ℕ × ℕ). p.1) none)
-    go true e (inr some) = absurd (let lt = ltb-true l.peer_boot (max l.peer_boot 1) e in let one = some.1 in omega (arith, lt, one))
+either_zero : (t : Bool) → (let z : ℕ = cond t 0 0 in z) ≡ 0
+either_zero true = refl
+either_zero false = refl
 
-above_seen : (k : ℕ) (l : Link) → is_above (1, k + 1) l.seen ≡ true → SeenIs l → l.seen.1 < k + 1
-above_seen k l above (inl none) = let z = ap (λ (p : ℕ × ℕ). p.1) none in omega (arith, z)
-above_seen k l above (inr some) = let e : nat_lt l.seen.1 (k + 1) ≡ true = ap (λ z. is_above (1, k + 1) (z, l.seen.1)) (sym some.0) ∙ above in ltb-true l.seen.1 (k + 1) e
+lt_on : (a b : ℕ) → a < b → nat_lt a b ≡ true
+lt_on a b lt = elim (cases_Bool (nat_lt a b)) [ inl t ↦ t | inr t ↦ absurd (let ge = ltb-false a b t in omega (arith, ge, lt)) ]
 
-pub hearing : (arts : Arts) (x : Setting) (all : List Event) (flow : Flow) → StaysUp arts x → ComesThrough x.topology.format arts x.signature_len
-    → (w y : State arts x all) (e : Event) (u v : NodeId) → IsHop x u v → (a : Acted arts x all w y e v)
-    → DeafAt flow a.node a.after u ⊎ ((k : ℕ) × HearingAt arts x w.world a.node a.after u v k)
-hearing arts x all flow fits reads w y e u v hop a =
-    let n = a.node in
-    let back = both_ways x u v hop in
-    let rows = rows_are arts x w.events w.journal w.world fits reads.carries w.run v n a.there in
-    let link_row = link_there x v u n rows back.joined in
-    let peer_row = peer_there x v u n rows back.joined in
-    let is = (signs arts x w.events w.journal w.world fits.fits reads.carries w.run).nodes v n a.there in
-    let plain = without x (Good arts x w.events w.journal) v n fits.plain is in
-    elim (hears_or u a.input) [
-      | inl quiet ↦ inl (record {
-        seen = quiet_seen arts n a.after a.input u quiet (link_step arts x n a.input a.output a.after u (next_frame w.world e) a.entry.reply link_row a.step a.journal.reply);
-        view = step_view u flow (view_of n.parts.rel u flow) arts n a.input a.output a.after a.step plain peer_row quiet refl;
-      })
-      | inr came ↦
-          let bytes = came.0 in
-          let step : NodeStep arts n (Datagram u bytes) a.output a.after = subst (λ i. NodeStep arts n i a.output a.after) came.1 a.step in
-          let left = datagram_after arts x n u bytes a.output a.after (next_frame w.world e) a.entry.reply step a.journal.reply in
-          let link = datagram_link arts n a.after u bytes link_row left in
-          let parts : a.after.parts ≡ (handled arts n u bytes).parts = ap (λ (q : NodeState). q.parts) left in
-          let s = seen_is arts x w.events w.journal w.world fits reads w.run u v hop n a.there in
-          let low = low_boot arts x w.events w.journal w.world fits reads.carries reads.heads w.run v u back n a.there in
-          let none : ((ps : List Piece) → pieces_where (reply_at arts n u bytes) ps ≡ []) → view_of a.after.parts.rel u flow ≡ view_of n.parts.rel u flow =
-          λ no. ap (λ (p : Parts). view_of p.rel u flow) (parts
-          ∙ ap (λ ps. (handle_all arts (arrival_at n u) (parts_met arts n u bytes) ps).parts) (no (pieces_in n.fixed (sections_in arts n.fixed bytes)))
-          ∙ met_as_it_was arts n u bytes plain) in
-          elim (arrives arts x w.events w.journal w.world fits reads w.run u v hop n a.there bytes (subst (λ i. has_forged_tag arts x w.world n i ≡ false) came.1 a.unforged)) [
-            | inl untold ↦ inl (record { seen = ap (λ (l : Link). l.seen.1) (link ∙ untold.link); view = none untold.pieces })
-            | inr it ↦ of_frame n a.after bytes it.0 it.1 link parts s low none (first_life x (Good arts x w.events w.journal) v n fits.plain is) plain it.1.came
-          ]
-    ]
-  where
-    of_frame : (n m : NodeState) (bytes : List ℕ) (k : ℕ) (b : Arrived arts x w.world u v n bytes k) → link_in m u ≡ link_after arts n u bytes → m.parts ≡ (handled arts n u bytes).parts → SeenIs (link_in n u)
-        → (link_in n u).peer_boot ≤ 1 → (((ps : List Piece) → pieces_where (reply_at arts n u bytes) ps ≡ []) → view_of m.parts.rel u flow ≡ view_of n.parts.rel u flow) → n.fixed ≡ fixed_of x v → n.fixed.epochs ≡ false
-        → Came arts n u (k + 1) bytes → DeafAt flow n m u ⊎ ((k : ℕ) × HearingAt arts x w.world n m u v k)
-    of_frame n m bytes k b link parts s low none fixed plain (Learns off left reply) = inl (record {
-      seen = ap (λ (l : Link). l.seen.1) (link ∙ left) ∙ learned_same (link_in n u) (arts.head bytes) low s;
-      view = none (λ ps. ap (λ z. pieces_where z ps) reply);
+lt_off : (a b : ℕ) → b ≤ a → nat_lt a b ≡ false
+lt_off a b le = elim (cases_Bool (nat_lt a b)) [ inl t ↦ absurd (let lt = ltb-true a b t in omega (arith, le, lt)) | inr t ↦ t ]
+
+-- v took a frame that u made in its life
+pub record TakenAt (arts : Arts) (x : Setting) (all : List Event) (era : Era) (w : Watched arts x all era) (u v : NodeId) (n m : NodeState) (k : ℕ) : Type 0 where
+  pub bytes : List ℕ
+  pub arrived : Arrived arts x w.at.events w.at.world u v n bytes k
+  pub life : (arts.head bytes).boot ≡ era.life u
+  pub echo : ((arts.head bytes).echo == n.fixed.boot) ≡ true
+  pub above : is_above (pair_of (arts.head bytes)) (link_in n u).seen ≡ true
+  pub boot : (link_in m u).peer_boot ≡ (arts.head bytes).boot
+  pub seen : (link_in m u).seen ≡ pair_of (arts.head bytes)
+  pub rise : (link_in n u).peer_boot ≤ (link_after arts n u bytes).peer_boot
+  pub top : (link_after arts n u bytes).peer_boot ≤ era.life u
+  pub link : link_in m u ≡ link_after arts n u bytes
+  pub parts : m.parts ≡ (handle_all arts (arrival_at n u) (parts_met arts n u bytes) (pieces_of (heeded n.fixed (contents_to arrived.from.node.fixed arrived.from.node.parts v)))).parts
+
+module _ (arts : Arts) (x : Setting) (all : List Event) (era : Era) (flow : Flow) (fits : SettingFits arts x) (reads : ComesThrough x.topology.format arts x.signature_len)
+    (is_era : IsEra x flow era) (w y : Watched arts x all era) (e : Event) (u v : NodeId) (hop : IsBetween x era u v) (a : Acted arts x all era w y e v)
+    (first : in_life era v a.node ≡ true) (second : in_life era v a.after ≡ true) where
+  abbrev n : NodeState
+  n = a.node
+
+  abbrev m : NodeState
+  m = a.after
+
+  pub back : IsHop x v u
+  back = both_ways x u v hop.hop
+
+  pub rows : RowsAre x v n
+  rows = readied_keeps x w.at.world a.before a.node (RowsAre x v) (λ upto h. record { peers = h.peers; links = h.links }) a.readied
+      (rows_are arts x w.at.events w.at.journal w.at.world fits reads.carries w.at.run v a.before a.there)
+
+  pub link_row : list_any (is_link u) n.links ≡ true
+  link_row = link_there x v u n rows back.joined
+
+  pub peer_row : list_any (is_peer u) n.parts.rel.peers ≡ true
+  peer_row = peer_there x v u n rows back.joined
+
+  pub is_of : NodeIs x (Good arts x w.at.events w.at.journal) v n
+  is_of = readied_is x (Good arts x w.at.events w.at.journal) w.at.events w.at.world v a.before n (key_files_stand arts x w.at.events w.at.journal w.at.world fits w.at.run)
+      a.there a.readied ((signs arts x w.at.events w.at.journal w.at.world fits reads.carries w.at.run).nodes v a.before a.there)
+
+  pub knows : KnowsOf x w.at.world v u (link_in n u)
+  knows = readied_keeps x w.at.world a.before a.node (λ q. KnowsOf x w.at.world v u (link_in q u)) (λ upto h. h) a.readied
+      (knows_of arts x w.at.events w.at.journal w.at.world fits reads.carries reads.heads w.at.run v u back a.before a.there)
+
+  pub knows_later : KnowsOf x y.at.world v u (link_in m u)
+  knows_later = knows_of arts x y.at.events y.at.journal y.at.world fits reads.carries reads.heads y.at.run v u back m a.left
+
+  boots_go : PartsGo flow n.parts m.parts
+  boots_go = step_go flow arts n a.input a.output m a.step
+
+  pub top_now : (link_in m u).peer_boot ≤ era.life u
+  top_now = let low = knows_later.below in let top = y.latest u hop.first in omega (arith, low, top)
+
+  -- what is known of the neighbour's boot never falls
+  pub boot_goes : (link_in n u).peer_boot ≤ (link_in m u).peer_boot
+  boot_goes = go (link_step arts x n a.input a.output m u (next_frame (ready x w.at.world e) e) a.entry.reply link_row a.step a.journal.reply)
+    where
+      go : LinkAfter arts n a.input m u → (link_in n u).peer_boot ≤ (link_in m u).peer_boot
+      go (Rests q same) = let z = ap (λ (l : Link). l.peer_boot) same in omega (arith, z)
+      go (Sends is same) = let z = ap (λ (l : Link). l.peer_boot) same in omega (arith, z)
+      go (Hears bytes is same) =
+          let z = ap (λ (l : Link). l.peer_boot) same in
+          let up = (known_rises (link_in n u) (link_after arts n u bytes) (arts.head bytes) (reply_at arts n u bytes) knows.seen (after_is arts n u bytes)).1 in
+          omega (arith, z, up)
+
+  -- where the boots that count are not held, nothing is seen before, and nothing is known of a flow that begins
+  pub view_off : holds n flow.src era.sboot flow.dst era.dboot ≡ false → view_at x era flow v u m ≡ view_at x era flow v u n
+  view_off off = rw (first, off, second) (go boots_go (holds m flow.src era.sboot flow.dst era.dboot) refl)
+    where
+      go : PartsGo flow n.parts m.parts → (t : Bool) → holds m flow.src era.sboot flow.dst era.dboot ≡ t
+          → cond (t && has_met x era u m) (view_in (peer_in m.parts.rel.peers u).views flow) (no_view flow) ≡ no_view flow
+      go is false e = refl
+      go (Goes_on src dst later) true e =
+          let h = holds_both m flow.src flow.dst era.sboot era.dboot e in
+          absurd (let f : true ≡ false = sym (both_held n flow.src flow.dst era.sboot era.dboot (sym src ∙ h.0) (sym dst ∙ h.1)) ∙ off in cc)
+      go (Begins_anew rises none views) true e = either (has_met x era u m) (views u)
+        where
+          either : (t : Bool) → view_in (peer_in m.parts.rel.peers u).views flow ≡ no_view flow → cond t (view_in (peer_in m.parts.rel.peers u).views flow) (no_view flow) ≡ no_view flow
+          either true is = is
+          either false is = refl
+
+  -- where they are, they stay
+  pub boots_stay : holds n flow.src era.sboot flow.dst era.dboot ≡ true
+      → (holds m flow.src era.sboot flow.dst era.dboot ≡ true) × (held_boot m.parts.lives flow.src ≡ held_boot n.parts.lives flow.src)
+      × (held_boot m.parts.lives flow.dst ≡ held_boot n.parts.lives flow.dst)
+  boots_stay held =
+      let it = era_goes arts x all era fits reads.carries w y e flow is_era v n m a.left held boots_go in
+      let before = holds_both n flow.src flow.dst era.sboot era.dboot held in
+      let after = holds_both m flow.src flow.dst era.sboot era.dboot it.0 in
+      (it.0, after.0 ∙ sym before.0, after.1 ∙ sym before.1)
+
+  same_seen : (link_in m u).peer_boot ≡ (link_in n u).peer_boot → (link_in m u).seen ≡ (link_in n u).seen → heard_of era v u m ≡ heard_of era v u n
+  same_seen boot seen =
+      ap (λ b. cond (in_life era v m && (b == era.life u)) (numbered (era.early u v) (link_in m u).seen.1) 0) boot
+      ∙ ap (λ (p : ℕ × ℕ). cond (in_life era v m && ((link_in n u).peer_boot == era.life u)) (numbered (era.early u v) p.1) 0) seen
+      ∙ ap (λ t. cond (t && ((link_in n u).peer_boot == era.life u)) (numbered (era.early u v) (link_in n u).seen.1) 0) (second ∙ sym first)
+
+  -- nothing comes from u
+  pub deaf_quiet : NoHear u a.input → SameHere x era flow u v n m
+  deaf_quiet quiet = of_link (link_step arts x n a.input a.output m u (next_frame (ready x w.at.world e) e) a.entry.reply link_row a.step a.journal.reply)
+    where
+      of_boots : (link_in m u).peer_boot ≡ (link_in n u).peer_boot → (link_in m u).seen ≡ (link_in n u).seen → SameHere x era flow u v n m
+      of_boots boot seen = record {
+        seen = same_seen boot seen;
+        view = elim (cases_Bool (holds n flow.src era.sboot flow.dst era.dboot)) [
+          | inr off ↦ view_off off
+          | inl held ↦
+              let stay = boots_stay held in
+              let now = stay.0 in
+              let view = step_view u flow (view_in (peer_in n.parts.rel.peers u).views flow) arts n a.input a.output m a.step stay.1 stay.2 peer_row quiet refl in
+              rw (first, second, held, now) (ap (λ b. cond (not x.epochs || (b == era.life u)) (view_in (peer_in m.parts.rel.peers u).views flow) (no_view flow)) boot
+              ∙ ap (λ z. cond (has_met x era u n) z (no_view flow)) view)
+        ];
+      }
+
+      of_link : LinkAfter arts n a.input m u → SameHere x era flow u v n m
+      of_link (Rests q same) = of_boots (ap (λ (l : Link). l.peer_boot) same) (ap (λ (l : Link). l.seen) same)
+      of_link (Sends is same) = of_boots (ap (λ (l : Link). l.peer_boot) same) (ap (λ (l : Link). l.seen) same)
+      of_link (Hears bytes is same) = absurd ((subst (NoHear u) is quiet) refl)
+
+  pub epochs_are : n.fixed.epochs ≡ x.epochs
+  epochs_are = ap (λ (f : Fixed). f.epochs) is_of.fixed
+
+  -- a datagram of u comes
+  module _ (bytes : List ℕ) (came : a.input ≡ Datagram u bytes) where
+    left : m ≡ called n (with_link n u (link_after arts n u bytes)) (handled arts n u bytes).parts
+    left = datagram_after arts x n u bytes a.output m (next_frame (ready x w.at.world e) e) a.entry.reply (subst (λ i. NodeStep arts n i a.output m) came a.step) a.journal.reply
+
+    link_is_now : link_in m u ≡ link_after arts n u bytes
+    link_is_now = datagram_link arts n m u bytes link_row left
+
+    rise_now : (link_in n u).peer_boot ≤ (link_after arts n u bytes).peer_boot
+    rise_now = (known_rises (link_in n u) (link_after arts n u bytes) (arts.head bytes) (reply_at arts n u bytes) knows.seen (after_is arts n u bytes)).1
+
+    top_after : (link_after arts n u bytes).peer_boot ≤ era.life u
+    top_after = subst (λ (l : Link). l.peer_boot ≤ era.life u) link_is_now top_now
+
+    met_seen : cond (in_era era flow v n && (not x.epochs || ((link_after arts n u bytes).peer_boot == era.life u)))
+        (view_in (peer_in (parts_met arts n u bytes).rel.peers u).views flow) (no_view flow) ≡ view_at x era flow v u n
+    met_seen = greet_view arts x era flow u v n bytes epochs_are peer_row rise_now top_after
+
+    -- no piece of it is handled
+    view_met : m.parts ≡ parts_met arts n u bytes → view_at x era flow v u m ≡ view_at x era flow v u n
+    view_met parts =
+        let lives : m.parts.lives ≡ n.parts.lives = ap (λ (p : Parts). p.lives) parts ∙ greeted_lives n.fixed.epochs (has_risen (link_in n u) (link_after arts n u bytes)) u n.parts in
+        let here : in_era era flow v m ≡ in_era era flow v n =
+        ap (λ t. t && holds m flow.src era.sboot flow.dst era.dboot) (second ∙ sym first)
+        ∙ ap (λ ls. in_life era v n && ((held_boot ls flow.src == era.sboot) && (held_boot ls flow.dst == era.dboot))) lives in
+        ap (λ t. cond (t && has_met x era u m) (view_in (peer_in m.parts.rel.peers u).views flow) (no_view flow)) here
+        ∙ ap (λ (l : Link). cond (in_era era flow v n && (not x.epochs || (l.peer_boot == era.life u))) (view_in (peer_in m.parts.rel.peers u).views flow) (no_view flow)) link_is_now
+        ∙ ap (λ (p : Parts). cond (in_era era flow v n && (not x.epochs || ((link_after arts n u bytes).peer_boot == era.life u))) (view_in (peer_in p.rel.peers u).views flow) (no_view flow)) parts
+        ∙ met_seen
+
+    no_pieces_left : ((ps : List Piece) → pieces_where (reply_at arts n u bytes) ps ≡ []) → m.parts ≡ parts_met arts n u bytes
+    no_pieces_left never =
+        ap (λ (q : NodeState). q.parts) left
+        ∙ ap (λ ps. (handle_all arts (arrival_at n u) (parts_met arts n u bytes) ps).parts) (never (pieces_in n.fixed (sections_in arts n.fixed bytes)))
+
+    -- of another life, or of none that is known
+    off_seen : (q : NodeState) → ((link_in q u).peer_boot ≡ era.life u → ⊥) → heard_of era v u q ≡ 0
+    off_seen q never = let t : ((link_in q u).peer_boot == era.life u) ≡ false = ne_eqb _ _ never in rw t (either (in_life era v q))
+      where
+        either : (t : Bool) → cond (t && false) (numbered (era.early u v) (link_in q u).seen.1) 0 ≡ 0
+        either true = refl
+        either false = refl
+
+    of_came : (k : ℕ) → Arrived arts x w.at.events w.at.world u v n bytes k → Came arts n u bytes
+        → SameHere x era flow u v n m ⊎ ((k : ℕ) × TakenAt arts x all era w u v n m k)
+    of_came k it (Learns off after reply) = inl (record {
+      seen =
+          let boot : (link_in m u).peer_boot ≡ max (link_in n u).peer_boot (arts.head bytes).boot = ap (λ (l : Link). l.peer_boot) (link_is_now ∙ after) in
+          let seen_now = ap (λ (l : Link). l.seen) (link_is_now ∙ after) in
+          elim (cases_lt (link_in n u).peer_boot (max (link_in n u).peer_boot (arts.head bytes).boot)) [
+            | inr low ↦
+                let f : nat_lt (link_in n u).peer_boot (max (link_in n u).peer_boot (arts.head bytes).boot) ≡ false = lt_off _ _ low in
+                same_seen (boot ∙ (let z : max (link_in n u).peer_boot (arts.head bytes).boot ≡ (link_in n u).peer_boot = omega (arith, low) in z))
+                (seen_now ∙ ap (λ t. cond t (max (link_in n u).peer_boot (arts.head bytes).boot, 0) (link_in n u).seen) f)
+            | inl up ↦
+                let t : nat_lt (link_in n u).peer_boot (max (link_in n u).peer_boot (arts.head bytes).boot) ≡ true = lt_on _ _ up in
+                let zero : (link_in m u).seen.1 ≡ 0 = ap (λ (p : ℕ × ℕ). p.1) (seen_now ∙ ap (λ t. cond t (max (link_in n u).peer_boot (arts.head bytes).boot, 0) (link_in n u).seen) t) in
+                let before : heard_of era v u n ≡ 0 = off_seen n (λ same. let top = top_now in omega (arith, same, up, boot, top)) in
+                ap (λ c. cond (knows_life era v u m) (numbered (era.early u v) c) 0) zero ∙ either_zero (knows_life era v u m) ∙ sym before
+          ];
+      view = view_met (no_pieces_left (λ ps. ap (λ z. pieces_where z ps) reply));
     })
-    of_frame n m bytes k b link parts s low none fixed plain (Too_late on below left reply) = inl (record {
-      seen = ap (λ (l : Link). l.seen.1) (link ∙ left);
-      view = none (λ ps. ap (λ z. pieces_where z ps) reply);
+    of_came k it (Too_late on below after reply) = inl (record {
+      seen = same_seen (ap (λ (l : Link). l.peer_boot) (link_is_now ∙ after)) (ap (λ (l : Link). l.seen) (link_is_now ∙ after));
+      view = view_met (no_pieces_left (λ ps. ap (λ z. pieces_where z ps) reply));
     })
-    of_frame n m bytes k b link parts s low none fixed plain (Taken on above left reply) =
-        let contents = contents_to b.from.node.fixed b.from.node.parts v in
-        let sections : sections_in arts n.fixed bytes ≡ Ok contents = ap (λ (g : Fixed). sections_in arts g bytes) fixed ∙ b.framed.sections in
-        let heard = heeded n.fixed contents in
-        let pieces : pieces_at arts n u bytes ≡ pieces_of heard =
+    of_came k it (Taken on above after reply) =
+        let contents = contents_to it.from.node.fixed it.from.node.parts v in
+        let fixed = is_of.fixed in
+        let sections : sections_in arts n.fixed bytes ≡ Ok contents = ap (λ (g : Fixed). sections_in arts g bytes) fixed ∙ it.framed.sections in
+        let pieces : pieces_at arts n u bytes ≡ pieces_of (heeded n.fixed contents) =
         ap (λ z. pieces_where z (pieces_in n.fixed (sections_in arts n.fixed bytes))) reply ∙ ap (pieces_in n.fixed) sections in
-        let counter = b.framed.head.counter in
-        inr (
-          k,
-          record {
-            bytes = bytes;
-            there = b.there;
-            from = b.from;
-            framed = b.framed;
-            above = above_seen k (link_in n u) above s;
-            seen = ap (λ (l : Link). l.seen.1) (link ∙ left) ∙ counter;
-            rel = ap (λ (p : Parts). p.rel) (parts ∙ ap (λ ps. (handle_all arts (arrival_at n u) (parts_met arts n u bytes) ps).parts) pieces
-                ∙ ap (λ (p : Parts). (handle_all arts (arrival_at n u) p (pieces_of heard)).parts) (met_as_it_was arts n u bytes plain))
-                ∙ frame_rel arts (arrival_at n u) n.parts heard (heeded_epoch n.fixed contents plain)
-                ∙ ap (after_slot arts n.fixed n.parts.lives n.parts.rel u) (heeded_slot n.fixed contents);
-          },
-        )
+        let boot = ap (λ (l : Link). l.peer_boot) (link_is_now ∙ after) in
+        elim (cases_eq (arts.head bytes).boot (era.life u)) [
+          | inl life ↦ inr (
+            k,
+            record {
+              bytes = bytes;
+              arrived = it;
+              life = life;
+              echo = on;
+              above = above;
+              boot = boot;
+              seen = ap (λ (l : Link). l.seen) (link_is_now ∙ after);
+              rise = rise_now;
+              top = top_after;
+              link = link_is_now;
+              parts = ap (λ (q : NodeState). q.parts) left ∙ ap (λ ps. (handle_all arts (arrival_at n u) (parts_met arts n u bytes) ps).parts) pieces;
+            },
+          )
+          | inr other ↦
+              let low = above_boot (arts.head bytes) (link_in n u) knows.seen above in
+              let top = top_now in
+              let after_off : heard_of era v u m ≡ 0 = off_seen m (λ same. other (sym boot ∙ same)) in
+              let apart : (link_in n u).peer_boot ≡ era.life u → ⊥ = λ same. other (let z : (arts.head bytes).boot ≡ era.life u = omega (arith, same, low, boot, top) in z) in
+              let on_epochs : x.epochs ≡ true = elim (cases_Bool x.epochs) [
+                | inl t ↦ t
+                | inr t ↦ absurd (other (it.framed.head.boot_is
+                    ∙ running_boot arts x it.from.events it.from.journal it.from.world fits reads.carries it.from.run u it.from.node it.from.there
+                    ∙ without_epochs x it.from.world u t ∙ sym (is_era.lone t u hop.first)))
+              ] in
+              inl (record {
+                seen = after_off ∙ sym (off_seen n apart);
+                view = unmet_view m (λ same. other (sym boot ∙ same)) on_epochs ∙ sym (unmet_view n apart on_epochs);
+              })
+        ]
+      where
+        unmet_view : (q : NodeState) → ((link_in q u).peer_boot ≡ era.life u → ⊥) → x.epochs ≡ true → view_at x era flow v u q ≡ no_view flow
+        unmet_view q never on = let t : ((link_in q u).peer_boot == era.life u) ≡ false = ne_eqb _ _ never in rw (on, t) (either (in_era era flow v q))
+          where
+            either : (t : Bool) → cond (t && false) (view_in (peer_in q.parts.rel.peers u).views flow) (no_view flow) ≡ no_view flow
+            either true = refl
+            either false = refl
+
+    of_datagram : SameHere x era flow u v n m ⊎ ((k : ℕ) × TakenAt arts x all era w u v n m k)
+    of_datagram =
+        elim (arrives arts x w.at.events w.at.journal w.at.world e fits reads w.at.run u v hop.hop a.before n a.there a.readied bytes
+        (subst (λ i. has_forged_tag arts x (ready x w.at.world e) n i ≡ false) came a.unforged)) [
+          | inl untold ↦ inl (record {
+            seen = same_seen (ap (λ (l : Link). l.peer_boot) (link_is_now ∙ untold.link)) (ap (λ (l : Link). l.seen) (link_is_now ∙ untold.link));
+            view = view_met (no_pieces_left untold.pieces);
+          })
+          | inr it ↦ of_came it.0 it.1 it.1.came
+        ]
+
+  pub hearing : SameHere x era flow u v n m ⊎ ((k : ℕ) × TakenAt arts x all era w u v n m k)
+  hearing = elim (hears_or u a.input) [
+    | inl quiet ↦ inl (deaf_quiet quiet)
+    | inr came ↦ of_datagram came.0 came.1
+  ]

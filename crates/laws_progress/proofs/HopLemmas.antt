@@ -1,42 +1,21 @@
--- What holds of the frames and views between two nodes in every state, and what a frame that is passed at once leaves.
-use Rattle.std.proofs.Common.{◌≡◌, ℕ, ◌+◌, ◌<◌, ◌≤◌, ◌⊎◌, true, false, List, [], ◌∷◌, max, inl, inr, arith}
+-- What holds of the frames and views between two nodes in every state, by the facts of single steps.
+use Rattle.std.proofs.Common.{◌≡◌, ℕ, ◌+◌, ◌<◌, ◌≤◌, ◌⊎◌, true, List, [], ◌∷◌, inl, inr, arith}
 use Rattle.sp_base.specs.declared.id.NodeId.{NodeId}
 use Rattle.std.proofs.lemmas.Bool.{cases_Bool, cases_lt}
 use Rattle.sp_schedule_events.specs.declared.event.Event.{Event}
 use Rattle.sp_runs.specs.Runs.{is_poll}
 use Rattle.laws_progress.proofs.Facts.{Goes, Stays, Steps, Sight}
-use Rattle.laws_progress.proofs.Hops.{Told, Wires, IsMade, SameView, IsFresh, Steady}
-
--- a frame, against where its ends stand
-pub record IsBehind (W : Type 0) (at : Sight W) (bound : ℕ) (w : W) (u v : NodeId) (f : Told) : Type 0 where
-  pub base : f.base ≤ at.base w u
-  pub have : f.have ≤ at.have w u
-  pub window : f.have ≤ f.base + bound
-  pub no_ack : f.ack ≡ false → f.base ≤ at.base w v
-  pub next_there : f.next ≤ f.have
-  pub next_near : f.next ≤ max (at.have w v) f.base + 1
-
--- what holds of the direction from u to v
-pub record HopHolds (W : Type 0) (at : Sight W) (on : Wires W) (bound : ℕ) (w : W) (u v : NodeId) : Type 0 where
-  pub seen : on.seen w v u ≤ at.polled w u v
-  pub frames : (k : ℕ) → 0 < k → k ≤ at.polled w u v → (on.told w u v k).mine ≡ true → IsBehind W at bound w u v (on.told w u v k)
-  pub order : (j k : ℕ) → 0 < j → j ≤ k → k ≤ at.polled w u v → (on.told w u v j).mine ≡ true → (on.told w u v k).mine ≡ true
-      → ((on.told w u v j).base ≤ (on.told w u v k).base) × ((on.told w u v j).have ≤ (on.told w u v k).have)
-  pub view_base : at.view_base w v u ≤ at.base w u
-  pub view_have : at.view_have w v u ≤ at.have w u
-  -- a frame that is still to be heard reports no less than is known
-  pub ahead : (k : ℕ) → on.seen w v u < k → k ≤ at.polled w u v → (on.told w u v k).mine ≡ true
-      → (at.view_base w v u ≤ (on.told w u v k).base) × (at.view_have w v u ≤ (on.told w u v k).have)
+use Rattle.laws_progress.proofs.Hops.{HopHolds, IsBehind, IsFresh, IsMade, Lasting, SameView, Told, Wires}
 
 -- ---- frames after a step
 
-behind_later : (W : Type 0) (Next : W → Event → W → Type 0) (Hop : NodeId → NodeId → Type 0) (at : Sight W) (on : Wires W) (place bound least : ℕ) (s d : NodeId) → Steady W Next Hop at on place bound least s d
+behind_later : (W : Type 0) (Next : W → Event → W → Type 0) (Hop : NodeId → NodeId → Type 0) (at : Sight W) (on : Wires W) (bound : ℕ) → Lasting W Next Hop at on bound
     → (w x : W) (e : Event) (u v : NodeId) (f : Told) → Next w e x → IsBehind W at bound w u v f → IsBehind W at bound x u v f
-behind_later W Next Hop at on place bound least s d steady w x e u v f step h =
-    let bu = steady.base_rises w x e u step in
-    let hu = steady.have_rises w x e u step in
-    let bv = steady.base_rises w x e v step in
-    let hv = steady.have_rises w x e v step in
+behind_later W Next Hop at on bound lasting w x e u v f step h =
+    let bu = lasting.base_rises w x e u step in
+    let hu = lasting.have_rises w x e u step in
+    let bv = lasting.base_rises w x e v step in
+    let hv = lasting.have_rises w x e v step in
     record {
       base = let z = h.base in omega (arith, z, bu);
       have = let z = h.have in omega (arith, z, hu);
@@ -47,42 +26,42 @@ behind_later W Next Hop at on place bound least s d steady w x e u v f step h =
     }
 
 -- a frame when it is made
-behind_made : (W : Type 0) (Next : W → Event → W → Type 0) (Hop : NodeId → NodeId → Type 0) (at : Sight W) (on : Wires W) (place bound least : ℕ) (s d : NodeId) → Steady W Next Hop at on place bound least s d
-    → (w : W) (u v : NodeId) (f : Told) → at.view_base w u v ≤ at.base w v → at.view_have w u v ≤ at.have w v → IsMade W at place d w u v f → f.mine ≡ true → IsBehind W at bound w u v f
-behind_made W Next Hop at on place bound least s d steady w u v f vb vh made mine =
+behind_made : (W : Type 0) (Next : W → Event → W → Type 0) (Hop : NodeId → NodeId → Type 0) (at : Sight W) (on : Wires W) (bound : ℕ) → Lasting W Next Hop at on bound
+    → (w : W) (u v : NodeId) (f : Told) → at.view_base w u v ≤ at.base w v → at.view_have w u v ≤ at.have w v → IsMade W at w u v f → f.mine ≡ true → IsBehind W at bound w u v f
+behind_made W Next Hop at on bound lasting w u v f vb vh made mine =
     let b = made.base mine in
     let h = made.have mine in
     record {
       base = omega (arith, b);
       have = omega (arith, h);
-      window = let z = steady.window w u in omega (arith, z, b, h);
+      window = let z = lasting.window w u in omega (arith, z, b, h);
       no_ack = λ n. let z = made.no_ack mine n in omega (arith, z, b, vb);
       next_there = let z = made.next_there mine in omega (arith, z, h);
       next_near = let z = made.next_near mine in omega (arith, z, b, vh);
     }
 
 -- which frame a number names after a step: one that was there, or the one that was made
-record Which (W : Type 0) (at : Sight W) (on : Wires W) (place : ℕ) (d : NodeId) (w x : W) (u v : NodeId) (k : ℕ) : Type 0 where
-  is : ((k ≤ at.polled w u v) × (on.told x u v k ≡ on.told w u v k)) ⊎ ((k ≡ at.polled w u v + 1) × IsMade W at place d w u v (on.told x u v k))
+record Which (W : Type 0) (at : Sight W) (on : Wires W) (w x : W) (u v : NodeId) (k : ℕ) : Type 0 where
+  is : ((k ≤ at.polled w u v) × (on.told x u v k ≡ on.told w u v k)) ⊎ ((k ≡ at.polled w u v + 1) × IsMade W at w u v (on.told x u v k))
 
-which : (W : Type 0) (Next : W → Event → W → Type 0) (Hop : NodeId → NodeId → Type 0) (at : Sight W) (on : Wires W) (place bound least : ℕ) (s d : NodeId) → Steady W Next Hop at on place bound least s d
-    → (w x : W) (e : Event) (u v : NodeId) (k : ℕ) → Hop u v → Next w e x → k ≤ at.polled x u v → Which W at on place d w x u v k
-which W Next Hop at on place bound least s d steady w x e u v k hop step le = elim (cases_lt (at.polled w u v) k) [
-  | inr old ↦ record { is = inl (old, steady.frames_stay w x e u v k hop step old) }
+which : (W : Type 0) (Next : W → Event → W → Type 0) (Hop : NodeId → NodeId → Type 0) (at : Sight W) (on : Wires W) (bound : ℕ) → Lasting W Next Hop at on bound
+    → (w x : W) (e : Event) (u v : NodeId) (k : ℕ) → Hop u v → Next w e x → k ≤ at.polled x u v → Which W at on w x u v k
+which W Next Hop at on bound lasting w x e u v k hop step le = elim (cases_lt (at.polled w u v) k) [
+  | inr old ↦ record { is = inl (old, lasting.frames_stay w x e u v k hop step old) }
   | inl new ↦ elim (cases_Bool (is_poll u v e)) [
     | inl t ↦
-        let n = steady.one_polled w x e u v hop step t in
+        let n = lasting.one_polled w x e u v hop step t in
         let is : k ≡ at.polled x u v = omega (arith, n, new, le) in
-        record { is = inr (omega (arith, n, new, le), rw is (steady.makes w x e u v hop step t)) }
-    | inr t ↦ absurd (let n = steady.none_polled w x e u v hop step t in omega (arith, n, new, le))
+        record { is = inr (omega (arith, n, new, le), rw is (lasting.makes w x e u v hop step t)) }
+    | inr t ↦ absurd (let n = lasting.none_polled w x e u v hop step t in omega (arith, n, new, le))
   ]
 ]
 
-polled_more : (W : Type 0) (Next : W → Event → W → Type 0) (Hop : NodeId → NodeId → Type 0) (at : Sight W) (on : Wires W) (place bound least : ℕ) (s d : NodeId) → Steady W Next Hop at on place bound least s d
+polled_more : (W : Type 0) (Next : W → Event → W → Type 0) (Hop : NodeId → NodeId → Type 0) (at : Sight W) (on : Wires W) (bound : ℕ) → Lasting W Next Hop at on bound
     → (w x : W) (e : Event) (u v : NodeId) → Hop u v → Next w e x → at.polled w u v ≤ at.polled x u v
-polled_more W Next Hop at on place bound least s d steady w x e u v hop step = elim (cases_Bool (is_poll u v e)) [
-  | inl t ↦ let n = steady.one_polled w x e u v hop step t in omega (arith, n)
-  | inr t ↦ let n = steady.none_polled w x e u v hop step t in omega (arith, n)
+polled_more W Next Hop at on bound lasting w x e u v hop step = elim (cases_Bool (is_poll u v e)) [
+  | inl t ↦ let n = lasting.one_polled w x e u v hop step t in omega (arith, n)
+  | inr t ↦ let n = lasting.none_polled w x e u v hop step t in omega (arith, n)
 ]
 
 -- what is known of one direction after a step, but for what was heard
@@ -94,29 +73,29 @@ record Grown (W : Type 0) (at : Sight W) (on : Wires W) (bound : ℕ) (w x : W) 
   new : (k base have : ℕ) → at.polled w u v < k → k ≤ at.polled x u v → (on.told x u v k).mine ≡ true → base ≤ at.base w u → have ≤ at.have w u
       → (base ≤ (on.told x u v k).base) × (have ≤ (on.told x u v k).have)
 
-grown : (W : Type 0) (Next : W → Event → W → Type 0) (Hop : NodeId → NodeId → Type 0) (at : Sight W) (on : Wires W) (place bound least : ℕ) (s d : NodeId) → Steady W Next Hop at on place bound least s d
+grown : (W : Type 0) (Next : W → Event → W → Type 0) (Hop : NodeId → NodeId → Type 0) (at : Sight W) (on : Wires W) (bound : ℕ) → Lasting W Next Hop at on bound
     → (w x : W) (e : Event) (u v : NodeId) → Hop u v → Next w e x → HopHolds W at on bound w u v → HopHolds W at on bound w v u → Grown W at on bound w x u v
-grown W Next Hop at on place bound least s d steady w x e u v hop step h back =
+grown W Next Hop at on bound lasting w x e u v hop step h back =
     let new : (k base have : ℕ) → at.polled w u v < k → k ≤ at.polled x u v → (on.told x u v k).mine ≡ true → base ≤ at.base w u → have ≤ at.have w u
     → (base ≤ (on.told x u v k).base) × (have ≤ (on.told x u v k).have) = λ k base have above le mine lb lh.
-    elim ((which W Next Hop at on place bound least s d steady w x e u v k hop step le).is) [
+    elim ((which W Next Hop at on bound lasting w x e u v k hop step le).is) [
       | inl old ↦ absurd (let z = old.0 in omega (arith, z, above))
       | inr made ↦ let b = made.1.base mine in let c = made.1.have mine in (omega (arith, b, lb), omega (arith, c, lh))
     ] in
     record {
-      frames = λ k pos le mine. elim ((which W Next Hop at on place bound least s d steady w x e u v k hop step le).is) [
-        | inl old ↦ rw old.1 (behind_later W Next Hop at on place bound least s d steady w x e u v (on.told w u v k) step (h.frames k pos old.0 (rw old.1 at mine)))
-        | inr made ↦ behind_later W Next Hop at on place bound least s d steady w x e u v (on.told x u v k) step
-            (behind_made W Next Hop at on place bound least s d steady w u v (on.told x u v k) back.view_base back.view_have made.1 mine)
+      frames = λ k pos le mine. elim ((which W Next Hop at on bound lasting w x e u v k hop step le).is) [
+        | inl old ↦ rw old.1 (behind_later W Next Hop at on bound lasting w x e u v (on.told w u v k) step (h.frames k pos old.0 (rw old.1 at mine)))
+        | inr made ↦ behind_later W Next Hop at on bound lasting w x e u v (on.told x u v k) step
+            (behind_made W Next Hop at on bound lasting w u v (on.told x u v k) back.view_base back.view_have made.1 mine)
       ];
-      order = λ j k pos jk le mine_j mine_k. elim ((which W Next Hop at on place bound least s d steady w x e u v k hop step le).is) [
+      order = λ j k pos jk le mine_j mine_k. elim ((which W Next Hop at on bound lasting w x e u v k hop step le).is) [
         | inl old ↦
-            let j_is = steady.frames_stay w x e u v j hop step (let z = old.0 in omega (arith, z, jk)) in
+            let j_is = lasting.frames_stay w x e u v j hop step (let z = old.0 in omega (arith, z, jk)) in
             rw (j_is, old.1) (h.order j k pos jk old.0 (rw j_is at mine_j) (rw old.1 at mine_k))
         | inr made ↦ elim (cases_lt j k) [
           | inl lt ↦
               let low : j ≤ at.polled w u v = let z = made.0 in omega (arith, z, lt) in
-              let j_is = steady.frames_stay w x e u v j hop step low in
+              let j_is = lasting.frames_stay w x e u v j hop step low in
               let f = h.frames j pos low (rw j_is at mine_j) in
               let fb = f.base in
               let fh = f.have in
@@ -127,13 +106,13 @@ grown W Next Hop at on place bound least s d steady w x e u v hop step h back =
       new = new;
     }
 
-pub hop_step : (W : Type 0) (Next : W → Event → W → Type 0) (Hop : NodeId → NodeId → Type 0) (at : Sight W) (on : Wires W) (place bound least : ℕ) (s d : NodeId) → Steady W Next Hop at on place bound least s d
+pub hop_step : (W : Type 0) (Next : W → Event → W → Type 0) (Hop : NodeId → NodeId → Type 0) (at : Sight W) (on : Wires W) (bound : ℕ) → Lasting W Next Hop at on bound
     → (w x : W) (e : Event) (u v : NodeId) → Hop u v → Next w e x → HopHolds W at on bound w u v → HopHolds W at on bound w v u → HopHolds W at on bound x u v
-hop_step W Next Hop at on place bound least s d steady w x e u v hop step h back =
-    let g = grown W Next Hop at on place bound least s d steady w x e u v hop step h back in
-    let more = polled_more W Next Hop at on place bound least s d steady w x e u v hop step in
-    let bu = steady.base_rises w x e u step in
-    let hu = steady.have_rises w x e u step in
+hop_step W Next Hop at on bound lasting w x e u v hop step h back =
+    let g = grown W Next Hop at on bound lasting w x e u v hop step h back in
+    let more = polled_more W Next Hop at on bound lasting w x e u v hop step in
+    let bu = lasting.base_rises w x e u step in
+    let hu = lasting.have_rises w x e u step in
     let vb = h.view_base in
     let vh = h.view_have in
     let low = h.seen in
@@ -150,12 +129,12 @@ hop_step W Next Hop at on place bound least s d steady w x e u v hop step h back
       ahead = λ k above le mine. elim (cases_lt (at.polled w u v) k) [
         | inl new ↦ let n = g.new k _ _ new le mine vb vh in let a = n.0 in let b = n.1 in (omega (arith, zb, a), omega (arith, zh, b))
         | inr old ↦
-            let is = steady.frames_stay w x e u v k hop step old in
+            let is = lasting.frames_stay w x e u v k hop step old in
             let n = h.ahead k (omega (arith, up, above)) old (rw is at mine) in
             let a = n.0 in let b = n.1 in rw is (omega (arith, zb, a), omega (arith, zh, b))
       ];
     } in
-    elim (steady.hears w x e u v hop step) [
+    elim (lasting.hears w x e u v hop step) [
       | inl deaf ↦ let z = deaf.seen in same deaf.views (omega (arith, z)) (omega (arith, z, low, more))
       | inr hearing ↦
           let k = hearing.0 in
@@ -180,7 +159,7 @@ hop_step W Next Hop at on place bound least s d steady w x e u v hop step h back
                   ahead = λ j above le mine. elim (cases_lt (at.polled w u v) j) [
                     | inl new ↦ let n = g.new j _ _ new le mine fb fh in let a = n.0 in let b = n.1 in (omega (arith, gb, a), omega (arith, gh, b))
                     | inr old ↦
-                        let is = steady.frames_stay w x e u v j hop step old in
+                        let is = lasting.frames_stay w x e u v j hop step old in
                         let n = h.order k j (omega (arith, after)) (omega (arith, z, above)) old got.0 (rw is at mine) in
                         let a = n.0 in let b = n.1 in rw is (omega (arith, gb, a), omega (arith, gh, b))
                   ];
@@ -193,11 +172,11 @@ hop_step W Next Hop at on place bound least s d steady w x e u v hop step h back
 abbrev pub HopsHold : (W : Type 0) → Sight W → Wires W → (NodeId → NodeId → Type 0) → ℕ → W → Type 0
 HopsHold W at on Hop bound w = (u v : NodeId) → Hop u v → HopHolds W at on bound w u v
 
-hops_on : (W : Type 0) (Next : W → Event → W → Type 0) (Hop : NodeId → NodeId → Type 0) (at : Sight W) (on : Wires W) (place bound least : ℕ) (s d : NodeId) → Steady W Next Hop at on place bound least s d
+hops_on : (W : Type 0) (Next : W → Event → W → Type 0) (Hop : NodeId → NodeId → Type 0) (at : Sight W) (on : Wires W) (bound : ℕ) → Lasting W Next Hop at on bound
     → (es : List Event) (w y : W) → Goes W Next w es y → HopsHold W at on Hop bound w → HopsHold W at on Hop bound y
-hops_on W Next Hop at on place bound least s d steady [] w y Stays h = h
-hops_on W Next Hop at on place bound least s d steady (e ∷ es) w y (Steps {x = x} step g) h =
-    hops_on W Next Hop at on place bound least s d steady es x y g (λ u v hop. hop_step W Next Hop at on place bound least s d steady w x e u v hop step (h u v hop) (h v u (steady.both_ways u v hop)))
+hops_on W Next Hop at on bound lasting [] w y Stays h = h
+hops_on W Next Hop at on bound lasting (e ∷ es) w y (Steps {x = x} step g) h =
+    hops_on W Next Hop at on bound lasting es x y g (λ u v hop. hop_step W Next Hop at on bound lasting w x e u v hop step (h u v hop) (h v u (lasting.both_ways u v hop)))
 
 fresh_holds : (W : Type 0) (at : Sight W) (on : Wires W) (bound : ℕ) (w : W) (u v : NodeId) → IsFresh W at on w u v → HopHolds W at on bound w u v
 fresh_holds W at on bound w u v f =
@@ -213,8 +192,8 @@ fresh_holds W at on bound w u v f =
       ahead = λ k above le mine. absurd (omega (arith, p, above, le));
     }
 
-pub hops_hold : (W : Type 0) (Next : W → Event → W → Type 0) (Hop : NodeId → NodeId → Type 0) (at : Sight W) (on : Wires W) (place bound least : ℕ) (s d : NodeId) → Steady W Next Hop at on place bound least s d
+pub hops_hold : (W : Type 0) (Next : W → Event → W → Type 0) (Hop : NodeId → NodeId → Type 0) (at : Sight W) (on : Wires W) (bound : ℕ) → Lasting W Next Hop at on bound
     → (w : W) → HopsHold W at on Hop bound w
-hops_hold W Next Hop at on place bound least s d steady w =
-    let b = steady.begins w in
-    hops_on W Next Hop at on place bound least s d steady b.1 b.0 w b.2 (λ u v hop. fresh_holds W at on bound b.0 u v (b.3 u v hop))
+hops_hold W Next Hop at on bound lasting w =
+    let b = lasting.begins w in
+    hops_on W Next Hop at on bound lasting b.1 b.0 w b.2 (λ u v hop. fresh_holds W at on bound b.0 u v (b.3 u v hop))

@@ -1,5 +1,5 @@
--- A node knows a correct neighbour's boot as 1 or not at all, and once it knows it, it stays known.
-use Rattle.std.proofs.Common.{◌≡◌, ◌≤◌, ◌⊎◌, ℕ, suc, ◌==◌, ◌&&◌, Bool, true, false, List, [], ◌∷◌, Some, Result, Ok, Err, refl, ap, ◌∙◌, inl, inr, arith, Option, None}
+-- What a datagram leaves of what a node knows of a neighbour: its boot, and the boot and the counter of its last frame.
+use Rattle.std.proofs.Common.{◌≡◌, ◌≤◌, ℕ, suc, ◌==◌, ◌&&◌, Bool, true, false, List, [], ◌∷◌, Some, Result, Ok, Err, refl, ap, ◌∙◌, inl, inr, arith, Option, None, cond, sym, nat_lt, ltb-false, ltb-true, eqb-true}
 use Rattle.std.specs.Prelude.{max, nat_eq, not, option_map, slice_get, unwrap_or}
 use Rattle.std.specs.Result.{result_err}
 use Rattle.std.specs.Cmp.Lexicographic.{pointwise}
@@ -34,10 +34,12 @@ made_at bytes (Some y ∷ frames) is = elim (cases_Bool (pointwise nat_eq y byte
   | inr t ↦ let rest = made_at bytes frames (rw t at is) in (suc rest.0, rest.1)
 ]
 
--- what the answer to a frame leaves of the neighbour's boot: the same, or it is tagged, and the boot is the greater of both
-data BootAfter (l k : Link) (h : Head) (reply : LinkReply) : Type 0 where
-  Stays_so : k.peer_boot ≡ l.peer_boot → BootAfter l k h reply
-  Comes_new : is_tagged reply ≡ true → (k.peer_boot ≡ h.boot) ⊎ (k.peer_boot ≡ max l.peer_boot h.boot) → BootAfter l k h reply
+-- what a datagram leaves of what is known of a neighbour: all as it was, the greater boot of both, or the boot and the counter of a frame that is above the last
+pub data LinkHeard (l k : Link) (h : Head) (reply : LinkReply) : Type 0 where
+  Nothing : k.peer_boot ≡ l.peer_boot → k.seen ≡ l.seen → LinkHeard l k h reply
+  Learns_boot : is_tagged reply ≡ true → k.peer_boot ≡ max l.peer_boot h.boot
+      → k.seen ≡ cond (nat_lt l.peer_boot (max l.peer_boot h.boot)) (max l.peer_boot h.boot, 0) l.seen → LinkHeard l k h reply
+  Takes : is_tagged reply ≡ true → is_above (pair_of h) l.seen ≡ true → k.peer_boot ≡ h.boot → k.seen ≡ pair_of h → LinkHeard l k h reply
 
 pub tagged_fresh : (mine theirs : ℕ) (s : Result Contents SectionRefused) → is_tagged (of_fresh mine theirs s) ≡ true
 tagged_fresh mine theirs s =
@@ -62,23 +64,66 @@ learned_is l h right boot e = elim (cases_Bool (not ((h.from.0 == l.peer.0) && (
   ]
 ]
 
-boot_after : (l : Link) (h : Head) (right : Bool) (a : LinkAnswer) (after : Option LinkReply) → link_answer l h right ≡ a → is_tagged (unwrap_or after replies.Fresh) ≡ true → BootAfter l (after_answer l h a) h (of_link a after)
-boot_after l h right answers.NotForMe after e fresh = Stays_so refl
-boot_after l h right answers.BadTag after e fresh = Stays_so refl
-boot_after l h right (answers.Learned boot) after e fresh = Comes_new refl (inr (learned_is l h right boot e))
-boot_after l h right (answers.Stale boot counter) after e fresh = Stays_so refl
-boot_after l h right answers.Fresh after e fresh = Comes_new fresh (inl refl)
+fresh_is : (l : Link) (h : Head) (right : Bool) → link_answer l h right ≡ answers.Fresh → is_above (pair_of h) l.seen ≡ true
+fresh_is l h right e = elim (cases_Bool (not ((h.from.0 == l.peer.0) && (h.to.0 == l.me.0)))) [
+  | inl t ↦ absurd (let f : answers.NotForMe ≡ answers.Fresh = rw t at e in cc)
+  | inr t ↦ elim (cases_Bool (not right)) [
+    | inl r ↦ absurd (let f : answers.BadTag ≡ answers.Fresh = rw (t, r) at e in cc)
+    | inr r ↦ elim (cases_Bool (not (h.echo == l.boot))) [
+      | inl z ↦ absurd (let f : answers.Learned (max l.peer_boot h.boot) ≡ answers.Fresh = rw (t, r, z) at e in cc)
+      | inr z ↦ elim (cases_Bool (is_above (pair_of h) l.seen)) [
+        | inl y ↦ y
+        | inr y ↦ absurd (let f : answers.Stale l.seen.0 l.seen.1 ≡ answers.Fresh = rw (t, r, z, y) at e in cc)
+      ]
+    ]
+  ]
+]
 
-after_is : (arts : Arts) (n : NodeState) (v : NodeId) (bytes : List ℕ) → BootAfter (link_in n v) (link_after arts n v bytes) (arts.head bytes) (reply_at arts n v bytes)
+heard_link : (l : Link) (h : Head) (right : Bool) (a : LinkAnswer) (after : Option LinkReply) → link_answer l h right ≡ a → is_tagged (unwrap_or after replies.Fresh) ≡ true → LinkHeard l (after_answer l h a) h (of_link a after)
+heard_link l h right answers.NotForMe after e fresh = Nothing refl refl
+heard_link l h right answers.BadTag after e fresh = Nothing refl refl
+heard_link l h right (answers.Learned boot) after e fresh =
+    let is = learned_is l h right boot e in
+    Learns_boot refl is (ap (λ (b : ℕ). cond (nat_lt l.peer_boot b) (b, 0) l.seen) is)
+heard_link l h right (answers.Stale boot counter) after e fresh = Nothing refl refl
+heard_link l h right answers.Fresh after e fresh = Takes fresh (fresh_is l h right e) refl refl
+
+pub after_is : (arts : Arts) (n : NodeState) (v : NodeId) (bytes : List ℕ) → LinkHeard (link_in n v) (link_after arts n v bytes) (arts.head bytes) (reply_at arts n v bytes)
 after_is arts n v bytes = go (arts.opened bytes)
   where
-    go : (o : Result (List ℕ) FrameRefused) → BootAfter (link_in n v) (link_with arts (link_in n v) bytes o) (arts.head bytes) (of_frame arts n.fixed (link_in n v) bytes o)
-    go (Err refused) = Stays_so (ap (λ (l : Link). l.peer_boot) (link_stays arts (link_in n v) bytes refused))
+    go : (o : Result (List ℕ) FrameRefused) → LinkHeard (link_in n v) (link_with arts (link_in n v) bytes o) (arts.head bytes) (of_frame arts n.fixed (link_in n v) bytes o)
+    go (Err refused) = Nothing (ap (λ (l : Link). l.peer_boot) (link_stays arts (link_in n v) bytes refused)) (ap (λ (l : Link). l.seen) (link_stays arts (link_in n v) bytes refused))
     go (Ok frame) =
         let l = link_in n v in
         let right = is_right arts l.key bytes in
-        boot_after l (arts.head bytes) right (link_answer l (arts.head bytes) right) _ refl
+        heard_link l (arts.head bytes) right (link_answer l (arts.head bytes) right) _ refl
         (tagged_fresh n.fixed.topology.version (arts.head bytes).topology (sections_in arts n.fixed bytes))
+
+-- the pair above which frames are fresh is of the boot that is known, which never falls
+pub above_boot : (h : Head) (l : Link) → l.seen.0 ≡ l.peer_boot → is_above (pair_of h) l.seen ≡ true → l.peer_boot ≤ h.boot
+above_boot h l s above = elim (cases_Bool (nat_lt l.seen.0 h.boot)) [
+  | inl t ↦ let lt = ltb-true l.seen.0 h.boot t in omega (arith, lt, s)
+  | inr t ↦ let same = eqb-true h.boot l.seen.0 (first_true (h.boot == l.seen.0) (nat_lt l.seen.1 h.counter) (rw t at above)) in omega (arith, same, s)
+]
+  where
+    first_true : (a b : Bool) → a && b ≡ true → a ≡ true
+    first_true true b e = refl
+    first_true false b e = absurd (let f : false ≡ true = e in cc)
+
+pub known_rises : (l k : Link) (h : Head) (reply : LinkReply) → l.seen.0 ≡ l.peer_boot → LinkHeard l k h reply → (k.seen.0 ≡ k.peer_boot) × (l.peer_boot ≤ k.peer_boot)
+known_rises l k h reply s (Nothing boot seen) = (ap (λ (p : ℕ × ℕ). p.0) seen ∙ s ∙ sym boot, omega (arith, boot))
+known_rises l k h reply s (Learns_boot tagged boot seen) = (
+  ap (λ (p : ℕ × ℕ). p.0) seen ∙ go (nat_lt l.peer_boot (max l.peer_boot h.boot)) refl ∙ sym boot,
+  omega (arith, boot),
+)
+  where
+    go : (t : Bool) → nat_lt l.peer_boot (max l.peer_boot h.boot) ≡ t → (cond t (max l.peer_boot h.boot, 0) l.seen).0 ≡ max l.peer_boot h.boot
+    go true e = refl
+    go false e = let low = ltb-false l.peer_boot (max l.peer_boot h.boot) e in omega (arith, low, s)
+known_rises l k h reply s (Takes tagged above boot seen) = (
+  ap (λ (p : ℕ × ℕ). p.0) seen ∙ sym boot,
+  let up = above_boot h l s above in omega (arith, up, boot),
+)
 
 -- a tagged datagram of a correct neighbour, not forged, is one of its frames
 pub is_made : (arts : Arts) (x : Setting) (w : World) (n : NodeState) (u : NodeId) (bytes : List ℕ) → is_correct x u ≡ true → has_forged_tag arts x w n (Datagram u bytes) ≡ false
@@ -89,14 +134,3 @@ is_made arts x w n u bytes correct none tagged =
     lemma : (t : Bool) → not t ≡ false → t ≡ true
     lemma true e = refl
     lemma false e = absurd (let f : true ≡ false = e in cc)
-
--- the boot that is known of it stays, or is the boot of one of its frames where that is at least what was known
-pub boot_known : (arts : Arts) (x : Setting) (w : World) (n : NodeState) (u : NodeId) (bytes : List ℕ) → is_correct x u ≡ true → has_forged_tag arts x w n (Datagram u bytes) ≡ false
-    → (link_in n u).peer_boot ≤ 1 → ((k : ℕ) (f : List ℕ) → slice_get (frames_in w.directions u n.fixed.me) k ≡ Some (Some f) → (arts.head f).boot ≡ 1)
-    → ((link_after arts n u bytes).peer_boot ≡ (link_in n u).peer_boot) ⊎ ((link_after arts n u bytes).peer_boot ≡ 1)
-boot_known arts x w n u bytes correct none low frames = go (after_is arts n u bytes)
-  where
-    go : BootAfter (link_in n u) (link_after arts n u bytes) (arts.head bytes) (reply_at arts n u bytes) → ((link_after arts n u bytes).peer_boot ≡ (link_in n u).peer_boot) ⊎ ((link_after arts n u bytes).peer_boot ≡ 1)
-    go (Stays_so same) = inl same
-    go (Comes_new tagged (inl new)) = let made = is_made arts x w n u bytes correct none tagged in inr (new ∙ frames made.0 bytes made.1)
-    go (Comes_new tagged (inr new)) = let made = is_made arts x w n u bytes correct none tagged in let one = frames made.0 bytes made.1 in inr (omega (arith, new, one, low))

@@ -1,5 +1,5 @@
 -- The flow that was served last to a neighbour is another one after a poll of that neighbour alone.
-use Rattle.std.proofs.Common.{◌≡◌, ℕ, ◌==◌, ◌&&◌, Bool, true, false, cond, eqb, List, [], ◌∷◌, Option, Some, None, refl, sym, ap, subst, ◌∙◌, inl, inr}
+use Rattle.std.proofs.Common.{◌≡◌, ℕ, ◌==◌, ◌&&◌, Bool, true, false, cond, eqb, List, [], ◌∷◌, Option, Some, None, refl, sym, ap, subst, ◌∙◌, inl, inr, map}
 use Rattle.std.specs.Prelude.{nat_lt, option_map}
 use Rattle.std.proofs.lemmas.Bool.{cases_Bool, eqb-true, eq-eqb, ne_eqb}
 use Rattle.sp_base.specs.declared.id.Flow.{Flow}
@@ -8,16 +8,17 @@ use Rattle.sp_msg.specs.declared.body.Ack.{Ack}
 use Rattle.sp_msg.specs.declared.body.Body.TheVariants as bodies
 use Rattle.sp_msg.specs.declared.kept.Kept.{Kept}
 use Rattle.sp_msg.specs.declared.refused.SendRefused.{SendRefused}
-use Rattle.sp_rules.specs.Answers.{ack_answer, is_new, prio_answer, rel_answer, weight_answer}
+use Rattle.sp_rules.specs.Answers.{ack_answer, is_new, prio_answer, rel_answer, weight_answer, epoch_answer}
 use Rattle.sp_rules.specs.Arts.{Arts}
-use Rattle.sp_rules.specs.Arrivals.{arrival_at, handled, parts_met}
-use Rattle.sp_rules.specs.Handle.{Arrival, handle, handle_all, offer_to, prio_handled}
-use Rattle.sp_rules.specs.Lives.{are_held, is_dated}
-use Rattle.sp_rules.specs.Node.{NodeState, call_refusal, kept_or, signed_now}
+use Rattle.sp_rules.specs.Arrivals.{arrival_at, parts_met, greeted, has_risen, link_after}
+use Rattle.sp_rules.specs.Handle.{Arrival, handle, handle_all, offer_to, prio_handled, met}
+use Rattle.sp_rules.specs.Lives.{are_held, is_dated, judge_epoch, origin_said}
+use Rattle.sp_rules.specs.Node.{NodeState, call_refusal, kept_or, signed_now, link_in}
 use Rattle.sp_rules.specs.Parts.{Parts, is_signed}
 use Rattle.sp_rules.specs.Pieces.{Piece, AckPiece, PrioAckPiece, PrioPiece, RelPiece, ReportPiece, WeightPiece, EpochPiece}
+use Rattle.sp_rules.specs.Prio as prio
 use Rattle.sp_rules.specs.Prio.{judge_prio}
-use Rattle.sp_rules.specs.Rel.{RelPeer, RelState, admit_ack, admit_rel, due_place, flow_in, is_peer, judge_ack_of, judge_rel_of, next_place, peer_in, put_peer, reported, served, served_at, settled, settled_at, told, with_peer}
+use Rattle.sp_rules.specs.Rel.{unheard, RelPeer, RelState, admit_ack, admit_rel, due_place, flow_in, is_peer, judge_ack_of, judge_rel_of, next_place, peer_in, put_peer, reported, served, served_at, settled, settled_at, told, with_peer, restarted, views_less, no_views}
 use Rattle.sp_rules.specs.Sends.{rel_refusal, send_prio_refusal, signer_refusal, weight_refusal}
 use Rattle.sp_rules.specs.Steps.{Input, NodeStep, Output, Poll, Datagram, Tick, SendRel, SendPrio, SetWeight, TakeRel, TakePrio}
 use Rattle.sp_rules.specs.Ticks.{at_time, due_now, settled_by}
@@ -26,20 +27,15 @@ use Rattle.sp_rules.specs.declared.answers.Item.TheVariants as items
 use Rattle.sp_rules.specs.declared.answers.PrioAnswer.{PrioAnswer}
 use Rattle.sp_rules.specs.declared.answers.PrioAnswer.TheVariants as prios
 use Rattle.laws_node.proofs.Tables.{cond_either}
-use Rattle.laws_runs.proofs.NoStarts.{NoStart, NoStarts, met_as_it_was, no_starts_at, pieces_at, without}
-use Rattle.laws_runs.proofs.Signed.{signs}
-use Rattle.laws_runs.specs.Signs.{Good}
+use Rattle.laws_runs.proofs.NoStarts.{pieces_at}
 use Rattle.laws_runs.proofs.Tables.{same_node}
-use Rattle.laws_runs.specs.Premises.{Carries}
 use Rattle.sp_runs.specs.Inputs.{acting, crafted_contents, crafted_frame, flipped, input_of}
-use Rattle.sp_runs.specs.Settings.{Setting, StaysUp}
+use Rattle.sp_runs.specs.Settings.{Setting}
 use Rattle.sp_runs.specs.Worlds.{World, crafts, frame_in}
 use Rattle.sp_schedule_crafts.specs.Objects.{body_of}
 use Rattle.sp_schedule_events.specs.declared.event.Event.{Event}
 use Rattle.sp_schedule_events.specs.declared.event.Event.TheVariants as events
 use Rattle.sp_runs.specs.Runs.{is_poll}
-use Rattle.laws_progress.proofs.States.{Follows, State, seen_at, sight}
-use Rattle.laws_progress.proofs.Changes.{change}
 use Rattle.laws_progress.proofs.Keys.{peer_is}
 
 -- ---- one neighbour's row
@@ -81,10 +77,26 @@ settled_last v0 r o = go (due_place r)
 abbrev PartsSame : NodeId → Parts → Parts → Type 0
 PartsSame v0 p q = SameLast v0 p.rel q.rel
 
-piece_last : (v0 : NodeId) (arts : Arts) (at : Arrival) (p : Parts) (piece : Piece) → NoStart piece → PartsSame v0 p (handle arts at p piece).parts
-piece_last v0 arts at p (WeightPiece o) none = cond_either (PartsSame v0 p) (is_new (items.Weight (weight_answer (is_signed arts at.fixed o) (offer_to at.fixed.me p.weights o.body)))) (record p { weights = held p.weights o }) p refl refl
-piece_last v0 arts at p (PrioAckPiece number) none = refl
-piece_last v0 arts at p (PrioPiece number o) none = go (prio_answer (is_signed arts at.fixed o) (is_dated p.lives o.body) (judge_prio p.prio o.body at.now))
+-- another life of a node leaves them
+restarted_last : (v0 : NodeId) (r : RelState) (v : NodeId) → SameLast v0 r (restarted r v)
+restarted_last v0 r v = go r.peers
+  where
+    go : (ps : List RelPeer) → (peer_in (map (views_less v) ps) v0).last ≡ (peer_in ps v0).last
+    go [] = refl
+    go (p ∷ ps) = elim (cases_Bool (is_peer v0 p)) [
+      | inl t ↦ rw t refl
+      | inr t ↦ rw t (go ps)
+    ]
+
+greeted_last : (v0 : NodeId) (epochs risen : Bool) (v : NodeId) (p : Parts) → PartsSame v0 p (greeted epochs risen v p)
+greeted_last v0 epochs risen v p =
+    cond_either (PartsSame v0 p) (epochs && risen) (record p { prio = prio.unheard p.prio v.0; rel = unheard p.rel v }) p
+    (with_peer_last v0 p.rel v (no_views (peer_in p.rel.peers v)) (peer_is p.rel v) refl) refl
+
+piece_last : (v0 : NodeId) (arts : Arts) (at : Arrival) (p : Parts) (piece : Piece) → PartsSame v0 p (handle arts at p piece).parts
+piece_last v0 arts at p (WeightPiece o) = cond_either (PartsSame v0 p) (is_new (items.Weight (weight_answer (is_signed arts at.fixed o) (offer_to at.fixed.me p.weights o.body)))) (record p { weights = held p.weights o }) p refl refl
+piece_last v0 arts at p (PrioAckPiece number) = refl
+piece_last v0 arts at p (PrioPiece number o) = go (prio_answer (is_signed arts at.fixed o) (is_dated p.lives o.body) (judge_prio p.prio o.body at.now))
   where
     go : (answer : PrioAnswer) → PartsSame v0 p (prio_handled at.from answer number o p).parts
     go prios.New = refl
@@ -93,18 +105,19 @@ piece_last v0 arts at p (PrioPiece number o) none = go (prio_answer (is_signed a
     go prios.Expired = refl
     go prios.BadSig = refl
     go prios.Epoch = refl
-piece_last v0 arts at p (ReportPiece flow sboot dboot base have) none =
+piece_last v0 arts at p (ReportPiece flow sboot dboot base have) =
     cond_either (PartsSame v0 p) (are_held p.lives flow sboot dboot) (record p { rel = reported p.rel at.from flow base have }) p
     (reported_last v0 p.rel at.from flow base have) refl
-piece_last v0 arts at p (AckPiece flow o) none = cond_either (PartsSame v0 p) (is_new (items.Ack (ack_answer (is_signed arts at.fixed o) (is_dated p.lives o.body) (judge_ack_of p.rel flow o.body)))) (record p { rel = admit_ack p.rel o }) p refl refl
-piece_last v0 arts at p (RelPiece flow o) none = cond_either (PartsSame v0 p) (is_new (items.Rel (rel_answer (is_signed arts at.fixed o) (is_dated p.lives o.body) (judge_rel_of p.rel flow o.body)))) (record p { rel = admit_rel p.rel o }) p refl refl
-piece_last v0 arts at p (EpochPiece o) none = absurd none
+piece_last v0 arts at p (AckPiece flow o) = cond_either (PartsSame v0 p) (is_new (items.Ack (ack_answer (is_signed arts at.fixed o) (is_dated p.lives o.body) (judge_ack_of p.rel flow o.body)))) (record p { rel = admit_ack p.rel o }) p refl refl
+piece_last v0 arts at p (RelPiece flow o) = cond_either (PartsSame v0 p) (is_new (items.Rel (rel_answer (is_signed arts at.fixed o) (is_dated p.lives o.body) (judge_rel_of p.rel flow o.body)))) (record p { rel = admit_rel p.rel o }) p refl refl
+piece_last v0 arts at p (EpochPiece o) =
+    cond_either (PartsSame v0 p) (is_new (items.Epoch (epoch_answer (is_signed arts at.fixed o) (judge_epoch at.fixed.me p.lives o.body)))) (met p o) p
+    (restarted_last v0 p.rel (origin_said o.body)) refl
 
-pieces_last : (v0 : NodeId) (arts : Arts) (at : Arrival) (p : Parts) (pieces : List Piece) → NoStarts pieces
-    → PartsSame v0 p (handle_all arts at p pieces).parts
-pieces_last v0 arts at p [] none = refl
-pieces_last v0 arts at p (piece ∷ pieces) none =
-    pieces_last v0 arts at (handle arts at p piece).parts pieces none.1 ∙ piece_last v0 arts at p piece none.0
+pieces_last : (v0 : NodeId) (arts : Arts) (at : Arrival) (p : Parts) (pieces : List Piece) → PartsSame v0 p (handle_all arts at p pieces).parts
+pieces_last v0 arts at p [] = refl
+pieces_last v0 arts at p (piece ∷ pieces) =
+    pieces_last v0 arts at (handle arts at p piece).parts pieces ∙ piece_last v0 arts at p piece
 
 -- ---- steps
 
@@ -138,25 +151,25 @@ served_away v0 v r away = go (next_place r v)
     go None = refl
     go (Some place) = other_last v0 v (record (peer_in r.peers v) { last = Some place }) r.peers away (peer_is r v)
 
-step_last : (v0 : NodeId) (arts : Arts) (n : NodeState) (input : Input) (output : Output) (new : NodeState) → NoPoll v0 input → NodeStep arts n input output new → n.fixed.epochs ≡ false
+pub step_last : (v0 : NodeId) (arts : Arts) (n : NodeState) (input : Input) (output : Output) (new : NodeState) → NoPoll v0 input → NodeStep arts n input output new
     → NodeSame v0 n new
-step_last v0 arts n (Poll v) output new quiet s plain =
+step_last v0 arts n (Poll v) output new quiet s =
     subst (NodeSame v0 n) (sym s.1) (kept_last v0 (call_refusal n v) n _ (served_away v0 v n.parts.rel quiet))
-step_last v0 arts n (Datagram v bytes) output new quiet s plain =
+step_last v0 arts n (Datagram v bytes) output new quiet s =
     subst (NodeSame v0 n) (sym s.1) (kept_last v0 (call_refusal n v) n _
-    (subst (λ (p : Parts). PartsSame v0 p (handled arts n v bytes).parts) (met_as_it_was arts n v bytes plain)
-    (pieces_last v0 arts (arrival_at n v) (parts_met arts n v bytes) (pieces_at arts n v bytes) (no_starts_at arts n v bytes plain))))
-step_last v0 arts n (Tick now) output new quiet s plain = subst (NodeSame v0 n) (sym s.1) (go (due_now n) (signer_refusal n.signer))
+    (pieces_last v0 arts (arrival_at n v) (parts_met arts n v bytes) (pieces_at arts n v bytes)
+    ∙ greeted_last v0 n.fixed.epochs (has_risen (link_in n v) (link_after arts n v bytes)) v n.parts))
+step_last v0 arts n (Tick now) output new quiet s = subst (NodeSame v0 n) (sym s.1) (go (due_now n) (signer_refusal n.signer))
   where
     go : (o : Option Ack) (r : Option SendRefused) → NodeSame v0 n (settled_by arts (at_time n now) o r)
     go None r = refl
     go (Some ack) (Some refusal) = refl
     go (Some ack) None = settled_last v0 n.parts.rel (signed_now arts n (bodies.Ack ack))
-step_last v0 arts n (SendRel dst payload) output new quiet s plain = subst (NodeSame v0 n) (sym s.1) (kept_last v0 (rel_refusal n dst) n _ refl)
-step_last v0 arts n (SendPrio m) output new quiet s plain = subst (NodeSame v0 n) (sym s.new_is) (kept_last v0 (send_prio_refusal n m s.choice) n _ refl)
-step_last v0 arts n (SetWeight v weight) output new quiet s plain = subst (NodeSame v0 n) (sym s.1) (kept_last v0 (weight_refusal n v weight) n _ refl)
-step_last v0 arts n (TakeRel src) output new quiet s plain = subst (NodeSame v0 n) (sym s.1) refl
-step_last v0 arts n TakePrio output new quiet s plain = subst (NodeSame v0 n) (sym s.1) refl
+step_last v0 arts n (SendRel dst payload) output new quiet s = subst (NodeSame v0 n) (sym s.1) (kept_last v0 (rel_refusal n dst) n _ refl)
+step_last v0 arts n (SendPrio m) output new quiet s = subst (NodeSame v0 n) (sym s.new_is) (kept_last v0 (send_prio_refusal n m s.choice) n _ refl)
+step_last v0 arts n (SetWeight v weight) output new quiet s = subst (NodeSame v0 n) (sym s.1) (kept_last v0 (weight_refusal n v weight) n _ refl)
+step_last v0 arts n (TakeRel src) output new quiet s = subst (NodeSame v0 n) (sym s.1) refl
+step_last v0 arts n TakePrio output new quiet s = subst (NodeSame v0 n) (sym s.1) refl
 
 -- ---- in runs
 
@@ -188,16 +201,3 @@ no_poll arts x w n (events.Craft a b c f) i u v acts off is =
 no_poll arts x w n (events.CraftStatus a b c f g h) i u v acts off is = just v i _ tt is
 no_poll arts x w n (events.Start a) i u v acts off is = absurd cc
 no_poll arts x w n (events.Stop a) i u v acts off is = absurd cc
-
-pub serves_none : (arts : Arts) (x : Setting) (all : List Event) (flow : Flow) → StaysUp arts x → Carries x.topology.format arts
-    → (w y : State arts x all) (e : Event) (u v : NodeId) → Follows arts x all w e y
-    → is_poll u v e ≡ false → (sight arts x all flow).last y u v ≡ (sight arts x all flow).last w u v
-serves_none arts x all flow fits reads w y e u v follows off = elim (change arts x all fits reads w y e follows u) [
-  | inl q ↦ ap (seen_at None (λ n. (peer_in n.parts.rel.peers v).last)) q.same
-  | inr a ↦
-      let quiet = no_poll arts x w.world a.node e a.input u v a.acts off a.reaches in
-      ap (seen_at None (λ n. (peer_in n.parts.rel.peers v).last)) a.left
-      ∙ step_last v arts a.node a.input a.output a.after quiet a.step
-      (without x (Good arts x w.events w.journal) u a.node fits.plain ((signs arts x w.events w.journal w.world fits.fits reads w.run).nodes u a.node a.there))
-      ∙ sym (ap (seen_at None (λ n. (peer_in n.parts.rel.peers v).last)) a.there)
-]

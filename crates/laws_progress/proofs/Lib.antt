@@ -7,11 +7,17 @@ pub mod Facts
 pub mod Sweeps
 pub mod Along
 pub mod Paths
+-- ---- how boots spread, of any system whose steps have these facts
+pub mod SpreadFacts
+pub mod SpreadSweeps
+pub mod SpreadPaths
 -- ---- one hop, from facts of single steps
 pub mod Hops
 pub mod HopLemmas
 pub mod Heard
 -- ---- a node: what its steps leave of a flow, of a link and of what a neighbour reported
+pub mod Becomes
+pub mod LastBoots
 pub mod States
 pub mod Rises
 pub mod Changes
@@ -22,12 +28,16 @@ pub mod Polls
 pub mod Lasts
 pub mod Room
 pub mod Views
+pub mod Greets
 pub mod Slots
 pub mod Heeded
 pub mod SlotHeeds
 pub mod Deaf
+-- ---- a node: what it holds of starts, and what its steps make of it
+pub mod LifeRows
+pub mod LifePieces
+pub mod LifeFrames
 -- ---- the world: links, frames, and what comes through
-pub mod Upper
 pub mod Counting
 pub mod Made
 pub mod Links
@@ -42,13 +52,32 @@ pub mod Framed
 pub mod Arrives
 pub mod Passes
 pub mod Makes
+pub mod MakesNow
 pub mod Begins
 pub mod Hears
 pub mod Heeds
+pub mod Takes
+-- ---- lives: what holds in every state, and the steps of a calm interval
+pub mod Always
+pub mod Calms
+pub mod Heeding
+pub mod Passing
 pub mod Whole
+pub mod Watching
+-- ---- nodes that stay up in an interval, and what their frames tell of starts
+pub mod UpStates
+pub mod UpFacts
+pub mod UpFrames
+pub mod UpTold
 -- ---- the laws
 pub mod Positions
+pub mod RunStates
+pub mod LifeDelivery
 pub mod Delivery
+pub mod StartsTold
+pub mod ToldPaths
 pub mod Counts
 pub mod Worked
 pub mod WorkedPositions
+pub mod WorkedTelling
+pub mod WorkedLives

@@ -7,14 +7,15 @@ use Rattle.sp_base.specs.declared.id.EdgeId.{EdgeId}
 use Rattle.sp_base.specs.declared.id.NodeId.{NodeId}
 use Rattle.sp_rules.specs.Arts.{Arts}
 use Rattle.sp_rules.specs.Link.{Link, new_link}
-use Rattle.sp_rules.specs.Node.{NodeState, is_link, link_in, link_of}
+use Rattle.sp_rules.specs.Node.{NodeState, booted, is_link, link_in, link_of}
 use Rattle.sp_rules.specs.Parts.{Fixed}
 use Rattle.sp_topology.specs.Neighbours.{joins, neighbour, neighbours_from, other_end}
 use Rattle.sp_topology.specs.declared.topology.Edge.{Edge}
-use Rattle.laws_node.specs.Shapes.{LinkShape, Shape, link_shape}
+use Rattle.laws_node.proofs.Shapes.{shapes_begin}
+use Rattle.laws_node.specs.Shapes.{LinkShape, Shape, link_shape, shape_of}
 use Rattle.laws_runs.specs.Premises.{Carries}
 use Rattle.sp_runs.specs.Runs.{Clean, is_hop}
-use Rattle.sp_runs.specs.Settings.{Setting, StaysUp, fixed_of, node_at_boot}
+use Rattle.sp_runs.specs.Settings.{Setting, SettingFits, fixed_at, link_keys, signer_from}
 use Rattle.sp_runs.specs.Worlds.{World, node_in}
 use Rattle.sp_journal.specs.declared.entry.Entry.{Entry}
 use Rattle.sp_schedule_events.specs.declared.event.Event.{Event}
@@ -88,7 +89,7 @@ boot_key x f none u v place (e ∷ edges) some = go (other_end u.0 e) (end_joins
 -- ---- over a run
 
 -- the first row of a neighbour has the shape of its first row in a list of the same shapes
-first_shape : (v : NodeId) (a b : Link) (ls ks : List Link) → map link_shape ls ≡ map link_shape ks → list_any (is_link v) ls ≡ true
+pub first_shape : (v : NodeId) (a b : Link) (ls ks : List Link) → map link_shape ls ≡ map link_shape ks → list_any (is_link v) ls ≡ true
     → link_shape (first_where (is_link v) a ls) ≡ link_shape (first_where (is_link v) b ks)
 first_shape v a b [] ks same there = absurd (let e : false ≡ true = there in cc)
 first_shape v a b (l ∷ ls) [] same there = absurd cc
@@ -101,12 +102,14 @@ first_shape v a b (l ∷ ls) (k ∷ ks) same there =
       | inr t ↦ let u : is_link v k ≡ false = sym peer ∙ t in rw (t, u) (first_shape v a b ls ks rest (rw t at there))
     ]
 
-pub keys_are : (arts : Arts) (x : Setting) (es : List Event) (js : List Entry) (w : World) → StaysUp arts x → Carries x.topology.format arts
+pub keys_are : (arts : Arts) (x : Setting) (es : List Event) (js : List Entry) (w : World) → SettingFits arts x → Carries x.topology.format arts
     → Clean arts x es js w
     → (u v : NodeId) → is_hop x u v ≡ true → (n : NodeState) → node_in w.nodes u ≡ Some n → (link_in n v).key ≡ x.link_key (first_edge u v 0 x.topology.edges)
 keys_are arts x es js w fits reads run u v hop n at =
-    let shape = shape_is arts x es js w fits reads run u n at in
+    let f = fixed_at x u n.fixed.boot in
+    let signer = signer_from x u 0 n.signer.bound in
+    let boot = booted f signer (link_keys x u) x.buffer x.store in
+    let shape : shape_of n ≡ shape_of boot = shape_is arts x es js w fits reads run u n at ∙ sym (shapes_begin f signer (link_keys x u) x.buffer x.store) in
     let there = link_there x u v n (rows_are arts x es js w fits reads run u n at) hop in
-    let boot = node_at_boot x u in
     let same = first_shape v (new_link n.fixed.me v 0 []) (new_link u v 0 []) n.links boot.links (ap (λ (s : Shape). s.links) shape) there in
-    ap (λ (s : LinkShape). s.key) same ∙ boot_key x (fixed_of x u) (new_link u v 0 []) u v 0 x.topology.edges hop
+    ap (λ (s : LinkShape). s.key) same ∙ boot_key x f (new_link u v 0 []) u v 0 x.topology.edges hop

@@ -1,5 +1,5 @@
--- What a link of a correct node is in each state of a clean run: it is that node's, at boot 1, and its frames are counted by the polls.
-use Rattle.std.proofs.Common.{◌≡◌, ℕ, ◌+◌, Bool, true, false, cond, List, [], ◌∷◌, ◌++◌, map, zip, Some, Result, Ok, Err, refl, sym, ap, subst, ◌∙◌, inl, inr, arith}
+-- What a link of a correct node is in each state of a clean run: it is that node's, at the boot of its life. And how many of its frames it counts.
+use Rattle.std.proofs.Common.{◌≡◌, ◌⊎◌, ℕ, ◌+◌, ◌==◌, ◌||◌, true, false, cond, List, [], ◌∷◌, ◌++◌, map, zip, Bool, Some, Result, Ok, Err, refl, sym, ap, subst, ◌∙◌, inl, inr, arith}
 use Rattle.std.specs.List.{list_any}
 use Rattle.std.proofs.lemmas.Bool.{cases_Bool}
 use Rattle.sp_base.specs.Rows.{first_where}
@@ -11,141 +11,123 @@ use Rattle.sp_rules.specs.Arts.{Arts, is_right}
 use Rattle.sp_rules.proofs.ArrivalLemmas.{link_stays, link_with}
 use Rattle.sp_rules.specs.Arrivals.{link_after}
 use Rattle.sp_rules.specs.Link.{Link, after_answer, link_answer, new_link}
-use Rattle.sp_rules.specs.Node.{NodeState, is_link, link_in, link_of}
+use Rattle.sp_rules.specs.Node.{NodeState, booted, is_link, link_in, link_of}
 use Rattle.sp_rules.specs.Parts.{Fixed, neighbours_of}
 use Rattle.sp_rules.specs.Steps.{Input, Poll, Datagram}
 use Rattle.sp_rules.specs.declared.link.LinkAnswer.{LinkAnswer}
 use Rattle.sp_rules.specs.declared.link.LinkAnswer.TheVariants as links
-use Rattle.laws_runs.proofs.Lives.{step_stays}
+use Rattle.laws_node.specs.Shapes.{LinkShape, Shape, link_shape, shape_of}
+use Rattle.laws_node.proofs.Shapes.{shapes_begin}
 use Rattle.laws_runs.specs.Premises.{Carries}
-use Rattle.laws_runs.proofs.Plain as turns
-use Rattle.laws_runs.proofs.Plain.{Plain, plain_turn}
-use Rattle.laws_runs.proofs.Signed.{signs}
-use Rattle.laws_runs.proofs.Tables.{node_put}
 use Rattle.sp_runs.specs.Inputs.{acting, input_of}
-use Rattle.sp_runs.specs.Runs.{Clean, Starts, Turned, IsCraftOf, is_hop, next_frame, polls}
-use Rattle.sp_runs.specs.Settings.{Setting, StaysUp, fixed_of, link_keys}
+use Rattle.sp_runs.specs.Runs.{Clean, is_hop, is_poll, polls}
+use Rattle.sp_runs.specs.Settings.{Setting, SettingFits, fixed_at, link_keys, signer_from}
 use Rattle.sp_runs.specs.Worlds.{World, node_in}
 use Rattle.sp_journal.specs.declared.entry.Entry.{Entry}
 use Rattle.sp_schedule_events.specs.declared.event.Event.{Event}
-use Rattle.sp_runs.specs.Runs.{is_poll}
+use Rattle.sp_schedule_events.specs.declared.event.Event.TheVariants as events
+use Rattle.laws_progress.proofs.Becomes.{MovesNobody}
 use Rattle.laws_progress.proofs.Lasts.{NoPoll, no_poll}
-use Rattle.laws_progress.proofs.Links.{LinkAfter, Rests, Sends, Hears, link_step}
+use Rattle.laws_progress.proofs.LinkKeys.{first_shape}
+use Rattle.laws_progress.proofs.Links.{LinkAfter, Rests, Sends, Hears}
 use Rattle.laws_progress.proofs.Polls.{counted, poll_is}
-use Rattle.laws_progress.proofs.Rows.{at_boot, link_there, rows_are}
+use Rattle.laws_progress.proofs.Rows.{link_there, rows_are, shape_is}
 
-pub record LinkAt (es : List Event) (u v : NodeId) (l : Link) : Type 0 where
+pub record LinkAt (u : NodeId) (boot : ℕ) (l : Link) : Type 0 where
   pub me : l.me ≡ u
-  pub boot : l.boot ≡ 1
-  pub sent : l.sent ≡ polls es u v
+  pub boot_is : l.boot ≡ boot
 
-record IsNew (f : Fixed) (l : Link) : Type 0 where
-  me : l.me ≡ f.me
-  boot : l.boot ≡ f.boot
-  sent : l.sent ≡ 0
-
-boot_link : (f : Fixed) (none : Link) (v : NodeId) (zs : List ((NodeId × EdgeId) × List ℕ)) → list_any (is_link v) (map (link_of f) zs) ≡ true → IsNew f (first_where (is_link v) none (map (link_of f) zs))
-boot_link f none v [] there = absurd (let e : false ≡ true = there in cc)
-boot_link f none v (z ∷ zs) there = elim (cases_Bool (is_link v (link_of f z))) [
-  | inl t ↦ rw t (record { me = refl; boot = refl; sent = refl })
-  | inr t ↦ rw t (boot_link f none v zs (rw t at there))
+boot_link : (u : NodeId) (f : Fixed) (none : Link) (v : NodeId) (zs : List ((NodeId × EdgeId) × List ℕ)) → f.me ≡ u → list_any (is_link v) (map (link_of f) zs) ≡ true
+    → LinkAt u f.boot (first_where (is_link v) none (map (link_of f) zs))
+boot_link u f none v [] me there = absurd (let e : false ≡ true = there in cc)
+boot_link u f none v (z ∷ zs) me there = elim (cases_Bool (is_link v (link_of f z))) [
+  | inl t ↦ rw t (record { me = me; boot_is = refl })
+  | inr t ↦ rw t (boot_link u f none v zs me (rw t at there))
 ]
 
--- a datagram leaves whose a link is, its boot and its count
-record SameEnd (l k : Link) : Type 0 where
-  me : k.me ≡ l.me
-  boot : k.boot ≡ l.boot
-  sent : k.sent ≡ l.sent
-
-answer_same : (l : Link) (h : Head) (a : LinkAnswer) → SameEnd l (after_answer l h a)
-answer_same l h links.NotForMe = record { me = refl; boot = refl; sent = refl }
-answer_same l h links.BadTag = record { me = refl; boot = refl; sent = refl }
-answer_same l h (links.Learned boot) = record { me = refl; boot = refl; sent = refl }
-answer_same l h (links.Stale boot counter) = record { me = refl; boot = refl; sent = refl }
-answer_same l h links.Fresh = record { me = refl; boot = refl; sent = refl }
-
-after_same : (arts : Arts) (n : NodeState) (v : NodeId) (bytes : List ℕ) → SameEnd (link_in n v) (link_after arts n v bytes)
-after_same arts n v bytes = go (arts.opened bytes)
+same_there : (v : NodeId) (ls ks : List Link) → map link_shape ls ≡ map link_shape ks → list_any (is_link v) ls ≡ true → list_any (is_link v) ks ≡ true
+same_there v ls ks same there = sym (any_shape v ks) ∙ ap (list_any (λ (s : LinkShape). s.peer.0 == v.0)) (sym same) ∙ any_shape v ls ∙ there
   where
-    go : (o : Result (List ℕ) FrameRefused) → SameEnd (link_in n v) (link_with arts (link_in n v) bytes o)
-    go (Err refused) = subst (SameEnd (link_in n v)) (sym (link_stays arts (link_in n v) bytes refused)) (record { me = refl; boot = refl; sent = refl })
-    go (Ok frame) = answer_same (link_in n v) (arts.head bytes) (link_answer (link_in n v) (arts.head bytes) (is_right arts (link_in n v).key bytes))
+    any_shape : (v : NodeId) (ls : List Link) → list_any (λ (s : LinkShape). s.peer.0 == v.0) (map link_shape ls) ≡ list_any (is_link v) ls
+    any_shape v [] = refl
+    any_shape v (l ∷ ls) = ap (λ t. (l.peer.0 == v.0) || t) (any_shape v ls)
+
+pub links_at : (arts : Arts) (x : Setting) (es : List Event) (js : List Entry) (w : World) → SettingFits arts x → Carries x.topology.format arts
+    → Clean arts x es js w
+    → (u v : NodeId) → is_hop x u v ≡ true → (n : NodeState) → node_in w.nodes u ≡ Some n → LinkAt u n.fixed.boot (link_in n v)
+links_at arts x es js w fits reads run u v hop n at =
+    let f = fixed_at x u n.fixed.boot in
+    let signer = signer_from x u 0 n.signer.bound in
+    let boot = booted f signer (link_keys x u) x.buffer x.store in
+    let shape : shape_of n ≡ shape_of boot = shape_is arts x es js w fits reads run u n at ∙ sym (shapes_begin f signer (link_keys x u) x.buffer x.store) in
+    let there = link_there x u v n (rows_are arts x es js w fits reads run u n at) hop in
+    let links = ap (λ (s : Shape). s.links) shape in
+    let first = first_shape v (new_link n.fixed.me v 0 []) (new_link u v 0 []) n.links boot.links links there in
+    let new = boot_link u f (new_link u v 0 []) v (zip (neighbours_of f) (link_keys x u)) refl (same_there v n.links boot.links links there) in
+    record { me = ap (λ (s : LinkShape). s.me) first ∙ new.me; boot_is = ap (λ (s : LinkShape). s.boot) first ∙ new.boot_is }
+
+-- a datagram leaves how many frames were sent
+answer_sent : (l : Link) (h : Head) (a : LinkAnswer) → (after_answer l h a).sent ≡ l.sent
+answer_sent l h links.NotForMe = refl
+answer_sent l h links.BadTag = refl
+answer_sent l h (links.Learned boot) = refl
+answer_sent l h (links.Stale boot counter) = refl
+answer_sent l h links.Fresh = refl
+
+after_sent : (arts : Arts) (n : NodeState) (v : NodeId) (bytes : List ℕ) → (link_after arts n v bytes).sent ≡ (link_in n v).sent
+after_sent arts n v bytes = go (arts.opened bytes)
+  where
+    go : (o : Result (List ℕ) FrameRefused) → (link_with arts (link_in n v) bytes o).sent ≡ (link_in n v).sent
+    go (Err refused) = ap (λ (l : Link). l.sent) (link_stays arts (link_in n v) bytes refused)
+    go (Ok frame) = answer_sent (link_in n v) (arts.head bytes) (link_answer (link_in n v) (arts.head bytes) (is_right arts (link_in n v).key bytes))
 
 -- the count of polls after one event more
-no_more : (es : List Event) (e : Event) (u v : NodeId) → is_poll u v e ≡ false → polls (es ++ e ∷ []) u v ≡ polls es u v
+pub no_more : (es : List Event) (e : Event) (u v : NodeId) → is_poll u v e ≡ false → polls (es ++ e ∷ []) u v ≡ polls es u v
 no_more es e u v off = let more = counted u v es e ∙ ap (λ (t : Bool). polls es u v + cond t 1 0) off in omega (arith, more)
 
-one_more : (es : List Event) (e : Event) (u v : NodeId) → is_poll u v e ≡ true → polls (es ++ e ∷ []) u v ≡ polls es u v + 1
+pub one_more : (es : List Event) (e : Event) (u v : NodeId) → is_poll u v e ≡ true → polls (es ++ e ∷ []) u v ≡ polls es u v + 1
 one_more es e u v on = counted u v es e ∙ ap (λ (t : Bool). polls es u v + cond t 1 0) on
 
 -- what a poll of v gives the node
-poll_input : (arts : Arts) (x : Setting) (w : World) (n : NodeState) (e : Event) (i : Input) (u v : NodeId) → is_poll u v e ≡ true → input_of arts x w n e ≡ Some i → i ≡ Poll v
+pub poll_input : (arts : Arts) (x : Setting) (w : World) (n : NodeState) (e : Event) (i : Input) (u v : NodeId) → is_poll u v e ≡ true → input_of arts x w n e ≡ Some i → i ≡ Poll v
 poll_input arts x w n e i u v on reaches = let is : Some (Poll v) ≡ Some i = sym (ap (input_of arts x w n) (poll_is u v e on)) ∙ reaches in cc
 
-same_count : (es : List Event) (e : Event) (u v : NodeId) (l k : Link) → is_poll u v e ≡ false → SameEnd l k → LinkAt es u v l → LinkAt (es ++ e ∷ []) u v k
-same_count es e u v l k off s h = record { me = s.me ∙ h.me; boot = s.boot ∙ h.boot; sent = s.sent ∙ h.sent ∙ sym (no_more es e u v off) }
+-- ---- what an event does to how many a node sent in its life, against the places of the direction
 
-acted_link : (arts : Arts) (x : Setting) (es : List Event) (w : World) (n m : NodeState) (e : Event) (i : Input) (u v : NodeId) → acting e ≡ u → input_of arts x w n e ≡ Some i
-    → LinkAfter arts n i m v → LinkAt es u v (link_in n v) → LinkAt (es ++ e ∷ []) u v (link_in m v)
-acted_link arts x es w n m e i u v acts reaches (Rests quiet same) h = elim (cases_Bool (is_poll u v e)) [
+-- a step counts a frame exactly where it is polled
+pub step_sent : (arts : Arts) (x : Setting) (es : List Event) (w : World) (n m : NodeState) (e : Event) (i : Input) (u v : NodeId) → acting e ≡ u → input_of arts x w n e ≡ Some i
+    → LinkAfter arts n i m v → (link_in m v).sent + polls es u v ≡ (link_in n v).sent + polls (es ++ e ∷ []) u v
+step_sent arts x es w n m e i u v acts reaches (Rests quiet same) = elim (cases_Bool (is_poll u v e)) [
   | inl on ↦ absurd ((subst (NoPoll v) (poll_input arts x w n e i u v on reaches) quiet) refl)
-  | inr off ↦ subst (LinkAt (es ++ e ∷ []) u v) (sym same) (same_count es e u v (link_in n v) (link_in n v) off (record { me = refl; boot = refl; sent = refl }) h)
+  | inr off ↦ let sent = ap (λ (l : Link). l.sent) same in let none = no_more es e u v off in omega (arith, sent, none)
 ]
-acted_link arts x es w n m e i u v acts reaches (Sends is same) h = elim (cases_Bool (is_poll u v e)) [
-  | inl on ↦ subst (LinkAt (es ++ e ∷ []) u v) (sym same) (record { me = h.me; boot = h.boot; sent = let one = one_more es e u v on in let was = h.sent in omega (arith, one, was) })
+step_sent arts x es w n m e i u v acts reaches (Sends is same) = elim (cases_Bool (is_poll u v e)) [
+  | inl on ↦ let sent = ap (λ (l : Link). l.sent) same in let one = one_more es e u v on in omega (arith, sent, one)
   | inr off ↦ absurd ((subst (NoPoll v) is (no_poll arts x w n e i u v acts off reaches)) refl)
 ]
-acted_link arts x es w n m e i u v acts reaches (Hears bytes is same) h = elim (cases_Bool (is_poll u v e)) [
+step_sent arts x es w n m e i u v acts reaches (Hears bytes is same) = elim (cases_Bool (is_poll u v e)) [
   | inl on ↦ absurd (let both : Datagram v bytes ≡ Poll v = sym is ∙ poll_input arts x w n e i u v on reaches in cc)
-  | inr off ↦ subst (LinkAt (es ++ e ∷ []) u v) (sym same) (same_count es e u v (link_in n v) (link_after arts n v bytes) off (after_same arts n v bytes) h)
+  | inr off ↦
+      let sent = ap (λ (l : Link). l.sent) same ∙ after_sent arts n v bytes in
+      let none = no_more es e u v off in
+      omega (arith, sent, none)
 ]
 
-away_poll : (e : Event) (u v : NodeId) → (u ≡ acting e → ⊥) → is_poll u v e ≡ false
+pub away_poll : (e : Event) (u v : NodeId) → (acting e ≡ u → ⊥) → is_poll u v e ≡ false
 away_poll e u v away = elim (cases_Bool (is_poll u v e)) [
-  | inl on ↦ absurd (away (sym (ap acting (poll_is u v e on))))
+  | inl on ↦ absurd (away (ap acting (poll_is u v e on)))
   | inr off ↦ off
 ]
 
-craft_poll : (key : NodeId) (e : Event) (u v : NodeId) → IsCraftOf key e → is_poll u v e ≡ false
-craft_poll key e u v is = elim (cases_Bool (is_poll u v e)) [
-  | inl on ↦ absurd (subst (IsCraftOf key) (poll_is u v e on) is)
+-- what moves no node is no poll of one that runs
+pub idle_poll : (w : World) (e : Event) (u v : NodeId) → (acting e ≡ u → ⊥) ⊎ MovesNobody w e → is_poll u v e ≡ false
+idle_poll w e u v (inl away) = away_poll e u v away
+idle_poll w e u v (inr none) = elim (cases_Bool (is_poll u v e)) [
+  | inl on ↦ absurd (never (subst (MovesNobody w) (poll_is u v e on) none))
   | inr off ↦ off
 ]
-
-links_more : (arts : Arts) (x : Setting) (es : List Event) (js : List Entry) (old new : World) (e : Event) (j : Entry) → StaysUp arts x → Carries x.topology.format arts
-    → Clean arts x es js old
-    → (u v : NodeId) → is_hop x u v ≡ true → ((n : NodeState) → node_in old.nodes u ≡ Some n → LinkAt es u v (link_in n v))
-    → (n : NodeState) → node_in new.nodes u ≡ Some n → Plain arts x es js old e j new → LinkAt (es ++ e ∷ []) u v (link_in n v)
-links_more arts x es js old new e j fits reads run u v hop holds n at (turns.Goes m unforged) =
-    let is = (signs arts x es js old fits.fits reads run).nodes (acting e) m.node m.is_there in
-    let me : m.after.fixed.me ≡ acting e = ap (λ (f : Fixed). f.me) ((step_stays arts m.node m.input m.output m.after m.step).fixed ∙ is.fixed) in
-    elim (node_put u (acting e) m.after n old.nodes me (ap (λ (z : World). node_in z.nodes u) (sym m.world) ∙ at)) [
-      | inl here ↦
-          let node_there : node_in old.nodes u ≡ Some m.node = ap (node_in old.nodes) here.0 ∙ m.is_there in
-          let before = holds m.node node_there in
-          let rows = rows_are arts x es js old fits reads run u m.node node_there in
-          let there = link_there x u v m.node rows hop in
-          let step = link_step arts x m.node m.input m.output m.after v (next_frame old e) j.reply there m.step m.journal.reply in
-          subst (λ (q : NodeState). LinkAt (es ++ e ∷ []) u v (link_in q v)) (sym here.1)
-          (acted_link arts x es old m.node m.after e m.input u v (sym here.0) m.reaches step before)
-      | inr other ↦
-          let before = holds n other.1 in
-          same_count es e u v (link_in n v) (link_in n v) (away_poll e u v other.0) (record { me = refl; boot = refl; sent = refl }) before
-    ]
-links_more arts x es js old new e j fits reads run u v hop holds n at (turns.Rests s) =
-    let before = holds n (ap (λ (z : World). node_in z.nodes u) (sym s.world) ∙ at) in
-    same_count es e u v (link_in n v) (link_in n v) (craft_poll s.key e u v s.is_craft) (record { me = refl; boot = refl; sent = refl }) before
-
-pub links_at : (arts : Arts) (x : Setting) (es : List Event) (js : List Entry) (w : World) → StaysUp arts x → Carries x.topology.format arts
-    → Clean arts x es js w
-    → (u v : NodeId) → is_hop x u v ≡ true → (n : NodeState) → node_in w.nodes u ≡ Some n → LinkAt es u v (link_in n v)
-links_at arts x es js w fits reads Starts u v hop n at =
-    let rows = rows_are arts x [] [] w fits reads Starts u n at in
-    let is = at_boot x u n at in
-    let there = subst (λ (m : NodeState). list_any (is_link v) m.links ≡ true) is (link_there x u v n rows hop) in
-    let f = fixed_of x u in
-    let new = boot_link f (new_link u v 0 []) v (zip (neighbours_of f) (link_keys x u)) there in
-    subst (λ (m : NodeState). LinkAt [] u v (link_in m v)) (sym is) (record { me = new.me; boot = new.boot; sent = new.sent })
-links_at arts x es js w fits reads (Turned {es = es'} {js = js'} {old = old} {e = e} {j = j} run range turn unforged) u v hop n at =
-    links_more arts x es' js' old w e j fits reads run u v hop (λ m was. links_at arts x es' js' old fits reads run u v hop m was) n at
-    (plain_turn arts x es' js' old w e j fits.plain turn unforged)
+  where
+    never : MovesNobody w (events.Poll u v) → ⊥
+    never (inl craft) = craft.1
+    never (inr (inl missing)) = (let f : false ≡ true = missing in cc)
+    never (inr (inr other)) = other tt

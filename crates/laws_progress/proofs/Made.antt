@@ -1,6 +1,7 @@
--- The frames of a direction: each poll adds the one that it made, and nothing else changes them. So there are as many as polls.
-use Rattle.std.proofs.Common.{◌≡◌, ◌≤◌, ◌⊎◌, ℕ, zero, suc, ◌==◌, ◌&&◌, true, false, eqb, List, [], ◌∷◌, ◌++◌, length, Option, Some, refl, sym, ap, subst, ◌∙◌, inl, inr, arith}
-use Rattle.std.specs.Prelude.{option_and_then, slice_get}
+-- The frames of a direction: each poll adds the one that it made, or an empty place where its node doesn't run, and nothing else changes them. So there are
+-- as many places as polls.
+use Rattle.std.proofs.Common.{◌≡◌, ◌≤◌, ◌⊎◌, ℕ, zero, suc, ◌==◌, ◌&&◌, ◌||◌, Bool, true, false, eqb, List, [], ◌∷◌, ◌++◌, length, Option, None, Some, refl, sym, ap, subst, ◌∙◌, inl, inr, arith}
+use Rattle.std.specs.Prelude.{not, option_and_then, slice_get}
 use Rattle.std.proofs.lemmas.Bool.{cases_Bool, eqb-true, eq-eqb}
 use Rattle.sp_base.proofs.RowLemmas.{first_where-put, first_where-put_other}
 use Rattle.sp_base.specs.declared.id.NodeId.{NodeId}
@@ -11,14 +12,15 @@ use Rattle.sp_rules.specs.Steps as steps
 use Rattle.sp_rules.specs.Steps.{Input, NodeStep, Output, Poll, poll_output, refused_call, replied}
 use Rattle.sp_rules.specs.declared.node.NodeRefused.{NodeRefused}
 use Rattle.laws_runs.proofs.Lists.{both}
-use Rattle.laws_runs.proofs.Plain as turns
-use Rattle.laws_runs.proofs.Plain.{Plain, plain_turn}
+use Rattle.laws_runs.proofs.LifeCases.{Exhausts, LifeCase, Nobody, Starts_now, Stops, life_case}
+use Rattle.laws_runs.proofs.Ready.{Readied, ready_frames, was_there}
 use Rattle.laws_runs.proofs.Tables.{same_node}
-use Rattle.sp_runs.specs.Inputs.{input_of}
+use Rattle.sp_runs.specs.Inputs.{acting, input_of}
+use Rattle.sp_runs.specs.Lives.{comes_to_nobody, directions_missed, ready}
 use Rattle.sp_runs.specs.Journals.{Says, reply_word}
-use Rattle.sp_runs.specs.Runs.{Clean, directions_after, next_frame, polls}
+use Rattle.sp_runs.specs.Runs.{Clean, IsCraftOf, Lives, Moves, Stays, Turn, directions_after, next_frame, polls}
 use Rattle.sp_runs.specs.Settings.{Setting}
-use Rattle.sp_runs.specs.Worlds.{Direction, World, frame_in, frames_in, is_from_to, with_frame}
+use Rattle.sp_runs.specs.Worlds.{Direction, World, frame_in, frames_in, is_from_to, is_running, node_in, with_frame}
 use Rattle.sp_journal.specs.declared.entry.Entry.{Entry}
 use Rattle.sp_schedule_events.specs.declared.event.Event.{Event}
 use Rattle.sp_schedule_events.specs.declared.event.Event.TheVariants as events
@@ -26,7 +28,8 @@ use Rattle.sp_runs.specs.Runs.{is_poll}
 use Rattle.laws_progress.proofs.States.{Follows, Follow, State}
 use Rattle.laws_progress.proofs.Places.{get_front}
 use Rattle.laws_runs.proofs.Counts.{frames_are_counted}
-use Rattle.laws_progress.proofs.Polls.{answered}
+use Rattle.laws_progress.proofs.Becomes.{readied_keeps}
+use Rattle.laws_progress.proofs.Polls.{answered, poll_is}
 
 -- ---- one frame more
 
@@ -89,6 +92,86 @@ frames_step arts x w n (events.CraftStatus a b c f g h) i o m j u v reaches step
 frames_step arts x w n (events.Start a) i o m j u v reaches step says = inr (refl, refl)
 frames_step arts x w n (events.Stop a) i o m j u v reaches step says = inr (refl, refl)
 
+-- ---- an event
+
+-- a direction after one event: its node made a frame, it was polled where it didn't run, or nothing changes
+pub data FramesTurn (arts : Arts) (old : World) (e : Event) (new : World) (u v : NodeId) : Type 0 where
+  Makes : is_poll u v e ≡ true → (b : NodeState) → node_in old.nodes u ≡ Some b
+      → frames_in new.directions u v ≡ frames_in old.directions u v ++ Some (frame_to arts b v) ∷ [] → FramesTurn arts old e new u v
+  Misses : is_poll u v e ≡ true → is_running old.nodes u ≡ false → frames_in new.directions u v ≡ frames_in old.directions u v ++ None ∷ []
+      → FramesTurn arts old e new u v
+  Leaves : is_poll u v e ≡ false → frames_in new.directions u v ≡ frames_in old.directions u v → FramesTurn arts old e new u v
+
+pub poll_off : (u v : NodeId) (e : Event) → (events.Poll u v ≡ e → ⊥) → is_poll u v e ≡ false
+poll_off u v e never = elim (cases_Bool (is_poll u v e)) [
+  | inl on ↦ absurd (never (sym (poll_is u v e on)))
+  | inr off ↦ off
+]
+
+-- a node makes the frame that it would make without the indexes that it reserved before
+same_frame : (arts : Arts) (x : Setting) (w : World) (b n : NodeState) (v : NodeId) → Readied x w b n → frame_to arts n v ≡ frame_to arts b v
+same_frame arts x w b n v is = readied_keeps x w b n (λ m. frame_to arts m v ≡ frame_to arts b v) (λ upto same. same) is refl
+
+-- a poll that comes to nobody leaves an empty place
+missed : (arts : Arts) (old new : World) (e : Event) (u v : NodeId) → comes_to_nobody old e ≡ true
+    → new.directions ≡ directions_missed old.directions e → FramesTurn arts old e new u v
+missed arts old new e u v nobody after = elim (cases_Bool (is_poll u v e)) [
+  | inl on ↦
+      let poll = poll_is u v e on in
+      let down : not (is_running old.nodes u) || false ≡ true = subst (λ y. comes_to_nobody old y ≡ true) poll nobody in
+      Misses on (stopped (is_running old.nodes u) down)
+      (ap (λ ds. frames_in ds u v) (after ∙ ap (directions_missed old.directions) poll) ∙ put_same u v old.directions None)
+  | inr off ↦ Leaves off (ap (λ ds. frames_in ds u v) after ∙ others e off)
+]
+  where
+    stopped : (t : Bool) → not t || false ≡ true → t ≡ false
+    stopped true is = absurd (let f : false ≡ true = is in cc)
+    stopped false is = refl
+
+    others : (y : Event) → is_poll u v y ≡ false → frames_in (directions_missed old.directions y) u v ≡ frames_in old.directions u v
+    others (events.Poll a b) off = put_other u v a b old.directions None off
+    others (events.Rel a b c) off = refl
+    others (events.Prio a b c f g h) off = refl
+    others (events.Take a b) off = refl
+    others (events.TakePrio a) off = refl
+    others (events.Tick a b) off = refl
+    others (events.Weight a b c) off = refl
+    others (events.Pass a b c) off = refl
+    others (events.Flip a b c f g) off = refl
+    others (events.Inject a b c) off = refl
+    others (events.Craft a b c f) off = refl
+    others (events.CraftStatus a b c f g h) off = refl
+    others (events.Start a) off = refl
+    others (events.Stop a) off = refl
+
+pub frames_turn : (arts : Arts) (x : Setting) (old : World) (e : Event) (j : Entry) (new : World) → Turn arts x old e j new → (u v : NodeId)
+    → FramesTurn arts old e new u v
+frames_turn arts x old e j new (Moves m) u v =
+    let ready_is = ready_frames x old e in
+    let after : frames_in new.directions u v ≡ frames_in (directions_after (ready x old e).directions e m.output.reply) u v =
+    ap (λ (z : World). frames_in z.directions u v) m.world in
+    let before : frames_in (ready x old e).directions u v ≡ frames_in old.directions u v = ap (λ ds. frames_in ds u v) ready_is in
+    elim (frames_step arts x (ready x old e) m.node e m.input m.output m.after j u v m.reaches m.step m.journal) [
+      | inl grown ↦
+          let was = was_there x old e (acting e) m.node m.is_there in
+          let acts : acting e ≡ u = ap acting (poll_is u v e grown.0) in
+          Makes grown.0 was.before (ap (node_in old.nodes) (sym acts) ∙ was.is_there)
+          (after ∙ grown.1 ∙ ap (λ fs. fs ++ Some (frame_to arts m.node v) ∷ []) before
+          ∙ ap (λ f. frames_in old.directions u v ++ Some f ∷ []) (same_frame arts x old was.before m.node v was.readied))
+      | inr same ↦ Leaves same.0 (after ∙ same.1 ∙ before)
+    ]
+frames_turn arts x old e j new (Stays s) u v =
+    Leaves (poll_off u v e (λ is. subst (IsCraftOf s.key) (sym is) s.is_craft)) (ap (λ (z : World). frames_in z.directions u v) s.world)
+frames_turn arts x old e j new (Lives on life) u v = go (life_case arts x old e j new life)
+  where
+    go : LifeCase arts x old e j new → FramesTurn arts old e new u v
+    go (Starts_now a is start) = Leaves (poll_off u v e (λ z. absurd (let f : events.Poll u v ≡ events.Start a = z ∙ is in cc))) (ap (λ (z : World). frames_in z.directions u v) start.world)
+    go (Exhausts a is none) = Leaves (poll_off u v e (λ z. absurd (let f : events.Poll u v ≡ events.Start a = z ∙ is in cc))) (ap (λ (z : World). frames_in z.directions u v) none.world)
+    go (Stops a is stop) =
+        Leaves (poll_off u v e (λ z. absurd (let f : events.Poll u v ≡ events.Stop a = z ∙ is in cc)))
+        (ap (λ (z : World). frames_in z.directions u v) stop.world ∙ ap (λ ds. frames_in ds u v) (ready_frames x old (events.Stop a)))
+    go (Nobody other down) = missed arts old new e u v down.nobody (ap (λ (z : World). z.directions) down.world)
+
 -- ---- over a run: as many as polls
 
 pub frames_count : (arts : Arts) (x : Setting) (es : List Event) (js : List Entry) (w : World) → Clean arts x es js w → (u v : NodeId)
@@ -101,23 +184,22 @@ stays_in : (ds es : List Direction) (u v : NodeId) (more : List (Option (List �
 stays_in ds es u v more zero same low = refl
 stays_in ds es u v more (suc k) same low = ap (option_and_then (λ frame. frame)) (ap (λ fs. slice_get fs k) same ∙ get_front (frames_in ds u v) more k (omega (arith, low)))
 
-frames_keep : (arts : Arts) (x : Setting) (all : List Event) (w y : State arts x all) (e : Event) (j : Entry) (u v : NodeId) (k : ℕ) → k ≤ polls w.events u v
-    → Plain arts x w.events w.journal w.world e j y.world → frame_in y.world.directions u v k ≡ frame_in w.world.directions u v k
-frames_keep arts x all w y e j u v k low (turns.Rests s) = ap (λ (z : World). frame_in z.directions u v k) s.world
-frames_keep arts x all w y e j u v k low (turns.Goes m unforged) =
-    let count = frames_count arts x w.events w.journal w.world w.run u v in
-    let ds = w.world.directions in
-    let world = ap (λ (z : World). frame_in z.directions u v k) m.world in
-    elim (frames_step arts x w.world m.node e m.input m.output m.after j u v m.reaches m.step m.journal) [
-      | inl grown ↦ world ∙ stays_in ds (directions_after ds e m.output.reply) u v (Some (frame_to arts m.node v) ∷ []) k grown.1 (omega (arith, low, count))
-      | inr same ↦ world ∙ at_same ds (directions_after ds e m.output.reply) k same.1
-    ]
-  where
-    at_same : (ds es : List Direction) (k : ℕ) → frames_in es u v ≡ frames_in ds u v → frame_in es u v k ≡ frame_in ds u v k
-    at_same ds es zero same = refl
-    at_same ds es (suc k) same = ap (λ fs. option_and_then (λ frame. frame) (slice_get fs k)) same
+at_same : (ds es : List Direction) (u v : NodeId) (k : ℕ) → frames_in es u v ≡ frames_in ds u v → frame_in es u v k ≡ frame_in ds u v k
+at_same ds es u v zero same = refl
+at_same ds es u v (suc k) same = ap (λ fs. option_and_then (λ frame. frame) (slice_get fs k)) same
 
-pub frames_stay : (arts : Arts) (x : Setting) (all : List Event) → x.epochs ≡ false → (w y : State arts x all) (e : Event) (u v : NodeId) (k : ℕ)
+pub frames_kept : (arts : Arts) (x : Setting) (es : List Event) (js : List Entry) (old : World) (e : Event) (j : Entry) (new : World) → Clean arts x es js old
+    → Turn arts x old e j new → (u v : NodeId) (k : ℕ) → k ≤ polls es u v → frame_in new.directions u v k ≡ frame_in old.directions u v k
+frames_kept arts x es js old e j new run turn u v k low =
+    let count = frames_count arts x es js old run u v in
+    go count (frames_turn arts x old e j new turn u v)
+  where
+    go : length (frames_in old.directions u v) ≡ polls es u v → FramesTurn arts old e new u v → frame_in new.directions u v k ≡ frame_in old.directions u v k
+    go count (Makes on b at is) = stays_in old.directions new.directions u v (Some (frame_to arts b v) ∷ []) k is (omega (arith, low, count))
+    go count (Misses on down is) = stays_in old.directions new.directions u v (None ∷ []) k is (omega (arith, low, count))
+    go count (Leaves off is) = at_same old.directions new.directions u v k is
+
+pub frames_stay : (arts : Arts) (x : Setting) (all : List Event) → (w y : State arts x all) (e : Event) (u v : NodeId) (k : ℕ)
     → Follows arts x all w e y → k ≤ polls w.events u v → frame_in y.world.directions u v k ≡ frame_in w.world.directions u v k
-frames_stay arts x all plain w y e u v k (Follow j events journal range turn unforged) low =
-    frames_keep arts x all w y e j u v k low (plain_turn arts x w.events w.journal w.world y.world e j plain turn unforged)
+frames_stay arts x all w y e u v k (Follow j events journal range turn unforged) low =
+    frames_kept arts x w.events w.journal w.world e j y.world w.run turn u v k low

@@ -1,5 +1,19 @@
 -- The law: positions, lists and views are in order in every state, and each active flow is counted.
-use Rattle.std.proofs.Common.{◌≡◌, ◌≤◌, ◌||◌, Bool, true, false, not, List, [], ◌∷◌, map, Some, refl, ap, arith, count_by, sym, ◌∙◌}
+use Rattle.laws_node.proofs.FreshLemmas.{one}
+use Rattle.laws_progress.proofs.Always.{always}
+use Rattle.laws_progress.proofs.Changes.{both_held, life_of}
+use Rattle.laws_progress.proofs.KnownRuns.{sent_within}
+use Rattle.laws_progress.proofs.LastBoots.{held_none, running_boot, without_epochs}
+use Rattle.laws_progress.proofs.MakesNow.{seen_flow, seen_view}
+use Rattle.laws_progress.proofs.Polls.{both_ways}
+use Rattle.laws_progress.proofs.States.{Era, IsBetween, IsEra, IsRight, State, Watched, has_met, in_era, last_state, seen_at}
+use Rattle.laws_progress.proofs.Watching.{AllUp, watch, watch_is}
+use Rattle.laws_runs.proofs.There.{is_there}
+use Rattle.sp_graph.specs.Certificates.{through}
+use Rattle.sp_rules.specs.Node.{link_in, NodeState}
+use Rattle.sp_rules.specs.Rel.{View}
+use Rattle.sp_runs.specs.Runs.{polls, Clean, is_hop}
+use Rattle.std.proofs.Common.{◌-◌, ◌==◌, ◌≡◌, ◌≤◌, ◌||◌, Bool, true, false, not, List, [], ◌∷◌, map, Some, refl, ap, arith, count_by, sym, ◌∙◌}
 use Rattle.std.specs.Prelude.{IsTrue}
 use Rattle.std.proofs.lemmas.Bool.{ne_eqb}
 use Rattle.std.proofs.lemmas.Option.{slice_get-get_or}
@@ -8,14 +22,10 @@ use Rattle.sp_base.specs.declared.id.Flow.{Flow}
 use Rattle.sp_base.specs.declared.id.NodeId.{NodeId}
 use Rattle.sp_rules.specs.Arts.{Arts}
 use Rattle.sp_rules.specs.Flow.{FlowState}
-use Rattle.sp_rules.specs.Node.{NodeState}
 use Rattle.sp_rules.specs.Parts.{nodes_of}
-use Rattle.sp_rules.specs.Rel.{peer_in, view_in}
 use Rattle.sp_rules.proofs.FlowJudged.{found_ends}
 use Rattle.laws_node.proofs.Boot.{nodes_hold}
 use Rattle.laws_node.proofs.Reliable.{in_range, read}
-use Rattle.sp_runs.specs.Rounds.{flow_count}
-use Rattle.sp_runs.specs.Runs.{Clean, is_hop}
 use Rattle.sp_runs.specs.Settings.{Setting, StaysUp, is_correct}
 use Rattle.sp_runs.specs.Worlds.{World, node_in}
 use Rattle.sp_journal.specs.declared.entry.Entry.{Entry}
@@ -29,15 +39,8 @@ use Rattle.laws_runs.proofs.Signed.{signs}
 use Rattle.laws_runs.proofs.Tables.{same_node}
 use Rattle.laws_progress.specs.Positions.{PositionClaims, PositionsAreInOrder, view_at}
 use Rattle.laws_progress.proofs.Counting.{asked_at, few_at}
-use Rattle.laws_progress.proofs.HopLemmas.{hops_hold}
 use Rattle.laws_progress.proofs.Places.{counts_one}
-use Rattle.laws_progress.proofs.Polls.{both_ways}
 use Rattle.laws_progress.proofs.Service.{number_on}
-use Rattle.laws_progress.proofs.Standing.{place_at}
-use Rattle.laws_progress.proofs.States.{Follows, IsHop, State, last_state, seen_at, sight}
-use Rattle.laws_progress.proofs.Upper.{IsRight, seen_there}
-use Rattle.laws_progress.proofs.Whole.{steady}
-use Rattle.laws_progress.proofs.Wires.{wires}
 
 -- ---- counts
 
@@ -51,6 +54,9 @@ counted_is false true h = h refl
 counted_is false false h = refl
 
 -- ---- one flow
+
+plain_met : (x : Setting) (t : Bool) → x.epochs ≡ false → (not x.epochs || t) ≡ true
+plain_met x t off = rw off refl
 
 module _ (arts : Arts) (x : Setting) (es : List Event) (js : List Entry) (w : World) (fits : StaysUp arts x) (through : ComesThrough x.topology.format arts x.signature_len) (one : 1 ≤ x.buffer) (run : Clean arts x es js w) where
   correct_at : (u : NodeId) (n : NodeState) → node_in w.nodes u ≡ Some n → is_correct x u ≡ true
@@ -73,20 +79,76 @@ module _ (arts : Arts) (x : Setting) (es : List Event) (js : List Entry) (w : Wo
         let end : (flow_at n s d).dst ≡ d = ap (λ (f : Flow). f.dst) (found_ends n.parts.rel.flows flow) in
         row.standing.position (ne_eqb _ _ (λ same. other (sym (same_node _ _ same) ∙ end)))
 
+    -- every correct node is watched in its only life
+    abbrev era : Era
+    era = record { on = is_correct x; life = λ u. 1; sboot = 0; dboot = 0; early = λ u v. polls es u v - seen_at 0 (λ q. (link_in q v).sent) (node_in w.nodes u) }
+
+    right : IsRight x (record { src = s; dst = d })
+    right = record { from = from; to = to; different = different }
+
+    is_era : IsEra x (record { src = s; dst = d }) era
+    is_era = record {
+      right = right;
+      correct = λ v on. on;
+      source = from;
+      end = to;
+      some = λ v on. omega arith;
+      taken = λ on. absurd (let f : false ≡ true = sym fits.plain ∙ on in cc);
+      only = λ off. (refl, refl);
+      lone = λ off v on. refl;
+    }
+
+    up_now : AllUp arts x es era (record { src = s; dst = d }) (last_state arts x es js w run)
+    up_now u on =
+        let n = is_there arts x es js w fits run u on in
+        let none = held_none arts x es js w fits.fits through.carries run fits.plain u n.0 n.1 in
+        record {
+          node = n.0;
+          there = n.1;
+          boot = running_boot arts x es js w fits.fits through.carries run u n.0 n.1 ∙ without_epochs x w u fits.plain;
+          held = both_held n.0 s d 0 0 (none s) (none d);
+        }
+
+    early_is : (u v : NodeId) → is_correct x u ≡ true → (n : NodeState) → node_in w.nodes u ≡ Some n
+        → polls es u v - seen_at 0 (λ (q : NodeState). (link_in q v).sent) (node_in w.nodes u) ≡ polls es u v - (link_in n v).sent
+    early_is u v on n at = ap (λ o. polls es u v - seen_at 0 (λ (q : NodeState). (link_in q v).sent) o) at
+
+    watched : Watched arts x es era
+    watched = watch arts x es era (record { src = s; dst = d }) fits.fits through.carries is_era through.heads (last_state arts x es js w run) up_now early_is
+        (λ u v on joined n at. sent_within arts x es js w fits.fits through.carries run u v joined n at)
+
+    watched_at : watched.at ≡ last_state arts x es js w run
+    unfolding watched
+    watched_at = watch_is arts x es era (record { src = s; dst = d }) fits.fits through.carries is_era through.heads (last_state arts x es js w run) up_now early_is
+        (λ u v on joined n at. sent_within arts x es js w fits.fits through.carries run u v joined n at)
+
     hop : (u v : NodeId) (n m : NodeState) → IsTrue (is_hop x u v) → node_in w.nodes u ≡ Some n → node_in w.nodes v ≡ Some m
         → ((view_at n v s d).base ≤ (flow_at m s d).at.base) × ((view_at n v s d).have ≤ (flow_at m s d).at.have)
     hop u v n m joined at there =
-        let y = last_state arts x es js w run in
-        let right : IsRight x flow = record { from = from; to = to; different = different } in
-        let steady_is = steady arts x es flow fits through one right (flow_count x es) (omega arith) in
-        let ways = both_ways x u v (record { first = correct_at u n at; second = correct_at v m there; joined = joined }) in
-        let h = hops_hold (State arts x es) (Follows arts x es) (IsHop x) (sight arts x es flow) (wires arts x es flow) (place_at x flow) x.buffer (flow_count x es) s d steady_is y v u ways in
-        let base = ap (seen_at 0 (λ n. (view_in (peer_in n.parts.rel.peers v).views flow).base)) at in
-        let have = ap (seen_at 0 (λ n. (view_in (peer_in n.parts.rel.peers v).views flow).have)) at in
-        let stands = seen_there flow _ m there in
+        let flow : Flow = record { src = s; dst = d } in
+        let u_on = correct_at u n at in
+        let v_on = correct_at v m there in
+        let back : IsBetween x era v u = record { hop = both_ways x u v (record { first = u_on; second = v_on; joined = joined }); first = v_on; second = u_on } in
+        let h = always arts x es era flow fits.fits through is_era watched v u back in
+        let world = ap (λ (z : State arts x es). z.world) watched_at in
+        let at_u : node_in watched.at.world.nodes u ≡ Some n = ap (λ (z : World). node_in z.nodes u) world ∙ at in
+        let at_v : node_in watched.at.world.nodes v ≡ Some m = ap (λ (z : World). node_in z.nodes v) world ∙ there in
+        let met : has_met x era v n ≡ true = plain_met x ((link_in n v).peer_boot == 1) fits.plain in
+        let view = seen_view arts x es era flow watched u v n at_u (in_it u n u_on at) met in
+        let stands = seen_flow arts x es era flow watched v m at_v (in_it v m v_on there) in
+        let view_base = ap (λ (z : View). z.base) view in
+        let view_have = ap (λ (z : View). z.have) view in
         let its_base = ap (λ (f : FlowState). f.at.base) stands in
         let its_have = ap (λ (f : FlowState). f.at.have) stands in
-        (let b = h.view_base in omega (arith, b, base, its_base), let b = h.view_have in omega (arith, b, have, its_have))
+        (let b = h.view_base in omega (arith, b, view_base, its_base), let b = h.view_have in omega (arith, b, view_have, its_have))
+      where
+        in_it : (u : NodeId) (n : NodeState) → is_correct x u ≡ true → node_in w.nodes u ≡ Some n → in_era era (record { src = s; dst = d }) u n ≡ true
+        in_it u n on at =
+            let boot : n.fixed.boot ≡ 1 = running_boot arts x es js w fits.fits through.carries run u n at ∙ without_epochs x w u fits.plain in
+            let none = held_none arts x es js w fits.fits through.carries run fits.plain u n at in
+            let life = life_of era u n on boot in
+            let held = both_held n s d 0 0 (none s) (none d) in
+            rw (life, held) refl
 
     positions : PositionClaims arts x s d es js w
     positions = record {
@@ -109,9 +171,9 @@ positions_are_in_order arts x es js w fits through one run = record {
   positions = λ s d from to different. positions arts x es js w fits through one run s d from to different;
   counted = λ u n at k none inside on.
       let there = slice_get-get_or n.parts.rel.flows k none inside in
-      counted_is _ _ (asked_at arts x es js w fits through.carries run u n at k _ there on);
+      counted_is _ _ (asked_at arts x es js w fits.fits through.carries run u n at k _ there on);
   few = λ u n at.
-      let most = few_at arts x es fits through.carries (last_state arts x es js w run) u n at in
+      let most = few_at arts x es fits.fits through.carries (last_state arts x es js w run) u n at in
       let same = rows_on n.parts.rel.flows in
       omega (arith, most, same);
 }

@@ -1,7 +1,7 @@
 -- What a step does to flows: no base and no have falls, no flow that is active stops being so, and no client's taking is undone.
-use Rattle.std.proofs.Common.{◌≡◌, ◌≤◌, ℕ, ◌-◌, true, false, eqb, List, [], ◌∷◌, length, drop, Option, Some, None, refl, sym, ap, subst, ◌∙◌, inl, inr, arith}
+use Rattle.std.proofs.Common.{◌≡◌, ◌<◌, ◌≤◌, ◌⊎◌, ℕ, ◌-◌, ◌==◌, Bool, true, false, cond, eqb, List, [], ◌∷◌, map, length, drop, Option, Some, None, refl, sym, ap, subst, ◌∙◌, inl, inr, arith}
 use Rattle.std.specs.Prelude.{◌&&◌}
-use Rattle.std.proofs.lemmas.Bool.{cases_Bool}
+use Rattle.std.proofs.lemmas.Bool.{cases_Bool, cases_eq, eq-eqb, eqb-true, ne_eqb}
 use Rattle.std.proofs.lemmas.List.{length-append}
 use Rattle.sp_base.specs.declared.id.Flow.{Flow}
 use Rattle.sp_base.specs.declared.id.NodeId.{NodeId}
@@ -11,16 +11,16 @@ use Rattle.sp_msg.specs.declared.body.Body.TheVariants as bodies
 use Rattle.sp_msg.specs.declared.kept.Kept.{Kept}
 use Rattle.sp_msg.specs.declared.refused.SendRefused.{SendRefused}
 use Rattle.sp_rules.proofs.FlowJudged.{found_ends, same_ends}
-use Rattle.sp_rules.specs.Answers.{ack_answer, is_new, prio_answer, rel_answer, weight_answer}
+use Rattle.sp_rules.specs.Answers.{ack_answer, epoch_answer, is_new, prio_answer, rel_answer, weight_answer}
 use Rattle.sp_rules.specs.Arts.{Arts}
-use Rattle.sp_rules.specs.Arrivals.{arrival_at, handled, parts_met}
-use Rattle.sp_rules.specs.Flow.{FlowState, acknowledged_by, after_take, concluded, ends, flow_said, is_flow, pushed, received}
-use Rattle.sp_rules.specs.Handle.{Arrival, handle, handle_all, offer_to, prio_handled}
-use Rattle.sp_rules.specs.Lives.{are_held, is_dated}
-use Rattle.sp_rules.specs.Node.{NodeState, call_refusal, kept_or, signed_now}
+use Rattle.sp_rules.specs.Arrivals.{arrival_at, greeted, has_risen, link_after, parts_met, reply_at, sections_in}
+use Rattle.sp_rules.specs.Flow.{FlowState, acknowledged_by, after_take, concluded, ends, flow_said, is_flow, no_flow, pushed, received}
+use Rattle.sp_rules.specs.Handle.{Arrival, handle, handle_all, met, offer_to, prio_handled}
+use Rattle.sp_rules.specs.Lives.{are_held, boot_said, held_boot, is_dated, judge_epoch, origin_said}
+use Rattle.sp_rules.specs.Node.{NodeState, call_refusal, kept_or, link_in, signed_now}
 use Rattle.sp_rules.specs.Parts.{Parts, is_signed}
 use Rattle.sp_rules.specs.Pieces.{Piece, AckPiece, PrioAckPiece, PrioPiece, RelPiece, ReportPiece, WeightPiece, EpochPiece}
-use Rattle.sp_rules.specs.Rel.{RelState, admit_ack, admit_rel, judge_ack_of, judge_rel_of, pushed_in, due_place, flow_in, flow_to_me, is_to, next_place, put_flow, reported, served, served_at, settled, settled_at, told, took, with_flow, with_peer, peer_in}
+use Rattle.sp_rules.specs.Rel.{RelPeer, RelState, View, is_end, is_peer, is_view, no_view, restarted, view_in, view_less, viewed, views_less, admit_ack, admit_rel, judge_ack_of, judge_rel_of, pushed_in, due_place, flow_in, flow_to_me, is_to, next_place, put_flow, reported, served, served_at, settled, settled_at, told, took, with_flow, with_peer, peer_in}
 use Rattle.sp_rules.specs.Sends.{rel_body, rel_refusal, send_prio_refusal, signer_refusal, weight_refusal}
 use Rattle.sp_rules.specs.Steps.{Input, NodeStep, Output, Poll, Datagram, Tick, SendRel, SendPrio, SetWeight, TakeRel, TakePrio}
 use Rattle.sp_rules.specs.Ticks.{at_time, due_now, settled_by}
@@ -30,7 +30,11 @@ use Rattle.sp_rules.specs.declared.answers.Item.TheVariants as items
 use Rattle.sp_rules.specs.declared.answers.PrioAnswer.{PrioAnswer}
 use Rattle.sp_rules.specs.declared.answers.PrioAnswer.TheVariants as prios
 use Rattle.laws_node.proofs.Tables.{cond_either}
-use Rattle.laws_runs.proofs.NoStarts.{NoStart, NoStarts, met_as_it_was, no_starts_at, pieces_at}
+use Rattle.laws_node.specs.Epochs.{Follows}
+use Rattle.laws_runs.proofs.Lists.{both}
+use Rattle.laws_runs.proofs.NoStarts.{NoStart, pieces_at}
+use Rattle.laws_runs.proofs.StartPieces.{StartLast, greeted_lives, last_where, same_lives, start_follows}
+use Rattle.laws_runs.proofs.Tables.{same_node}
 
 pub record FlowLater (f g : FlowState) : Type 0 where
   pub base : f.at.base ≤ g.at.base
@@ -164,36 +168,168 @@ piece_later arts at p (AckPiece flow o) none = cond_either (PartsLater p) (is_ne
 piece_later arts at p (RelPiece flow o) none = cond_either (PartsLater p) (is_new (items.Rel (rel_answer (is_signed arts at.fixed o) (is_dated p.lives o.body) (judge_rel_of p.rel flow o.body)))) (record p { rel = admit_rel p.rel o }) p (admit_rel_later p.rel o) (rel_same p.rel)
 piece_later arts at p (EpochPiece o) none = absurd none
 
-pieces_later : (arts : Arts) (at : Arrival) (p : Parts) (pieces : List Piece) → NoStarts pieces → PartsLater p (handle_all arts at p pieces).parts
-pieces_later arts at p [] none = rel_same p.rel
-pieces_later arts at p (piece ∷ pieces) none =
-    rel_then p.rel (handle arts at p piece).parts.rel (handle_all arts at (handle arts at p piece).parts pieces).parts.rel
-    (piece_later arts at p piece none.0) (pieces_later arts at (handle arts at p piece).parts pieces none.1)
+-- ---- an Epoch object
+
+view_less_in : (v : NodeId) (flow : Flow) (ws : List View) → view_in (map (view_less v) ws) flow ≡ cond (is_end v flow) (no_view flow) (view_in ws flow)
+view_less_in v flow [] = sym (either_same (is_end v flow))
+  where
+    either_same : (t : Bool) → cond t (no_view flow) (no_view flow) ≡ no_view flow
+    either_same true = refl
+    either_same false = refl
+view_less_in v flow (w ∷ ws) = elim (cases_Bool (is_view flow w)) [
+  | inl t ↦
+      let ends_are = both _ _ t in
+      let its : viewed w ≡ flow =
+      ap (λ s. let g : Flow = record { src = s; dst = w.dst } in g) (same_node w.src flow.src (eqb-true _ _ ends_are.0))
+      ∙ ap (λ d. let g : Flow = record { src = flow.src; dst = d } in g) (same_node w.dst flow.dst (eqb-true _ _ ends_are.1)) in
+      let end : is_end v (viewed w) ≡ is_end v flow = ap (is_end v) its in
+      elim (cases_Bool (is_end v flow)) [
+        | inl z ↦ let y : is_end v (viewed w) ≡ true = end ∙ z in rw (z, y, t) (ap no_view its)
+        | inr z ↦ let y : is_end v (viewed w) ≡ false = end ∙ z in rw (z, y, t) refl
+      ]
+  | inr t ↦ elim (cases_Bool (is_end v (viewed w))) [
+    | inl y ↦ rw (y, t) (view_less_in v flow ws)
+    | inr y ↦ rw (y, t) (view_less_in v flow ws)
+  ]
+]
+
+-- what is known of a neighbour after it
+pub restarted_view : (v u : NodeId) (flow : Flow) (r : RelState)
+    → view_in (peer_in (restarted r v).peers u).views flow ≡ cond (is_end v flow) (no_view flow) (view_in (peer_in r.peers u).views flow)
+restarted_view v u flow r = go r.peers
+  where
+    go : (ps : List RelPeer) → view_in (peer_in (map (views_less v) ps) u).views flow ≡ cond (is_end v flow) (no_view flow) (view_in (peer_in ps u).views flow)
+    go [] = sym (either_same (is_end v flow))
+      where
+        either_same : (t : Bool) → cond t (no_view flow) (no_view flow) ≡ no_view flow
+        either_same true = refl
+        either_same false = refl
+    go (p ∷ ps) = elim (cases_Bool (is_peer u p)) [
+      | inl t ↦ rw t (view_less_in v flow p.views)
+      | inr t ↦ rw t (go ps)
+    ]
+
+-- Where an event leaves the boots of a flow's ends that a node holds, the flow only goes on there; and where one of them rises, the flow is as before its first
+-- message, and nothing is known of it at any neighbour
+pub data PartsGo (flow : Flow) (p q : Parts) : Type 0 where
+  Goes_on : held_boot q.lives flow.src ≡ held_boot p.lives flow.src → held_boot q.lives flow.dst ≡ held_boot p.lives flow.dst
+      → FlowLater (flow_in p.rel.flows flow) (flow_in q.rel.flows flow) → PartsGo flow p q
+  Begins_anew : (held_boot p.lives flow.src < held_boot q.lives flow.src) ⊎ (held_boot p.lives flow.dst < held_boot q.lives flow.dst)
+      → flow_in q.rel.flows flow ≡ no_flow flow → ((u : NodeId) → view_in (peer_in q.rel.peers u).views flow ≡ no_view flow) → PartsGo flow p q
+
+-- after something that leaves the boots
+then_go : (flow : Flow) (p q r : Parts) → q.lives ≡ p.lives → FlowLater (flow_in p.rel.flows flow) (flow_in q.rel.flows flow) → PartsGo flow q r → PartsGo flow p r
+then_go flow p q r same one (Goes_on src dst two) =
+    Goes_on (src ∙ ap (λ ls. held_boot ls flow.src) same) (dst ∙ ap (λ ls. held_boot ls flow.dst) same) (then_later _ _ _ one two)
+then_go flow p q r same one (Begins_anew rises none views) =
+    let src = ap (λ ls. held_boot ls flow.src) same in
+    let dst = ap (λ ls. held_boot ls flow.dst) same in
+    Begins_anew (elim rises [ inl up ↦ inl (omega (arith, up, src)) | inr up ↦ inr (omega (arith, up, dst)) ]) none views
+
+met_go : (flow : Flow) (p : Parts) (o : Kept) → Follows (origin_said o.body) (boot_said o.body) p (met p o) → PartsGo flow p (met p o)
+met_go flow p o done =
+    let v = origin_said o.body in
+    let gone : is_end v flow ≡ true → (held_boot p.lives flow.src < held_boot (met p o).lives flow.src) ⊎ (held_boot p.lives flow.dst < held_boot (met p o).lives flow.dst)
+    → PartsGo flow p (met p o) =
+    λ end up. Begins_anew up (done.flows flow ∙ ap (λ t. cond t (no_flow flow) (flow_in p.rel.flows flow)) end)
+    (λ u. restarted_view v u flow p.rel ∙ ap (λ t. cond t (no_view flow) (view_in (peer_in p.rel.peers u).views flow)) end) in
+    let rise : (w : NodeId) → v ≡ w → held_boot p.lives w < held_boot (met p o).lives w =
+    λ w is. subst (λ (z : NodeId). held_boot p.lives z < held_boot (met p o).lives z) is (let a = done.above in let h = done.held in omega (arith, a, h)) in
+    elim (cases_eq flow.src.0 v.0) [
+      | inl s ↦ let t : (flow.src.0 == v.0) ≡ true = eq-eqb _ _ s in gone (rw t refl) (inl (rise flow.src (same_node v flow.src (sym s))))
+      | inr not_s ↦ elim (cases_eq flow.dst.0 v.0) [
+        | inl d ↦
+            let t : (flow.dst.0 == v.0) ≡ true = eq-eqb _ _ d in
+            let f : (flow.src.0 == v.0) ≡ false = ne_eqb _ _ not_s in
+            gone (rw (f, t) refl) (inr (rise flow.dst (same_node v flow.dst (sym d))))
+        | inr not_d ↦
+            let t : (flow.dst.0 == v.0) ≡ false = ne_eqb _ _ not_d in
+            let f : (flow.src.0 == v.0) ≡ false = ne_eqb _ _ not_s in
+            let stays : flow_in (met p o).rel.flows flow ≡ flow_in p.rel.flows flow = done.flows flow ∙ rw (f, t) refl in
+            Goes_on (done.others flow.src not_s) (done.others flow.dst not_d) (subst (FlowLater (flow_in p.rel.flows flow)) (sym stays) (same_later _))
+      ]
+    ]
+
+-- where it leaves the boots of a flow's ends, it leaves the flow, and what is known of it
+pub met_same : (flow : Flow) (p : Parts) (o : Kept) → Follows (origin_said o.body) (boot_said o.body) p (met p o)
+    → held_boot (met p o).lives flow.src ≡ held_boot p.lives flow.src → held_boot (met p o).lives flow.dst ≡ held_boot p.lives flow.dst
+    → (flow_in (met p o).rel.flows flow ≡ flow_in p.rel.flows flow)
+    × ((u : NodeId) → view_in (peer_in (met p o).rel.peers u).views flow ≡ view_in (peer_in p.rel.peers u).views flow)
+met_same flow p o done src dst =
+    let v = origin_said o.body in
+    let rise : (w : NodeId) → v ≡ w → held_boot p.lives w < held_boot (met p o).lives w =
+    λ w is. subst (λ (z : NodeId). held_boot p.lives z < held_boot (met p o).lives z) is (let a = done.above in let h = done.held in omega (arith, a, h)) in
+    let off : is_end v flow ≡ false = elim (cases_eq flow.src.0 v.0) [
+      | inl s ↦ absurd (let up = rise flow.src (same_node v flow.src (sym s)) in omega (arith, up, src))
+      | inr not_s ↦ elim (cases_eq flow.dst.0 v.0) [
+        | inl d ↦ absurd (let up = rise flow.dst (same_node v flow.dst (sym d)) in omega (arith, up, dst))
+        | inr not_d ↦ let t : (flow.dst.0 == v.0) ≡ false = ne_eqb _ _ not_d in let f : (flow.src.0 == v.0) ≡ false = ne_eqb _ _ not_s in rw (f, t) refl
+      ]
+    ] in (
+      done.flows flow ∙ ap (λ t. cond t (no_flow flow) (flow_in p.rel.flows flow)) off,
+      λ u. restarted_view v u flow p.rel ∙ ap (λ t. cond t (no_view flow) (view_in (peer_in p.rel.peers u).views flow)) off,
+    )
+
+-- ---- all pieces
+
+plain_go : (flow : Flow) (arts : Arts) (at : Arrival) (p : Parts) (piece : Piece) → NoStart piece → PartsGo flow p (handle arts at p piece).parts
+plain_go flow arts at p piece none =
+    let same = same_lives arts at p piece none in
+    Goes_on (ap (λ ls. held_boot ls flow.src) same) (ap (λ ls. held_boot ls flow.dst) same) (piece_later arts at p piece none flow)
+
+one_go : (flow : Flow) (arts : Arts) (at : Arrival) (p : Parts) (piece : Piece) → PartsGo flow p (handle arts at p piece).parts
+one_go flow arts at p (EpochPiece o) = elim (cases_Bool (is_new (items.Epoch (epoch_answer (is_signed arts at.fixed o) (judge_epoch at.fixed.me p.lives o.body))))) [
+  | inl t ↦ rw t (met_go flow p o (start_follows arts at p o t))
+  | inr t ↦ rw t (Goes_on refl refl (same_later _))
+]
+one_go flow arts at p (WeightPiece o) = plain_go flow arts at p (WeightPiece o) tt
+one_go flow arts at p (PrioAckPiece number) = plain_go flow arts at p (PrioAckPiece number) tt
+one_go flow arts at p (PrioPiece number o) = plain_go flow arts at p (PrioPiece number o) tt
+one_go flow arts at p (ReportPiece fl sboot dboot base have) = plain_go flow arts at p (ReportPiece fl sboot dboot base have) tt
+one_go flow arts at p (AckPiece fl o) = plain_go flow arts at p (AckPiece fl o) tt
+one_go flow arts at p (RelPiece fl o) = plain_go flow arts at p (RelPiece fl o) tt
+
+pub pieces_go : (flow : Flow) (arts : Arts) (at : Arrival) (p : Parts) (pieces : List Piece) → StartLast pieces → PartsGo flow p (handle_all arts at p pieces).parts
+pieces_go flow arts at p [] last = Goes_on refl refl (same_later _)
+pieces_go flow arts at p (piece ∷ pieces) (inl plain) =
+    then_go flow p (handle arts at p piece).parts _ (same_lives arts at p piece plain.0) (piece_later arts at p piece plain.0 flow)
+    (pieces_go flow arts at (handle arts at p piece).parts pieces plain.1)
+pieces_go flow arts at p (piece ∷ pieces) (inr none) =
+    subst (λ ps. PartsGo flow p (handle_all arts at (handle arts at p piece).parts ps).parts) (sym none) (one_go flow arts at p piece)
+
+pub greeted_flows : (epochs risen : Bool) (v : NodeId) (p : Parts) → (greeted epochs risen v p).rel.flows ≡ p.rel.flows
+greeted_flows true true v p = refl
+greeted_flows true false v p = refl
+greeted_flows false risen v p = refl
 
 -- ---- steps
 
-abbrev NodeLater : NodeState → NodeState → Type 0
-NodeLater n m = RelLater n.parts.rel m.parts.rel
+abbrev NodeGo : Flow → NodeState → NodeState → Type 0
+NodeGo flow n m = PartsGo flow n.parts m.parts
 
-kept_later : {X : Type 0} (r : Option X) (n m : NodeState) → NodeLater n m → NodeLater n (kept_or r n m)
-kept_later None n m later = later
-kept_later (Some x) n m later = rel_same n.parts.rel
+kept_go : {X : Type 0} (flow : Flow) (r : Option X) (n m : NodeState) → NodeGo flow n m → NodeGo flow n (kept_or r n m)
+kept_go flow None n m go = go
+kept_go flow (Some x) n m go = Goes_on refl refl (same_later _)
 
-pub step_later : (arts : Arts) (n : NodeState) (input : Input) (output : Output) (new : NodeState) → NodeStep arts n input output new → n.fixed.epochs ≡ false
-    → NodeLater n new
-step_later arts n (Poll v) output new s plain = subst (NodeLater n) (sym s.1) (kept_later (call_refusal n v) n _ (served_later n.parts.rel v))
-step_later arts n (Datagram v bytes) output new s plain =
-    subst (NodeLater n) (sym s.1) (kept_later (call_refusal n v) n _
-    (subst (λ (p : Parts). PartsLater p (handled arts n v bytes).parts) (met_as_it_was arts n v bytes plain)
-    (pieces_later arts (arrival_at n v) (parts_met arts n v bytes) (pieces_at arts n v bytes) (no_starts_at arts n v bytes plain))))
-step_later arts n (Tick now) output new s plain = subst (NodeLater n) (sym s.1) (go (due_now n) (signer_refusal n.signer))
+pub step_go : (flow : Flow) (arts : Arts) (n : NodeState) (input : Input) (output : Output) (new : NodeState) → NodeStep arts n input output new → NodeGo flow n new
+step_go flow arts n (Poll v) output new s = subst (NodeGo flow n) (sym s.1) (kept_go flow (call_refusal n v) n _ (Goes_on refl refl (served_later n.parts.rel v flow)))
+step_go flow arts n (Datagram v bytes) output new s =
+    let risen = has_risen (link_in n v) (link_after arts n v bytes) in
+    subst (NodeGo flow n) (sym s.1) (kept_go flow (call_refusal n v) n _
+    (then_go flow n.parts (parts_met arts n v bytes) _ (greeted_lives n.fixed.epochs risen v n.parts)
+    (subst (λ fs. FlowLater (flow_in n.parts.rel.flows flow) (flow_in fs flow)) (sym (greeted_flows n.fixed.epochs risen v n.parts)) (same_later _))
+    (pieces_go flow arts (arrival_at n v) (parts_met arts n v bytes) (pieces_at arts n v bytes)
+    (last_where (reply_at arts n v bytes) n.fixed (sections_in arts n.fixed bytes)))))
+step_go flow arts n (Tick now) output new s = subst (NodeGo flow n) (sym s.1) (go (due_now n) (signer_refusal n.signer))
   where
-    go : (o : Option Ack) (r : Option SendRefused) → NodeLater n (settled_by arts (at_time n now) o r)
-    go None r = rel_same n.parts.rel
-    go (Some ack) (Some refusal) = rel_same n.parts.rel
-    go (Some ack) None = settled_later n.parts.rel (signed_now arts n (bodies.Ack ack))
-step_later arts n (SendRel dst payload) output new s plain = subst (NodeLater n) (sym s.1) (kept_later (rel_refusal n dst) n _ (sent_later n.parts.rel (signed_now arts n (rel_body n dst payload))))
-step_later arts n (SendPrio m) output new s plain = subst (NodeLater n) (sym s.new_is) (kept_later (send_prio_refusal n m s.choice) n _ (rel_same n.parts.rel))
-step_later arts n (SetWeight v weight) output new s plain = subst (NodeLater n) (sym s.1) (kept_later (weight_refusal n v weight) n _ (rel_same n.parts.rel))
-step_later arts n (TakeRel src) output new s plain = subst (NodeLater n) (sym s.1) (took_later n.parts.rel src)
-step_later arts n TakePrio output new s plain = subst (NodeLater n) (sym s.1) (rel_same n.parts.rel)
+    go : (o : Option Ack) (r : Option SendRefused) → NodeGo flow n (settled_by arts (at_time n now) o r)
+    go None r = Goes_on refl refl (same_later _)
+    go (Some ack) (Some refusal) = Goes_on refl refl (same_later _)
+    go (Some ack) None = Goes_on refl refl (settled_later n.parts.rel (signed_now arts n (bodies.Ack ack)) flow)
+step_go flow arts n (SendRel dst payload) output new s =
+    subst (NodeGo flow n) (sym s.1) (kept_go flow (rel_refusal n dst) n _ (Goes_on refl refl (sent_later n.parts.rel (signed_now arts n (rel_body n dst payload)) flow)))
+step_go flow arts n (SendPrio m) output new s =
+    subst (NodeGo flow n) (sym s.new_is) (kept_go flow (send_prio_refusal n m s.choice) n _ (Goes_on refl refl (same_later _)))
+step_go flow arts n (SetWeight v weight) output new s = subst (NodeGo flow n) (sym s.1) (kept_go flow (weight_refusal n v weight) n _ (Goes_on refl refl (same_later _)))
+step_go flow arts n (TakeRel src) output new s = subst (NodeGo flow n) (sym s.1) (Goes_on refl refl (took_later n.parts.rel src flow))
+step_go flow arts n TakePrio output new s = subst (NodeGo flow n) (sym s.1) (Goes_on refl refl (same_later _))

@@ -8,13 +8,13 @@ use Rattle.sp_base.specs.declared.id.NodeId.{NodeId}
 use Rattle.sp_topology.specs.Neighbours.{joins, neighbour, neighbours_from, other_end}
 use Rattle.sp_topology.specs.declared.topology.Edge.{Edge}
 use Rattle.sp_rules.specs.Arts.{Arts}
-use Rattle.sp_rules.specs.Node.{NodeState, is_link, link_of}
+use Rattle.sp_rules.specs.Node.{NodeState, booted, is_link, link_of}
 use Rattle.sp_rules.specs.Parts.{Fixed, neighbours_of, nodes_of}
 use Rattle.sp_rules.specs.Rel.{is_peer, new_peer, pairs_of}
 use Rattle.laws_node.specs.Shapes.{LinkShape, RelPeerShape, Shape, link_shape, rel_peer_shape, shape_at_start, shape_of}
 use Rattle.laws_node.proofs.Shapes.{shapes_begin}
 use Rattle.sp_runs.specs.Runs.{Clean, is_hop}
-use Rattle.sp_runs.specs.Settings.{Setting, StaysUp, correct_nodes, first_signer, fixed_at, fixed_of, link_keys, node_at_boot, signer_from}
+use Rattle.sp_runs.specs.Settings.{Setting, SettingFits, correct_nodes, fixed_at, fixed_of, link_keys, node_at_boot, signer_from}
 use Rattle.sp_runs.specs.Worlds.{World, at_start, is_me, node_in}
 use Rattle.sp_journal.specs.declared.entry.Entry.{Entry}
 use Rattle.sp_schedule_events.specs.declared.event.Event.{Event}
@@ -54,16 +54,11 @@ at_boot x u n at = boot_among x u (correct_nodes x) n (plain_start x u n at).1
 -- ---- over a run
 
 -- a node has for whom and what it has rows at its start
-pub shape_is : (arts : Arts) (x : Setting) (es : List Event) (js : List Entry) (w : World) → StaysUp arts x → Carries x.topology.format arts
+pub shape_is : (arts : Arts) (x : Setting) (es : List Event) (js : List Entry) (w : World) → SettingFits arts x → Carries x.topology.format arts
     → Clean arts x es js w
-    → (u : NodeId) (n : NodeState) → node_in w.nodes u ≡ Some n → shape_of n ≡ shape_of (node_at_boot x u)
-shape_is arts x es js w fits reads run u n at =
-    let is = (signs arts x es js w fits.fits reads run).nodes u n at in
-    let plain = is.plain fits.plain in
-    is.shape
-    ∙ ap (λ b. shape_at_start (fixed_at x u b) (signer_from x u 0 n.signer.bound) (link_keys x u) x.buffer x.store) plain.first
-    ∙ ap (λ b. shape_at_start (fixed_of x u) (signer_from x u 0 b) (link_keys x u) x.buffer x.store) plain.whole
-    ∙ sym (shapes_begin (fixed_of x u) (first_signer x u) (link_keys x u) x.buffer x.store)
+    → (u : NodeId) (n : NodeState) → node_in w.nodes u ≡ Some n
+    → shape_of n ≡ shape_at_start (fixed_at x u n.fixed.boot) (signer_from x u 0 n.signer.bound) (link_keys x u) x.buffer x.store
+shape_is arts x es js w fits reads run u n at = ((signs arts x es js w fits reads run).nodes u n at).shape
 
 -- what is read off the shapes is read off the things
 through : {X S Y : Type 0} (shape : X → S) (read : S → Y) (xs : List X) → map read (map shape xs) ≡ map (λ x. read (shape x)) xs
@@ -73,17 +68,19 @@ through shape read (x ∷ xs) = ap (λ ys. read (shape x) ∷ ys) (through shape
 same_shapes : {X S Y : Type 0} (shape : X → S) (read : S → Y) (xs ys : List X) → map shape xs ≡ map shape ys → map (λ x. read (shape x)) xs ≡ map (λ x. read (shape x)) ys
 same_shapes shape read xs ys same = sym (through shape read xs) ∙ ap (map read) same ∙ through shape read ys
 
-pub rows_are : (arts : Arts) (x : Setting) (es : List Event) (js : List Entry) (w : World) → StaysUp arts x → Carries x.topology.format arts
+pub rows_are : (arts : Arts) (x : Setting) (es : List Event) (js : List Entry) (w : World) → SettingFits arts x → Carries x.topology.format arts
     → Clean arts x es js w
     → (u : NodeId) (n : NodeState) → node_in w.nodes u ≡ Some n → RowsAre x u n
 rows_are arts x es js w fits reads run u n at =
     let shape = shape_is arts x es js w fits reads run u n at in
-    let boot = node_at_boot x u in
+    let f = fixed_at x u n.fixed.boot in
+    let boot = booted f (signer_from x u 0 n.signer.bound) (link_keys x u) x.buffer x.store in
+    let same : shape_of n ≡ shape_of boot = shape ∙ sym (shapes_begin f (signer_from x u 0 n.signer.bound) (link_keys x u) x.buffer x.store) in
     record {
-      peers = same_shapes rel_peer_shape (λ (s : RelPeerShape). s.peer) n.parts.rel.peers boot.parts.rel.peers (ap (λ (s : Shape). s.rel.peers) shape)
+      peers = same_shapes rel_peer_shape (λ (s : RelPeerShape). s.peer) n.parts.rel.peers boot.parts.rel.peers (ap (λ (s : Shape). s.rel.peers) same)
           ∙ new_peers (pairs_of (nodes_of x.topology)) (near x u);
-      links = same_shapes link_shape (λ (s : LinkShape). s.peer) n.links boot.links (ap (λ (s : Shape). s.links) shape)
-          ∙ new_links (fixed_of x u) (λ m. x.link_key m.1.0) (neighbours_of (fixed_of x u));
+      links = same_shapes link_shape (λ (s : LinkShape). s.peer) n.links boot.links (ap (λ (s : Shape). s.links) same)
+          ∙ new_links f (λ m. x.link_key m.1.0) (neighbours_of f);
     }
 
 -- ---- whom an edge joins

@@ -1,5 +1,7 @@
 -- A whole slot of the flow from a correct node: what it leaves of the flow, and of the view of that node.
-use Rattle.std.proofs.Common.{◌≡◌, ◌≤◌, ◌⊎◌, ℕ, ◌+◌, ◌-◌, ◌==◌, ◌&&◌, ◌||◌, Bool, true, false, cond, min, max, List, [], ◌∷◌, length, map, Option, Some, None, refl, sym, ap, subst, ◌∙◌, inl, inr, arith}
+use Rattle.laws_runs.proofs.Lists.{both}
+use Rattle.laws_progress.proofs.States.{Era}
+use Rattle.std.proofs.Common.{◌≡◌, ◌≤◌, ◌⊎◌, ℕ, ◌+◌, ◌-◌, ◌==◌, ◌&&◌, ◌||◌, Bool, true, false, cond, min, max, List, [], ◌∷◌, length, map, Option, Some, None, refl, sym, ap, subst, ◌∙◌, inl, inr, arith, eqb-true}
 use Rattle.std.specs.List.{list_any}
 use Rattle.std.proofs.lemmas.Bool.{cases_Bool, eq-eqb}
 use Rattle.sp_base.specs.Rows.{replace_where}
@@ -11,7 +13,7 @@ use Rattle.sp_rules.proofs.FlowJudged.{found_ends, same_ends}
 use Rattle.sp_rules.specs.Answers.{ack_answer, is_new, rel_answer}
 use Rattle.sp_rules.specs.Arts.{Arts}
 use Rattle.sp_rules.specs.Flow.{FlowState, acknowledged_by, ends, flow_said, is_flow}
-use Rattle.sp_rules.specs.Lives.{are_held, is_dated}
+use Rattle.sp_rules.specs.Lives.{are_held, is_dated, held_boot}
 use Rattle.sp_rules.specs.Parts.{Fixed, is_signed}
 use Rattle.sp_rules.specs.Rel.{RelPeer, RelState, View, admit_ack, admit_rel, flow_in, is_from, is_peer, is_to, is_view, judge_ack_of, judge_rel_of, new_peer, no_view, pairs_of, peer_in, reported, told, view_in, with_peer}
 use Rattle.sp_rules.specs.declared.answers.Item.TheVariants as items
@@ -23,12 +25,13 @@ use Rattle.laws_runs.proofs.Acks.{ack_ack, flow_ack}
 use Rattle.laws_progress.proofs.Heads.{first_there}
 use Rattle.laws_progress.proofs.Heeded.{AreNodes, Ready, ack_heard, ack_later, rel_heard, rel_later}
 use Rattle.laws_progress.proofs.Keys.{peer_is}
-use Rattle.laws_progress.proofs.Makes.{SlotAck, No_ack, Has_ack, SlotRel, No_rel, Has_rel, mine_is, said}
+use Rattle.laws_progress.proofs.Standing.{same_flow}
+use Rattle.laws_progress.proofs.Makes.{SlotAck, No_ack, Has_ack, SlotRel, No_rel, Has_rel, said}
 use Rattle.laws_progress.proofs.Rises.{RelLater, rel_same, rel_then}
 use Rattle.laws_progress.proofs.Slots.{after_ack, after_acks, after_rel, after_rels, after_report, after_slot}
 use Rattle.laws_node.specs.Shapes.{view_ends}
 use Rattle.laws_progress.proofs.Views.{RelRows, ViewsAre}
-use Rattle.laws_progress.proofs.Wires.{has_ack, is_mine, number_in, told_slot}
+use Rattle.laws_progress.proofs.Wires.{has_ack, is_mine, number_in, told_slot, is_slot}
 
 -- ---- what stays ready
 
@@ -219,36 +222,65 @@ report_done nodes r u flow fl base have rows keys there row true e =
     let at : view_of (reported r u fl base have) u flow ≡ view_in q.views flow = ap (λ (z : RelState). view_of z u flow) is ∙ ap (λ (z : RelPeer). view_in z.views flow) peer in
     elim (cases_Bool (is_mine flow fl)) [
       | inl mine ↦
-          let same = mine_is flow fl mine in
+          let same = same_flow flow fl mine in
           let views = first_there (ViewsAre nodes) (is_peer u) (new_peer [] u) r.peers rows.views there in
           let stands : list_any (is_view flow) p.views ≡ true = any_key flow p.views ∙ ap (list_any (is_mine flow)) (views ∙ sym keys) ∙ sym (any_ends flow r.flows) ∙ row in
           let put : view_in q.views flow ≡ w = ap (λ g. view_in (replace_where (is_view g) w p.views) flow) same ∙ first_replaced (is_view flow) (no_view flow) w p.views mine stands in
           inl (mine, refl, ap (λ (z : View). z.base) (at ∙ put), ap (λ (z : View). z.have) (at ∙ put))
       | inr off ↦
           let stays : view_in q.views flow ≡ view_in p.views flow =
-          other_replaced (is_view fl) (is_view flow) (no_view flow) w p.views (λ z t. ap (is_mine flow) (mine_is fl (view_ends z) t) ∙ off) off in
+          other_replaced (is_view fl) (is_view flow) (no_view flow) w p.views (λ z t. ap (is_mine flow) (same_flow fl (view_ends z) t) ∙ off) off in
           inr (inl off, at ∙ stays)
     ]
 
-pub slot_done : (arts : Arts) (fx : Fixed) (ls : List Life) (nodes : List NodeId) (r : RelState) (u : NodeId) (flow : Flow) (echo : Bool) (o : Option Report)
-    → ((t : Report) → o ≡ Some t → are_held ls t.flow t.sboot t.dboot ≡ true) → RelRows nodes r → map ends r.flows ≡ pairs_of nodes
+pub slot_done : (arts : Arts) (fx : Fixed) (ls : List Life) (nodes : List NodeId) (r : RelState) (u : NodeId) (era : Era) (flow : Flow) (o : Option Report)
+    → held_boot ls flow.src ≡ era.sboot → held_boot ls flow.dst ≡ era.dboot → RelRows nodes r → map ends r.flows ≡ pairs_of nodes
     → list_any (is_peer u) r.peers ≡ true
-    → list_any (is_flow flow) r.flows ≡ true → SlotDone flow r (after_slot arts fx ls r u o) u (told_slot flow echo o)
-slot_done arts fx ls nodes r u flow echo None under rows keys there row = record { views = inl refl; active = λ z. absurd (let f : false ≡ true = z in cc) }
-slot_done arts fx ls nodes r u flow echo (Some t) under rows keys there row =
-    let same : view_of (after_slot arts fx ls r u (Some t)) u flow ≡ view_of (reported r u t.flow t.base t.have) u flow =
-    ap (λ ps. view_in (peer_in ps u).views flow) (slot_peers arts fx ls r u t)
-    ∙ ap (λ b. view_of (cond b (reported r u t.flow t.base t.have) r) u flow) (under t refl) in
-    elim (report_done nodes r u flow t.flow t.base t.have rows keys there row (flow_in r.flows t.flow).active refl) [
-      | inl got ↦ record {
-        views = inr (got.0, ap (λ (z : View). z.base) same ∙ got.2, ap (λ (z : View). z.have) same ∙ got.3);
-        active = λ mine on. (ap (λ (z : View). z.base) same ∙ got.2, ap (λ (z : View). z.have) same ∙ got.3);
-      }
-      | inr stays ↦ record {
-        views = inl (same ∙ stays.1);
-        active = λ mine on. absurd (elim stays.0 [
-          | inl off ↦ let f : true ≡ false = sym mine ∙ off in cc
-          | inr off ↦ let f : true ≡ false = sym on ∙ ap (λ fl. (flow_in r.flows fl).active) (sym (mine_is flow t.flow mine)) ∙ off in cc
-        ]);
-      }
-    ]
+    → list_any (is_flow flow) r.flows ≡ true → SlotDone flow r (after_slot arts fx ls r u o) u (told_slot era flow true o)
+slot_done arts fx ls nodes r u era flow None src dst rows keys there row = record { views = inl refl; active = λ z. absurd (let f : false ≡ true = z in cc) }
+slot_done arts fx ls nodes r u era flow (Some t) src dst rows keys there row = elim (cases_Bool (are_held ls t.flow t.sboot t.dboot)) [
+  | inl under ↦
+      let same : view_of (after_slot arts fx ls r u (Some t)) u flow ≡ view_of (reported r u t.flow t.base t.have) u flow =
+      ap (λ ps. view_in (peer_in ps u).views flow) (slot_peers arts fx ls r u t)
+      ∙ ap (λ b. view_of (cond b (reported r u t.flow t.base t.have) r) u flow) under in
+      let counts : is_mine flow t.flow ≡ true → is_slot era flow t ≡ true = λ mine. slot_counts mine under in
+      elim (report_done nodes r u flow t.flow t.base t.have rows keys there row (flow_in r.flows t.flow).active refl) [
+        | inl got ↦ record {
+          views = inr (counts got.0, ap (λ (z : View). z.base) same ∙ got.2, ap (λ (z : View). z.have) same ∙ got.3);
+          active = λ mine on. (ap (λ (z : View). z.base) same ∙ got.2, ap (λ (z : View). z.have) same ∙ got.3);
+        }
+        | inr stays ↦ record {
+          views = inl (same ∙ stays.1);
+          active = λ mine on. absurd (elim stays.0 [
+            | inl off ↦ let f : true ≡ false = sym (of_slot mine).0 ∙ off in cc
+            | inr off ↦ let f : true ≡ false = sym on ∙ ap (λ fl. (flow_in r.flows fl).active) (sym (same_flow flow t.flow (of_slot mine).0)) ∙ off in cc
+          ]);
+        }
+      ]
+  | inr dropped ↦ record {
+    views = inl (ap (λ ps. view_in (peer_in ps u).views flow) (slot_peers arts fx ls r u t)
+        ∙ ap (λ b. view_of (cond b (reported r u t.flow t.base t.have) r) u flow) dropped);
+    active = λ mine on. absurd (let f : true ≡ false = sym (slot_held (of_slot mine)) ∙ dropped in cc);
+  }
+]
+  where
+    of_slot : is_slot era flow t ≡ true → (is_mine flow t.flow ≡ true) × ((t.sboot ≡ era.sboot) × (t.dboot ≡ era.dboot))
+    of_slot is =
+        let a = both _ _ is in
+        let b = both _ _ a.1 in
+        (a.0, (eqb-true _ _ b.0, eqb-true _ _ b.1))
+
+    slot_counts : is_mine flow t.flow ≡ true → are_held ls t.flow t.sboot t.dboot ≡ true → is_slot era flow t ≡ true
+    slot_counts mine under =
+        let h = both _ _ under in
+        let its = same_flow flow t.flow mine in
+        let one : (t.sboot == era.sboot) ≡ true = eq-eqb _ _ (eqb-true _ _ h.0 ∙ ap (λ (g : Flow). held_boot ls g.src) its ∙ src) in
+        let two : (t.dboot == era.dboot) ≡ true = eq-eqb _ _ (eqb-true _ _ h.1 ∙ ap (λ (g : Flow). held_boot ls g.dst) its ∙ dst) in
+        rw (mine, one) two
+
+    slot_held : (is_mine flow t.flow ≡ true) × ((t.sboot ≡ era.sboot) × (t.dboot ≡ era.dboot)) → are_held ls t.flow t.sboot t.dboot ≡ true
+    slot_held it =
+        let its = same_flow flow t.flow it.0 in
+        let one : (t.sboot == held_boot ls t.flow.src) ≡ true = eq-eqb _ _ (it.1.0 ∙ sym src ∙ ap (λ (g : Flow). held_boot ls g.src) (sym its)) in
+        let two : (t.dboot == held_boot ls t.flow.dst) ≡ true = eq-eqb _ _ (it.1.1 ∙ sym dst ∙ ap (λ (g : Flow). held_boot ls g.dst) (sym its)) in
+        rw one two

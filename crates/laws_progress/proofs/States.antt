@@ -1,19 +1,21 @@
 -- The states of a run, and what is seen of a flow there.
 use Rattle.std.proofs.Common.{sym}
 use Rattle.std.proofs.lemmas.List.{append-nil}
-use Rattle.std.specs.Prelude.{◌≡◌, ◌-◌, ◌==◌, false, IsTrue, List, [], ◌∷◌, ◌++◌, length, map, Option, Some, None}
+use Rattle.std.specs.Prelude.{ℕ, zero, suc, ◌≡◌, ◌≤◌, ◌+◌, ◌-◌, ◌==◌, ◌&&◌, ◌||◌, Bool, true, false, not, IsTrue, List, [], ◌∷◌, ◌++◌, length, map, slice_get, Option, Some, None, if◌then◌else◌}
 use Rattle.sp_base.specs.declared.id.Flow.{Flow}
 use Rattle.sp_base.specs.declared.id.NodeId.{NodeId}
 use Rattle.sp_rules.specs.Arts.{Arts}
 use Rattle.sp_rules.specs.Flow.{FlowState, no_flow}
 use Rattle.sp_rules.specs.Node.{NodeState, link_in}
-use Rattle.sp_rules.specs.Rel.{flow_in, peer_in, view_in}
+use Rattle.sp_rules.specs.Rel.{View, flow_in, no_view, peer_in, view_in}
 use Rattle.sp_runs.specs.Runs.{Clean, InRange, Turn, forged_in, is_hop, polls}
 use Rattle.sp_runs.specs.Settings.{Setting, is_correct}
-use Rattle.sp_runs.specs.Worlds.{World, node_in}
+use Rattle.sp_runs.specs.Worlds.{World, frames_in, node_in}
 use Rattle.sp_journal.specs.declared.entry.Entry.{Entry}
 use Rattle.sp_schedule_events.specs.declared.event.Event.{Event}
+use Rattle.laws_runs.specs.Past.{holds}
 use Rattle.laws_progress.proofs.Facts.{Sight}
+use Rattle.laws_progress.proofs.LastBoots.{last_boot}
 
 -- ---- the states of a run
 
@@ -35,6 +37,28 @@ pub data Follows (arts : Arts) (x : Setting) (all : List Event) (w : State arts 
   Follow : (j : Entry) → y.events ≡ w.events ++ e ∷ [] → y.journal ≡ w.journal ++ j ∷ [] → InRange x w.events e
       → (turn : Turn arts x w.world e j y.world) → forged_in arts x w.events w.journal w.world e j y.world turn ≡ None → Follows arts x all w e y
 
+-- ---- an era: lives of nodes, and a pair of boots of the flow's ends
+
+-- whom is watched, in which life, which boots of the flow's ends count, and how many places of a direction were there before its node's life
+pub record Era : Type 0 where
+  pub on : NodeId → Bool
+  pub life : NodeId → ℕ
+  pub sboot : ℕ
+  pub dboot : ℕ
+  pub early : NodeId → NodeId → ℕ
+
+-- a state that comes no later than the era ends: the lives that are watched are the last ones, and who began its life runs. So whatever a watched node made
+-- in its life stands in its place
+pub record Watched (arts : Arts) (x : Setting) (all : List Event) (era : Era) : Type 0 where
+  pub at : State arts x all
+  pub latest : (v : NodeId) → era.on v ≡ true → last_boot x at.world v ≤ era.life v
+  pub runs : (v : NodeId) → era.on v ≡ true → last_boot x at.world v ≡ era.life v → (n : NodeState) × (node_in at.world.nodes v ≡ Some n)
+  pub placed : (u v : NodeId) → era.on u ≡ true → is_hop x u v ≡ true → (k : ℕ) (bytes : List ℕ) → slice_get (frames_in at.world.directions u v) k ≡ Some (Some bytes)
+      → (arts.head bytes).boot ≡ era.life u → k + 1 ≡ era.early u v + (arts.head bytes).counter
+
+abbrev pub Leads : (arts : Arts) (x : Setting) (all : List Event) (era : Era) → Watched arts x all era → Event → Watched arts x all era → Type 0
+Leads arts x all era w e y = Follows arts x all w.at e y.at
+
 -- ---- what is seen of a flow
 
 -- what is read off a node, where there is one
@@ -42,23 +66,58 @@ abbrev pub seen_at : {X : Type 0} → X → (NodeState → X) → Option NodeSta
 seen_at none read None = none
 seen_at none read (Some n) = read n
 
-abbrev pub at_node : {X : Type 0} → (arts : Arts) (x : Setting) (all : List Event) → X → (NodeState → X) → State arts x all → NodeId → X
-at_node arts x all none read w u = seen_at none read (node_in w.world.nodes u)
+-- a node that is watched, in its life
+abbrev pub in_life : Era → NodeId → NodeState → Bool
+in_life era u n = era.on u && (n.fixed.boot == era.life u)
 
-abbrev pub flow_seen : (arts : Arts) (x : Setting) (all : List Event) → Flow → State arts x all → NodeId → FlowState
-flow_seen arts x all flow w u = at_node arts x all (no_flow flow) (λ n. flow_in n.parts.rel.flows flow) w u
+-- and it holds the boots of the flow's ends
+abbrev pub in_era : Era → Flow → NodeId → NodeState → Bool
+in_era era flow u n = in_life era u n && holds n flow.src era.sboot flow.dst era.dboot
 
-abbrev pub sight : (arts : Arts) (x : Setting) (all : List Event) → Flow → Sight (State arts x all)
-sight arts x all flow = record {
-  base = λ w u. (flow_seen arts x all flow w u).at.base;
-  have = λ w u. (flow_seen arts x all flow w u).at.have;
-  taken = λ w. (flow_seen arts x all flow w flow.dst).at.have - length (flow_seen arts x all flow w flow.dst).inbox;
-  view_base = λ w u v. at_node arts x all 0 (λ n. (view_in (peer_in n.parts.rel.peers v).views flow).base) w u;
-  view_have = λ w u v. at_node arts x all 0 (λ n. (view_in (peer_in n.parts.rel.peers v).views flow).have) w u;
-  knows = λ w u v. at_node arts x all false (λ n. (link_in n v).peer_boot == 1) w u;
-  polled = λ w u v. polls w.events u v;
-  actives = λ w u. at_node arts x all [] (λ n. map (λ f. f.active) n.parts.rel.flows) w u;
-  last = λ w u v. at_node arts x all None (λ n. (peer_in n.parts.rel.peers v).last) w u;
+-- it knows the neighbour's life; without epochs there is but one
+abbrev pub has_met : Setting → Era → NodeId → NodeState → Bool
+has_met x era v n = not x.epochs || ((link_in n v).peer_boot == era.life v)
+
+abbrev pub flow_of : Era → Flow → NodeId → NodeState → FlowState
+flow_of era flow u n = if in_era era flow u n then flow_in n.parts.rel.flows flow else no_flow flow
+
+abbrev pub view_at : Setting → Era → Flow → NodeId → NodeId → NodeState → View
+view_at x era flow u v n = if in_era era flow u n && has_met x era v n then view_in (peer_in n.parts.rel.peers v).views flow else no_view flow
+
+-- the number of a frame in its direction, by its counter. 0 of none
+abbrev pub numbered : ℕ → ℕ → ℕ
+numbered early zero = 0
+numbered early (suc counter) = early + suc counter
+
+abbrev pub knows_life : Era → NodeId → NodeId → NodeState → Bool
+knows_life era u v n = in_life era u n && ((link_in n v).peer_boot == era.life v)
+
+abbrev pub actives_of : Era → Flow → NodeId → NodeState → List Bool
+actives_of era flow u n = if in_era era flow u n then map (λ f. f.active) n.parts.rel.flows else []
+
+abbrev pub heard_of : Era → NodeId → NodeId → NodeState → ℕ
+heard_of era v u n = if knows_life era v u n then numbered (era.early u v) (link_in n u).seen.1 else 0
+
+abbrev pub at_node : {X : Type 0} → (arts : Arts) (x : Setting) (all : List Event) (era : Era) → X → (NodeState → X) → Watched arts x all era → NodeId → X
+at_node arts x all era none read w u = seen_at none read (node_in w.at.world.nodes u)
+
+abbrev pub flow_seen : (arts : Arts) (x : Setting) (all : List Event) (era : Era) → Flow → Watched arts x all era → NodeId → FlowState
+flow_seen arts x all era flow w u = at_node arts x all era (no_flow flow) (flow_of era flow u) w u
+
+abbrev pub view_seen : (arts : Arts) (x : Setting) (all : List Event) (era : Era) → Flow → Watched arts x all era → NodeId → NodeId → View
+view_seen arts x all era flow w u v = at_node arts x all era (no_view flow) (view_at x era flow u v) w u
+
+abbrev pub sight : (arts : Arts) (x : Setting) (all : List Event) (era : Era) → Flow → Sight (Watched arts x all era)
+sight arts x all era flow = record {
+  base = λ w u. (flow_seen arts x all era flow w u).at.base;
+  have = λ w u. (flow_seen arts x all era flow w u).at.have;
+  taken = λ w. (flow_seen arts x all era flow w flow.dst).at.have - length (flow_seen arts x all era flow w flow.dst).inbox;
+  view_base = λ w u v. (view_seen arts x all era flow w u v).base;
+  view_have = λ w u v. (view_seen arts x all era flow w u v).have;
+  knows = λ w u v. at_node arts x all era false (knows_life era u v) w u;
+  polled = λ w u v. polls w.at.events u v;
+  actives = λ w u. at_node arts x all era [] (actives_of era flow u) w u;
+  last = λ w u v. at_node arts x all era None (λ n. (peer_in n.parts.rel.peers v).last) w u;
 }
 
 -- ---- hops
@@ -68,3 +127,28 @@ pub record IsHop (x : Setting) (u v : NodeId) : Type 0 where
   pub first : IsTrue (is_correct x u)
   pub second : IsTrue (is_correct x v)
   pub joined : IsTrue (is_hop x u v)
+
+-- and both are watched
+pub record IsBetween (x : Setting) (era : Era) (u v : NodeId) : Type 0 where
+  pub hop : IsHop x u v
+  pub first : era.on u ≡ true
+  pub second : era.on v ≡ true
+
+-- ---- what is asked of an era
+
+-- a flow between two different correct nodes
+pub record IsRight (x : Setting) (flow : Flow) : Type 0 where
+  pub from : is_correct x flow.src ≡ true
+  pub to : is_correct x flow.dst ≡ true
+  pub different : flow.src ≡ flow.dst → ⊥
+
+-- correct nodes are watched, and both ends of the flow, in the lives of which the boots are that count
+pub record IsEra (x : Setting) (flow : Flow) (era : Era) : Type 0 where
+  pub right : IsRight x flow
+  pub correct : (v : NodeId) → era.on v ≡ true → is_correct x v ≡ true
+  pub source : era.on flow.src ≡ true
+  pub end : era.on flow.dst ≡ true
+  pub some : (v : NodeId) → era.on v ≡ true → 1 ≤ era.life v
+  pub taken : x.epochs ≡ true → (era.life flow.src ≡ era.sboot) × (era.life flow.dst ≡ era.dboot)
+  pub only : x.epochs ≡ false → (era.sboot ≡ 0) × (era.dboot ≡ 0)
+  pub lone : x.epochs ≡ false → (v : NodeId) → era.on v ≡ true → era.life v ≡ 1

@@ -10,7 +10,7 @@ use Rattle.sp_rules.specs.Parts.{neighbours_of, nodes_of}
 use Rattle.sp_rules.specs.Rel.{RelPeer, RelState, pairs_of}
 use Rattle.laws_node.specs.Shapes.{RelPeerShape, Shape, rel_peer_shape, view_ends}
 use Rattle.sp_runs.specs.Runs.{Clean}
-use Rattle.sp_runs.specs.Settings.{Setting, StaysUp, fixed_of}
+use Rattle.sp_runs.specs.Settings.{Setting, SettingFits, fixed_of}
 use Rattle.sp_runs.specs.Worlds.{World, node_in}
 use Rattle.sp_journal.specs.declared.entry.Entry.{Entry}
 use Rattle.sp_schedule_events.specs.declared.event.Event.{Event}
@@ -33,11 +33,11 @@ each_peer nodes (p ∷ ps) (n ∷ ns) same =
     let rest : map rel_peer_shape ps ≡ map (λ n. record { peer = n.0; views = pairs_of nodes }) ns = cc in
     All-cons (ViewsAre nodes) p ps (ap (λ (s : RelPeerShape). s.views) first) (each_peer nodes ps ns rest)
 
-pub views_are : (arts : Arts) (x : Setting) (es : List Event) (js : List Entry) (w : World) → StaysUp arts x → Carries x.topology.format arts
+pub views_are : (arts : Arts) (x : Setting) (es : List Event) (js : List Entry) (w : World) → SettingFits arts x → Carries x.topology.format arts
     → Clean arts x es js w
     → (u : NodeId) (n : NodeState) → node_in w.nodes u ≡ Some n → RelRows (nodes_of x.topology) n.parts.rel
 views_are arts x es js w fits reads run u n at =
-    let shape = ((signs arts x es js w fits.fits reads run).nodes u n at).shape in
+    let shape = ((signs arts x es js w fits reads run).nodes u n at).shape in
     record {
       nodes_are = ap (λ (s : Shape). s.rel.nodes) shape;
       views = each_peer (nodes_of x.topology) n.parts.rel.peers (neighbours_of (fixed_of x u)) (ap (λ (s : Shape). s.rel.peers) shape);

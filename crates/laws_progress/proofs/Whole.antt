@@ -1,56 +1,68 @@
--- All facts of single steps and single states of a run together.
-use Rattle.std.proofs.Common.{◌≤◌, ℕ, List, arith}
-use Rattle.sp_base.specs.declared.id.Flow.{Flow}
-use Rattle.sp_rules.specs.Arts.{Arts}
-use Rattle.sp_runs.specs.Settings.{Setting, StaysUp}
-use Rattle.sp_schedule_events.specs.declared.event.Event.{Event}
-use Rattle.sp_runs.specs.Rounds.{flow_count}
-use Rattle.laws_progress.proofs.Hops.{Steady}
-use Rattle.laws_runs.specs.Premises.{ComesThrough}
-use Rattle.laws_progress.proofs.States.{Follows, IsHop, State, sight}
-use Rattle.laws_progress.proofs.Arrives.{seen_known}
-use Rattle.laws_progress.proofs.Begins.{begins}
-use Rattle.laws_progress.proofs.Changes.{base_rises, have_rises, taken_rises}
-use Rattle.laws_progress.proofs.Counting.{few}
-use Rattle.laws_progress.proofs.Heeds.{hears}
-use Rattle.laws_progress.proofs.KnownRuns.{known}
-use Rattle.laws_progress.proofs.Lasts.{serves_none}
-use Rattle.laws_progress.proofs.Makes.{makes}
-use Rattle.laws_progress.proofs.Passes.{passed}
-use Rattle.laws_progress.proofs.Polls.{both_ways, none_polled, one_polled, serves}
-use Rattle.laws_progress.proofs.Room.{makes_room}
-use Rattle.laws_progress.proofs.Standing.{actives_rise, is_active, place_at, sound, window}
-use Rattle.laws_progress.proofs.Upper.{IsRight, from_laws}
+-- All facts of single steps and single states of a calm interval together.
+use Rattle.laws_progress.proofs.Always.{always}
+use Rattle.laws_progress.proofs.Calms.{Calmly}
+use Rattle.laws_progress.proofs.Changes.{flow_later}
+use Rattle.laws_progress.proofs.Counting.{few_wait, waiting, within}
+use Rattle.laws_progress.proofs.MakesNow.{makes, serves_now}
+use Rattle.laws_progress.proofs.Polls.{between_back, none_polled, one_polled}
+use Rattle.laws_progress.proofs.Standing.{is_active, place_at, sound, stays_active}
+use Rattle.laws_progress.proofs.States.{Era, IsBetween, IsEra, Watched, heard_of, knows_life, seen_at, sight}
 use Rattle.laws_progress.proofs.Wires.{told_stays, wires}
+use Rattle.laws_runs.specs.Premises.{ComesThrough}
+use Rattle.sp_base.specs.declared.id.Flow.{Flow}
+use Rattle.sp_base.specs.declared.id.NodeId.{NodeId}
+use Rattle.sp_rules.specs.Arts.{Arts}
+use Rattle.sp_rules.specs.Node.{NodeState}
+use Rattle.sp_runs.specs.Rounds.{flow_count}
+use Rattle.sp_runs.specs.Settings.{Setting, SettingFits}
+use Rattle.sp_runs.specs.Worlds.{node_in}
+use Rattle.sp_schedule_events.specs.declared.event.Event.{Event}
+use Rattle.std.proofs.Common.{List, None, Option, Some, arith, false, inl, inr, refl, true, ℕ, ◌<◌, ◌≡◌, ◌≤◌}
+use Rattle.std.proofs.lemmas.Bool.{cases_Bool}
+use Rattle.laws_progress.proofs.Hops.{Steady}
+use Rattle.laws_progress.proofs.Calms as calms
+use Rattle.laws_progress.proofs.Heeding as heeding
+use Rattle.laws_progress.proofs.Passing as passing
 
-pub steady : (arts : Arts) (x : Setting) (all : List Event) (flow : Flow) → StaysUp arts x → ComesThrough x.topology.format arts x.signature_len
-    → 1 ≤ x.buffer → IsRight x flow → (least : ℕ) → flow_count x all ≤ least
-    → Steady (State arts x all) (Follows arts x all) (IsHop x) (sight arts x all flow) (wires arts x all flow) (place_at x flow) x.buffer least flow.src flow.dst
-steady arts x all flow fits reads one right least enough =
-    let laws = from_laws arts x all flow fits reads.carries right.from right.to right.different in
-    record {
-      both_ways = λ u v hop. both_ways x u v hop;
-      base_rises = λ w y e u f. base_rises arts x all flow fits reads.carries w y e u f;
-      have_rises = λ w y e u f. have_rises arts x all flow fits reads.carries w y e u f;
-      taken_rises = λ w y e f. taken_rises arts x all flow fits reads.carries w y e f;
-      known = λ w y e u v hop f k. known arts x all flow fits reads.carries reads.heads w y e u v hop f k;
-      actives_rise = λ w y e u f. actives_rise arts x all flow fits reads.carries w y e u f;
-      one_polled = λ w y e u v hop f t. one_polled arts x all flow w y e u v f t;
-      none_polled = λ w y e u v hop f t. none_polled arts x all flow w y e u v f t;
-      serves = λ w y e u v p hop f t turn. serves arts x all flow fits reads.carries w y e u v p hop f t turn;
-      serves_none = λ w y e u v hop f t. serves_none arts x all flow fits reads.carries w y e u v f t;
-      makes_room = λ w y e f t. makes_room arts x all flow fits reads.carries one w y e f t;
-      frames_stay = λ w y e u v k hop f low. told_stays arts x all flow fits.plain w y e u v k f low;
-      makes = λ w y e u v hop f t. makes arts x all flow fits reads w y e u v hop f t;
-      hears = λ w y e u v hop f. hears arts x all flow fits reads right w y e u v hop f;
-      learns = λ w y e u v k hop f t echo. (passed arts x all flow fits reads w y e u v k hop f t).learned echo;
-      comes = λ w y e u v k hop f t pos echo. (passed arts x all flow fits reads w y e u v k hop f t).late echo;
-      sound = λ w u. sound arts x all flow fits reads.carries w u;
-      window = λ w u. window arts x all flow fits reads.carries w u;
-      acknowledged = laws.acknowledged;
-      sent = laws.sent;
-      seen_known = λ w u v hop some. seen_known arts x all flow fits reads w u v hop some;
-      is_active = λ w u some. is_active arts x all flow fits reads.carries w u some;
-      few = λ w u v hop. let most = few arts x all flow fits reads.carries w u in omega (arith, most, enough);
-      begins = λ w. let b = begins arts x all flow w in (b.first, b.events, b.goes, b.fresh);
-    }
+seen_known : (arts : Arts) (x : Setting) (all : List Event) (era : Era) (flow : Flow) (w : Watched arts x all era) (u v : NodeId)
+    → 0 < (wires arts x all era flow).seen w v u → (sight arts x all era flow).knows w v u ≡ true
+seen_known arts x all era flow w u v some = go (node_in w.at.world.nodes v) some
+  where
+    go : (o : Option NodeState) → 0 < seen_at 0 (heard_of era v u) o → seen_at false (knows_life era v u) o ≡ true
+    go None some = absurd (omega (arith, some))
+    go (Some n) some = elim (cases_Bool (knows_life era v u n)) [
+      | inl t ↦ t
+      | inr t ↦ absurd (let zero : heard_of era v u n ≡ 0 = rw t refl in omega (arith, zero, some))
+    ]
+
+pub steady : (arts : Arts) (x : Setting) (all : List Event) (era : Era) (flow : Flow) (fits : SettingFits arts x) (reads : ComesThrough x.topology.format arts x.signature_len)
+    → (is_era : IsEra x flow era) → 1 ≤ x.buffer → (least : ℕ) → flow_count x all ≤ least
+    → Steady (Watched arts x all era) (Calmly arts x all era flow) (IsBetween x era) (sight arts x all era flow) (wires arts x all era flow) (place_at x flow) x.buffer least flow.src flow.dst
+steady arts x all era flow fits reads is_era one least enough = record {
+  both_ways = λ u v hop. between_back x era u v hop;
+  holds = λ w u v hop. always arts x all era flow fits reads is_era w u v hop;
+  base_rises = λ w y e u c. (flow_later arts x all era fits reads.carries w y e flow is_era c.leads u).base;
+  have_rises = λ w y e u c. (flow_later arts x all era fits reads.carries w y e flow is_era c.leads u).have;
+  taken_rises = λ w y e c. (flow_later arts x all era fits reads.carries w y e flow is_era c.leads flow.dst).taken;
+  known = λ w y e u v hop c k. calms.known arts x all era flow fits reads is_era w y e c u v hop k;
+  stays_active = λ w y e u c on. stays_active arts x all era flow fits reads.carries is_era w y e u c.leads on;
+  one_polled = λ w y e u v hop c is. one_polled arts x all w.at y.at e u v c.leads is;
+  none_polled = λ w y e u v hop c is. none_polled arts x all w.at y.at e u v c.leads is;
+  serves = λ w y e u v p hop c is turn. calms.serves arts x all era flow fits reads is_era w y e c u v p hop is turn;
+  serves_none = λ w y e u v hop c off. calms.serves_none arts x all era flow fits reads is_era w y e c u v hop off;
+  makes_room = λ w y e c is. calms.makes_room arts x all era flow fits reads is_era w y e c one is;
+  frames_stay = λ w y e u v k hop c low. told_stays arts x all era flow w y e u v k c.leads low;
+  makes = λ w y e u v hop c poll. makes arts x all era flow fits reads w y e u v hop c.leads poll;
+  made_now = λ w y e u v hop c poll. let p = c.before u hop.first in serves_now arts x all era flow fits reads w y e u v hop c.leads poll p.node p.there p.counts;
+  hears = λ w y e u v hop c. heeding.hears arts x all era flow fits reads is_era w y e c u v hop;
+  learns = λ w y e u v k hop c pass here off. passing.learns arts x all era flow fits reads is_era w y e c u v hop k pass here off;
+  comes = λ w y e u v k hop c pass pos on. passing.comes arts x all era flow fits reads is_era w y e c u v hop k pass on;
+  acknowledged = λ w y e u c. calms.acknowledged arts x all era flow fits reads is_era w c.before u;
+  sent = λ w y e u c. calms.sent_most arts x all era flow fits reads is_era w c.before u;
+  sound = λ w u. sound arts x all era flow fits reads.carries w u;
+  seen_known = λ w u v hop some. seen_known arts x all era flow w u v some;
+  is_active = λ w u some. is_active arts x all era flow fits reads.carries w u some;
+  among = waiting x all;
+  within = λ w u. within arts x all era flow fits reads.carries w u;
+  few = let most = few_wait x all in omega (arith, most, enough);
+}

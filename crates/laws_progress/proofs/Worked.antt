@@ -31,7 +31,7 @@ three_pairs a b c ab ac bc (suc i) (suc (suc (suc j))) d below within = absurd (
 differ : (a b : ℕ) → (a ≡ b → ⊥) → node a ≢ node b
 differ a b other = λ same. other (ap (λ (n : NodeId). n.0) same)
 
-three_path : (x : Setting) (a b c : ℕ) → (a ≡ b → ⊥) → (a ≡ c → ⊥) → (b ≡ c → ⊥) → is_correct x (node a) ≡ true → is_correct x (node b) ≡ true → is_correct x (node c) ≡ true
+pub three_path : (x : Setting) (a b c : ℕ) → (a ≡ b → ⊥) → (a ≡ c → ⊥) → (b ≡ c → ⊥) → is_correct x (node a) ≡ true → is_correct x (node b) ≡ true → is_correct x (node c) ≡ true
     → is_hop x (node a) (node b) ≡ true → is_hop x (node b) (node c) ≡ true → IsCorrectPath x (node a) (node c) (node a ∷ node b ∷ node c ∷ [])
 three_path x a b c ab ac bc one two three first second =
     let Correct = λ (u : NodeId). IsTrue (is_correct x u) in
@@ -48,7 +48,7 @@ three_path x a b c ab ac bc one two three first second =
 
 -- ---- rounds of a path of three nodes
 
-sweep : (least : ℕ) (u v : NodeId) (before during : List Event) → polls during u v ≡ least → are_passed u v (polls before u v) during ≡ true → IsSweep least u v before during
+pub sweep : (least : ℕ) (u v : NodeId) (before during : List Event) → polls during u v ≡ least → are_passed u v (polls before u v) during ≡ true → IsSweep least u v before during
 sweep least u v before during enough passed = record { enough = omega (arith, enough); passed = passed }
 
 two_hops : (least : ℕ) (s d a b c : NodeId) (before during : List Event) → IsHopServed least s d a b before during → IsHopServed least s d b c before during
@@ -58,7 +58,7 @@ two_hops least s d a b c before during one two =
     All-cons Served (a, b) ((b, c) ∷ []) one (All-cons Served (b, c) [] two (All-nil Served))
 
 -- a round after so many, where the counts before it are these
-line_is : (before : List Event) (k : ℕ)
+pub line_is : (before : List Event) (k : ℕ)
     → are_passed (node 2) (node 1) (polls (before ++ []) (node 2) (node 1)) (frames 2 1 k 1) ≡ true
     → are_passed (node 1) (node 2) (polls (before ++ frames 2 1 k 1) (node 1) (node 2)) (frames 1 2 k 1) ≡ true
     → are_passed (node 3) (node 2) (polls (before ++ (frames 2 1 k 1 ++ frames 1 2 k 1)) (node 3) (node 2)) (frames 3 2 k 1) ≡ true

@@ -3,3 +3,8 @@ pub mod Delivery
 pub mod Counts
 pub mod Worked
 pub mod WorkedPositions
+pub mod Calm
+pub mod Telling
+pub mod LifeDelivery
+pub mod WorkedTelling
+pub mod WorkedLives

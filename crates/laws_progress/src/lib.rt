@@ -1,12 +1,16 @@
-//! Counted delivery: what a source accepted is delivered, and its acknowledgement is back, after so many complete rounds of a path of correct nodes.
-//! It is claimed of runs without epochs: no node starts or stops by an event.
+//! Counted delivery: what a source accepted is delivered, and its acknowledgement is back, after so many complete rounds of a path of correct nodes. Of runs in
+//! which nodes start and stop it is claimed while those of the path stay in their lives and know those of its ends.
+//! And told starts: while the nodes of a path stay up, each holds the boot of each other's life after so many rounds that tell starts.
 #![tactic(auto)]
 
 ghost use Rattle.laws_progress.specs.Counts.{FlowCountNeverFalls};
 ghost use Rattle.laws_progress.specs.Delivery.{CountedDelivery, CountedReturn};
+ghost use Rattle.laws_progress.specs.LifeDelivery.{CountedDeliveryInLives, CountedReturnInLives, CountedStarts, ToldPathsAreCalm};
 ghost use Rattle.laws_progress.specs.Positions.{PositionsAreInOrder};
 ghost use Rattle.laws_progress.specs.Worked.{RoundsAreCounted};
+ghost use Rattle.laws_progress.specs.WorkedLives.{LivesAreCounted};
 ghost use Rattle.laws_progress.specs.WorkedPositions.{PositionsAreWorked};
+ghost use Rattle.laws_progress.specs.WorkedTelling.{TellingIsWorked};
 
 /// A law: in every state no node's position of a flow between correct nodes is ahead of that flow's ends, its list is the source's messages, what it knows
 /// of a neighbour is at most where that one stands, and each flow that waits for its turn is counted. Counted delivery rests on this.
@@ -24,6 +28,18 @@ pub fn acknowledgements_return()
     ensures { CountedReturn }
 {}
 
+/// A law: over starts and stops, while the nodes of a path stay in their lives and hold the boots of its ends, a message that the source accepted under these
+/// boots, at most k above its base, is delivered under them by the end of hops + k + 1 complete rounds. All other nodes may start and stop.
+pub fn delivery_is_counted_in_lives()
+    ensures { CountedDeliveryInLives }
+{}
+
+/// A law: over starts and stops, while the nodes of a path stay in their lives and hold the boots of its ends, what the destination acknowledged under these
+/// boots is acknowledged at the source by the end of hops + 1 complete rounds, and the source has room again.
+pub fn acknowledgements_return_in_lives()
+    ensures { CountedReturnInLives }
+{}
+
 /// A law: the count of flows never falls when events are added. So who counts rounds may take that of all events of a run.
 pub fn flow_counts_never_fall()
     ensures { FlowCountNeverFalls }
@@ -35,7 +51,30 @@ pub fn two_examples_are_counted()
     ensures { RoundsAreCounted }
 {}
 
+/// A law: in a worked example of three nodes that start, whose starts are told, an interval of four rounds is calm, and the first message is delivered by its
+/// end, by the promise. One in which a node of the path starts again isn't calm, nor one in which it holds an older boot of the source.
+pub fn a_calm_interval_is_counted()
+    ensures { LivesAreCounted }
+{}
+
 /// A law: what positions, lists, views and counts are claimed to be along three nodes, in numbers; and worlds that break one of these claims are refused.
 pub fn positions_are_worked()
     ensures { PositionsAreWorked }
+{}
+
+/// A law: while the nodes of a path stay up, each holds the boot of each other's life after hops + 1 rounds that tell starts, whatever they held before.
+pub fn starts_are_told_in_rounds()
+    ensures { CountedStarts }
+{}
+
+/// A law: a path whose nodes know each other's lives is calm under the boots of its ends for as long as they stay up. So from any beginning the rounds until a
+/// message arrives are those that tell starts, and then those of its delivery.
+pub fn told_paths_are_calm()
+    ensures { ToldPathsAreCalm }
+{}
+
+/// A law: in a worked example three nodes in a row start, and by the end of three rounds that tell starts each end holds the boot of the other's life, by the
+/// promise. The rounds are computed; and rounds in which a frame is missing or comes late are none.
+pub fn telling_is_worked()
+    ensures { TellingIsWorked }
 {}

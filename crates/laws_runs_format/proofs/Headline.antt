@@ -23,7 +23,7 @@ use Rattle.laws_runs.proofs.WeightRuns.{weights_are_kept, weights_are_kept_over_
 use Rattle.laws_runs_format.specs.Arts.{arts_of}
 use Rattle.laws_runs_format.specs.Headline.{Claims, EveryLife, EveryRun, LivesClaims}
 use Rattle.laws_runs_format.proofs.Headers.{headers_fit, plain_headers_fit}
-use Rattle.laws_runs_format.proofs.Opens.{schedules_deliver, schedules_return}
+use Rattle.laws_runs_format.proofs.Opens.{schedules_deliver, schedules_deliver_in_lives, schedules_return, schedules_return_in_lives, schedules_tell_starts}
 use Rattle.laws_runs_format.proofs.ReadBack.{format_carries}
 
 all_claims : (x : Setting) (es : List Event) (js : List Entry) (w : World) → StaysUp (arts_of x) x → Carries x.topology.format (arts_of x)
@@ -69,9 +69,12 @@ lives_claims x es js w fits carries run = record {
 }
 
 pub every_life : EveryLife
-every_life s es js w graph run =
+every_life s es js w graph some run =
     let x = setting_of s in
     record {
       reached = λ n. beginnings_are_clean (arts_of x) x es js w run n;
+      told = λ epochs. schedules_tell_starts s graph epochs;
+      delivered = schedules_deliver_in_lives s graph some;
+      returned = schedules_return_in_lives s graph some;
       claims = λ n v beginning. lives_claims x _ _ v (headers_fit s graph) (format_carries x.topology.format) beginning;
     }

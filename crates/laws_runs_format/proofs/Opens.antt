@@ -20,10 +20,12 @@ use Rattle.sp_sign.specs.Heights.{param_of}
 use Rattle.laws_runs.specs.Premises.{IsPlain, written}
 use Rattle.laws_runs.proofs.Lists.{same_bytes}
 use Rattle.laws_progress.proofs.Delivery.{acknowledgements_return, delivery_is_counted}
+use Rattle.laws_progress.proofs.LifeDelivery.{acknowledgements_return_in_lives, delivery_is_counted_in_lives}
+use Rattle.laws_progress.proofs.StartsTold.{starts_are_told}
 use Rattle.laws_runs_format.specs.Arts.{arts_of}
 use Rattle.laws_runs_format.specs.ComesThrough.{FormatComesThrough}
-use Rattle.laws_runs_format.specs.Delivery.{SchedulesDeliver, SchedulesReturn}
-use Rattle.laws_runs_format.proofs.Headers.{plain_headers_fit}
+use Rattle.laws_runs_format.specs.Delivery.{SchedulesDeliver, SchedulesDeliverInLives, SchedulesReturn, SchedulesReturnInLives, SchedulesTellStarts}
+use Rattle.laws_runs_format.proofs.Headers.{headers_fit, plain_headers_fit}
 use Rattle.laws_runs_format.proofs.ReadBack.{format_carries}
 
 -- ---- it opens
@@ -76,3 +78,17 @@ pub schedules_return : SchedulesReturn
 schedules_return s good plain some =
     let x = setting_of s in
     acknowledgements_return (arts_of x) x (plain_headers_fit s good plain) (format_comes_through x.topology.format s.height) some
+
+-- ---- where nodes start and stop
+
+pub schedules_tell_starts : SchedulesTellStarts
+schedules_tell_starts s good epochs =
+    let x = setting_of s in starts_are_told (arts_of x) x (headers_fit s good) (format_comes_through x.topology.format s.height) epochs
+
+pub schedules_deliver_in_lives : SchedulesDeliverInLives
+schedules_deliver_in_lives s good some =
+    let x = setting_of s in delivery_is_counted_in_lives (arts_of x) x (headers_fit s good) (format_comes_through x.topology.format s.height) some
+
+pub schedules_return_in_lives : SchedulesReturnInLives
+schedules_return_in_lives s good some =
+    let x = setting_of s in acknowledgements_return_in_lives (arts_of x) x (headers_fit s good) (format_comes_through x.topology.format s.height) some

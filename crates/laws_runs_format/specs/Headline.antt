@@ -1,5 +1,5 @@
 -- The headline: what holds of every run of a schedule without forgery, after each of its events, whatever compromised nodes send.
-use Rattle.std.specs.Prelude.{ℕ, ◌≡◌, ◌≤◌, false, IsTrue, List, [], Some, take}
+use Rattle.std.specs.Prelude.{ℕ, ◌≡◌, ◌≤◌, false, true, IsTrue, List, [], Some, take}
 use Rattle.sp_base.specs.declared.id.NodeId.{NodeId}
 use Rattle.sp_journal.specs.declared.entry.Entry.{Entry}
 use Rattle.sp_rules.specs.Node.{NodeState}
@@ -13,6 +13,7 @@ use Rattle.sp_runs.specs.Worlds.{World, node_in}
 use Rattle.sp_schedule_events.specs.declared.event.Event.{Event}
 use Rattle.sp_schedule_events.specs.declared.scenario.Scenario.{Scenario}
 use Rattle.laws_progress.specs.Delivery.{DeliversInRounds, ReturnsInRounds}
+use Rattle.laws_progress.specs.LifeDelivery.{DeliversInLives, ReturnsInLives, StartsAreTold}
 use Rattle.laws_runs.specs.Flows.{FlowClaims}
 use Rattle.laws_runs.specs.HeldBoots.{BootClaims}
 use Rattle.laws_runs.specs.KeyFiles.{KeysStand}
@@ -90,8 +91,13 @@ pub record LivesClaims (x : Setting) (es : List Event) (js : List Entry) (w : Wo
 pub record RunLives (x : Setting) (es : List Event) (js : List Entry) : Type 0 where
   pub reached : (n : ℕ) → (w : World) × Clean (arts_of x) x (take n es) (take n js) w
   pub claims : (n : ℕ) (w : World) → (run : Clean (arts_of x) x (take n es) (take n js) w) → LivesClaims x (take n es) (take n js) w run
+  -- While the nodes of a path stay up: after so many rounds that tell starts each holds the boot of each other's life, and from then on what is accepted is
+  -- delivered, and what is acknowledged returns, after as many complete rounds as without epochs, whatever all other nodes do
+  pub told : x.epochs ≡ true → StartsAreTold (arts_of x) x
+  pub delivered : DeliversInLives (arts_of x) x
+  pub returned : ReturnsInLives (arts_of x) x
 
--- of each run of a header in its ranges
+-- of each run of a header in its ranges. Nothing else is asked
 abbrev pub EveryLife : Type 0
-EveryLife = (s : Scenario) (es : List Event) (js : List Entry) (w : World) → IsHeader s
+EveryLife = (s : Scenario) (es : List Event) (js : List Entry) (w : World) → IsHeader s → 1 ≤ s.limits.buffer
     → Clean (arts_of (setting_of s)) (setting_of s) es js w → RunLives (setting_of s) es js

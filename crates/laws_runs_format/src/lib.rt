@@ -3,7 +3,8 @@
 
 ghost use Rattle.laws_runs_format.specs.Audited.{ClaimedRunsPassAudits, RunsPassAudits};
 ghost use Rattle.laws_runs_format.specs.ComesThrough.{FormatComesThrough};
-ghost use Rattle.laws_runs_format.specs.Delivery.{SchedulesDeliver, SchedulesReturn};
+ghost use Rattle.laws_runs_format.specs.Delivery.{SchedulesDeliver, SchedulesDeliverInLives, SchedulesReturn, SchedulesReturnInLives};
+ghost use Rattle.laws_runs_format.specs.Delivery.{SchedulesTellStarts};
 ghost use Rattle.laws_runs_format.specs.FormatCarries.{FormatCarries};
 ghost use Rattle.laws_runs_format.specs.Headline.{EveryLife, EveryRun};
 ghost use Rattle.laws_runs_format.specs.Headers.{HeadersFit, PlainHeadersFit, SignaturesAreLong, TopologiesFit};
@@ -34,9 +35,9 @@ pub fn headers_fit()
 {}
 
 /// The headline: of every run of a schedule without forgery, after each of its events, deliveries are a prefix of what was sent, priority messages are
-/// authentic and come once, buffers are bounded, evictions leave fair shares, weights
-/// are what their ends said, and what was accepted is delivered after a counted number of rounds of a correct path. So it is without epochs. Where nodes
-/// start and stop, only correct nodes run, with the boots and bounds of their key files, buffers are bounded, and what is kept was signed.
+/// authentic and come once, buffers are bounded, evictions leave fair shares, weights are what their ends said, and what was accepted is delivered after a
+/// counted number of rounds of a correct path. So it is without epochs. Where nodes start and stop, the same holds of each pair of lives of two nodes, only
+/// correct nodes run, with the boots and bounds of their key files, and no index signs twice.
 pub fn every_run()
     ensures plain { EveryRun }
     ensures lives { EveryLife }
@@ -81,10 +82,14 @@ pub fn generated_forge_nothing()
 {}
 
 /// A law: in the setting of every header in its ranges, what a source accepted is delivered, and what a destination acknowledged has returned, after so many
-/// complete rounds of a path.
+/// complete rounds of a path. Where nodes start and stop so it is in the lives of a path that stays up, once its nodes hold the boots of its ends: after so
+/// many rounds that tell starts they do.
 pub fn schedules_deliver_in_rounds()
     ensures delivered { SchedulesDeliver }
     ensures returned { SchedulesReturn }
+    ensures told { SchedulesTellStarts }
+    ensures delivered_in_lives { SchedulesDeliverInLives }
+    ensures returned_in_lives { SchedulesReturnInLives }
 {}
 
 /// A law: whatever the weights are, a priority message has a choice of its edges; and so each event that may come in a run of a schedule has a turn.

@@ -10,7 +10,7 @@ use Rattle.sp_replay.specs.Played.{HasBuffers, IsShort}
 pub world_claims : EveryRun → EveryLife → (p : Past) → IsPast p → HasBuffers p → WorldClaims p
 world_claims every_run every_life p is some = record {
   run = is;
-  lives = every_life p.scenario p.events p.journal is.last is.header is.clean;
+  lives = every_life p.scenario p.events p.journal is.last is.header some is.clean;
   claims = λ plain. every_run p.scenario p.events p.journal is.last is.header plain some is.clean;
 }
 

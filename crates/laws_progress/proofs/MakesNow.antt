@@ -1,0 +1,303 @@
+-- What the frame of a poll tells of a flow, against the node that makes it and what is seen of it.
+-- that it has.
+use Rattle.laws_node.specs.Story.{journal}
+use Rattle.laws_progress.proofs.Changes.{life_is, lit, era_is}
+use Rattle.laws_progress.proofs.Hops.{IsServed, IsMade, Told}
+use Rattle.laws_progress.proofs.States.{actives_of, knows_life, Era, Follow, IsBetween, Leads, Watched, flow_of, flow_seen, has_met, in_era, sight, view_at, view_seen}
+use Rattle.laws_runs.proofs.Running.{found_there}
+use Rattle.laws_runs.specs.Past.{holds}
+use Rattle.std.proofs.lemmas.Option.{same_Some}
+use Rattle.laws_progress.proofs.Facts.{Sight}
+use Rattle.std.proofs.Common.{◌≡◌, ◌≤◌, ◌⊎◌, ℕ, suc, ◌+◌, ◌==◌, Bool, true, false, max, List, [], ◌∷◌, ◌++◌, length, map, Option, Some, None, option_map, refl, sym, ap, subst, ◌∙◌, inl, inr, arith, eq-eqb, not}
+use Rattle.std.specs.Prelude.{option_and_then, slice_get, ◌&&◌, ◌||◌}
+use Rattle.std.specs.Option.{option_and_then}
+use Rattle.std.proofs.lemmas.Bool.{cases_Bool, eqb-true, ne_eqb}
+use Rattle.sp_base.specs.Cursor.{next_after}
+use Rattle.sp_base.specs.Formats.{max_rels}
+use Rattle.sp_base.specs.declared.id.Flow.{Flow}
+use Rattle.sp_base.specs.declared.id.NodeId.{NodeId}
+use Rattle.sp_frame.specs.Reliable.{Report}
+use Rattle.sp_rules.specs.Arts.{Arts}
+use Rattle.sp_rules.specs.Flow.{FlowState, no_flow}
+use Rattle.sp_rules.specs.Node.{NodeState, link_in}
+use Rattle.sp_rules.specs.Parts.{nodes_of}
+use Rattle.sp_rules.specs.Polls.{contents_to, dated, frame_to}
+use Rattle.sp_rules.specs.Rel.{flow_in, next_flow, next_place, pairs_of, peer_in, slot_for, slot_of, view_in, View, no_view}
+use Rattle.laws_node.specs.Flows.{RelHolds}
+use Rattle.laws_node.specs.Sizes.{Sizes}
+use Rattle.laws_runs.specs.Signs.{Good, sizes_at}
+use Rattle.laws_runs.proofs.Tables.{same_node}
+use Rattle.sp_runs.specs.Runs.{polls, is_poll}
+use Rattle.sp_runs.specs.Settings.{Setting, SettingFits}
+use Rattle.sp_runs.specs.Worlds.{frame_in, frames_in, node_in, is_running}
+use Rattle.sp_journal.specs.declared.entry.Entry.{Entry}
+use Rattle.sp_schedule_events.specs.declared.event.Event.{Event}
+use Rattle.laws_runs.specs.Premises.{ComesThrough}
+use Rattle.laws_runs.proofs.Acks.{RelAck}
+use Rattle.laws_runs.proofs.Signed.{signs}
+use Rattle.laws_progress.proofs.Framed.{Framed, frame_at}
+use Rattle.laws_progress.proofs.Made.{frames_count, FramesTurn, Makes, Misses, Leaves, frames_turn}
+use Rattle.laws_progress.proofs.Places.{get_last}
+use Rattle.laws_progress.proofs.Polls.{one_polled}
+use Rattle.laws_progress.proofs.Standing.{place_at, place_in, same_flow}
+use Rattle.laws_progress.proofs.Wires.{is_mine, number_in, slot_in, told_of, told_slot, nothing_told, is_slot}
+use Rattle.laws_progress.proofs.Makes.{SlotMade, number_taken, one_fits, slot_made, turn_flow}
+
+-- ---- what a frame tells when it is made
+
+-- against the node that makes it
+record MadeBy (era : Era) (flow : Flow) (place : ℕ) (n : NodeState) (u v : NodeId) (echo : Bool) (f : Told) : Type 0 where
+  held : f.mine ≡ true → holds n flow.src era.sboot flow.dst era.dboot ≡ true
+  mine : echo ≡ true → holds n flow.src era.sboot flow.dst era.dboot ≡ true → next_place n.parts.rel v ≡ Some place → f.mine ≡ true
+  base : f.mine ≡ true → f.base ≡ (flow_in n.parts.rel.flows flow).at.base
+  have : f.mine ≡ true → f.have ≡ (flow_in n.parts.rel.flows flow).at.have
+  no_ack : f.mine ≡ true → f.ack ≡ false → (flow_in n.parts.rel.flows flow).at.base ≤ (view_in (peer_in n.parts.rel.peers v).views flow).base
+  next_there : f.mine ≡ true → f.next ≤ (flow_in n.parts.rel.flows flow).at.have
+  next_near : f.mine ≡ true → f.next ≤ max (view_in (peer_in n.parts.rel.peers v).views flow).have (flow_in n.parts.rel.flows flow).at.base + 1
+  next_is : f.mine ≡ true → (u ≡ flow.dst → ⊥)
+      → ((flow_in n.parts.rel.flows flow).at.have ≤ max (view_in (peer_in n.parts.rel.peers v).views flow).have (flow_in n.parts.rel.flows flow).at.base)
+      ⊎ (f.next ≡ max (view_in (peer_in n.parts.rel.peers v).views flow).have (flow_in n.parts.rel.flows flow).at.base + 1)
+
+two_true : (a b : Bool) → (a && b) ≡ true → (a ≡ true) × (b ≡ true)
+two_true true true e = (refl, refl)
+two_true true false e = absurd (let f : false ≡ true = e in cc)
+two_true false b e = absurd (let f : false ≡ true = e in cc)
+
+made_by : (era : Era) (k : Sizes) (index format : ℕ) (flow : Flow) (nodes : List NodeId) (n : NodeState) (u v : NodeId) (echo : Bool) → k.me ≡ u → k.nodes ≡ nodes
+    → RelHolds k index n.parts.rel → RelAck n.parts.rel
+    → MadeBy era flow (place_in (pairs_of nodes) flow) n u v echo (told_slot era flow echo (option_map (dated format n.parts.lives) (slot_for n.parts.rel v)))
+made_by era k index format flow nodes n u v echo me same h acks = go (next_flow n.parts.rel v) refl
+  where
+    go : (o : Option Flow) → next_flow n.parts.rel v ≡ o
+        → MadeBy era flow (place_in (pairs_of nodes) flow) n u v echo (told_slot era flow echo (option_map (dated format n.parts.lives) (option_map (slot_of n.parts.rel v) o)))
+    go None e = record {
+      held = λ z. absurd (let f : false ≡ true = z in cc);
+      mine = λ knows held turn.
+          let t = turn_flow n.parts.rel v flow nodes (h.keys ∙ ap pairs_of same) turn in
+          absurd (let f : None ≡ Some t.0 = sym e ∙ t.1 in cc);
+      base = λ z. absurd (let f : false ≡ true = z in cc);
+      have = λ z. absurd (let f : false ≡ true = z in cc);
+      no_ack = λ z. absurd (let f : false ≡ true = z in cc);
+      next_there = λ z. absurd (let f : false ≡ true = z in cc);
+      next_near = λ z. absurd (let f : false ≡ true = z in cc);
+      next_is = λ z. absurd (let f : false ≡ true = z in cc);
+    }
+    go (Some fl) e =
+        let t = dated format n.parts.lives (slot_of n.parts.rel v fl) in
+        let its : (echo && is_slot era flow t) ≡ true → fl ≡ flow = λ z. same_flow flow fl (two_true _ _ (two_true _ _ z).1).0 in
+        let of_mine : (echo && is_slot era flow t) ≡ true → SlotMade flow n.parts.rel v (slot_of n.parts.rel v fl) =
+        λ z. subst (λ g. SlotMade flow n.parts.rel v (slot_of n.parts.rel v g)) (sym (its z)) (slot_made k index n.parts.rel v flow h acks) in
+        let number : number_in t.rels ≡ number_in (slot_of n.parts.rel v fl).rels = number_taken (max_rels format) (slot_of n.parts.rel v fl).rels (one_fits format) in
+        record {
+          held = λ z.
+              let boots = (two_true _ _ (two_true _ _ z).1).1 in
+              subst (λ (g : Flow). holds n g.src era.sboot g.dst era.dboot ≡ true) (its z) boots;
+          mine = λ knows held turn.
+              let t2 = turn_flow n.parts.rel v flow nodes (h.keys ∙ ap pairs_of same) turn in
+              let f : Some fl ≡ Some t2.0 = sym e ∙ t2.1 in
+              let g : t2.0 ≡ fl = cc in
+              let own : is_mine flow fl ≡ true = subst (λ z. is_mine flow z ≡ true) g t2.2 in
+              let is : fl ≡ flow = same_flow flow fl own in
+              let boots : holds n fl.src era.sboot fl.dst era.dboot ≡ true = subst (λ (z : Flow). holds n z.src era.sboot z.dst era.dboot ≡ true) (sym is) held in
+              rw (knows, own) boots;
+          base = λ z. (of_mine z).base;
+          have = λ z. (of_mine z).have;
+          no_ack = λ z. (of_mine z).no_ack;
+          next_there = λ z. let top = (of_mine z).next_there in omega (arith, top, number);
+          next_near = λ z. let top = (of_mine z).next_near in omega (arith, top, number);
+          next_is = λ z away. elim ((of_mine z).next_is (ne_eqb _ _ (λ q. away (same_node u flow.dst (sym (ap (λ (w : NodeId). w.0) (h.me ∙ me)) ∙ q))))) [
+            | inl low ↦ inl low
+            | inr is ↦ inr (number ∙ is)
+          ];
+        }
+
+pub frame_told : (arts : Arts) (x : Setting) (era : Era) (flow : Flow) (u v : NodeId) (n : NodeState) (bytes : List ℕ) → Framed arts x u v n bytes
+    → n.fixed.boot ≡ era.life u
+    → told_of arts x era flow u v (Some bytes) ≡ told_slot era flow ((link_in n v).peer_boot == era.life v) (contents_to n.fixed n.parts v).slot
+frame_told arts x era flow u v n bytes f life =
+    let here : ((arts.head bytes).boot == era.life u) ≡ true = eq-eqb _ _ (f.head.boot_is ∙ life) in
+    rw here (ap (λ e. told_slot era flow (e == era.life v) (slot_in (arts.sections x.signature_len bytes))) f.echo
+    ∙ ap (λ s. told_slot era flow ((link_in n v).peer_boot == era.life v) (slot_in s)) f.sections)
+
+-- a frame of another life tells nothing
+pub other_told : (arts : Arts) (x : Setting) (era : Era) (flow : Flow) (u v : NodeId) (bytes : List ℕ) → ((arts.head bytes).boot == era.life u) ≡ false
+    → told_of arts x era flow u v (Some bytes) ≡ nothing_told
+other_told arts x era flow u v bytes off = rw off refl
+
+none_made : (W : Type 0) (at : Sight W) (w : W) (u v : NodeId) → IsMade W at w u v nothing_told
+none_made W at w u v = record {
+  base = λ z. absurd (let f : false ≡ true = z in cc);
+  have = λ z. absurd (let f : false ≡ true = z in cc);
+  no_ack = λ z. absurd (let f : false ≡ true = z in cc);
+  next_there = λ z. absurd (let f : false ≡ true = z in cc);
+  next_near = λ z. absurd (let f : false ≡ true = z in cc);
+}
+
+-- what is seen of a node that holds the boots that count
+pub seen_flow : (arts : Arts) (x : Setting) (all : List Event) (era : Era) (flow : Flow) (w : Watched arts x all era) (u : NodeId) (n : NodeState)
+    → node_in w.at.world.nodes u ≡ Some n → in_era era flow u n ≡ true → flow_seen arts x all era flow w u ≡ flow_in n.parts.rel.flows flow
+seen_flow arts x all era flow w u n at is = lit (no_flow flow) (flow_of era flow u) (node_in w.at.world.nodes u) n at ∙ rw is refl
+
+pub seen_view : (arts : Arts) (x : Setting) (all : List Event) (era : Era) (flow : Flow) (w : Watched arts x all era) (u v : NodeId) (n : NodeState)
+    → node_in w.at.world.nodes u ≡ Some n → in_era era flow u n ≡ true → has_met x era v n ≡ true
+    → view_seen arts x all era flow w u v ≡ view_in (peer_in n.parts.rel.peers v).views flow
+seen_view arts x all era flow w u v n at is met = lit (no_view flow) (view_at x era flow u v) (node_in w.at.world.nodes u) n at ∙ rw (is, met) refl
+
+-- the frame that a poll adds, and the node that made it
+slot_here : (era : Era) (flow : Flow) (echo : Bool) (slot : Option Report) → (told_slot era flow echo slot).here ≡ true
+slot_here era flow echo None = refl
+slot_here era flow echo (Some r) = refl
+
+pub slot_echo : (era : Era) (flow : Flow) (echo : Bool) (slot : Option Report) → (told_slot era flow echo slot).echo ≡ echo
+slot_echo era flow echo None = refl
+slot_echo era flow echo (Some r) = refl
+
+-- what may bring the flow's slot echoes the right life
+mine_echo : (era : Era) (flow : Flow) (echo : Bool) (slot : Option Report) → (told_slot era flow echo slot).mine ≡ true → echo ≡ true
+mine_echo era flow echo None is = absurd (let f : false ≡ true = is in cc)
+mine_echo era flow echo (Some r) is = (two_true echo (is_slot era flow r) is).0
+
+pub record Polled (arts : Arts) (x : Setting) (all : List Event) (era : Era) (flow : Flow) (w y : Watched arts x all era) (u v : NodeId) (b : NodeState) : Type 0 where
+  pub there : node_in w.at.world.nodes u ≡ Some b
+  pub framed : Framed arts x u v b (frame_to arts b v)
+  pub at : frame_in y.at.world.directions u v (polls y.at.events u v) ≡ Some (frame_to arts b v)
+
+module _ (arts : Arts) (x : Setting) (all : List Event) (era : Era) (flow : Flow) (fits : SettingFits arts x) (reads : ComesThrough x.topology.format arts x.signature_len)
+    (w y : Watched arts x all era) (e : Event) (u v : NodeId) (hop : IsBetween x era u v) (leads : Leads arts x all era w e y) (poll : is_poll u v e ≡ true) where
+  abbrev told : Told
+  told = told_of arts x era flow u v (frame_in y.at.world.directions u v (polls y.at.events u v))
+
+  last_place : (frame : Option (List ℕ)) → frames_in y.at.world.directions u v ≡ frames_in w.at.world.directions u v ++ frame ∷ []
+      → frame_in y.at.world.directions u v (polls y.at.events u v) ≡ frame
+  last_place frame frames =
+      let ds = w.at.world.directions in
+      let count = frames_count arts x w.at.events w.at.journal w.at.world w.at.run u v in
+      let number = one_polled arts x all w.at y.at e u v leads poll in
+      ap (frame_in y.at.world.directions u v) (let q : polls y.at.events u v ≡ suc (length (frames_in ds u v)) = omega (arith, number, count) in q)
+      ∙ ap (option_and_then (λ frame. frame)) (ap (λ fs. slice_get fs (length (frames_in ds u v))) frames ∙ get_last (frames_in ds u v) frame)
+
+  -- an empty place, or a frame of u as it was
+  pub polled_now : (frame_in y.at.world.directions u v (polls y.at.events u v) ≡ None) × (is_running w.at.world.nodes u ≡ false)
+      ⊎ ((b : NodeState) × Polled arts x all era flow w y u v b)
+  polled_now = of_turn leads
+    where
+      of_frames : (j : Entry) → FramesTurn arts w.at.world e y.at.world u v
+          → (frame_in y.at.world.directions u v (polls y.at.events u v) ≡ None) × (is_running w.at.world.nodes u ≡ false)
+          ⊎ ((b : NodeState) × Polled arts x all era flow w y u v b)
+      of_frames j (Makes on b there frames) = inr (
+        b,
+        record {
+          there = there;
+          framed = frame_at arts x w.at.events w.at.journal w.at.world fits reads w.at.run u v hop.hop.joined b there;
+          at = last_place (Some (frame_to arts b v)) frames;
+        },
+      )
+      of_frames j (Misses on down frames) = inl (last_place None frames, down)
+      of_frames j (Leaves off frames) = absurd (let f : true ≡ false = sym poll ∙ off in cc)
+
+      of_turn : Leads arts x all era w e y → (frame_in y.at.world.directions u v (polls y.at.events u v) ≡ None) × (is_running w.at.world.nodes u ≡ false)
+          ⊎ ((b : NodeState) × Polled arts x all era flow w y u v b)
+      of_turn (Follow j events journal range turn unforged) = of_frames j (frames_turn arts x w.at.world e j y.at.world turn u v)
+
+  made_of : (b : NodeState) → Polled arts x all era flow w y u v b
+      → MadeBy era flow (place_at x flow) b u v ((link_in b v).peer_boot == era.life v)
+      (told_slot era flow ((link_in b v).peer_boot == era.life v) (contents_to b.fixed b.parts v).slot)
+  made_of b p =
+      let is = (signs arts x w.at.events w.at.journal w.at.world fits reads.carries w.at.run).nodes u b p.there in
+      made_by era (sizes_at x (Good arts x w.at.events w.at.journal) u) b.signer.index b.fixed.topology.format flow (nodes_of x.topology) b u v
+      ((link_in b v).peer_boot == era.life v) refl refl is.holds.parts.rel is.acks
+
+  met_of : (b : NodeState) → ((link_in b v).peer_boot == era.life v) ≡ true → has_met x era v b ≡ true
+  met_of b is = go x.epochs
+    where
+      go : (t : Bool) → (not t || ((link_in b v).peer_boot == era.life v)) ≡ true
+      go true = is
+      go false = refl
+
+  pub makes : IsMade (Watched arts x all era) (sight arts x all era flow) w u v told
+  makes = elim polled_now [
+    | inl missed ↦ subst (IsMade (Watched arts x all era) (sight arts x all era flow) w u v) (sym (ap (told_of arts x era flow u v) missed.0))
+        (none_made (Watched arts x all era) (sight arts x all era flow) w u v)
+    | inr made ↦ elim (cases_Bool (made.0.fixed.boot == era.life u)) [
+      | inl same ↦
+          let is = ap (told_of arts x era flow u v) made.1.at ∙ frame_told arts x era flow u v made.0 (frame_to arts made.0 v) made.1.framed (eqb-true _ _ same) in
+          subst (IsMade (Watched arts x all era) (sight arts x all era flow) w u v) (sym is) (of_node made.0 made.1 same)
+      | inr other ↦
+          let off : ((arts.head (frame_to arts made.0 v)).boot == era.life u) ≡ false = ap (λ b. b == era.life u) made.1.framed.head.boot_is ∙ other in
+          let is = ap (told_of arts x era flow u v) made.1.at ∙ other_told arts x era flow u v (frame_to arts made.0 v) off in
+          subst (IsMade (Watched arts x all era) (sight arts x all era flow) w u v) (sym is) (none_made (Watched arts x all era) (sight arts x all era flow) w u v)
+    ]
+  ]
+    where
+      of_node : (b : NodeState) → Polled arts x all era flow w y u v b → (b.fixed.boot == era.life u) ≡ true
+          → IsMade (Watched arts x all era) (sight arts x all era flow) w u v
+          (told_slot era flow ((link_in b v).peer_boot == era.life v) (contents_to b.fixed b.parts v).slot)
+      of_node b p same =
+          let made = made_of b p in
+          let f = told_slot era flow ((link_in b v).peer_boot == era.life v) (contents_to b.fixed b.parts v).slot in
+          let era_of : f.mine ≡ true → in_era era flow u b ≡ true = λ z. let on = hop.first in let held = made.held z in rw (on, same) held in
+          let flow_of_it : f.mine ≡ true → flow_seen arts x all era flow w u ≡ flow_in b.parts.rel.flows flow =
+          λ z. seen_flow arts x all era flow w u b p.there (era_of z) in
+          let echo_of : f.mine ≡ true → ((link_in b v).peer_boot == era.life v) ≡ true = mine_echo era flow ((link_in b v).peer_boot == era.life v) (contents_to b.fixed b.parts v).slot in
+          let view_of_it : f.mine ≡ true → view_seen arts x all era flow w u v ≡ view_in (peer_in b.parts.rel.peers v).views flow =
+          λ z. seen_view arts x all era flow w u v b p.there (era_of z) (met_of b (echo_of z)) in
+          record {
+            base = λ z. made.base z ∙ sym (ap (λ (g : FlowState). g.at.base) (flow_of_it z));
+            have = λ z. made.have z ∙ sym (ap (λ (g : FlowState). g.at.have) (flow_of_it z));
+            no_ack = λ z none.
+                let low = made.no_ack z none in
+                let b1 = ap (λ (g : FlowState). g.at.base) (flow_of_it z) in
+                let v1 = ap (λ (g : View). g.base) (view_of_it z) in
+                omega (arith, low, b1, v1);
+            next_there = λ z. let low = made.next_there z in let h1 = ap (λ (g : FlowState). g.at.have) (flow_of_it z) in omega (arith, low, h1);
+            next_near = λ z.
+                let low = made.next_near z in
+                let b1 = ap (λ (g : FlowState). g.at.base) (flow_of_it z) in
+                let v1 = ap (λ (g : View). g.have) (view_of_it z) in
+                omega (arith, low, b1, v1);
+          }
+
+  -- where u holds the boots that count, it is there, and serves the flow at its turn
+  pub serves_now : (b : NodeState) → node_in w.at.world.nodes u ≡ Some b → in_era era flow u b ≡ true
+      → IsServed (Watched arts x all era) (sight arts x all era flow) (place_at x flow) flow.dst w u v told
+  serves_now b there counts = elim polled_now [
+    | inl missed ↦ absurd (let f : true ≡ false = sym (found_there u b w.at.world.nodes there) ∙ missed.1 in cc)
+    | inr made ↦
+        let same : made.0 ≡ b = same_Some made.0 b (sym made.1.there ∙ there) in
+        let p = subst (Polled arts x all era flow w y u v) same made.1 in
+        let life = (life_is era u b (era_is era flow u b counts).0).1 in
+        let is = ap (told_of arts x era flow u v) p.at ∙ frame_told arts x era flow u v b (frame_to arts b v) p.framed life in
+        subst (IsServed (Watched arts x all era) (sight arts x all era flow) (place_at x flow) flow.dst w u v) (sym is) (of_served b p)
+  ]
+    where
+      of_served : (b : NodeState) → Polled arts x all era flow w y u v b
+          → IsServed (Watched arts x all era) (sight arts x all era flow) (place_at x flow) flow.dst w u v
+          (told_slot era flow ((link_in b v).peer_boot == era.life v) (contents_to b.fixed b.parts v).slot)
+      of_served c p =
+          let same : c ≡ b = same_Some c b (sym p.there ∙ there) in
+          let mine_era : in_era era flow u c ≡ true = ap (in_era era flow u) same ∙ counts in
+          let in_it = era_is era flow u c mine_era in
+          let lived = in_it.0 in
+          let made = made_of c p in
+          let echo = (link_in c v).peer_boot == era.life v in
+          let slot = (contents_to c.fixed c.parts v).slot in
+          let knows : (sight arts x all era flow).knows w u v ≡ echo = lit false (knows_life era u v) (node_in w.at.world.nodes u) c p.there ∙ rw lived refl in
+          let last = lit None (λ q. (peer_in q.parts.rel.peers v).last) (node_in w.at.world.nodes u) c p.there in
+          let actives : (sight arts x all era flow).actives w u ≡ map (λ f. f.active) c.parts.rel.flows = lit [] (actives_of era flow u) (node_in w.at.world.nodes u) c p.there ∙ rw mine_era refl in
+          let flow_now = seen_flow arts x all era flow w u c p.there mine_era in
+          record {
+            here = slot_here era flow echo slot;
+            mine = λ is turn. made.mine (sym knows ∙ is) in_it.1
+                (ap (λ o. next_after o (map (λ f. f.active) c.parts.rel.flows)) (sym last) ∙ ap (next_after ((sight arts x all era flow).last w u v)) (sym actives) ∙ turn);
+            echo = slot_echo era flow echo slot ∙ sym knows;
+            next_is = λ z away.
+                let met : has_met x era v c ≡ true = met_of c (mine_echo era flow echo slot z) in
+                let view_now = seen_view arts x all era flow w u v c p.there mine_era met in
+                let base = ap (λ (g : FlowState). g.at.base) flow_now in
+                let have = ap (λ (g : FlowState). g.at.have) flow_now in
+                let view = ap (λ (g : View). g.have) view_now in
+                elim (made.next_is z away) [
+                  | inl low ↦ inl (omega (arith, low, base, have, view))
+                  | inr is ↦ inr (omega (arith, is, base, view))
+                ];
+          }

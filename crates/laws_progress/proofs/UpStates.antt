@@ -1,0 +1,127 @@
+-- The states of an interval of a run in which some nodes stay up, and what each event makes of one of them: it stays, or makes a step.
+use Rattle.std.proofs.Common.{◌≡◌, ◌⊎◌, ◌||◌, Bool, true, false, List, [], ◌∷◌, Some, refl, sym, ap, ◌∙◌, inl, inr}
+use Rattle.std.specs.Prelude.{IsTrue}
+use Rattle.std.specs.List.{list_any}
+use Rattle.std.proofs.lemmas.Bool.{eq-eqb}
+use Rattle.sp_base.specs.declared.id.NodeId.{NodeId}
+use Rattle.sp_rules.specs.Arts.{Arts}
+use Rattle.sp_rules.specs.Node.{NodeState}
+use Rattle.sp_rules.specs.Steps.{Input, NodeStep, Output}
+use Rattle.sp_runs.specs.Forgery.{has_forged_tag}
+use Rattle.sp_runs.specs.Inputs.{acting, input_of}
+use Rattle.sp_runs.specs.Journals.{Says}
+use Rattle.sp_runs.specs.Lives.{ready}
+use Rattle.sp_runs.specs.Runs.{next_frame}
+use Rattle.sp_runs.specs.Settings.{Setting, SettingFits, is_correct}
+use Rattle.sp_runs.specs.Worlds.{World, node_in}
+use Rattle.sp_journal.specs.declared.entry.Entry.{Entry}
+use Rattle.sp_schedule_events.specs.declared.event.Event.{Event}
+use Rattle.laws_runs.specs.Premises.{ComesThrough}
+use Rattle.laws_runs.proofs.Ready.{Readied}
+use Rattle.laws_progress.specs.Calm.{is_life_of}
+use Rattle.laws_progress.proofs.Becomes.{Acts, Becomes, Begins, MovesNobody, Remains, becomes, runs_on}
+use Rattle.laws_progress.proofs.Facts.{Goes, Stays, Steps}
+use Rattle.laws_progress.proofs.States.{Follow, Follows, State}
+
+-- a run with epochs, of these events, and correct nodes that stay up in an interval of it
+pub record Interval : Type 1 where
+  pub arts : Arts
+  pub x : Setting
+  pub all : List Event
+  pub Up : NodeId → Type 0
+  pub fits : SettingFits arts x
+  pub reads : ComesThrough x.topology.format arts x.signature_len
+  pub epochs : x.epochs ≡ true
+  pub correct : (u : NodeId) → Up u → IsTrue (is_correct x u)
+
+-- a state in which each of these nodes runs
+pub record UpState (c : Interval) : Type 0 where
+  pub state : State c.arts c.x c.all
+  pub runs : (u : NodeId) → c.Up u → (n : NodeState) × (node_in state.world.nodes u ≡ Some n)
+
+-- one event leads from one to the next, which starts and stops none of them
+pub record UpNext (c : Interval) (w : UpState c) (e : Event) (y : UpState c) : Type 0 where
+  pub follows : Follows c.arts c.x c.all w.state e y.state
+  pub calm : (u : NodeId) → c.Up u → is_life_of u e ≡ false
+
+-- ---- an interval in which none of them starts or stops
+
+pub record UpTo (c : Interval) (w : UpState c) (es : List Event) (y : State c.arts c.x c.all) : Type 0 where
+  pub runs : (u : NodeId) → c.Up u → (n : NodeState) × (node_in y.world.nodes u ≡ Some n)
+  pub goes : Goes (UpState c) (UpNext c) w es (record { state = y; runs = runs })
+
+pub off_first : (a b : Bool) → (a || b) ≡ false → (a ≡ false) × (b ≡ false)
+off_first true b off = absurd (let f : true ≡ false = off in cc)
+off_first false b off = (refl, off)
+
+pub up_to : (c : Interval) (es : List Event) (w : UpState c) (y : State c.arts c.x c.all)
+    → Goes (State c.arts c.x c.all) (Follows c.arts c.x c.all) w.state es y
+    → ((u : NodeId) → c.Up u → list_any (is_life_of u) es ≡ false) → UpTo c w es y
+up_to c [] w y Stays calm = record { runs = w.runs; goes = Stays }
+up_to c (e ∷ es) w y (Steps {x = m} step g) calm =
+    let off = λ (u : NodeId) (up : c.Up u). off_first (is_life_of u e) (list_any (is_life_of u) es) (calm u up) in
+    let mid : UpState c = record { state = m; runs = λ u up. run_on step u (off u up).0 (w.runs u up) } in
+    let rest = up_to c es mid y g (λ u up. (off u up).1) in
+    let next : UpNext c w e mid = record { follows = step; calm = λ u up. (off u up).0 } in
+    record { runs = rest.runs; goes = Steps {x = mid} next rest.goes }
+  where
+    run_on : Follows c.arts c.x c.all w.state e m → (u : NodeId) → is_life_of u e ≡ false → (n : NodeState) × (node_in w.state.world.nodes u ≡ Some n)
+        → (n : NodeState) × (node_in m.world.nodes u ≡ Some n)
+    run_on (Follow j events journal range turn unforged) u quiet n =
+        runs_on c.arts c.x w.state.events w.state.journal w.state.world e j m.world c.fits c.reads.carries w.state.run turn u quiet n.0 n.1
+
+-- ---- what an event makes of one of them
+
+-- a step of a node
+pub record StepOf (arts : Arts) (x : Setting) (w : World) (e : Event) (u : NodeId) (n m : NodeState) : Type 0 where
+  pub acts : acting e ≡ u
+  pub input : Input
+  pub reaches : input_of arts x (ready x w e) n e ≡ Some input
+  pub output : Output
+  pub step : NodeStep arts n input output m
+  pub entry : Entry
+  pub journal : Says x (next_frame (ready x w e) e) output entry
+  pub unforged : has_forged_tag arts x (ready x w e) n input ≡ false
+
+-- the node before the event, after it reserved indexes where it is short of them, and after the event
+pub record Took (arts : Arts) (x : Setting) (w y : World) (e : Event) (u : NodeId) : Type 0 where
+  pub before : NodeState
+  pub there : node_in w.nodes u ≡ Some before
+  pub node : NodeState
+  pub readied : Readied x w before node
+  pub after : NodeState
+  pub left : node_in y.nodes u ≡ Some after
+  pub how : ((after ≡ node) × ((acting e ≡ u → ⊥) ⊎ MovesNobody w e)) ⊎ StepOf arts x w e u node after
+
+pub took : (c : Interval) (w y : UpState c) (e : Event) → UpNext c w e y → (u : NodeId) → c.Up u → Took c.arts c.x w.state.world y.state.world e u
+took c w y e next u up = go next.follows
+  where
+    of : (j : Entry) (m : NodeState) → node_in y.state.world.nodes u ≡ Some m → Becomes c.arts c.x w.state.world e j y.state.world u m
+        → Took c.arts c.x w.state.world y.state.world e u
+    of j m at (Remains b there readied idle) =
+        record { before = b; there = there; node = m; readied = readied; after = m; left = at; how = inl (refl, idle) }
+    of j m at (Acts acts b there q readied is unforged) = record {
+      before = b;
+      there = there;
+      node = q.node;
+      readied = readied;
+      after = q.after;
+      left = at ∙ ap (λ (n : NodeState). Some n) is;
+      how = inr (record {
+        acts = acts;
+        input = q.input;
+        reaches = q.reaches;
+        output = q.output;
+        step = q.step;
+        entry = j;
+        journal = q.journal;
+        unforged = unforged;
+      });
+    }
+    of j m at (Begins on is start first none) =
+        absurd (let wrong : true ≡ false = sym (ap (is_life_of u) is ∙ eq-eqb u.0 u.0 refl) ∙ next.calm u up in cc)
+
+    go : Follows c.arts c.x c.all w.state e y.state → Took c.arts c.x w.state.world y.state.world e u
+    go (Follow j events journal range turn unforged) =
+        let m = y.runs u up in
+        of j m.0 m.1 (becomes c.arts c.x w.state.events w.state.journal w.state.world e j y.state.world c.fits c.reads.carries w.state.run range turn unforged u m.0 m.1)

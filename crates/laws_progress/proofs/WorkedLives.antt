@@ -1,0 +1,66 @@
+-- The worked example of lives is computed.
+use Rattle.std.proofs.Common.{◌≡◌, ◌++◌, ℕ, true, false, List, [], ◌∷◌, Some, refl, sym, subst, ◌∙◌, arith}
+use Rattle.std.proofs.lemmas.Option.{same_Some}
+use Rattle.std.proofs.lemmas.List.Elements.{All-cons, All-head, All-nil, All-tail}
+use Rattle.sp_base.specs.declared.id.NodeId.{NodeId}
+use Rattle.sp_rules.specs.Lives.{held_boot}
+use Rattle.sp_rules.specs.Node.{NodeState}
+use Rattle.sp_runs.specs.Rounds.{CompleteRounds, None_left, Round}
+use Rattle.sp_runs.specs.Worlds.{World, node_in}
+use Rattle.sp_schedule_events.specs.declared.event.Event.{Event}
+use Rattle.laws_progress.specs.Calm.{IsCalm, IsCalmAt}
+use Rattle.laws_progress.specs.Worked.{line_path, line_round, node}
+use Rattle.laws_progress.specs.WorkedLives.{LivesAreCounted, again, behind, four_rounds, holding, restless, sent_by, told}
+use Rattle.laws_progress.proofs.Changes.{holds_both}
+use Rattle.laws_progress.proofs.Worked.{line_is, three_path}
+
+rounds_are : CompleteRounds 1 (node 1) (node 3) line_path 4 sent_by four_rounds
+rounds_are =
+    Round [] (line_round 6) (line_is (sent_by ++ []) 6 refl refl refl refl)
+    (Round [] (line_round 7) (line_is _ 7 refl refl refl refl)
+    (Round [] (line_round 8) (line_is _ 8 refl refl refl refl)
+    (Round [] (line_round 9) (line_is _ 9 refl refl refl refl) None_left)))
+
+is_calm : IsCalm told four_rounds (node 1) 1 (node 3) 1 line_path
+is_calm =
+    let At = IsCalmAt told four_rounds (node 1) 1 (node 3) 1 in
+    All-cons At (node 1) (node 2 ∷ node 3 ∷ []) (record { up = record { node = holding 1 1 1; runs = refl; stays = refl }; held = refl })
+    (All-cons At (node 2) (node 3 ∷ []) (record { up = record { node = holding 2 1 1; runs = refl; stays = refl }; held = refl })
+    (All-cons At (node 3) [] (record { up = record { node = holding 3 1 1; runs = refl; stays = refl }; held = refl }) (All-nil At)))
+
+-- the boots that a node of the path holds at the beginning
+boots_at : (w : World) (during : List Event) (a b : ℕ) (u : NodeId) (n : NodeState) → node_in w.nodes u ≡ Some n → IsCalmAt w during (node 1) a (node 3) b u
+    → (held_boot n.parts.lives (node 1) ≡ a) × (held_boot n.parts.lives (node 3) ≡ b)
+boots_at w during a b u n at c =
+    let same : c.up.node ≡ n = same_Some c.up.node n (sym c.up.runs ∙ at) in
+    let held = holds_both c.up.node (node 1) (node 3) a b c.held in
+    subst (λ (m : NodeState). (held_boot m.parts.lives (node 1) ≡ a) × (held_boot m.parts.lives (node 3) ≡ b)) same held
+
+pub lives_are_counted : LivesAreCounted
+lives_are_counted = record {
+  path = three_path restless 1 2 3 (λ e. omega (arith, e)) (λ e. omega (arith, e)) (λ e. omega (arith, e)) refl refl refl refl refl;
+  two_hops = refl;
+  one_flow = refl;
+  rounds = rounds_are;
+  calm = is_calm;
+  no_other = λ a b calm.
+      let At = IsCalmAt told four_rounds (node 1) a (node 3) b in
+      let boots = boots_at told four_rounds a b (node 1) (holding 1 1 1) refl (All-head At (node 1) (node 2 ∷ node 3 ∷ []) calm) in
+      (sym boots.0, sym boots.1);
+  is_delivered = λ arts js more w v n promise run longer calm at has.
+      let it = promise sent_by js w four_rounds more v run longer (node 1) (node 3) line_path
+      (three_path restless 1 2 3 (λ e. omega (arith, e)) (λ e. omega (arith, e)) (λ e. omega (arith, e)) refl refl refl refl refl) 1 1 calm n at 1 1 (omega arith) has (omega arith) 1
+      (omega arith) rounds_are in
+      (it.payload, it.sent.there, it.delivered.there);
+  restarts = λ w a b calm.
+      let At = IsCalmAt w (four_rounds ++ again) (node 1) a (node 3) b in
+      let two = All-head At (node 2) (node 3 ∷ []) (All-tail At (node 1) (node 2 ∷ node 3 ∷ []) calm) in
+      (let f : true ≡ false = two.up.stays in cc);
+  behind_one = λ a b calm.
+      let At = IsCalmAt behind four_rounds (node 1) a (node 3) b in
+      let one = boots_at behind four_rounds a b (node 1) (holding 1 2 1) refl (All-head At (node 1) (node 2 ∷ node 3 ∷ []) calm) in
+      let two = boots_at behind four_rounds a b (node 2) (holding 2 1 1) refl (All-head At (node 2) (node 3 ∷ []) (All-tail At (node 1) (node 2 ∷ node 3 ∷ []) calm)) in
+      let first : 2 ≡ a = one.0 in
+      let second : 1 ≡ a = two.0 in
+      omega (arith, first, second);
+}
